@@ -1,0 +1,12 @@
+//! What holds of the order of versions.
+
+ghost use Rattle.std.specs.Prelude.{◌≡◌, ℕ};
+ghost use Rattle.std.specs.Cmp.{IsTotalOrder};
+ghost use Rattle.std.specs.declared.cmp.Ordering.TheVariants.{Equal};
+ghost use Rattle.am_version_order.specs.Versions.{Version, rank_cmp};
+
+/// The order of versions is total, and versions of one key that it doesn't tell apart are one version.
+pub fn versions_are_in_order<K>()
+    ensures total { IsTotalOrder {K = Version K} rank_cmp }
+    ensures exact { (v w : Version K) → v.key ≡ w.key → rank_cmp v w ≡ Equal → v ≡ w }
+{}

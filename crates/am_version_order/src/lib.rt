@@ -1,0 +1,12 @@
+//! Moments, and the order in which the versions of one key replace each other.
+#![tactic(auto)]
+
+pub mod laws;
+mod moment;
+mod version;
+
+pub use moment::{Interval, Moment};
+pub use version::Version;
+
+#[cfg(test)]
+mod tests;

@@ -1,0 +1,68 @@
+//! What the merge asks of the values that it keeps.
+
+ghost use Rattle.std.specs.Prelude.{◌≡◌, ℕ, List, IfOk};
+ghost use Rattle.std.specs.declared.cmp.Ordering.TheVariants.{Equal};
+ghost use Rattle.am_version_order.specs.Versions.{Version, rank_cmp};
+
+use crate::moment::Moment;
+use std::alloc::{AllocError, Global};
+use std::cmp::Ordering;
+
+/// A version of what a key stands for. Of two versions of one key the greater one counts: by update
+/// moment, then by expiry, then by canonical bytes.
+pub trait Version: Drop {
+    type Key: Ord;
+
+    /// The version as the merge sees it.
+    ghost seen: { Self → Version Self.Key };
+
+    /// The bytes under which the version is looked up; empty where it is looked at each time.
+    ghost bucket_of: { Self → List ℕ };
+
+    /// Holds of the values of the type.
+    ghost is_value: { Self → Type 0 };
+
+    fn key(&self) -> &Self::Key
+        ensures { result.now ≡ (seen self.now).key };
+
+    /// A copy of the key, or want of memory.
+    fn try_key(&self, alloc: Global) -> Result<Self::Key, AllocError>
+        ensures { IfOk result (λ key. key ≡ (seen self.now).key) };
+
+    /// When the version was made.
+    fn updated(&self) -> Moment
+        ensures { result ≡ (seen self.now).updated };
+
+    /// From this moment on the version is not live.
+    fn expires(&self) -> Moment
+        ensures { result ≡ (seen self.now).expires };
+
+    /// The one way in which the version is written.
+    fn canonical(&self) -> &[u8]
+        ensures content { result.now ≡ (seen self.now).content }
+        ensures value { is_value self.now };
+
+    /// The bytes under which the version is looked up; empty where it is looked at each time.
+    fn bucket(&self) -> &[u8]
+        ensures { result.now ≡ bucket_of self.now };
+
+    /// The order of the versions of one key. It takes no memory.
+    fn compare(&self, other: &Self) -> Ordering
+        ensures { result ≡ rank_cmp (seen self.now) (seen other.now) }
+    {
+        self.updated()
+            .cmp(&other.updated())
+            .then(self.expires().cmp(&other.expires()))
+            .then(self.canonical().cmp(other.canonical()))
+    }
+
+    /// A copy, or want of memory.
+    fn try_clone(&self, alloc: Global) -> Result<Self, AllocError>
+        ensures { IfOk result (λ copy. copy ≡ self.now) };
+
+    /// Keys that compare as equal are one key.
+    ghost exact_keys: { (x y : Self.Key) → Self.Key.cmp x y ≡ Equal → x ≡ y };
+
+    /// Versions that the merge can't tell apart are one version.
+    ghost exact: { (v w : Self) → is_value v → is_value w → seen v ≡ seen w → v ≡ w };
+}
