@@ -1,0 +1,4 @@
+pub mod Maps
+pub mod Places
+pub mod Takings
+pub mod Views

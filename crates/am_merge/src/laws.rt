@@ -1,0 +1,41 @@
+//! What holds of joining and sweeping maps.
+
+ghost use Rattle.std.specs.Prelude.{◌≡◌, ◌↔◌, ℕ, List, All};
+ghost use Rattle.am_merge.specs.Maps.{IsMap, IsJoin, HidesNone, swept};
+
+use am_version_order::Version;
+
+/// Two maps have no two joins.
+pub fn join_is_unique<V: Version>()
+    ensures { (a b joined other : List V) →
+        IsMap V.seen V.Key.cmp joined → IsMap V.seen V.Key.cmp other →
+        IsJoin V.seen V.Key.cmp a b joined → IsJoin V.seen V.Key.cmp a b other → joined ≡ other }
+{}
+
+/// Which of two maps is joined to the other makes no difference.
+pub fn join_is_commutative<V: Version>()
+    ensures { (a b joined : List V) → All V.is_value a → All V.is_value b →
+        IsJoin V.seen V.Key.cmp a b joined → IsJoin V.seen V.Key.cmp b a joined }
+{}
+
+/// Which two of three maps are joined first makes no difference.
+pub fn join_is_associative<V: Version>()
+    ensures { (a b c ab bc joined : List V) →
+        IsJoin V.seen V.Key.cmp a b ab → IsJoin V.seen V.Key.cmp b c bc →
+        (IsJoin V.seen V.Key.cmp ab c joined ↔ IsJoin V.seen V.Key.cmp a bc joined) }
+{}
+
+/// A map joined to itself is itself.
+pub fn join_is_idempotent<V: Version>()
+    ensures { (map : List V) → IsJoin V.seen V.Key.cmp map map map }
+{}
+
+/// Dropping what isn't live after joining is dropping it before exactly where no key has a greater
+/// version that isn't live in one map and a lesser live one in the other.
+pub fn sweep_and_join_commute<V: Version>()
+    ensures { (a b joined : List V) (now : ℕ) →
+        IsMap V.seen V.Key.cmp a → IsMap V.seen V.Key.cmp b → IsMap V.seen V.Key.cmp joined →
+        IsJoin V.seen V.Key.cmp a b joined →
+        (IsJoin V.seen V.Key.cmp (swept V.seen now a) (swept V.seen now b) (swept V.seen now joined)
+        ↔ (HidesNone V.seen V.Key.cmp now a b × HidesNone V.seen V.Key.cmp now b a)) }
+{}

@@ -1,0 +1,2 @@
+pub mod FirstComments
+pub mod Judging

@@ -1,0 +1,37 @@
+-- A matcher: type enum = 1, name text = 2, pattern text = 3.
+use Rattle.std.specs.Prelude.{◌≡◌, ℕ, ◌<◌, Bool, true, false, List, [], ◌∷◌, ◌++◌, length, Option, Some, None, Result, nat_lt, ◌==◌, not, if◌then◌else◌}
+use Rattle.std.specs.Str.{IsUtf8}
+use Rattle.am_wire.specs.declared.error.WireError.{WireError}
+use Rattle.am_wire.specs.declared.error.WireError.TheVariants as errors
+use Rattle.am_wire.specs.Fields.{FieldAt}
+use Rattle.am_wire.specs.Reading.{Table, table_of, varint_row, text_row, last_number, last_number_place, last_text, read_by}
+use Rattle.am_wire.specs.Timestamps.{low_half}
+use Rattle.am_wire.specs.Writing.{put_number, put_text}
+use Rattle.am_silence.specs.declared.matcher.Matcher.{Matcher}
+use Rattle.am_silence.specs.declared.matcher.MatcherKind.TheVariants as kinds
+use Rattle.am_silence.specs.Kinds.{kind_code, kind_of}
+
+abbrev pub matcher : Table
+matcher = table_of (varint_row 1 ∷ text_row 2 ∷ text_row 3 ∷ [])
+
+abbrev pub matcher_value : List FieldAt → Matcher
+matcher_value es = record { kind = kind_of (low_half (last_number 1 es)); name = last_text 2 es; pattern = last_text 3 es }
+
+-- the last type is one of the four; else it is at fault where it stands
+abbrev pub matcher_tests : ℕ → List FieldAt → Option WireError
+matcher_tests place es = if nat_lt (low_half (last_number 1 es)) 4 then None else Some (errors.MatcherType (last_number_place 1 es))
+
+unfoldable pub reads_matcher : ℕ → List ℕ → Result Matcher WireError
+reads_matcher at bytes = read_by matcher matcher_tests matcher_value at at bytes
+
+unfoldable pub writes_matcher : Matcher → List ℕ
+writes_matcher m = put_number 1 (kind_code m.kind) ++ put_text 2 m.name ++ put_text 3 m.pattern
+
+-- the values of a matcher
+pub record IsMatcher (m : Matcher) : Type 0 where
+  pub name : IsUtf8 m.name
+  pub pattern : IsUtf8 m.pattern
+
+-- a label that is there has to be this text
+abbrev pub wants_label : Matcher → Bool
+wants_label m = elim m.kind [ kinds.Equal ↦ not (length m.pattern == 0) | _ ↦ false ]

@@ -1,0 +1,266 @@
+//! Silences as instances pass them on.
+
+ghost use Rattle.std.specs.Prelude.{◌≡◌, ◌≢◌, ℕ, ◌<◌, ◌≤◌, List, [], ◌∷◌, ◌++◌, length, OnOk, IfOk, IfErr, find, ◌⊎◌};
+ghost use Rattle.am_wire.specs.declared.error.WireError.TheVariants as errors;
+ghost use Rattle.std.specs.Option.{option_copied};
+ghost use Rattle.std.specs.List.{list_any};
+ghost use Rattle.am_silence.specs.Kinds.{is_regexp};
+ghost use Rattle.am_silence.specs.Matchers.{wants_label};
+ghost use Rattle.am_silence.specs.Mesh.{Mesh, writes_mesh_silence, bucket_of};
+ghost use Rattle.am_silence.specs.MeshTable.{mesh_silence};
+
+use crate::matcher::Matcher;
+use crate::silence::{Silence, SilenceDraft};
+use am_version_order::{Moment, Version};
+use am_wire::{
+    Draft, Field, MOST_MESSAGE_BYTES, Message, Part, Schema, Text, TimestampDraft, WireError,
+    WireType, append_text, moment_in, push_message, read_message,
+};
+use std::alloc::{AllocError, Global};
+use std::marker::Model;
+
+/// A version of a silence: the silence, and the moment from which on it may be forgotten.
+///
+/// Its canonical text is kept beside its parts, so that comparing takes no memory.
+#[derive(Drop)]
+pub struct MeshSilence {
+    silence: Silence,
+    expires_at: Moment,
+    canonical: Vec<u8>,
+    bucket: Vec<u8>,
+}
+
+impl Model for MeshSilence {
+    ghost use Rattle.std.specs.Prelude.{◌≡◌};
+    ghost use Rattle.am_silence.specs.Mesh.{Mesh, IsMesh, writes_mesh_silence, bucket_of};
+
+    ghost Value = { Mesh };
+
+    ghost view = { λ m. record { silence = m.silence; expires_at = m.expires_at } };
+
+    ghost invariant = { λ m. record {
+      canonical : m.canonical.items ≡ writes_mesh_silence (record { silence = m.silence; expires_at = m.expires_at });
+      bucket : m.bucket.items ≡ bucket_of m.silence.matchers;
+      value : IsMesh (record { silence = m.silence; expires_at = m.expires_at });
+    } };
+}
+
+impl MeshSilence {
+    /// A version of these parts. It refuses by [`WireError::TooLarge`] where its canonical text has over
+    /// 67,108,864 bytes, and by [`WireError::Memory`].
+    pub fn new(
+        alloc: Global,
+        silence: Silence,
+        expires_at: Moment,
+    ) -> Result<MeshSilence, WireError>
+        ensures parts { IfOk result (λ m. m ≡ record { silence = silence; expires_at = expires_at }) }
+        ensures within { IfOk result (λ m. length (writes_mesh_silence m) ≤ 67108864) }
+        ensures refused { IfErr result (λ e. (e ≡ errors.Memory) ⊎ ((e ≡ errors.TooLarge) × (67108864 < length (writes_mesh_silence (record { silence = silence; expires_at = expires_at }))))) }
+    {
+        let version = MeshSilence::of_parts(alloc, silence, expires_at)?;
+        if version.canonical().len() as u64 > MOST_MESSAGE_BYTES {
+            return Err(WireError::TooLarge);
+        }
+        Ok(version)
+    }
+
+    // A version of these parts, however long its text is.
+    #[tactic(auto, unfolding(crate::specs::Mesh::writes_mesh_silence))]
+    fn of_parts(
+        alloc: Global,
+        silence: Silence,
+        expires_at: Moment,
+    ) -> Result<MeshSilence, AllocError>
+        ensures { IfOk result (λ m. m ≡ record { silence = silence; expires_at = expires_at }) }
+    {
+        let mut canonical = Vec::new(alloc);
+        push_message(&mut canonical, 1, &silence)?;
+        push_message(&mut canonical, 2, &expires_at)?;
+        let bucket = bucket_text(alloc, silence.matchers.as_slice())?;
+        Ok(MeshSilence {
+            silence,
+            expires_at,
+            canonical,
+            bucket,
+        })
+    }
+
+    pub fn silence(&self) -> &Silence
+        ensures { result.now ≡ self.now.silence }
+    {
+        &self.silence
+    }
+
+    pub fn expires_at(&self) -> Moment
+        ensures { result ≡ self.now.expires_at }
+    {
+        self.expires_at
+    }
+}
+
+// A regular expression decides about the silence.
+fn has_regexp(matchers: &[Matcher]) -> bool
+    ensures { result ≡ list_any (λ m. is_regexp m.kind) matchers.now }
+{
+    matchers.iter().any(|matcher| matcher.kind.is_regexp())
+}
+
+// The first matcher that wants a label.
+fn first_wanting(matchers: &[Matcher]) -> Option<&Matcher>
+    ensures { option_copied result ≡ find wants_label matchers.now }
+{
+    matchers.iter().find(|matcher| matcher.wants_label())
+}
+
+// The canonical text of the matcher under which a silence is looked up, or nothing.
+fn bucket_text(alloc: Global, matchers: &[Matcher]) -> Result<Vec<u8>, AllocError>
+    ensures { IfOk result (λ bucket. bucket.items ≡ bucket_of matchers.now) }
+{
+    let mut bucket = Vec::new(alloc);
+    if has_regexp(matchers) {
+        return Ok(bucket);
+    }
+    if let Some(matcher) = first_wanting(matchers) {
+        matcher.put(&mut bucket)?;
+    }
+    Ok(bucket)
+}
+
+/// A silence that is passed on as it is read.
+#[derive(Drop)]
+pub struct MeshSilenceDraft<'a> {
+    silence: Part<SilenceDraft<'a>>,
+    expires_at: Part<TimestampDraft>,
+}
+
+impl Schema for MeshSilenceDraft<'_> {
+    ghost fitting = { mesh_silence.fits };
+
+    fn fits(number: u32, wire_type: WireType) -> bool
+        ensures { result ≡ mesh_silence.fits number wire_type }
+    {
+        match number {
+            1 | 2 => wire_type == WireType::Bytes,
+            _ => true,
+        }
+    }
+}
+
+impl<'a> Draft<'a> for MeshSilenceDraft<'a> {
+    ghost use Rattle.am_silence.specs.MeshTable.{mesh_silence_value, mesh_silence_tests};
+    ghost use Rattle.am_silence.specs.Drafts.{IsMeshSilenceDraft};
+
+    type Done = MeshSilence;
+
+    ghost inside = { mesh_silence.inside };
+
+    ghost holds = { IsMeshSilenceDraft };
+
+    ghost tests = { mesh_silence_tests };
+
+    ghost value = { mesh_silence_value };
+
+    fn start(alloc: Global) -> Self {
+        MeshSilenceDraft {
+            silence: Part::none(alloc),
+            expires_at: Part::none(alloc),
+        }
+    }
+
+    fn take(&mut self, field: Field<'a>) -> Result<(), WireError> {
+        match field.number {
+            1 => self.silence.put(field)?,
+            2 => self.expires_at.put(field)?,
+            _ => {}
+        }
+        Ok(())
+    }
+
+    fn finish(self, alloc: Global, _place: usize) -> Result<MeshSilence, WireError> {
+        if !self.silence.given {
+            return Err(WireError::MissingMessage { field: 1 });
+        }
+        let silence = self.silence.draft.finish(alloc, self.silence.at)?;
+        let expires_at = moment_in(alloc, self.expires_at)?;
+        let version = MeshSilence::of_parts(alloc, silence, expires_at)?;
+        Ok(version)
+    }
+}
+
+impl Message for MeshSilence {
+    ghost use Rattle.am_silence.specs.Mesh.{IsMesh};
+    ghost use Rattle.am_silence.specs.MeshTable.{reads_mesh_silence};
+    ghost use Rattle.am_silence.specs.Again.{mesh_again};
+
+    ghost is_value = { IsMesh };
+
+    ghost writes = { writes_mesh_silence };
+
+    ghost reads = { reads_mesh_silence };
+
+    ghost again = { mesh_again };
+
+    fn put(&self, out: &mut Vec<u8>) -> Result<(), AllocError> {
+        out.extend_from_slice(self.canonical())
+    }
+
+    fn encode(&self, out: &mut Vec<u8>) -> Result<(), WireError> {
+        append_text(out, self.canonical())
+    }
+
+    #[tactic(auto, unfolding(crate::specs::MeshTable::reads_mesh_silence))]
+    fn decode_at(alloc: Global, bytes: &[u8], at: usize) -> Result<MeshSilence, WireError> {
+        read_message::<MeshSilenceDraft>(alloc, bytes, at, at)
+    }
+}
+
+impl Version for MeshSilence {
+    ghost use Rattle.std.proofs.lemmas.Map.Lookups.{exact_bytes};
+    ghost use Rattle.am_silence.specs.Mesh.{IsMesh, mesh_version};
+    ghost use Rattle.am_silence.specs.Again.{mesh_exact};
+
+    type Key = Text;
+
+    ghost seen = { mesh_version };
+
+    ghost bucket_of = { λ m. bucket_of m.silence.matchers };
+
+    ghost is_value = { IsMesh };
+
+    fn key(&self) -> &Text {
+        &self.silence.id
+    }
+
+    fn try_key(&self, alloc: Global) -> Result<Text, AllocError> {
+        self.silence.id.try_clone(alloc)
+    }
+
+    fn updated(&self) -> Moment {
+        self.silence.updated_at
+    }
+
+    fn expires(&self) -> Moment {
+        self.expires_at
+    }
+
+    fn canonical(&self) -> &[u8] {
+        self.canonical.as_slice()
+    }
+
+    fn bucket(&self) -> &[u8] {
+        self.bucket.as_slice()
+    }
+
+    fn try_clone(&self, alloc: Global) -> Result<MeshSilence, AllocError> {
+        Ok(MeshSilence {
+            silence: self.silence.try_clone(alloc)?,
+            expires_at: self.expires_at,
+            canonical: self.canonical.clone()?,
+            bucket: self.bucket.clone()?,
+        })
+    }
+
+    ghost exact_keys = { exact_bytes };
+
+    ghost exact = { mesh_exact };
+}

@@ -1,0 +1,190 @@
+//! Silences.
+
+ghost use Rattle.std.specs.Prelude.{◌≡◌, ℕ, List, [], ◌∷◌, ◌++◌, OnOk, IfOk, IfErr};
+ghost use Rattle.std.specs.Prelude.{All, if◌then◌else◌};
+ghost use Rattle.am_silence.specs.Matchers.{IsMatcher, writes_matcher};
+ghost use Rattle.am_wire.specs.Writing.{put_messages};
+ghost use Rattle.am_silence.specs.Silences.{silence};
+
+use crate::comment::FirstComment;
+use crate::matcher::{Matcher, MatcherDraft, Matchers};
+use am_version_order::Moment;
+use am_wire::{
+    Draft, Field, LastText, Message, Part, Schema, Text, TimestampDraft, WireError, WireType,
+    moment_in, push_item, push_message, push_text, read_message,
+};
+use std::alloc::{AllocError, Global};
+
+/// A silence: from `starts_at` until `ends_at`, alerts whose labels pass all matchers are muted.
+#[derive(Debug, Drop)]
+pub struct Silence {
+    pub id: Text,
+    pub matchers: Matchers,
+    pub starts_at: Moment,
+    pub ends_at: Moment,
+    pub updated_at: Moment,
+    pub created_by: Text,
+    pub comment: Text,
+}
+
+impl Silence {
+    /// A copy, or want of memory.
+    pub fn try_clone(&self, alloc: Global) -> Result<Silence, AllocError>
+        ensures { IfOk result (λ copy. copy ≡ self.now) }
+    {
+        Ok(Silence {
+            id: self.id.try_clone(alloc)?,
+            matchers: self.matchers.try_clone(alloc)?,
+            starts_at: self.starts_at,
+            ends_at: self.ends_at,
+            updated_at: self.updated_at,
+            created_by: self.created_by.try_clone(alloc)?,
+            comment: self.comment.try_clone(alloc)?,
+        })
+    }
+}
+
+/// A silence as it is read.
+#[derive(Drop)]
+pub struct SilenceDraft<'a> {
+    alloc: Global,
+    id: LastText<'a>,
+    matchers: Vec<Matcher>,
+    starts_at: Part<TimestampDraft>,
+    ends_at: Part<TimestampDraft>,
+    updated_at: Part<TimestampDraft>,
+    first_comment: FirstComment<'a>,
+    created_by: LastText<'a>,
+    comment: LastText<'a>,
+}
+
+impl<'a> SilenceDraft<'a> {
+    // Who made the silence and why; an old comment replaces both.
+    fn author_and_comment(&self) -> (&'a str, &'a str)
+        ensures author { result.0.now ≡ (if self.now.first_comment.given then self.now.first_comment.author.now else self.now.created_by.text.now) }
+        ensures comment { result.1.now ≡ (if self.now.first_comment.given then self.now.first_comment.text.now else self.now.comment.text.now) }
+    {
+        if self.first_comment.given {
+            (self.first_comment.author, self.first_comment.text)
+        } else {
+            (self.created_by.text, self.comment.text)
+        }
+    }
+}
+
+impl Schema for SilenceDraft<'_> {
+    ghost fitting = { silence.fits };
+
+    fn fits(number: u32, wire_type: WireType) -> bool
+        ensures { result ≡ silence.fits number wire_type }
+    {
+        match number {
+            1..=5 | 7..=9 => wire_type == WireType::Bytes,
+            _ => true,
+        }
+    }
+}
+
+impl<'a> Draft<'a> for SilenceDraft<'a> {
+    ghost use Rattle.am_silence.specs.Silences.{silence_value, silence_tests};
+    ghost use Rattle.am_silence.specs.Drafts.{IsSilenceDraft};
+
+    type Done = Silence;
+
+    ghost inside = { silence.inside };
+
+    ghost holds = { IsSilenceDraft };
+
+    ghost tests = { silence_tests };
+
+    ghost value = { silence_value };
+
+    fn start(alloc: Global) -> Self {
+        SilenceDraft {
+            alloc,
+            id: LastText::none(),
+            matchers: Vec::new(alloc),
+            starts_at: Part::none(alloc),
+            ends_at: Part::none(alloc),
+            updated_at: Part::none(alloc),
+            first_comment: FirstComment::none(),
+            created_by: LastText::none(),
+            comment: LastText::none(),
+        }
+    }
+
+    fn take(&mut self, field: Field<'a>) -> Result<(), WireError> {
+        match field.number {
+            1 => self.id.put(field)?,
+            2 => push_item::<MatcherDraft>(self.alloc, &mut self.matchers, field)?,
+            3 => self.starts_at.put(field)?,
+            4 => self.ends_at.put(field)?,
+            5 => self.updated_at.put(field)?,
+            7 => self.first_comment.put(self.alloc, field)?,
+            8 => self.created_by.put(field)?,
+            9 => self.comment.put(field)?,
+            _ => {}
+        }
+        Ok(())
+    }
+
+    fn finish(self, alloc: Global, _place: usize) -> Result<Silence, WireError> {
+        let (created_by, comment) = self.author_and_comment();
+        let starts_at = moment_in(alloc, self.starts_at)?;
+        let ends_at = moment_in(alloc, self.ends_at)?;
+        let updated_at = moment_in(alloc, self.updated_at)?;
+        let id = Text::copied(alloc, self.id.text)?;
+        let created_by = Text::copied(alloc, created_by)?;
+        let comment = Text::copied(alloc, comment)?;
+        Ok(Silence {
+            id,
+            matchers: Matchers::new(self.matchers),
+            starts_at,
+            ends_at,
+            updated_at,
+            created_by,
+            comment,
+        })
+    }
+}
+
+/// Writes each matcher as a field.
+fn push_matchers(out: &mut Vec<u8>, matchers: &[Matcher]) -> Result<(), AllocError>
+    ensures written { OnOk result (out.new.items ≡ out.old.items ++ put_messages writes_matcher 2 matchers.now) }
+    ensures value { OnOk result (All IsMatcher matchers.now) }
+{
+    for matcher in matchers {
+        push_message(out, 2, matcher)?;
+    }
+    Ok(())
+}
+
+impl Message for Silence {
+    ghost use Rattle.am_silence.specs.Silences.{IsSilence, reads_silence, writes_silence};
+    ghost use Rattle.am_silence.specs.Again.{silence_again};
+
+    ghost is_value = { IsSilence };
+
+    ghost writes = { writes_silence };
+
+    ghost reads = { reads_silence };
+
+    ghost again = { silence_again };
+
+    #[tactic(auto, unfolding(crate::specs::Silences::writes_silence))]
+    fn put(&self, out: &mut Vec<u8>) -> Result<(), AllocError> {
+        push_text(out, 1, self.id.as_str())?;
+        push_matchers(out, self.matchers.as_slice())?;
+        push_message(out, 3, &self.starts_at)?;
+        push_message(out, 4, &self.ends_at)?;
+        push_message(out, 5, &self.updated_at)?;
+        push_text(out, 8, self.created_by.as_str())?;
+        push_text(out, 9, self.comment.as_str())?;
+        Ok(())
+    }
+
+    #[tactic(auto, unfolding(crate::specs::Silences::reads_silence))]
+    fn decode_at(alloc: Global, bytes: &[u8], at: usize) -> Result<Silence, WireError> {
+        read_message::<SilenceDraft>(alloc, bytes, at, at)
+    }
+}

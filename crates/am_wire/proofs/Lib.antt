@@ -1,0 +1,11 @@
+pub mod Groups
+pub mod Items
+pub mod Taking
+pub mod Picked
+pub mod Shortest
+pub mod Spelled
+pub mod Faults
+pub mod Found
+pub mod Exact
+pub mod ReaderLemmas
+pub mod Unpacking

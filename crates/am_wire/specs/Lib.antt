@@ -1,0 +1,12 @@
+pub mod Varint
+pub mod Length
+pub mod Fields
+pub mod Reading
+pub mod Parts
+pub mod Rows
+pub mod Writing
+pub mod Timestamps
+pub mod TimestampDrafts
+pub mod Grammar
+pub mod Again
+pub mod Reader

@@ -1,0 +1,214 @@
+-- How a message is read from the list of its fields: its first fault, or its value.
+use Rattle.std.specs.Prelude.{◌≡◌, ◌≢◌, ℕ, Bool, true, false, List, [], ◌∷◌, Option, Some, None, Result, Ok, Err, ◌==◌, if◌then◌else◌}
+use Rattle.std.specs.List.{flat_map}
+use Rattle.std.specs.Str.{is_utf8}
+use Rattle.am_wire.specs.declared.error.WireError.{WireError}
+use Rattle.am_wire.specs.declared.error.WireError.TheVariants as errors
+use Rattle.am_wire.specs.declared.value.WireType.{WireType}
+use Rattle.am_wire.specs.declared.value.WireType.TheVariants as kinds
+use Rattle.am_wire.specs.Varint.{varint_at}
+use Rattle.am_wire.specs.Fields.{varint, chunk, FieldAt, fields_of, pieces}
+
+-- ---- faults
+
+-- the first of two faults
+infixl 10 ◌then◌
+abbrev pub ◌then◌ : Option WireError → Option WireError → Option WireError
+(Some e) then later = Some e
+None then later = later
+
+-- The first fault of fields that are met one after the other, where `inside` is the fault inside a field.
+abbrev pub scan : (FieldAt → Option WireError) → List (Result FieldAt WireError) → Option WireError
+scan inside [] = None
+scan inside (Ok e ∷ items) = inside e then scan inside items
+scan inside (Err fault ∷ items) = Some fault
+
+-- the fields before the first fault
+abbrev pub sound_fields : List (Result FieldAt WireError) → List FieldAt
+sound_fields [] = []
+sound_fields (Ok e ∷ items) = e ∷ sound_fields items
+sound_fields (Err fault ∷ items) = []
+
+-- a call's error is the first fault, unless memory ran out
+abbrev pub Fails : WireError → Option WireError → Type 0
+Fails e fault = e ≢ errors.Memory → fault ≡ Some e
+
+-- ---- a message: which wire types its numbers have, and what is at fault inside a field
+pub record Table : Type 0 where
+  pub fits : ℕ → WireType → Bool
+  pub inside : FieldAt → Option WireError
+
+abbrev pub fields_in : Table → ℕ → List ℕ → List FieldAt
+fields_in table at bytes = sound_fields (fields_of table.fits at bytes)
+
+abbrev pub faults_in : Table → ℕ → List ℕ → Option WireError
+faults_in table at bytes = scan table.inside (fields_of table.fits at bytes)
+
+-- what `fault` finds inside a payload of bytes, which begin at an offset; nothing is at fault inside other payloads
+abbrev pub in_chunk : (ℕ → List ℕ → Option WireError) → FieldAt → Option WireError
+in_chunk fault e = elim e.payload [ chunk at bytes ↦ fault at bytes | _ ↦ None ]
+
+-- inside a text
+abbrev pub text_fault : FieldAt → Option WireError
+text_fault e = in_chunk (λ at bytes. if is_utf8 bytes then None else Some (errors.NotUtf8 e.at)) e
+
+-- inside a message that a message holds once: its own tests come later
+abbrev pub part_fault : Table → FieldAt → Option WireError
+part_fault table e = in_chunk (faults_in table) e
+
+-- inside one of many messages: it ends with its payload, and its tests stand at its tag
+abbrev pub item_fault : Table → (ℕ → List FieldAt → Option WireError) → FieldAt → Option WireError
+item_fault table tests e = in_chunk (λ at bytes. faults_in table at bytes then tests e.at (fields_in table at bytes)) e
+
+-- ---- values
+
+-- what `view` sees in the fields of a number, in order
+abbrev pub picked : {A : Type 0} → (FieldAt → List A) → ℕ → List FieldAt → List A
+picked view n es = flat_map (λ e. if e.number == n then view e else []) es
+
+-- the last of the list, and of an empty one d
+abbrev pub last_or : {A : Type 0} → A → List A → A
+last_or d [] = d
+last_or d (x ∷ xs) = last_or x xs
+
+-- the number, the bytes or the message in a field, where it has one
+abbrev pub varint_in : FieldAt → List ℕ
+varint_in e = elim e.payload [ varint n ↦ n ∷ [] | _ ↦ [] ]
+
+abbrev pub chunk_in : FieldAt → List (List ℕ)
+chunk_in e = elim e.payload [ chunk at bytes ↦ bytes ∷ [] | _ ↦ [] ]
+
+abbrev pub message_in : Table → FieldAt → List (List FieldAt)
+message_in table e = elim e.payload [ chunk at bytes ↦ fields_in table at bytes ∷ [] | _ ↦ [] ]
+
+-- the same as one list of fields, so that several payloads can be joined
+abbrev pub parts_in : Table → FieldAt → List FieldAt
+parts_in table e = elim e.payload [ chunk at bytes ↦ fields_in table at bytes | _ ↦ [] ]
+
+-- the table of these two
+abbrev pub table_at : (ℕ → WireType → Bool) → (FieldAt → Option WireError) → Table
+table_at fits inside = record { fits = fits; inside = inside }
+
+-- of a number that is given more than once the last counts; a missing one is 0, and a missing text is empty
+abbrev pub last_number : ℕ → List FieldAt → ℕ
+last_number n es = last_or 0 (picked varint_in n es)
+
+abbrev pub last_text : ℕ → List FieldAt → List ℕ
+last_text n es = last_or [] (picked chunk_in n es)
+
+-- each message of a number, as its fields
+abbrev pub messages : Table → ℕ → List FieldAt → List (List FieldAt)
+messages table n es = picked (message_in table) n es
+
+-- the message of a number, read from its payloads joined
+abbrev pub joined : Table → ℕ → List FieldAt → List FieldAt
+joined table n es = picked (parts_in table) n es
+
+-- ---- a message's table: one row for each number
+pub record Row : Type 0 where
+  pub row_number : ℕ
+  pub takes : WireType → Bool
+  pub row_inside : FieldAt → Option WireError
+
+abbrev pub is_varint : WireType → Bool
+is_varint kind = elim kind [ kinds.Varint ↦ true | _ ↦ false ]
+
+abbrev pub is_bytes : WireType → Bool
+is_bytes kind = elim kind [ kinds.Bytes ↦ true | _ ↦ false ]
+
+abbrev pub varint_row : ℕ → Row
+varint_row n = record { row_number = n; takes = is_varint; row_inside = λ e. None }
+
+abbrev pub text_row : ℕ → Row
+text_row n = record { row_number = n; takes = is_bytes; row_inside = text_fault }
+
+abbrev pub part_row : ℕ → Table → Row
+part_row n table = record { row_number = n; takes = is_bytes; row_inside = part_fault table }
+
+abbrev pub item_row : ℕ → Table → (ℕ → List FieldAt → Option WireError) → Row
+item_row n table tests = record { row_number = n; takes = is_bytes; row_inside = item_fault table tests }
+
+-- an unknown number may have any wire type, and nothing in it is at fault
+abbrev pub fits_by : List Row → ℕ → WireType → Bool
+fits_by [] n kind = true
+fits_by (row ∷ rows) n kind = if n == row.row_number then row.takes kind else fits_by rows n kind
+
+abbrev pub inside_by : List Row → FieldAt → Option WireError
+inside_by [] e = None
+inside_by (row ∷ rows) e = if e.number == row.row_number then row.row_inside e else inside_by rows e
+
+abbrev pub table_of : List Row → Table
+table_of rows = record { fits = fits_by rows; inside = inside_by rows }
+
+-- ---- a whole message: the first fault in its fields, then its tests, then its value. `place` is what its
+-- tests are put down to, where they have no field of the message itself.
+abbrev pub judged : {A : Type 0} → Option WireError → A → Result A WireError
+judged (Some fault) value = Err fault
+judged None value = Ok value
+
+abbrev pub read_by : {A : Type 0} → Table → (ℕ → List FieldAt → Option WireError) → (List FieldAt → A) → ℕ → ℕ → List ℕ → Result A WireError
+read_by table tests value place at bytes =
+    judged (faults_in table at bytes then tests place (fields_in table at bytes)) (value (fields_in table at bytes))
+
+-- a call answers what reading gives, unless memory ran out
+abbrev pub Gives : {A : Type 0} → Result A WireError → Result A WireError → Type 0
+Gives (Ok x) read = read ≡ Ok x
+Gives (Err e) read = e ≢ errors.Memory → read ≡ Err e
+
+-- where the last number or the last payload of bytes stands
+abbrev pub varint_place : FieldAt → List ℕ
+varint_place e = elim e.payload [ varint n ↦ e.at ∷ [] | _ ↦ [] ]
+
+abbrev pub chunk_place : FieldAt → List ℕ
+chunk_place e = elim e.payload [ chunk at bytes ↦ e.at ∷ [] | _ ↦ [] ]
+
+abbrev pub last_number_place : ℕ → List FieldAt → ℕ
+last_number_place n es = last_or 0 (picked varint_place n es)
+
+abbrev pub last_place : ℕ → List FieldAt → ℕ
+last_place n es = last_or 0 (picked chunk_place n es)
+
+-- whether a message of the number was given
+abbrev pub chunk_given : FieldAt → List Bool
+chunk_given e = elim e.payload [ chunk at bytes ↦ true ∷ [] | _ ↦ [] ]
+
+abbrev pub is_given : ℕ → List FieldAt → Bool
+is_given n es = last_or false (picked chunk_given n es)
+
+-- ---- lists of numbers, one to a field or packed
+-- those before the first fault, and that fault
+abbrev pub kept : {A : Type 0} → List (Result A WireError) → List A
+kept [] = []
+kept (Ok x ∷ xs) = x ∷ kept xs
+kept (Err e ∷ xs) = []
+
+abbrev pub first_fault : {A : Type 0} → List (Result A WireError) → Option WireError
+first_fault [] = None
+first_fault (Ok x ∷ xs) = first_fault xs
+first_fault (Err e ∷ xs) = Some e
+
+-- the numbers packed in bytes; a fault is put down to the field's tag
+abbrev pub unpacked : ℕ → List ℕ → List (Result ℕ WireError)
+unpacked tag bytes = pieces (λ at text. varint_at tag text) 0 0 bytes
+
+abbrev pub numbers_in : FieldAt → List ℕ
+numbers_in e = elim e.payload [ varint n ↦ n ∷ [] | chunk at bytes ↦ kept (unpacked e.at bytes) | _ ↦ [] ]
+
+-- a list takes single numbers and packed ones
+abbrev pub is_varint_or_bytes : WireType → Bool
+is_varint_or_bytes kind = elim kind [ kinds.Varint ↦ true | kinds.Bytes ↦ true | _ ↦ false ]
+
+-- inside numbers that are packed
+abbrev pub numbers_fault : FieldAt → Option WireError
+numbers_fault e = in_chunk (λ at bytes. first_fault (unpacked e.at bytes)) e
+
+abbrev pub numbers_row : ℕ → Row
+numbers_row n = record { row_number = n; takes = is_varint_or_bytes; row_inside = numbers_fault }
+
+-- bytes that need not be a text
+abbrev pub blob_row : ℕ → Row
+blob_row n = record { row_number = n; takes = is_bytes; row_inside = λ e. None }
+
+-- all numbers of a field's number, in order
+abbrev pub all_numbers : ℕ → List FieldAt → List ℕ
+all_numbers n es = picked numbers_in n es

@@ -1,0 +1,36 @@
+//! The wire form: varints, fields, messages and rows.
+#![tactic(auto)]
+
+mod draft;
+mod error;
+mod field;
+mod fields;
+pub mod laws;
+mod lists;
+mod message;
+mod parts;
+mod reader;
+mod rows;
+mod text;
+mod timestamp;
+mod value;
+mod varint;
+mod writing;
+
+pub use draft::{Draft, read_message, take_fields};
+pub use error::WireError;
+pub use field::{AnyField, Schema};
+pub use fields::{Fields, Scan};
+pub use lists::{LastBytes, pack_numbers, push_bytes, push_numbers};
+pub use message::{Message, push_message};
+pub use parts::{LastNumber, LastText, Part, push_item};
+pub use reader::{RowFault, RowReader, Standing};
+pub use rows::{MOST_MESSAGE_BYTES, Rows};
+pub use text::Text;
+pub use timestamp::{TimestampDraft, moment_in};
+pub use value::{Field, Value, WireType};
+pub use varint::{VarintBytes, read_varint, write_varint};
+pub use writing::{append_text, begin_chunk, end_chunk, push_chunk, push_number, push_text};
+
+#[cfg(test)]
+mod tests;

@@ -1,0 +1,101 @@
+//! Bytes that need not be a text, and lists of numbers, one to a field or packed.
+
+ghost use Rattle.std.specs.Prelude.{◌≡◌, ℕ, List, [], ◌∷◌, ◌++◌, Option, None, Some, ◌<◌, ◌^◌, length, All, OnOk, IfErr};
+ghost use Rattle.std.specs.List.{flat_map};
+ghost use Rattle.am_wire.specs.Fields.{field_of};
+ghost use Rattle.am_wire.specs.Reading.{Fails, last_or, chunk_in, numbers_in, numbers_fault, kept, first_fault, unpacked};
+ghost use Rattle.am_wire.specs.Varint.{shortest};
+ghost use Rattle.am_wire.specs.Writing.{put_chunk, put_text, put_numbers};
+
+use crate::error::WireError;
+use crate::value::{Field, Value};
+use crate::varint::{varint_from, write_varint};
+use crate::writing::{begin_chunk, end_chunk, push_chunk};
+use std::alloc::AllocError;
+
+/// The last bytes of a field.
+#[derive(Clone, Copy)]
+pub struct LastBytes<'a> {
+    pub bytes: &'a [u8],
+}
+
+impl<'a> LastBytes<'a> {
+    /// No field came yet.
+    pub fn none() -> Self
+        ensures { result.bytes.now ≡ [] }
+    {
+        LastBytes { bytes: &[] }
+    }
+
+    pub fn put(&mut self, field: Field<'a>)
+        ensures { self.new.bytes.now ≡ last_or self.old.bytes.now (chunk_in (field_of field.entry)) }
+    {
+        if let Value::Bytes(bytes) = field.value {
+            self.bytes = bytes;
+        }
+    }
+}
+
+/// Reads the numbers in a field, packed or not, and puts them behind those before them.
+pub fn push_numbers(numbers: &mut Vec<u64>, field: Field<'_>) -> Result<(), WireError>
+    ensures held { OnOk result (numbers.new.items ≡ numbers.old.items ++ numbers_in (field_of field.entry)) }
+    ensures clean { OnOk result (numbers_fault (field_of field.entry) ≡ None) }
+    ensures fault { IfErr result (λ e. Fails e (numbers_fault (field_of field.entry))) }
+{
+    match field.value {
+        Value::Varint(number) => numbers.push(number)?,
+        Value::Bytes(bytes) => unpack(numbers, bytes, field.at)?,
+        Value::Eight(_) | Value::Four(_) => {}
+    }
+    Ok(())
+}
+
+// Reads the numbers that are packed in bytes; a fault is put down to `at`.
+fn unpack(numbers: &mut Vec<u64>, bytes: &[u8], at: usize) -> Result<(), WireError>
+    ensures held { OnOk result (numbers.new.items ≡ numbers.old.items ++ kept (unpacked at bytes.now)) }
+    ensures clean { OnOk result (first_fault (unpacked at bytes.now) ≡ None) }
+    ensures fault { IfErr result (λ e. Fails e (first_fault (unpacked at bytes.now))) }
+{
+    let mut rest = bytes;
+    while !rest.is_empty() {
+        let (number, len) = varint_from(rest, at)?;
+        numbers.push(number)?;
+        rest = &rest[len..];
+    }
+    Ok(())
+}
+
+/// Writes bytes as a field, where there are any.
+pub fn push_bytes(out: &mut Vec<u8>, number: u32, bytes: &[u8]) -> Result<(), AllocError>
+    requires { number < 2 ^ 29 }
+    ensures ok { OnOk result (out.new.items ≡ out.old.items ++ put_text number bytes.now) }
+{
+    if !bytes.is_empty() {
+        push_chunk(out, number, bytes)?;
+    }
+    Ok(())
+}
+
+/// Writes numbers packed in one field, where there are any.
+pub fn pack_numbers(out: &mut Vec<u8>, number: u32, numbers: &[u64]) -> Result<(), AllocError>
+    requires { number < 2 ^ 29 }
+    ensures ok { OnOk result (out.new.items ≡ out.old.items ++ put_numbers number numbers.now) }
+    ensures range { All (λ n. n < 2 ^ 64) numbers.now }
+{
+    if !numbers.is_empty() {
+        let start = begin_chunk(out, number)?;
+        push_varints(out, numbers)?;
+        end_chunk(out, start)?;
+    }
+    Ok(())
+}
+
+// Writes numbers one after the other.
+fn push_varints(out: &mut Vec<u8>, numbers: &[u64]) -> Result<(), AllocError>
+    ensures ok { OnOk result (out.new.items ≡ out.old.items ++ flat_map shortest numbers.now) }
+{
+    for number in numbers {
+        out.extend_from_slice(write_varint(*number).as_slice())?;
+    }
+    Ok(())
+}

@@ -1,0 +1,73 @@
+//! Messages, which are written in one way and read from every spelling.
+
+ghost use Rattle.std.specs.Prelude.{◌≡◌, ℕ, List, ◌++◌, ◌+◌, ◌<◌, ◌≤◌, ◌^◌, Result, Ok, OnOk, OnErr, IfErr, ◌⊎◌, length};
+ghost use Rattle.am_wire.specs.Reading.{Gives};
+ghost use Rattle.am_wire.specs.Writing.{put_chunk};
+ghost use Rattle.am_wire.specs.declared.error.WireError.{WireError};
+ghost use Rattle.am_wire.specs.declared.error.WireError.TheVariants as errors;
+
+use crate::error::WireError;
+use crate::writing::{append_text, begin_chunk, end_chunk};
+use std::alloc::{AllocError, Global};
+
+/// A value that has one text of its own, and is read from every text that spells it.
+pub trait Message: Sized + Drop {
+    /// Holds of the values of the type.
+    ghost is_value: { Self → Type 0 };
+
+    /// The one text of a value.
+    ghost writes: { Self → List ℕ };
+
+    /// The value that a text spells, or the first fault; the text begins at this offset of the outermost input.
+    ghost reads: { ℕ → List ℕ → Result Self WireError };
+
+    /// Writes the text at the end of the bytes. Want of memory may leave a part of it there.
+    fn put(&self, out: &mut Vec<u8>) -> Result<(), AllocError>
+        ensures written { OnOk result (out.new.items ≡ out.old.items ++ writes self.now) }
+        ensures value { OnOk result (is_value self.now) };
+
+    /// Writes the text at the end of the bytes, which grow by their own allocator. It refuses by
+    /// [`WireError::TooLarge`] and [`WireError::Memory`] alone, and leaves the bytes as they were.
+    fn encode(&self, out: &mut Vec<u8>) -> Result<(), WireError>
+        ensures written { OnOk result (out.new.items ≡ out.old.items ++ writes self.now) }
+        ensures value { OnOk result (is_value self.now) }
+        ensures size { OnOk result (length (writes self.now) ≤ 67108864) }
+        ensures unchanged { OnErr result (out.new.items ≡ out.old.items) }
+        ensures refused { IfErr result (λ e. (e ≡ errors.Memory) ⊎ ((e ≡ errors.TooLarge) × (67108864 < length (writes self.now)))) }
+    {
+        let mut text = Vec::new(*out.allocator());
+        self.put(&mut text)?;
+        append_text(out, &text)
+    }
+
+    /// Reads a value from all of the bytes, which begin at the offset `at` of the outermost input, or answers
+    /// the first fault in them.
+    fn decode_at(alloc: Global, bytes: &[u8], at: usize) -> Result<Self, WireError>
+        requires { at + length bytes.now < 2 ^ 64 }
+        ensures { Gives result (reads at bytes.now) };
+
+    /// Reads a value from all of the bytes, or answers the first fault in them.
+    fn decode(alloc: Global, bytes: &[u8]) -> Result<Self, WireError>
+        ensures { Gives result (reads 0 bytes.now) }
+    {
+        Self::decode_at(alloc, bytes, 0)
+    }
+
+    /// What is written is read again, wherever it stands.
+    ghost again: { (v : Self) (at : ℕ) → is_value v → length (writes v) < 2 ^ 64 → reads at (writes v) ≡ Ok v };
+}
+
+/// Writes a message as a field, also where its text is empty. Want of memory may leave a part of it.
+pub fn push_message<M: Message>(
+    out: &mut Vec<u8>,
+    number: u32,
+    message: &M,
+) -> Result<(), AllocError>
+    requires { number < 2 ^ 29 }
+    ensures written { OnOk result (out.new.items ≡ out.old.items ++ put_chunk number (M.writes message.now)) }
+    ensures value { OnOk result (M.is_value message.now) }
+{
+    let start = begin_chunk(out, number)?;
+    message.put(out)?;
+    end_chunk(out, start)
+}

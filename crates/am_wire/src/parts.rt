@@ -1,0 +1,125 @@
+//! The parts of a message as they are read: of each number what counts so far.
+
+ghost use Rattle.std.specs.Prelude.{◌≡◌, ℕ, false, List, [], ◌∷◌, ◌++◌, None, Some, ◌+◌, ◌<◌, ◌^◌, length, map, OnOk, IfErr};
+ghost use Rattle.am_wire.specs.Fields.{FieldAt, field_of};
+ghost use Rattle.am_wire.specs.Reading.{Fails, Table, last_or, varint_in, varint_place, chunk_in, chunk_place, chunk_given, text_fault, item_fault, message_in, part_fault, parts_in, table_at};
+
+use crate::draft::{Draft, read_message, take_fields};
+use crate::error::WireError;
+use crate::value::{Field, Value};
+use std::alloc::Global;
+
+/// The last number of a field, and where it stands.
+#[derive(Clone, Copy)]
+pub struct LastNumber {
+    pub value: u64,
+    pub at: usize,
+}
+
+impl LastNumber {
+    /// No field came yet.
+    pub fn none() -> Self
+        ensures value { result.value ≡ 0 }
+        ensures at { result.at ≡ 0 }
+    {
+        LastNumber { value: 0, at: 0 }
+    }
+
+    pub fn put(&mut self, field: Field<'_>)
+        ensures value { self.new.value ≡ last_or self.old.value (varint_in (field_of field.entry)) }
+        ensures at { self.new.at ≡ last_or self.old.at (varint_place (field_of field.entry)) }
+    {
+        if let Value::Varint(value) = field.value {
+            self.value = value;
+            self.at = field.at;
+        }
+    }
+}
+
+/// The last text of a field.
+#[derive(Clone, Copy)]
+pub struct LastText<'a> {
+    pub text: &'a str,
+}
+
+impl<'a> LastText<'a> {
+    /// No field came yet.
+    pub fn none() -> Self
+        ensures { result.text.now ≡ [] }
+    {
+        LastText { text: "" }
+    }
+
+    pub fn put(&mut self, field: Field<'a>) -> Result<(), WireError>
+        ensures held { OnOk result (self.new.text.now ≡ last_or self.old.text.now (chunk_in (field_of field.entry))) }
+        ensures clean { OnOk result (text_fault (field_of field.entry) ≡ None) }
+        ensures fault { IfErr result (λ e. Fails e (text_fault (field_of field.entry))) }
+    {
+        if let Value::Bytes(bytes) = field.value {
+            let Ok(text) = str::from_utf8(bytes) else {
+                return Err(WireError::NotUtf8 { at: field.at });
+            };
+            self.text = text;
+        }
+        Ok(())
+    }
+}
+
+/// A message that is held once, and where it was last given.
+#[derive(Drop)]
+pub struct Part<D> {
+    pub draft: D,
+    pub at: usize,
+    pub given: bool,
+}
+
+impl<D> Part<D> {
+    /// No payload came yet.
+    pub fn none<'a>(alloc: Global) -> Self
+    where
+        D: Draft<'a>,
+        ensures draft { D.holds [] result.draft }
+        ensures at { result.at ≡ 0 }
+        ensures given { result.given ≡ false }
+    {
+        Part {
+            draft: D::start(alloc),
+            at: 0,
+            given: false,
+        }
+    }
+
+    pub fn put<'a>(&mut self, field: Field<'a>) -> Result<(), WireError>
+    where
+        D: Draft<'a>,
+        ensures held { OnOk result ((es : List FieldAt) → D.holds es self.old.draft → D.holds (es ++ parts_in (table_at D.fitting D.inside) (field_of field.entry)) self.new.draft) }
+        ensures at { OnOk result (self.new.at ≡ last_or self.old.at (chunk_place (field_of field.entry))) }
+        ensures given { OnOk result (self.new.given ≡ last_or self.old.given (chunk_given (field_of field.entry))) }
+        ensures clean { OnOk result (part_fault (table_at D.fitting D.inside) (field_of field.entry) ≡ None) }
+        ensures fault { IfErr result (λ e. Fails e (part_fault (table_at D.fitting D.inside) (field_of field.entry))) }
+    {
+        if let Value::Bytes(bytes) = field.value {
+            take_fields(&mut self.draft, bytes, field.inside)?;
+            self.at = field.at;
+            self.given = true;
+        }
+        Ok(())
+    }
+}
+
+/// Reads the message in a field, and puts it behind those before it.
+pub fn push_item<'a, D: Draft<'a>>(
+    alloc: Global,
+    items: &mut Vec<D::Done>,
+    field: Field<'a>,
+) -> Result<(), WireError>
+    ensures held { OnOk result (items.new.items ≡ items.old.items ++ map D.value (message_in (table_at D.fitting D.inside) (field_of field.entry))) }
+    ensures clean { OnOk result (item_fault (table_at D.fitting D.inside) D.tests (field_of field.entry) ≡ None) }
+    ensures fault { IfErr result (λ e. Fails e (item_fault (table_at D.fitting D.inside) D.tests (field_of field.entry))) }
+{
+    if let Value::Bytes(bytes) = field.value {
+        let item = read_message::<D>(alloc, bytes, field.inside, field.at)?;
+        items.push(item)?;
+    }
+    Ok(())
+}

@@ -1,0 +1,243 @@
+//! Messages of a row, read one after the other.
+
+ghost use Rattle.std.specs.Prelude.{◌≡◌, ℕ, List, [], ◌∷◌, ◌++◌, ◌+◌, ◌<◌, ◌≤◌, ◌^◌, None, length, vec_len, IfOk, IfErr, IfSome, MatchResult};
+ghost use Rattle.std.specs.Io.KnownBytes.{Consumes, IsAtEnd};
+ghost use Rattle.am_wire.specs.Reader.{most, IsRow, Stops, Answers, row_fault, ByteStops, length_at, IsLength, BytesStop};
+ghost use Rattle.am_wire.specs.declared.reader.RowFault.TheVariants.{Memory};
+ghost use Rattle.am_wire.specs.declared.reader.Standing.TheVariants.{Before};
+
+use crate::error::WireError;
+use crate::message::Message;
+use crate::rows::MOST_MESSAGE_BYTES;
+use crate::varint::varint_from;
+use std::alloc::{AllocError, Global};
+use std::io::Read;
+use std::marker::{Model, PhantomData};
+use thiserror::Error;
+
+/// Why a message of a row was not read.
+#[derive(Clone, Copy, Debug, PartialEq, Eq, Error)]
+pub enum RowFault {
+    #[error("a read failed after {at} bytes")]
+    Read { at: usize },
+    #[error("{0}")]
+    Wire(WireError),
+    #[error("the input is too large")]
+    TooLarge,
+    #[error("the reading ended with an earlier fault")]
+    Ended,
+    #[error("out of memory")]
+    Memory,
+}
+
+impl From<WireError> for RowFault {
+    ghost from_gives = { λ e fault. fault ≡ row_fault e };
+
+    fn from(e: WireError) -> RowFault {
+        match e {
+            WireError::Memory => RowFault::Memory,
+            fault => RowFault::Wire(fault),
+        }
+    }
+}
+
+impl From<AllocError> for RowFault {
+    ghost from_gives = { λ _ fault. fault ≡ Memory };
+
+    fn from(_e: AllocError) -> RowFault {
+        RowFault::Memory
+    }
+}
+
+/// Where a reader of rows stands.
+#[derive(Clone, Copy, Debug, PartialEq, Eq)]
+pub enum Standing {
+    /// The next row begins at this offset.
+    Before { at: usize },
+    /// The input has ended.
+    Over,
+    /// A call was refused.
+    Refused,
+}
+
+/// Reads a row of messages, and holds only the one that is being read.
+#[derive(Drop)]
+pub struct RowReader<V: Message> {
+    alloc: Global,
+    standing: Standing,
+    of: PhantomData<V>,
+}
+
+/// Seen as where it stands.
+impl<V: Message> Model for RowReader<V> {
+    ghost use Rattle.std.specs.Prelude.{◌≡◌, ℕ, ◌≤◌};
+    ghost use Rattle.am_wire.specs.Reader.{most};
+    ghost use Rattle.am_wire.specs.declared.reader.Standing.{Standing};
+    ghost use Rattle.am_wire.specs.declared.reader.Standing.TheVariants.{Before};
+
+    ghost Value = { Standing };
+
+    ghost view = { λ r. r.standing };
+
+    ghost invariant = { λ r. (at : ℕ) → r.standing ≡ Before at → at ≤ most };
+}
+
+impl<V: Message> RowReader<V> {
+    /// Stands before the first row of an input.
+    pub fn new(alloc: Global) -> Self
+        ensures { result ≡ Before 0 }
+    {
+        RowReader {
+            alloc,
+            standing: Standing::Before { at: 0 },
+            of: PhantomData,
+        }
+    }
+
+    /// Reads the next message. It reads no byte behind its row, and the row's length byte by byte.
+    ///
+    /// None is the end of the input, and every call after it is None. After a refusal every call is
+    /// [`RowFault::Ended`]. A row is judged once it is whole or its length is at fault; a failed read is not
+    /// tried again, and an input ends at 67,108,864 bytes.
+    pub fn next<R: Read>(&mut self, reader: &mut R) -> Result<Option<V>, RowFault>
+        ensures { (bytes : List ℕ) × Consumes (R.remaining reader.old) (R.remaining reader.new) bytes ×
+            Answers V.reads self.old bytes (R.remaining reader.new) result self.new }
+    {
+        let at = match self.standing {
+            Standing::Before { at } => at,
+            Standing::Over => return Ok(None),
+            Standing::Refused => return Err(RowFault::Ended),
+        };
+        self.standing = Standing::Refused;
+        let Some((size, start)) = read_length(reader, at)? else {
+            self.standing = Standing::Over;
+            return Ok(None);
+        };
+        let message = read_message_bytes(self.alloc, reader, at, start, size)?;
+        let value = V::decode_at(self.alloc, &message, start)?;
+        self.standing = Standing::Before { at: start + size };
+        Ok(Some(value))
+    }
+}
+
+/// Reads the byte that stands behind `place` others; none at the end of the input.
+fn read_byte<R: Read>(reader: &mut R, place: usize) -> Result<Option<u8>, RowFault>
+    ensures some { IfOk result (λ o. IfSome o (λ byte.
+        Consumes (R.remaining reader.old) (R.remaining reader.new) (byte ∷ []) × (place < most))) }
+    ensures none { IfOk result (λ o. o ≡ None →
+        Consumes (R.remaining reader.old) (R.remaining reader.new) [] × IsAtEnd (R.remaining reader.new)) }
+    ensures fault { IfErr result (λ fault. (bytes : List ℕ) ×
+        Consumes (R.remaining reader.old) (R.remaining reader.new) bytes × ByteStops place bytes fault) }
+{
+    let mut byte = [0; 1];
+    match reader.read(&mut byte) {
+        Ok(0) => Ok(None),
+        Ok(_) if place as u64 >= MOST_MESSAGE_BYTES => Err(RowFault::TooLarge),
+        Ok(_) => Ok(Some(byte[0])),
+        Err(_) => Err(RowFault::Read { at: place }),
+    }
+}
+
+/// The length of a row that these bytes spell.
+#[tactic(auto, unfolding(crate::specs::Reader::length_at))]
+fn length_from(bytes: &[u8], at: usize) -> Result<usize, WireError>
+    ensures { result ≡ length_at at bytes.now }
+{
+    let (size, _) = varint_from(bytes, at)?;
+    if size > MOST_MESSAGE_BYTES {
+        return Err(WireError::TooLarge);
+    }
+    Ok(size as usize)
+}
+
+/// Reads the length of the row at the offset `at`. Answers it and where the message begins, and none at the
+/// end of the input.
+fn read_length<R: Read>(reader: &mut R, at: usize) -> Result<Option<(usize, usize)>, RowFault>
+    requires { at ≤ most }
+    ensures some { IfOk result (λ o. IfSome o (λ x. (bytes : List ℕ) ×
+        Consumes (R.remaining reader.old) (R.remaining reader.new) bytes ×
+        IsLength at x.0 x.1 bytes × (x.1 ≤ most))) }
+    ensures none { IfOk result (λ o. o ≡ None →
+        Consumes (R.remaining reader.old) (R.remaining reader.new) [] × IsAtEnd (R.remaining reader.new)) }
+    ensures fault { IfErr result (λ fault. (bytes : List ℕ) ×
+        Consumes (R.remaining reader.old) (R.remaining reader.new) bytes ×
+        Stops at bytes (R.remaining reader.new) fault) }
+{
+    let cut = WireError::Truncated { at };
+    let mut text = [0; 10];
+    let mut len = 0;
+    loop {
+        let Some(byte) = read_byte(reader, at + len)? else {
+            if len == 0 {
+                return Ok(None);
+            }
+            return Err(RowFault::Wire(cut));
+        };
+        text[len] = byte;
+        len += 1;
+        match length_from(&text[..len], at) {
+            Ok(size) => return Ok(Some((size, at + len))),
+            Err(fault) if fault == cut => {}
+            Err(fault) => return Err(RowFault::Wire(fault)),
+        }
+    }
+}
+
+/// Reads so many bytes, or fewer at the end of the input; `start` bytes stand before them. They are held as
+/// they come, so that no length takes memory by itself.
+fn read_up_to<R: Read>(
+    alloc: Global,
+    reader: &mut R,
+    start: usize,
+    wanted: usize,
+) -> Result<Vec<u8>, RowFault>
+    requires { start + wanted < 2 ^ 64 }
+    ensures whole { IfOk result (λ v. Consumes (R.remaining reader.old) (R.remaining reader.new) v.items) }
+    ensures size { IfOk result (λ v. vec_len v ≤ wanted) }
+    ensures end { IfOk result (λ v. vec_len v < wanted → IsAtEnd (R.remaining reader.new)) }
+    ensures fault { IfErr result (λ fault. (bytes : List ℕ) ×
+        Consumes (R.remaining reader.old) (R.remaining reader.new) bytes × BytesStop start wanted bytes fault) }
+{
+    let mut bytes: Vec<u8> = Vec::new(alloc);
+    let mut piece = [0; 4096];
+    while bytes.len() < wanted {
+        let place = start + bytes.len();
+        let room = (wanted - bytes.len()).min(piece.len());
+        match reader.read(&mut piece[..room]) {
+            Ok(0) => break,
+            Ok(n) => bytes.extend_from_slice(&piece[..n])?,
+            Err(_) => return Err(RowFault::Read { at: place }),
+        }
+    }
+    Ok(bytes)
+}
+
+/// Reads the message of `size` bytes of the row at the offset `at`; it begins at the offset `start`.
+fn read_message_bytes<R: Read>(
+    alloc: Global,
+    reader: &mut R,
+    at: usize,
+    start: usize,
+    size: usize,
+) -> Result<Vec<u8>, RowFault>
+    requires place { start ≤ most }
+    requires size { size ≤ most }
+    ensures { (bytes : List ℕ) × Consumes (R.remaining reader.old) (R.remaining reader.new) bytes ×
+        ((text : List ℕ) → IsLength at size start text → MatchResult result
+        (λ message. (message.items ≡ bytes) × (length bytes ≡ size) × IsRow at (text ++ bytes) bytes ×
+        (at + length (text ++ bytes) ≤ most))
+        (Stops at (text ++ bytes) (R.remaining reader.new))) }
+{
+    let room = MOST_MESSAGE_BYTES as usize + 1 - start;
+    let bytes = read_up_to(alloc, reader, start, size.min(room))?;
+    if bytes.len() == room {
+        return Err(RowFault::TooLarge);
+    }
+    if bytes.len() < size {
+        return Err(RowFault::Wire(WireError::Truncated { at }));
+    }
+    Ok(bytes)
+}
+
+#[cfg(test)]
+mod tests;

@@ -1,0 +1,114 @@
+//! Timestamps, which stand for moments.
+
+ghost use Rattle.std.specs.Prelude.{◌≡◌, ℕ, List, [], ◌∷◌, ◌++◌, OnOk, IfErr};
+ghost use Rattle.am_wire.specs.Fields.{FieldAt, field_of};
+ghost use Rattle.am_wire.specs.Parts.{IsPart};
+ghost use Rattle.am_wire.specs.Reading.{Gives, judged};
+ghost use Rattle.am_wire.specs.Timestamps.{timestamp, moment_of, moment_test};
+ghost use Rattle.am_wire.specs.TimestampDrafts.{IsTimestampDraft};
+
+use crate::draft::{Draft, read_message};
+use crate::error::WireError;
+use crate::field::Schema;
+use crate::message::Message;
+use crate::parts::{LastNumber, Part};
+use crate::value::{Field, WireType};
+use crate::writing::push_number;
+use am_version_order::Moment;
+use std::alloc::{AllocError, Global};
+
+/// A timestamp as it is read.
+#[derive(Clone, Copy)]
+pub struct TimestampDraft {
+    seconds: LastNumber,
+    nanos: LastNumber,
+}
+
+impl Schema for TimestampDraft {
+    ghost fitting = { timestamp.fits };
+
+    fn fits(number: u32, wire_type: WireType) -> bool {
+        match number {
+            1 | 2 => wire_type == WireType::Varint,
+            _ => true,
+        }
+    }
+}
+
+impl<'a> Draft<'a> for TimestampDraft {
+    ghost use Rattle.am_wire.specs.Timestamps.{moment, timestamp_tests};
+    ghost use Rattle.am_wire.specs.TimestampDrafts.{IsTimestampDraft};
+
+    type Done = Moment;
+
+    ghost inside = { timestamp.inside };
+
+    ghost holds = { IsTimestampDraft };
+
+    ghost tests = { timestamp_tests };
+
+    ghost value = { moment };
+
+    fn start(_alloc: Global) -> Self {
+        TimestampDraft {
+            seconds: LastNumber::none(),
+            nanos: LastNumber::none(),
+        }
+    }
+
+    fn take(&mut self, field: Field<'a>) -> Result<(), WireError> {
+        match field.number {
+            1 => self.seconds.put(field),
+            2 => self.nanos.put(field),
+            _ => {}
+        }
+        Ok(())
+    }
+
+    fn finish(self, _alloc: Global, place: usize) -> Result<Moment, WireError> {
+        let nanos = (self.nanos.value % (1 << 32)) as u32;
+        match Moment::from_parts(self.seconds.value.cast_signed(), nanos) {
+            Some(moment) => Ok(moment),
+            None => Err(WireError::Timestamp { at: place }),
+        }
+    }
+}
+
+/// The moment that a part of a message holds; a missing one is [`Moment::LEAST`].
+pub fn moment_in(alloc: Global, part: Part<TimestampDraft>) -> Result<Moment, WireError>
+    ensures { (n : ℕ) (es : List FieldAt) → IsPart IsTimestampDraft timestamp n es part → Gives result (judged (moment_test n es) (moment_of n es)) }
+{
+    let moment = part.draft.finish(alloc, part.at)?;
+    if part.given {
+        Ok(moment)
+    } else {
+        Ok(Moment::LEAST)
+    }
+}
+
+impl Message for Moment {
+    ghost use Rattle.am_wire.specs.Timestamps.{reads_moment, writes_moment};
+    ghost use Rattle.std.specs.Prelude.{◌≤◌};
+    ghost use Rattle.am_version_order.specs.Moments.{greatest};
+    ghost use Rattle.am_wire.specs.Again.Moments.{moment_again};
+
+    ghost is_value = { λ m. m ≤ greatest };
+
+    ghost writes = { writes_moment };
+
+    ghost reads = { reads_moment };
+
+    ghost again = { moment_again };
+
+    #[tactic(auto, unfolding(crate::specs::Timestamps::writes_moment))]
+    fn put(&self, out: &mut Vec<u8>) -> Result<(), AllocError> {
+        let (seconds, nanos) = self.parts();
+        push_number(out, 1, seconds.cast_unsigned())?;
+        push_number(out, 2, u64::from(nanos))
+    }
+
+    #[tactic(auto, unfolding(crate::specs::Timestamps::reads_moment))]
+    fn decode_at(alloc: Global, bytes: &[u8], at: usize) -> Result<Moment, WireError> {
+        read_message::<TimestampDraft>(alloc, bytes, at, at)
+    }
+}
