@@ -1,0 +1,30 @@
+-- What a message's draft holds after some fields.
+use Rattle.std.specs.Prelude.{◌≡◌, ℕ, List}
+use Rattle.am_wire.specs.Fields.{FieldAt}
+use Rattle.am_wire.specs.Parts.{IsPart}
+use Rattle.am_wire.specs.Reading.{last_number, last_text, all_numbers}
+use Rattle.am_wire.specs.Timestamps.{timestamp}
+use Rattle.am_wire.specs.TimestampDrafts.{IsTimestampDraft}
+use Rattle.am_nflog.specs.Receivers.{receiver}
+use Rattle.am_nflog.specs.Entries.{entry}
+use Rattle.am_nflog.specs.declared.receiver.ReceiverDraft.{ReceiverDraft}
+use Rattle.am_nflog.specs.declared.entry.EntryDraft.{EntryDraft}
+use Rattle.am_nflog.specs.declared.mesh.MeshEntryDraft.{MeshEntryDraft}
+
+pub record IsReceiverDraft (es : List FieldAt) (d : ReceiverDraft) : Type 0 where
+  pub group_name : d.group_name.text.now ≡ last_text 1 es
+  pub integration : d.integration.text.now ≡ last_text 2 es
+  pub idx : d.idx.value ≡ last_number 3 es
+
+pub record IsEntryDraft (es : List FieldAt) (d : EntryDraft) : Type 0 where
+  pub group_key : d.group_key.bytes.now ≡ last_text 1 es
+  pub receiver : IsPart IsReceiverDraft receiver 2 es d.receiver
+  pub group_hash : d.group_hash.bytes.now ≡ last_text 3 es
+  pub resolved : d.resolved.value ≡ last_number 4 es
+  pub timestamp : IsPart IsTimestampDraft timestamp 5 es d.timestamp
+  pub firing_alerts : d.firing_alerts.items ≡ all_numbers 6 es
+  pub resolved_alerts : d.resolved_alerts.items ≡ all_numbers 7 es
+
+pub record IsMeshEntryDraft (es : List FieldAt) (d : MeshEntryDraft) : Type 0 where
+  pub entry : IsPart IsEntryDraft entry 1 es d.entry
+  pub expires_at : IsPart IsTimestampDraft timestamp 2 es d.expires_at

@@ -1,0 +1,33 @@
+-- The order of log keys: group key, group name, integration, byte by byte, then the index as a number.
+use Rattle.std.specs.Prelude.{◌≡◌, ℕ, List}
+use Rattle.std.specs.declared.cmp.Ordering.{Ordering}
+use Rattle.std.specs.declared.cmp.Ordering.TheVariants.{Less, Equal, Greater}
+use Rattle.std.specs.Ordering.{nat_cmp, ordering_then}
+use Rattle.std.specs.Cmp.Lexicographic.{slice_cmp}
+use Rattle.std.proofs.Common.{refl, sym}
+use Rattle.std.proofs.lemmas.Cmp.{ranked}
+use Rattle.std.proofs.lemmas.Map.Lookups.{exact_bytes}
+use Rattle.am_nflog.specs.declared.entry.LogKey.{LogKey}
+
+abbrev pub key_cmp : LogKey → LogKey → Ordering
+key_cmp j k =
+    ordering_then (slice_cmp nat_cmp j.group_key k.group_key)
+    (ordering_then (slice_cmp nat_cmp j.receiver.group_name k.receiver.group_name)
+    (ordering_then (slice_cmp nat_cmp j.receiver.integration k.receiver.integration) (nat_cmp j.receiver.idx k.receiver.idx)))
+
+then_equal : (a b : Ordering) → ordering_then a b ≡ Equal → (a ≡ Equal) × (b ≡ Equal)
+then_equal Less b h = absurd cc
+then_equal Equal b h = (refl, h)
+then_equal Greater b h = absurd cc
+
+-- keys that compare as equal are one key
+pub exact_keys : (j k : LogKey) → key_cmp j k ≡ Equal → j ≡ k
+exact_keys j k e =
+    let a = then_equal _ _ e in
+    let b = then_equal _ _ a.1 in
+    let c = then_equal _ _ b.1 in
+    let group_key = exact_bytes _ _ a.0 in
+    let group_name = exact_bytes _ _ b.0 in
+    let integration = exact_bytes _ _ c.0 in
+    let idx : j.receiver.idx ≡ k.receiver.idx = ranked _ _ Equal (sym c.1) in
+    λ i. record { group_key = group_key i; receiver = record { group_name = group_name i; integration = integration i; idx = idx i } }

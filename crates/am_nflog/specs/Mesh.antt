@@ -1,0 +1,27 @@
+-- An entry as instances pass it on: entry = 1, expires_at = 2.
+use Rattle.std.specs.Prelude.{◌≡◌, ℕ, ◌≤◌, ◌^◌, List, ◌++◌, length}
+use Rattle.am_version_order.specs.Moments.{greatest}
+use Rattle.am_version_order.specs.Versions.{Version}
+use Rattle.am_wire.specs.Timestamps.{writes_moment}
+use Rattle.am_wire.specs.Writing.{put_chunk}
+use Rattle.am_nflog.specs.declared.entry.Entry.{Entry}
+use Rattle.am_nflog.specs.declared.entry.LogKey.{LogKey}
+use Rattle.am_nflog.specs.Entries.{writes_entry, IsEntry}
+
+-- an entry, and the moment from which on it may be forgotten
+pub record Mesh : Type 0 where
+  pub entry : Entry
+  pub expires_at : ℕ
+
+unfoldable pub writes_mesh_entry : Mesh → List ℕ
+writes_mesh_entry m = put_chunk 1 (writes_entry m.entry) ++ put_chunk 2 (writes_moment m.expires_at)
+
+-- the values of the type
+pub record IsMesh (m : Mesh) : Type 0 where
+  pub entry : IsEntry m.entry
+  pub expires_at : m.expires_at ≤ greatest
+  pub size : length (writes_mesh_entry m) ≤ 2 ^ 63
+
+-- the version that the merge sees
+abbrev pub mesh_version : Mesh → Version LogKey
+mesh_version m = record { key = m.entry.key; updated = m.entry.timestamp; expires = m.expires_at; content = writes_mesh_entry m }

@@ -1,0 +1,23 @@
+-- How an entry that is passed on is read.
+use Rattle.std.specs.Prelude.{◌≡◌, ℕ, List, [], ◌∷◌, Option, Some, Result, if◌then◌else◌}
+use Rattle.am_wire.specs.declared.error.WireError.{WireError}
+use Rattle.am_wire.specs.declared.error.WireError.TheVariants as errors
+use Rattle.am_wire.specs.Fields.{FieldAt}
+use Rattle.am_wire.specs.Reading.{Table, table_of, part_row, ◌then◌, last_place, joined, is_given, read_by}
+use Rattle.am_wire.specs.Timestamps.{timestamp, moment_of, moment_test}
+use Rattle.am_nflog.specs.Entries.{entry, entry_value, entry_tests}
+use Rattle.am_nflog.specs.Mesh.{Mesh}
+
+abbrev pub mesh_entry : Table
+mesh_entry = table_of (part_row 1 entry ∷ part_row 2 timestamp ∷ [])
+
+abbrev pub mesh_entry_value : List FieldAt → Mesh
+mesh_entry_value es = record { entry = entry_value (joined entry 1 es); expires_at = moment_of 2 es }
+
+-- an entry that is missing comes before all else that its parts' tests find
+abbrev pub mesh_entry_tests : ℕ → List FieldAt → Option WireError
+mesh_entry_tests place es =
+    if is_given 1 es then (entry_tests (last_place 1 es) (joined entry 1 es) then moment_test 2 es) else Some (errors.MissingMessage 1)
+
+unfoldable pub reads_mesh_entry : ℕ → List ℕ → Result Mesh WireError
+reads_mesh_entry at bytes = read_by mesh_entry mesh_entry_tests mesh_entry_value at at bytes

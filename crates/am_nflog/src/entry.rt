@@ -1,0 +1,182 @@
+//! Entries of the log.
+
+ghost use Rattle.std.specs.Prelude.{◌≡◌, ℕ, List, [], ◌∷◌, ◌++◌, OnOk, IfOk, IfErr};
+ghost use Rattle.am_nflog.specs.Entries.{entry};
+
+use crate::bytes::{Bytes, Hashes};
+use crate::receiver::{Receiver, ReceiverDraft};
+use am_version_order::Moment;
+use am_wire::{
+    Draft, Field, LastBytes, LastNumber, Message, Part, Schema, TimestampDraft, WireError,
+    WireType, moment_in, pack_numbers, push_bytes, push_message, push_number, push_numbers,
+    read_message,
+};
+use std::alloc::{AllocError, Global};
+
+/// Which group of alerts, and which receiver. Keys are ordered by group key, group name and
+/// integration, byte by byte, and then by index as a number.
+#[derive(Debug, PartialEq, Eq, PartialOrd, Ord, Drop)]
+pub struct LogKey {
+    pub group_key: Bytes,
+    pub receiver: Receiver,
+}
+
+impl LogKey {
+    /// A copy, or want of memory.
+    pub fn try_clone(&self, alloc: Global) -> Result<LogKey, AllocError>
+        ensures { IfOk result (λ copy. copy ≡ self.now) }
+    {
+        Ok(LogKey {
+            group_key: self.group_key.try_clone(alloc)?,
+            receiver: self.receiver.try_clone(alloc)?,
+        })
+    }
+}
+
+/// What was notified of a group to a receiver: which alerts were firing then, and which resolved.
+#[derive(Debug, Drop)]
+pub struct Entry {
+    pub key: LogKey,
+    /// It is read, kept and written, and nothing looks at it.
+    pub group_hash: Bytes,
+    /// It is read, kept and written, and nothing looks at it.
+    pub resolved: bool,
+    pub timestamp: Moment,
+    pub firing_alerts: Hashes,
+    pub resolved_alerts: Hashes,
+}
+
+impl Entry {
+    /// A copy, or want of memory.
+    pub fn try_clone(&self, alloc: Global) -> Result<Entry, AllocError>
+        ensures { IfOk result (λ copy. copy ≡ self.now) }
+    {
+        Ok(Entry {
+            key: self.key.try_clone(alloc)?,
+            group_hash: self.group_hash.try_clone(alloc)?,
+            resolved: self.resolved,
+            timestamp: self.timestamp,
+            firing_alerts: self.firing_alerts.try_clone(alloc)?,
+            resolved_alerts: self.resolved_alerts.try_clone(alloc)?,
+        })
+    }
+}
+
+/// An entry as it is read.
+#[derive(Drop)]
+pub struct EntryDraft<'a> {
+    group_key: LastBytes<'a>,
+    receiver: Part<ReceiverDraft<'a>>,
+    group_hash: LastBytes<'a>,
+    resolved: LastNumber,
+    timestamp: Part<TimestampDraft>,
+    firing_alerts: Vec<u64>,
+    resolved_alerts: Vec<u64>,
+}
+
+impl Schema for EntryDraft<'_> {
+    ghost fitting = { entry.fits };
+
+    fn fits(number: u32, wire_type: WireType) -> bool
+        ensures { result ≡ entry.fits number wire_type }
+    {
+        match number {
+            1 | 2 | 3 | 5 => wire_type == WireType::Bytes,
+            4 => wire_type == WireType::Varint,
+            6 | 7 => wire_type == WireType::Varint || wire_type == WireType::Bytes,
+            _ => true,
+        }
+    }
+}
+
+impl<'a> Draft<'a> for EntryDraft<'a> {
+    ghost use Rattle.am_nflog.specs.Entries.{entry_value, entry_tests};
+    ghost use Rattle.am_nflog.specs.Drafts.{IsEntryDraft};
+
+    type Done = Entry;
+
+    ghost inside = { entry.inside };
+
+    ghost holds = { IsEntryDraft };
+
+    ghost tests = { entry_tests };
+
+    ghost value = { entry_value };
+
+    fn start(alloc: Global) -> Self {
+        EntryDraft {
+            group_key: LastBytes::none(),
+            receiver: Part::none(alloc),
+            group_hash: LastBytes::none(),
+            resolved: LastNumber::none(),
+            timestamp: Part::none(alloc),
+            firing_alerts: Vec::new(alloc),
+            resolved_alerts: Vec::new(alloc),
+        }
+    }
+
+    fn take(&mut self, field: Field<'a>) -> Result<(), WireError> {
+        match field.number {
+            1 => self.group_key.put(field),
+            2 => self.receiver.put(field)?,
+            3 => self.group_hash.put(field),
+            4 => self.resolved.put(field),
+            5 => self.timestamp.put(field)?,
+            6 => push_numbers(&mut self.firing_alerts, field)?,
+            7 => push_numbers(&mut self.resolved_alerts, field)?,
+            _ => {}
+        }
+        Ok(())
+    }
+
+    fn finish(self, alloc: Global, _place: usize) -> Result<Entry, WireError> {
+        if !self.receiver.given {
+            return Err(WireError::MissingMessage { field: 2 });
+        }
+        let timestamp = moment_in(alloc, self.timestamp)?;
+        let receiver = self.receiver.draft.finish(alloc, self.receiver.at)?;
+        let group_key = Bytes::copied(alloc, self.group_key.bytes)?;
+        let group_hash = Bytes::copied(alloc, self.group_hash.bytes)?;
+        Ok(Entry {
+            key: LogKey {
+                group_key,
+                receiver,
+            },
+            group_hash,
+            resolved: self.resolved.value != 0,
+            timestamp,
+            firing_alerts: Hashes::new(self.firing_alerts),
+            resolved_alerts: Hashes::new(self.resolved_alerts),
+        })
+    }
+}
+
+impl Message for Entry {
+    ghost use Rattle.am_nflog.specs.Entries.{IsEntry, reads_entry, writes_entry};
+    ghost use Rattle.am_nflog.specs.Again.{entry_again};
+
+    ghost is_value = { IsEntry };
+
+    ghost writes = { writes_entry };
+
+    ghost reads = { reads_entry };
+
+    ghost again = { entry_again };
+
+    #[tactic(auto, unfolding(crate::specs::Entries::writes_entry))]
+    fn put(&self, out: &mut Vec<u8>) -> Result<(), AllocError> {
+        push_bytes(out, 1, self.key.group_key.as_slice())?;
+        push_message(out, 2, &self.key.receiver)?;
+        push_bytes(out, 3, self.group_hash.as_slice())?;
+        push_number(out, 4, u64::from(self.resolved))?;
+        push_message(out, 5, &self.timestamp)?;
+        pack_numbers(out, 6, self.firing_alerts.as_slice())?;
+        pack_numbers(out, 7, self.resolved_alerts.as_slice())?;
+        Ok(())
+    }
+
+    #[tactic(auto, unfolding(crate::specs::Entries::reads_entry))]
+    fn decode_at(alloc: Global, bytes: &[u8], at: usize) -> Result<Entry, WireError> {
+        read_message::<EntryDraft>(alloc, bytes, at, at)
+    }
+}

@@ -1,0 +1,51 @@
+//! The entry that a notification leaves.
+
+ghost use Rattle.std.specs.Prelude.{◌≡◌, ◌<◌, ◌≤◌, ◌↔◌, ◌⊎◌, length, IfOk, IfErr, IfSome, IsNone};
+ghost use Rattle.am_wire.specs.declared.error.WireError.TheVariants as errors;
+ghost use Rattle.am_nflog.specs.Mesh.{writes_mesh_entry};
+ghost use Rattle.am_nflog.specs.Made.{made_entry, expiry};
+
+use crate::bytes::{Bytes, Hashes};
+use crate::entry::{Entry, LogKey};
+use crate::mesh::MeshEntry;
+use crate::receiver::Receiver;
+use am_version_order::{Interval, Moment};
+use am_wire::WireError;
+use std::alloc::Global;
+
+/// The entry of a notification at `now`: it expires after the smaller of `retention` and two times
+/// `repeat`, and [`Moment::GREATEST`] caps that. Where this is not after `now`, no entry is made.
+pub fn make_entry(
+    alloc: Global,
+    group_key: Bytes,
+    receiver: Receiver,
+    firing: Hashes,
+    resolved: Hashes,
+    repeat: Interval,
+    retention: Interval,
+    now: Moment,
+) -> Result<Option<MeshEntry>, WireError>
+    ensures made { IfOk result (λ made. IfSome made (λ m. m ≡ made_entry group_key receiver firing resolved repeat retention now)) }
+    ensures none { IfOk result (λ made. IsNone made ↔ (expiry repeat retention now ≤ now)) }
+    ensures refused { IfErr result (λ e. (e ≡ errors.Memory) ⊎ ((e ≡ errors.TooLarge) × (67108864 < length (writes_mesh_entry (made_entry group_key receiver firing resolved repeat retention now))))) }
+{
+    let by_retention = now.capped_add(retention);
+    let by_repeat = now.capped_add(repeat).capped_add(repeat);
+    let expires_at = by_retention.min(by_repeat);
+    if expires_at <= now {
+        return Ok(None);
+    }
+    let entry = Entry {
+        key: LogKey {
+            group_key,
+            receiver,
+        },
+        group_hash: Bytes::new(Vec::new(alloc)),
+        resolved: false,
+        timestamp: now,
+        firing_alerts: firing,
+        resolved_alerts: resolved,
+    };
+    let made = MeshEntry::new(alloc, entry, expires_at)?;
+    Ok(Some(made))
+}

@@ -1,0 +1,222 @@
+//! Entries as instances pass them on.
+
+ghost use Rattle.std.specs.Prelude.{◌≡◌, ℕ, ◌<◌, ◌≤◌, List, [], ◌∷◌, ◌++◌, length, OnOk, IfOk, IfErr, ◌⊎◌};
+ghost use Rattle.am_wire.specs.declared.error.WireError.TheVariants as errors;
+ghost use Rattle.am_nflog.specs.Mesh.{Mesh, writes_mesh_entry};
+ghost use Rattle.am_nflog.specs.MeshTable.{mesh_entry};
+
+use crate::entry::{Entry, EntryDraft, LogKey};
+use am_version_order::{Moment, Version};
+use am_wire::{
+    Draft, Field, MOST_MESSAGE_BYTES, Message, Part, Schema, TimestampDraft, WireError, WireType,
+    append_text, moment_in, push_message, read_message,
+};
+use std::alloc::{AllocError, Global};
+use std::marker::Model;
+
+/// A version of an entry: the entry, and the moment from which on it may be forgotten.
+///
+/// Its canonical text is kept beside its parts, so that comparing takes no memory.
+#[derive(Drop)]
+pub struct MeshEntry {
+    entry: Entry,
+    expires_at: Moment,
+    canonical: Vec<u8>,
+}
+
+impl Model for MeshEntry {
+    ghost use Rattle.std.specs.Prelude.{◌≡◌};
+    ghost use Rattle.am_nflog.specs.Mesh.{Mesh, IsMesh, writes_mesh_entry};
+
+    ghost Value = { Mesh };
+
+    ghost view = { λ m. record { entry = m.entry; expires_at = m.expires_at } };
+
+    ghost invariant = { λ m. record {
+      canonical : m.canonical.items ≡ writes_mesh_entry (record { entry = m.entry; expires_at = m.expires_at });
+      value : IsMesh (record { entry = m.entry; expires_at = m.expires_at });
+    } };
+}
+
+impl MeshEntry {
+    /// A version of these parts. It refuses by [`WireError::TooLarge`] where its canonical text has over
+    /// 67,108,864 bytes, and by [`WireError::Memory`].
+    pub fn new(alloc: Global, entry: Entry, expires_at: Moment) -> Result<MeshEntry, WireError>
+        ensures parts { IfOk result (λ m. m ≡ record { entry = entry; expires_at = expires_at }) }
+        ensures within { IfOk result (λ m. length (writes_mesh_entry m) ≤ 67108864) }
+        ensures refused { IfErr result (λ e. (e ≡ errors.Memory) ⊎ ((e ≡ errors.TooLarge) × (67108864 < length (writes_mesh_entry (record { entry = entry; expires_at = expires_at }))))) }
+    {
+        let version = MeshEntry::of_parts(alloc, entry, expires_at)?;
+        if version.canonical().len() as u64 > MOST_MESSAGE_BYTES {
+            return Err(WireError::TooLarge);
+        }
+        Ok(version)
+    }
+
+    // A version of these parts, however long its text is.
+    #[tactic(auto, unfolding(crate::specs::Mesh::writes_mesh_entry))]
+    fn of_parts(alloc: Global, entry: Entry, expires_at: Moment) -> Result<MeshEntry, AllocError>
+        ensures { IfOk result (λ m. m ≡ record { entry = entry; expires_at = expires_at }) }
+    {
+        let mut canonical = Vec::new(alloc);
+        push_message(&mut canonical, 1, &entry)?;
+        push_message(&mut canonical, 2, &expires_at)?;
+        Ok(MeshEntry {
+            entry,
+            expires_at,
+            canonical,
+        })
+    }
+
+    pub fn entry(&self) -> &Entry
+        ensures { result.now ≡ self.now.entry }
+    {
+        &self.entry
+    }
+
+    pub fn expires_at(&self) -> Moment
+        ensures { result ≡ self.now.expires_at }
+    {
+        self.expires_at
+    }
+}
+
+/// An entry that is passed on as it is read.
+#[derive(Drop)]
+pub struct MeshEntryDraft<'a> {
+    entry: Part<EntryDraft<'a>>,
+    expires_at: Part<TimestampDraft>,
+}
+
+impl Schema for MeshEntryDraft<'_> {
+    ghost fitting = { mesh_entry.fits };
+
+    fn fits(number: u32, wire_type: WireType) -> bool
+        ensures { result ≡ mesh_entry.fits number wire_type }
+    {
+        match number {
+            1 | 2 => wire_type == WireType::Bytes,
+            _ => true,
+        }
+    }
+}
+
+impl<'a> Draft<'a> for MeshEntryDraft<'a> {
+    ghost use Rattle.am_nflog.specs.MeshTable.{mesh_entry_value, mesh_entry_tests};
+    ghost use Rattle.am_nflog.specs.Drafts.{IsMeshEntryDraft};
+
+    type Done = MeshEntry;
+
+    ghost inside = { mesh_entry.inside };
+
+    ghost holds = { IsMeshEntryDraft };
+
+    ghost tests = { mesh_entry_tests };
+
+    ghost value = { mesh_entry_value };
+
+    fn start(alloc: Global) -> Self {
+        MeshEntryDraft {
+            entry: Part::none(alloc),
+            expires_at: Part::none(alloc),
+        }
+    }
+
+    fn take(&mut self, field: Field<'a>) -> Result<(), WireError> {
+        match field.number {
+            1 => self.entry.put(field)?,
+            2 => self.expires_at.put(field)?,
+            _ => {}
+        }
+        Ok(())
+    }
+
+    fn finish(self, alloc: Global, _place: usize) -> Result<MeshEntry, WireError> {
+        if !self.entry.given {
+            return Err(WireError::MissingMessage { field: 1 });
+        }
+        let entry = self.entry.draft.finish(alloc, self.entry.at)?;
+        let expires_at = moment_in(alloc, self.expires_at)?;
+        let version = MeshEntry::of_parts(alloc, entry, expires_at)?;
+        Ok(version)
+    }
+}
+
+impl Message for MeshEntry {
+    ghost use Rattle.am_nflog.specs.Mesh.{IsMesh};
+    ghost use Rattle.am_nflog.specs.MeshTable.{reads_mesh_entry};
+    ghost use Rattle.am_nflog.specs.Again.{mesh_again};
+
+    ghost is_value = { IsMesh };
+
+    ghost writes = { writes_mesh_entry };
+
+    ghost reads = { reads_mesh_entry };
+
+    ghost again = { mesh_again };
+
+    fn put(&self, out: &mut Vec<u8>) -> Result<(), AllocError> {
+        out.extend_from_slice(self.canonical())
+    }
+
+    fn encode(&self, out: &mut Vec<u8>) -> Result<(), WireError> {
+        append_text(out, self.canonical())
+    }
+
+    #[tactic(auto, unfolding(crate::specs::MeshTable::reads_mesh_entry))]
+    fn decode_at(alloc: Global, bytes: &[u8], at: usize) -> Result<MeshEntry, WireError> {
+        read_message::<MeshEntryDraft>(alloc, bytes, at, at)
+    }
+}
+
+impl Version for MeshEntry {
+    ghost use Rattle.std.specs.Prelude.{[]};
+    ghost use Rattle.am_nflog.specs.Mesh.{IsMesh, mesh_version};
+    ghost use Rattle.am_nflog.specs.Keys.{exact_keys};
+    ghost use Rattle.am_nflog.specs.Again.{mesh_exact};
+
+    type Key = LogKey;
+
+    ghost seen = { mesh_version };
+
+    // entries are looked up by their keys alone
+    ghost bucket_of = { λ m. [] };
+
+    ghost is_value = { IsMesh };
+
+    fn key(&self) -> &LogKey {
+        &self.entry.key
+    }
+
+    fn try_key(&self, alloc: Global) -> Result<LogKey, AllocError> {
+        self.entry.key.try_clone(alloc)
+    }
+
+    fn updated(&self) -> Moment {
+        self.entry.timestamp
+    }
+
+    fn expires(&self) -> Moment {
+        self.expires_at
+    }
+
+    fn canonical(&self) -> &[u8] {
+        self.canonical.as_slice()
+    }
+
+    fn bucket(&self) -> &[u8] {
+        &[]
+    }
+
+    fn try_clone(&self, alloc: Global) -> Result<MeshEntry, AllocError> {
+        Ok(MeshEntry {
+            entry: self.entry.try_clone(alloc)?,
+            expires_at: self.expires_at,
+            canonical: self.canonical.clone()?,
+        })
+    }
+
+    ghost exact_keys = { exact_keys };
+
+    ghost exact = { mesh_exact };
+}

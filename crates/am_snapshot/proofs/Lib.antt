@@ -1,0 +1,7 @@
+pub mod Passing
+pub mod RowTexts
+pub mod Whole
+pub mod RowReads
+pub mod Bests
+pub mod Stops
+pub mod Inserts

@@ -1,0 +1,238 @@
+-- An input that is read row by row.
+use Rattle.std.proofs.Common.{◌≡◌, ◌≢◌, ℕ, zero, suc, ◌+◌, ◌-◌, ◌<◌, ◌≤◌, List, [], ◌∷◌, ◌++◌, length, take, drop, map, Option, Some, None, IfSome, Result, Ok, Err, ◌⊎◌, inl, inr, ⊎_elim, refl, sym, ap, subst, ◌∙◌, arith, append_assoc, append-nil, length-append, length-take}
+use Rattle.std.proofs.lemmas.List.{map-append, take-append-le, take-append-drop}
+use Rattle.std.proofs.Math.Seq.{take-append_seam, drop-append_seam, take-append-add, take-nil}
+use Rattle.std.specs.Io.KnownBytes.{Consumes, IsAtEnd}
+use Rattle.std.proofs.KnownBytes.{Consumes-nil, Consumes-trans}
+use Rattle.am_wire.specs.declared.error.WireError.{WireError}
+use Rattle.am_wire.specs.declared.error.WireError.TheVariants.{Truncated}
+use Rattle.am_wire.specs.declared.reader.RowFault.{RowFault}
+use Rattle.am_wire.specs.declared.reader.RowFault.TheVariants.{Read, Wire, TooLarge, Ended, Memory}
+use Rattle.am_wire.specs.declared.reader.Standing.{Standing}
+use Rattle.am_wire.specs.declared.reader.Standing.TheVariants.{Before, Over, Refused}
+use Rattle.am_wire.specs.Varint.{varint_within}
+use Rattle.am_wire.specs.Fields.{row_at, pieces, ◌>>=◌}
+use Rattle.am_wire.specs.Again.Pieces.{pieces-first}
+use Rattle.am_wire.specs.Reader.{IsCut, IsRow, ReadsAs, HasBadLength, EndsInRow, Stops, Answers, all_but_last}
+use Rattle.am_snapshot.specs.Texts.{most}
+use Rattle.am_snapshot.specs.Inputs.{sound, message_at, messages_of, AreMessages, HasFault, IsCutAfter, StopsAfter}
+use Rattle.am_snapshot.proofs.Whole.{row_at-whole, row_at-fails}
+
+-- where the next row begins
+abbrev pub offset : Standing → ℕ
+offset (Before at) = at
+offset Over = 0
+offset Refused = 0
+
+abbrev rest_is : List ℕ → Option (List ℕ)
+rest_is bytes = Some bytes
+
+abbrev standing_at : ℕ → Standing
+standing_at at = Before at
+
+-- what holds of all known bytes, by those that were read and those that are left
+pub known : (a b : Option (List ℕ)) (bytes : List ℕ) (P : List ℕ → Type 0) → Consumes a b bytes → ((left : List ℕ) → b ≡ Some left → P (bytes ++ left)) → IfSome a P
+known None b bytes P read each = tt
+known (Some xs) None bytes P read each = absurd read
+known (Some xs) (Some ys) bytes P read each = subst P (sym read) (each ys refl)
+
+-- at the end these are all
+pub known_end : (a b : Option (List ℕ)) (bytes : List ℕ) (P : List ℕ → Type 0) → Consumes a b bytes → IsAtEnd b → P bytes → IfSome a P
+known_end None b bytes P read end here = tt
+known_end (Some xs) None bytes P read end here = absurd read
+known_end (Some xs) (Some ys) bytes P read end here = subst P (sym (read ∙ ap (λ (l : List ℕ). bytes ++ l) end ∙ append-nil bytes)) here
+
+-- a fact that follows, of what is there
+pub some_then : {A : Type 0} (P Q : A → Type 0) → ((x : A) → P x → Q x) → (o : Option A) → IfSome o P → IfSome o Q
+some_then P Q follows None p = tt
+some_then P Q follows (Some x) p = follows x p
+
+module _ {A : Type 0} (reads : ℕ → List ℕ → Result A WireError) where
+  abbrev from : ℕ → List ℕ → List (Result A WireError)
+  from at bytes = pieces (message_at reads) 0 at bytes
+
+  abbrev done : A × ℕ → Result (A × ℕ) WireError
+  done x = Ok x
+
+  abbrev lost : WireError → Result (A × ℕ) WireError
+  lost e = Err e
+
+  -- ---- one row
+  message_at-whole : (at : ℕ) (row rest : List ℕ) (v : A) → ReadsAs reads at row (Ok v) → message_at reads at (row ++ rest) ≡ Ok (v, length row)
+  message_at-whole at row rest v (message, is_row, value) =
+      rw (row_at-whole at row rest (message, length row) is_row, value) refl
+
+  message_at-fault : (at : ℕ) (row rest : List ℕ) (e : WireError) → ReadsAs reads at row (Err e) → message_at reads at (row ++ rest) ≡ Err e
+  message_at-fault at row rest e (message, is_row, value) =
+      rw (row_at-whole at row rest (message, length row) is_row, value) refl
+
+  message_at-fails : (at : ℕ) (bytes rest : List ℕ) (e : WireError) → row_at at bytes ≡ Err e → e ≢ Truncated at → message_at reads at (bytes ++ rest) ≡ Err e
+  message_at-fails at bytes rest e h other = rw (row_at-fails at bytes rest e h other) refl
+
+  message_at-cut : (at : ℕ) (bytes : List ℕ) → IsCut at bytes → message_at reads at bytes ≡ Err (Truncated at)
+  message_at-cut at bytes h = rw h refl
+
+  from-more : (at : ℕ) (row rest : List ℕ) (v : A) → 0 < length row → ReadsAs reads at row (Ok v) → from at (row ++ rest) ≡ Ok v ∷ from (at + length row) rest
+  from-more at row rest v filled gives =
+      pieces-first (message_at reads) at (row ++ rest) (v, length row) (message_at-whole at row rest v gives) filled (omega (arith, length-append row rest))
+      ∙ ap (λ (r : List ℕ). sound v ∷ from (at + length row) r) (drop-append_seam row rest)
+
+  from-fault : (at : ℕ) (bytes : List ℕ) (e : WireError) → message_at reads at bytes ≡ Err e → 0 < length bytes → from at bytes ≡ Err e ∷ []
+  unfolding pieces
+  from-fault at [] e h filled = absurd (omega (arith, filled))
+  from-fault at (b ∷ bytes) e h filled = rw h refl
+
+  from-nil : (at : ℕ) → from at [] ≡ []
+  unfolding pieces
+  from-nil at = refl
+
+  row_at-nil : (at : ℕ) → row_at at [] ≡ Err (Truncated at)
+  unfolding row_at varint_within
+  row_at-nil at = refl
+
+  -- ---- many rows
+  -- the bytes are a row of these messages, whatever follows
+  pub record HasRead (bytes : List ℕ) (messages : List A) : Type 0 where
+    pub reads_on : (rest : List ℕ) → messages_of reads (bytes ++ rest) ≡ map sound messages ++ from (length bytes) rest
+
+  pub HasRead-nil : HasRead [] []
+  HasRead-nil = record { reads_on = λ rest. refl }
+
+  pub HasRead-more : (bytes row : List ℕ) (messages : List A) (v : A) → HasRead bytes messages → 0 < length row → ReadsAs reads (length bytes) row (Ok v) → HasRead (bytes ++ row) (messages ++ v ∷ [])
+  HasRead-more bytes row messages v so_far filled gives =
+      record {
+        reads_on = λ rest.
+            ap (λ (x : List ℕ). messages_of reads x) (append_assoc bytes row rest)
+            ∙ so_far.reads_on (row ++ rest)
+            ∙ ap (λ (x : List (Result A WireError)). map sound messages ++ x) (from-more (length bytes) row rest v filled gives)
+            ∙ ap (λ (n : ℕ). map sound messages ++ (sound v ∷ from n rest)) (sym (length-append bytes row))
+            ∙ sym (append_assoc (map sound messages) (sound v ∷ []) (from (length (bytes ++ row)) rest))
+            ∙ ap (λ (x : List (Result A WireError)). x ++ from (length (bytes ++ row)) rest) (sym (map-append sound messages (v ∷ [])));
+      }
+
+  pub HasRead-whole : (bytes : List ℕ) (messages : List A) → HasRead bytes messages → AreMessages reads bytes messages
+  HasRead-whole bytes messages so_far =
+      ap (λ (x : List ℕ). messages_of reads x) (sym (append-nil bytes))
+      ∙ so_far.reads_on []
+      ∙ ap (λ (x : List (Result A WireError)). map sound messages ++ x) (from-nil (length bytes))
+      ∙ append-nil (map sound messages)
+
+  HasRead-fault : (bytes last : List ℕ) (messages : List A) (e : WireError) → HasRead bytes messages → message_at reads (length bytes) last ≡ Err e → 0 < length last → HasFault reads (bytes ++ last) messages e
+  HasRead-fault bytes last messages e so_far h filled =
+      so_far.reads_on last ∙ ap (λ (x : List (Result A WireError)). map sound messages ++ x) (from-fault (length bytes) last e h filled)
+
+  -- ---- what a call answers after them
+  bad_filled : (at : ℕ) (row : List ℕ) (e : WireError) → row_at at row ≡ Err e → e ≢ Truncated at → 0 < length row
+  bad_filled at [] e h other = absurd (other (let k = row_at-nil at in cc))
+  bad_filled at (b ∷ row) e h other = omega arith
+
+  whole_filled : (at : ℕ) (row : List ℕ) (y : List ℕ × ℕ) → row_at at row ≡ Ok y → 0 < length row
+  whole_filled at [] y h = absurd (let k = row_at-nil at in cc)
+  whole_filled at (b ∷ row) y h = omega arith
+
+  filled_more : (row rest : List ℕ) → 0 < length row → 0 < length (row ++ rest)
+  filled_more row rest filled = omega (arith, filled, length-append row rest)
+
+  -- the fault is there whatever follows; where the input ended, as long as nothing does
+  faults : (bytes row : List ℕ) (messages : List A) (e : WireError) (left : List ℕ) → HasRead bytes messages
+      → (HasBadLength (length bytes) row e ⊎ EndsInRow (length bytes) row (Some left) e) ⊎ ReadsAs reads (length bytes) row (Err e)
+      → (rest : List ℕ) → (left ≡ [] → rest ≡ []) → HasFault reads ((bytes ++ row) ++ rest) messages e
+  faults bytes row messages e left so_far (inl (inl bad)) rest ends =
+      ap (λ (x : List ℕ). messages_of reads x) (append_assoc bytes row rest)
+      ∙ HasRead-fault bytes (row ++ rest) messages e so_far (message_at-fails (length bytes) row rest e bad.0 bad.1) (filled_more row rest (bad_filled (length bytes) row e bad.0 bad.1))
+  faults bytes row messages e left so_far (inl (inr cut)) rest ends =
+      ap (λ (x : List ℕ). messages_of reads ((bytes ++ row) ++ x)) (ends cut.2)
+      ∙ ap (λ (x : List ℕ). messages_of reads x) (append-nil (bytes ++ row))
+      ∙ HasRead-fault bytes row messages e so_far (message_at-cut (length bytes) row cut.0 ∙ ap lost (sym cut.3)) cut.1
+  faults bytes row messages e left so_far (inr gives) rest ends =
+      ap (λ (x : List ℕ). messages_of reads x) (append_assoc bytes row rest)
+      ∙ HasRead-fault bytes (row ++ rest) messages e so_far (message_at-fault (length bytes) row rest e gives) (filled_more row rest (whole_filled (length bytes) row (gives.0, length row) gives.1))
+
+  -- it stands in the input, and in what may be read of it
+  faults_twice : (bytes row : List ℕ) (messages : List A) (e : WireError) (left : List ℕ) → HasRead bytes messages
+      → (HasBadLength (length bytes) row e ⊎ EndsInRow (length bytes) row (Some left) e) ⊎ ReadsAs reads (length bytes) row (Err e)
+      → length bytes + length row ≤ most → StopsAfter reads ((bytes ++ row) ++ left) messages (Some left) (Wire e)
+  faults_twice bytes row messages e left so_far fault small =
+      let room = most - length (bytes ++ row) in
+      let all : length (bytes ++ row) + room ≡ most = omega (arith, small, length-append bytes row) in
+      let front : take most ((bytes ++ row) ++ left) ≡ (bytes ++ row) ++ take room left = ap (λ (n : ℕ). take n ((bytes ++ row) ++ left)) (sym all) ∙ take-append-add (bytes ++ row) left room in (
+        faults bytes row messages e left so_far fault left (λ end. end),
+        ap (λ (x : List ℕ). messages_of reads x) front ∙ faults bytes row messages e left so_far fault (take room left) (λ end. ap (λ (x : List ℕ). take room x) end ∙ take-nil room),
+      )
+
+  stops_at : (bytes row : List ℕ) (messages : List A) (left : List ℕ) (fault : RowFault) (next : Standing) → HasRead bytes messages → length bytes ≤ most
+      → Answers reads (Before (length bytes)) row (Some left) (Err fault) next → StopsAfter reads ((bytes ++ row) ++ left) messages (Some left) fault
+  stops_at bytes row messages left (Wire e) next so_far small answer =
+      ⊎_elim (λ stop. faults_twice bytes row messages e left so_far (inl stop.0) stop.1) (λ gives. faults_twice bytes row messages e left so_far (inr gives.0) gives.1) answer.0
+  stops_at bytes row messages left (Read k) next so_far small (stop, _) =
+      let n : k ≡ length (bytes ++ row) = omega (arith, stop.1, length-append bytes row) in
+      let front : take k ((bytes ++ row) ++ left) ≡ bytes ++ row = ap (λ (m : ℕ). take m ((bytes ++ row) ++ left)) n ∙ take-append_seam (bytes ++ row) left in
+      let back : drop k ((bytes ++ row) ++ left) ≡ left = ap (λ (m : ℕ). drop m ((bytes ++ row) ++ left)) n ∙ drop-append_seam (bytes ++ row) left in
+      (record { whole = bytes; begun = row; parts = front; before = HasRead-whole bytes messages so_far; cut = stop.0 }, stop.2, omega (arith, n, length-append (bytes ++ row) left), ap (λ (x : List ℕ). rest_is x) (sym back))
+  stops_at bytes row messages left TooLarge next so_far small (stop, _) =
+      let n : most ≡ length bytes + (length row - 1) = omega (arith, stop.1, small) in
+      let within : most ≤ length (bytes ++ row) = omega (arith, stop.1, length-append bytes row) in
+      let front : take most ((bytes ++ row) ++ left) ≡ bytes ++ all_but_last row =
+      take-append-le most (bytes ++ row) left within ∙ ap (λ (m : ℕ). take m (bytes ++ row)) n ∙ take-append-add bytes row (length row - 1) in
+      (record { whole = bytes; begun = all_but_last row; parts = front; before = HasRead-whole bytes messages so_far; cut = stop.0 }, omega (arith, stop.1, length-append bytes row, length-append (bytes ++ row) left))
+  stops_at bytes row messages left Memory next so_far small answer = tt
+  stops_at bytes row messages left Ended next so_far small answer = absurd answer.0
+
+  -- ---- a loop of calls
+  -- the bytes were read, which are a row of these messages, and the reader of rows stands behind them
+  pub record ReadsSoFar (start now : Option (List ℕ)) (standing : Standing) (bytes : List ℕ) (messages : List A) : Type 0 where
+    pub consumed : Consumes start now bytes
+    pub read : HasRead bytes messages
+    pub stands : standing ≡ Before (length bytes)
+    pub small : length bytes ≤ most
+
+  pub reads_none : (start : Option (List ℕ)) (standing : Standing) → standing ≡ Before 0 → ReadsSoFar start start standing [] []
+  reads_none start standing stands = record { consumed = Consumes-nil start; read = HasRead-nil; stands = stands; small = omega arith }
+
+  module _ (start now left : Option (List ℕ)) (standing next : Standing) (bytes row : List ℕ) (messages : List A) (so_far : ReadsSoFar start now standing bytes messages) (read : Consumes now left row) where
+    stands_before : (r : Result (Option A) RowFault) → Answers reads standing row left r next → Answers reads (Before (length bytes)) row left r next
+    stands_before r answer = subst (λ (s : Standing). Answers reads s row left r next) so_far.stands answer
+
+    both : Consumes start left (bytes ++ row)
+    both = Consumes-trans start now left bytes row so_far.consumed read
+
+    pub reads_more : (v : A) → Answers reads standing row left (Ok (Some v)) next → ReadsSoFar start left next (bytes ++ row) (messages ++ v ∷ [])
+    reads_more v answer =
+        let one = stands_before (Ok (Some v)) answer in
+        record {
+          consumed = both;
+          read = HasRead-more bytes row messages v so_far.read one.1 one.0;
+          stands = one.3 ∙ ap (λ (n : ℕ). standing_at n) (sym (length-append bytes row));
+          small = omega (arith, one.2, length-append bytes row);
+        }
+
+    pub reads_further : (v : A) → Answers reads standing row left (Ok (Some v)) next → most - offset next < most - offset standing
+    reads_further v answer =
+        let one = stands_before (Ok (Some v)) answer in
+        let here : offset standing ≡ length bytes = ap offset so_far.stands in
+        let there : offset next ≡ length bytes + length row = ap offset one.3 in
+        omega (arith, one.1, one.2, here, there)
+
+    pub reads_end : Answers reads standing row left (Ok None) next → IsAtEnd left × IfSome start (λ input. AreMessages reads input messages) × IfSome start (λ input. length input ≤ most)
+    reads_end answer =
+        let one = stands_before (Ok None) answer in
+        let all : Consumes start left bytes = subst (λ (x : List ℕ). Consumes start left x) (ap (λ (x : List ℕ). bytes ++ x) one.0 ∙ append-nil bytes) both in
+        (one.1, known_end start left bytes (λ input. AreMessages reads input messages) all one.1 (HasRead-whole bytes messages so_far.read), known_end start left bytes (λ input. length input ≤ most) all one.1 so_far.small)
+
+    stops_by : (a b : Option (List ℕ)) (fault : RowFault) → Consumes a b (bytes ++ row) → Answers reads (Before (length bytes)) row b (Err fault) next → IfSome a (λ input. StopsAfter reads input messages b fault)
+    stops_by None b fault read answer = tt
+    stops_by (Some xs) None fault read answer = absurd read
+    stops_by (Some xs) (Some ys) fault read answer = subst (λ (input : List ℕ). StopsAfter reads input messages (Some ys) fault) (sym read) (stops_at bytes row messages ys fault next so_far.read so_far.small answer)
+
+    pub reads_stop : (fault : RowFault) → Answers reads standing row left (Err fault) next → IfSome start (λ input. StopsAfter reads input messages left fault)
+    reads_stop fault answer = stops_by start left fault both (stands_before (Err fault) answer)
+
+    pub reads_stops : (fault : RowFault) → Answers reads standing row left (Err fault) next → IfSome start (λ input. (ms : List A) × StopsAfter reads input ms left fault)
+    reads_stops fault answer = some_then (λ (input : List ℕ). StopsAfter reads input messages left fault) (λ input. (ms : List A) × StopsAfter reads input ms left fault) (λ input stop. (messages, stop)) start (reads_stop fault answer)
+
+    -- with what else holds of the messages
+    pub reads_stop_with : (Q : List A → Type 0) → Q messages → (fault : RowFault) → Answers reads standing row left (Err fault) next → IfSome start (λ input. (ms : List A) × StopsAfter reads input ms left fault × Q ms)
+    reads_stop_with Q here fault answer = some_then (λ (input : List ℕ). StopsAfter reads input messages left fault) (λ input. (ms : List A) × StopsAfter reads input ms left fault × Q ms) (λ input stop. (messages, stop, here)) start (reads_stop fault answer)
+
+    pub reads_end_with : (Q : List A → Type 0) → Q messages → Answers reads standing row left (Ok None) next → IfSome start (λ input. (ms : List A) × AreMessages reads input ms × Q ms)
+    reads_end_with Q here answer = some_then (λ (input : List ℕ). AreMessages reads input messages) (λ input. (ms : List A) × AreMessages reads input ms × Q ms) (λ input all. (messages, all, here)) start (reads_end answer).1

@@ -1,0 +1,89 @@
+-- The faults of reading and of writing a row, as those of a call that does both.
+use Rattle.std.proofs.Common.{◌≡◌, ℕ, List, [], ◌∷◌, ◌++◌, length, map, Bool, true, false, Option, Some, None, IfSome, Result, Ok, Err, inl, inr, refl, sym, ap, ◌∙◌, append_assoc}
+use Rattle.std.specs.Prelude.{Contains, IsPermutation, is_some}
+use Rattle.std.specs.Option.{option_copied}
+use Rattle.std.proofs.lemmas.List.{map-append}
+use denote.Ref.{Bor}
+use Rattle.std.specs.declared.cmp.Ordering.{Ordering}
+use Rattle.am_version_order.specs.Versions.{Version}
+use Rattle.am_wire.specs.declared.error.WireError.{WireError}
+use Rattle.am_wire.specs.declared.reader.RowFault.{RowFault}
+use Rattle.am_wire.specs.declared.reader.RowFault.TheVariants as reading
+use Rattle.am_merge.specs.Maps.{IsMap}
+use Rattle.am_snapshot.specs.Texts.{row_text, most}
+use Rattle.am_wire.specs.declared.reader.Standing.{Standing}
+use Rattle.am_wire.specs.Fields.{pieces}
+use Rattle.am_snapshot.specs.Inputs.{sound, message_at, messages_of, AreMessages, StopsAfter}
+use Rattle.am_snapshot.specs.Loads.{AreDistinct, RepeatsKey, StopsLoad, load_fault}
+use Rattle.am_snapshot.specs.Best.{HoldsBest}
+use Rattle.am_snapshot.specs.Rows.{Writes}
+use Rattle.am_snapshot.specs.Folds.{IsFold, StopsFold, reading_fault, writing_fault}
+use Rattle.am_snapshot.specs.declared.row.WriteFault.{WriteFault}
+use Rattle.am_snapshot.specs.declared.row.WriteFault.TheVariants as writing
+use Rattle.am_snapshot.proofs.RowReads.{ReadsSoFar, HasRead-whole, some_then}
+
+module _ {K X : Type 0} (seen : X → Version K) (cmp : K → K → Ordering) (reads : ℕ → List ℕ → Result X WireError) (start left : Option (List ℕ)) where
+  pub fold_reading : {W : Type 0} (contents : W → Option (List ℕ)) (old : W) (fault : RowFault)
+      → IfSome start (λ input. (versions : List X) × StopsAfter reads input versions left fault) → StopsFold seen cmp reads start left contents old old (reading_fault fault)
+  fold_reading contents old (reading.Read at) stop = (refl, stop)
+  fold_reading contents old (reading.Wire e) stop = (refl, stop)
+  fold_reading contents old reading.TooLarge stop = (refl, some_then _ _ (λ input one. inl one) start stop)
+  fold_reading contents old reading.Ended stop = refl
+  fold_reading contents old reading.Memory stop = refl
+
+  pub is_fold : (map : List X) (row : List ℕ) → row ≡ row_text seen map → IsMap seen cmp map → IfSome start (λ input. (versions : List X) × AreMessages reads input versions × HoldsBest seen versions map)
+      → IfSome start (λ input. IsFold seen cmp reads input row)
+  is_fold map row text order best = some_then _ _ (λ input one. record { versions = one.0; all = one.1; map = map; order = order; best = one.2; text = text }) start best
+
+  pub fold_writing : {W : Type 0} (contents : W → Option (List ℕ)) (old new : W) (row : List ℕ) (fault : WriteFault)
+      → IfSome start (λ input. IsFold seen cmp reads input row) → Writes contents old new row (Err fault) → StopsFold seen cmp reads start left contents old new (writing_fault fault)
+  fold_writing contents old new row (writing.Write k) fold wrote = (row, wrote.1, wrote.2, fold)
+  fold_writing contents old new row writing.TooLarge fold wrote = (wrote.1, some_then _ _ (λ input one. inr (row, one, wrote.0)) start fold)
+  fold_writing contents old new row writing.Memory fold wrote = wrote.1
+
+-- what a look-up found, and where it found nothing
+pub some_found : {X : Type 0} (o : Option (Bor X)) → is_some o ≡ true → (w : X) × (option_copied o ≡ Some w)
+some_found None e = absurd cc
+some_found (Some b) e = (b.now, refl)
+
+pub none_found : {X : Type 0} (o : Option (Bor X)) → is_some o ≡ false → option_copied o ≡ None
+none_found None e = refl
+none_found (Some b) e = absurd cc
+
+module _ {K X : Type 0} (seen : X → Version K) (reads : ℕ → List ℕ → Result X WireError) (start left : Option (List ℕ)) where
+  pub load_reading : (fault : RowFault) → IfSome start (λ input. (versions : List X) × StopsAfter reads input versions left fault × AreDistinct seen versions)
+      → IfSome start (λ input. StopsLoad seen reads input left (load_fault fault))
+  load_reading (reading.Read at) stop = stop
+  load_reading (reading.Wire e) stop = stop
+  load_reading reading.TooLarge stop = stop
+  load_reading reading.Ended stop = some_then _ _ (λ input one. tt) start stop
+  load_reading reading.Memory stop = some_then _ _ (λ input one. tt) start stop
+
+  pub load_end : (versions held : List X) → IfSome start (λ input. AreMessages reads input versions) → AreDistinct seen versions → IsPermutation versions held
+      → IfSome start (λ input. (all : List X) × AreMessages reads input all × AreDistinct seen all × IsPermutation all held)
+  load_end versions held all distinct members = some_then _ _ (λ input one. (versions, one, distinct, members)) start all
+
+pub load_repeat : {K X : Type 0} (seen : X → Version K) (reads : ℕ → List ℕ → Result X WireError) (start left : Option (List ℕ)) (standing : Standing) (bytes : List ℕ) (versions : List X) (version earlier : X)
+    → ReadsSoFar reads start left standing bytes (versions ++ version ∷ []) → AreDistinct seen versions → Contains versions earlier → (seen earlier).key ≡ (seen version).key
+    → IfSome start (λ input. RepeatsKey seen reads input left)
+load_repeat seen reads None left standing bytes versions version earlier so_far distinct among same = tt
+load_repeat seen reads (Some xs) None standing bytes versions version earlier so_far distinct among same = absurd so_far.consumed
+load_repeat {K} {X} seen reads (Some xs) (Some ys) standing bytes versions version earlier so_far distinct among same =
+    let others = pieces (message_at reads) 0 (length bytes) ys in
+    record {
+      versions = versions;
+      version = version;
+      others = others;
+      messages =
+          ap (λ (input : List ℕ). messages_of reads input) so_far.consumed
+          ∙ so_far.read.reads_on ys
+          ∙ ap (λ (x : List (Result X WireError)). x ++ others) (map-append sound versions (version ∷ []))
+          ∙ append_assoc (map sound versions) (sound version ∷ []) others;
+      distinct = distinct;
+      earlier = earlier;
+      among = among;
+      same_key = same;
+      bytes = bytes;
+      rows = HasRead-whole reads bytes (versions ++ version ∷ []) so_far.read;
+      read = so_far.consumed;
+    }

@@ -1,0 +1,16 @@
+use Rattle.std.proofs.Common.{◌-◌, ℕ, List}
+use Rattle.am_merge.specs.Maps.{IsMap, at}
+use Rattle.am_snapshot.specs.Texts.{most}
+use Rattle.am_snapshot.proofs.Bests.{IsBestAt}
+use Rattle.am_snapshot.proofs.RowReads.{ReadsSoFar, offset}
+use Rattle.am_snapshot.proofs.reading.take_row.Given as goal
+
+abbrev pub invariant-loop-held : goal.invariant-loop-held
+invariant-loop-held g l =
+    (bytes : List ℕ) × (versions : List g.row.V.Denot)
+    × ReadsSoFar g.V.Message.reads (g.R.Read.remaining l.fn.reader) (g.R.Read.remaining l.reader) l.rows bytes versions
+    × IsMap g.V.Version.seen g.V.Key.Ord.cmp l.held
+    × ((key : g.row.V-Key.Denot) → IsBestAt g.V.Version.seen versions key (at g.V.Version.seen g.V.Key.Ord.cmp l.held key))
+
+abbrev pub decreases-loop-held : goal.decreases-loop-held
+decreases-loop-held g l = most - offset l.rows

@@ -1,0 +1,47 @@
+-- What folding a row writes, and what it leaves where it stops.
+use Rattle.std.specs.Prelude.{◌≡◌, ℕ, ◌<◌, List, length, take, Option, IfSome, Result, ◌⊎◌}
+use Rattle.std.specs.Io.KnownBytes.{Appends}
+use Rattle.std.specs.declared.cmp.Ordering.{Ordering}
+use Rattle.am_version_order.specs.Versions.{Version}
+use Rattle.am_wire.specs.declared.error.WireError.{WireError}
+use Rattle.am_wire.specs.declared.reader.RowFault.{RowFault}
+use Rattle.am_wire.specs.declared.reader.RowFault.TheVariants as reading
+use Rattle.am_merge.specs.Maps.{IsMap}
+use Rattle.am_snapshot.specs.Texts.{row_text, most}
+use Rattle.am_snapshot.specs.Inputs.{AreMessages, StopsAfter}
+use Rattle.am_snapshot.specs.Best.{HoldsBest}
+use Rattle.am_snapshot.specs.declared.row.WriteFault.{WriteFault}
+use Rattle.am_snapshot.specs.declared.row.WriteFault.TheVariants as writing
+use Rattle.am_snapshot.specs.declared.folding.FoldError.{FoldError}
+use Rattle.am_snapshot.specs.declared.folding.FoldError.TheVariants.{Read, Write, Wire, TooLarge, Memory}
+
+abbrev pub reading_fault : RowFault → FoldError
+reading_fault (reading.Read at) = Read at
+reading_fault (reading.Wire e) = Wire e
+reading_fault reading.TooLarge = TooLarge
+reading_fault reading.Ended = Memory
+reading_fault reading.Memory = Memory
+
+abbrev pub writing_fault : WriteFault → FoldError
+writing_fault (writing.Write k) = Write k
+writing_fault writing.TooLarge = TooLarge
+writing_fault writing.Memory = Memory
+
+module _ {K X : Type 0} (seen : X → Version K) (cmp : K → K → Ordering) (reads : ℕ → List ℕ → Result X WireError) where
+  -- the row has of each key the best among all versions of the input, in the order of the keys
+  pub record IsFold (input row : List ℕ) : Type 0 where
+    pub versions : List X
+    pub all : AreMessages reads input versions
+    pub map : List X
+    pub order : IsMap seen cmp map
+    pub best : HoldsBest seen versions map
+    pub text : row ≡ row_text seen map
+
+  -- Exactly the first bytes of the row went out; or the input is at fault, or the row is too large, and the writer is
+  -- as it was. `start` is what the reader had to give, `left` what it has then, and `contents` what a writer holds.
+  abbrev pub StopsFold : Option (List ℕ) → Option (List ℕ) → {W : Type 0} → (W → Option (List ℕ)) → W → W → FoldError → Type 0
+  StopsFold start left contents old new (Write k) = (row : List ℕ) × (k < length row) × Appends (contents old) (contents new) (take k row) × IfSome start (λ input. IsFold input row)
+  StopsFold start left contents old new (Read at) = (new ≡ old) × IfSome start (λ input. (versions : List X) × StopsAfter reads input versions left (reading.Read at))
+  StopsFold start left contents old new (Wire e) = (new ≡ old) × IfSome start (λ input. (versions : List X) × StopsAfter reads input versions left (reading.Wire e))
+  StopsFold start left contents old new TooLarge = (new ≡ old) × IfSome start (λ input. ((versions : List X) × StopsAfter reads input versions left reading.TooLarge) ⊎ ((row : List ℕ) × IsFold input row × (most < length row)))
+  StopsFold start left contents old new Memory = new ≡ old

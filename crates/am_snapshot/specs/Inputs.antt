@@ -1,0 +1,51 @@
+-- The messages of an input, and the fault that ends its reading.
+-- `reads` is what reading a message gives, at the offset where it begins.
+use Rattle.std.specs.Prelude.{◌≡◌, ℕ, ◌+◌, ◌-◌, ◌<◌, ◌≤◌, List, [], ◌∷◌, ◌++◌, length, take, drop, map, Option, Some, Result, Ok, Err, ⊤}
+use Rattle.am_wire.specs.declared.error.WireError.{WireError}
+use Rattle.am_wire.specs.declared.reader.RowFault.{RowFault}
+use Rattle.am_wire.specs.declared.reader.RowFault.TheVariants.{Read, Wire, TooLarge, Ended, Memory}
+use Rattle.am_wire.specs.Fields.{row_at, pieces, ◌>>=◌}
+use Rattle.am_wire.specs.Reader.{IsCut}
+use Rattle.am_snapshot.specs.Texts.{most}
+
+-- a message that was read
+abbrev pub sound : {A : Type 0} → A → Result A WireError
+sound message = Ok message
+
+module _ {A : Type 0} (reads : ℕ → List ℕ → Result A WireError) where
+  -- the message in the row at the front of the bytes, which begin at the offset `at`, and the row's length
+  abbrev pub message_at : ℕ → List ℕ → Result (A × ℕ) WireError
+  message_at at bytes = do
+    row ← row_at at bytes
+    message ← reads (at + (row.1 - length row.0)) row.0
+    Ok (message, row.1)
+
+  -- the messages of an input in order, up to the first fault, which comes last
+  abbrev pub messages_of : List ℕ → List (Result A WireError)
+  messages_of input = pieces message_at 0 0 input
+
+  -- the input is a row of these messages, and nothing in it is at fault
+  abbrev pub AreMessages : List ℕ → List A → Type 0
+  AreMessages input messages = messages_of input ≡ map sound messages
+
+  -- the first fault of the input comes after these messages
+  abbrev pub HasFault : List ℕ → List A → WireError → Type 0
+  HasFault input messages e = messages_of input ≡ map sound messages ++ Err e ∷ []
+
+  -- the bytes are a row of these messages, and then what begins one more and is not whole
+  pub record IsCutAfter (bytes : List ℕ) (messages : List A) : Type 0 where
+    pub whole : List ℕ
+    pub begun : List ℕ
+    pub parts : bytes ≡ whole ++ begun
+    pub before : AreMessages whole messages
+    pub cut : IsCut (length whole) begun
+
+  -- Why the input was not read to its end, after these messages. The fault stands in the whole input and already in
+  -- what may be read of it; or a read failed when just so many bytes had come, of which none is at fault; or there
+  -- are more bytes than may be read, and none of those is at fault.
+  abbrev pub StopsAfter : List ℕ → List A → Option (List ℕ) → RowFault → Type 0
+  StopsAfter input messages left (Wire e) = HasFault input messages e × HasFault (take most input) messages e
+  StopsAfter input messages left (Read k) = IsCutAfter (take k input) messages × (k ≤ most) × (k ≤ length input) × (left ≡ Some (drop k input))
+  StopsAfter input messages left TooLarge = IsCutAfter (take most input) messages × (most < length input)
+  StopsAfter input messages left Memory = ⊤
+  StopsAfter input messages left Ended = ⊥

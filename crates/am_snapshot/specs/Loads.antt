@@ -1,0 +1,48 @@
+-- What loading a snapshot answers.
+use Rattle.std.specs.Prelude.{◌≡◌, ◌≢◌, ℕ, List, [], ◌∷◌, ◌++◌, map, Contains, AllPairs, Option, Some, Result, Ok, ⊤}
+use Rattle.std.specs.Io.KnownBytes.{Consumes}
+use Rattle.am_version_order.specs.Versions.{Version}
+use Rattle.am_wire.specs.declared.error.WireError.{WireError}
+use Rattle.am_wire.specs.declared.reader.RowFault.{RowFault}
+use Rattle.am_wire.specs.declared.reader.RowFault.TheVariants as reading
+use Rattle.am_snapshot.specs.Inputs.{sound, messages_of, AreMessages, StopsAfter}
+use Rattle.am_snapshot.specs.declared.error.SnapshotError.{SnapshotError}
+use Rattle.am_snapshot.specs.declared.error.SnapshotError.TheVariants.{Read, Write, Wire, DuplicateKey, TooLarge, Memory}
+
+-- the fault of reading rows, as that of a snapshot
+abbrev pub load_fault : RowFault → SnapshotError
+load_fault (reading.Read at) = Read at
+load_fault (reading.Wire e) = Wire e
+load_fault reading.TooLarge = TooLarge
+load_fault reading.Ended = Memory
+load_fault reading.Memory = Memory
+
+module _ {K X : Type 0} (seen : X → Version K) where
+  -- each version has a key of its own
+  abbrev pub AreDistinct : List X → Type 0
+  AreDistinct versions = AllPairs (λ v w. (seen v).key ≢ (seen w).key) versions
+
+  module _ (reads : ℕ → List ℕ → Result X WireError) where
+    -- The input begins with distinct versions and one more that repeats a key; the reader gave just their rows, and
+    -- has `left` then.
+    pub record RepeatsKey (input : List ℕ) (left : Option (List ℕ)) : Type 0 where
+      pub versions : List X
+      pub version : X
+      pub others : List (Result X WireError)
+      pub messages : messages_of reads input ≡ map sound versions ++ Ok version ∷ others
+      pub distinct : AreDistinct versions
+      pub earlier : X
+      pub among : Contains versions earlier
+      pub same_key : (seen earlier).key ≡ (seen version).key
+      pub bytes : List ℕ
+      pub rows : AreMessages reads bytes (versions ++ version ∷ [])
+      pub read : Consumes (Some input) left bytes
+
+    -- the fault that stands first: none of the versions before it repeats a key
+    abbrev pub StopsLoad : List ℕ → Option (List ℕ) → SnapshotError → Type 0
+    StopsLoad input left (Read at) = (versions : List X) × StopsAfter reads input versions left (reading.Read at) × AreDistinct versions
+    StopsLoad input left (Wire e) = (versions : List X) × StopsAfter reads input versions left (reading.Wire e) × AreDistinct versions
+    StopsLoad input left TooLarge = (versions : List X) × StopsAfter reads input versions left reading.TooLarge × AreDistinct versions
+    StopsLoad input left DuplicateKey = RepeatsKey input left
+    StopsLoad input left Memory = ⊤
+    StopsLoad input left (Write k) = ⊥

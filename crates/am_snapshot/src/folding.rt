@@ -1,0 +1,82 @@
+//! Folding rows of versions.
+
+ghost use Rattle.std.specs.Prelude.{◌≡◌, ℕ, List, length, IfOk, IfErr, IfSome};
+ghost use Rattle.std.specs.Io.KnownBytes.{Appends};
+ghost use Rattle.am_snapshot.specs.Folds.{IsFold, StopsFold};
+
+use crate::reading::take_row;
+use crate::row::{WriteFault, write_row};
+use am_merge::Held;
+use am_version_order::{Moment, Version};
+use am_wire::{Message, RowFault, WireError};
+use std::alloc::Global;
+use std::io::{Read, Write};
+use thiserror::Error;
+
+/// Why a row was not folded; the first fault that stands.
+#[derive(Clone, Copy, Debug, PartialEq, Eq, Error)]
+pub enum FoldError {
+    #[error("a read failed after {at} bytes")]
+    Read { at: usize },
+    #[error("a write failed after {written} bytes")]
+    Write { written: u64 },
+    #[error("{0}")]
+    Wire(WireError),
+    #[error("the input or the output is too large")]
+    TooLarge,
+    #[error("out of memory")]
+    Memory,
+}
+
+impl From<RowFault> for FoldError {
+    ghost use Rattle.am_snapshot.specs.Folds.{reading_fault};
+
+    ghost from_gives = { λ fault e. e ≡ reading_fault fault };
+
+    fn from(fault: RowFault) -> FoldError {
+        match fault {
+            RowFault::Read { at } => FoldError::Read { at },
+            RowFault::Wire(e) => FoldError::Wire(e),
+            RowFault::TooLarge => FoldError::TooLarge,
+            // A row that is taken is not read on after a fault, so it never answers `Ended`.
+            RowFault::Ended | RowFault::Memory => FoldError::Memory,
+        }
+    }
+}
+
+impl From<WriteFault> for FoldError {
+    ghost use Rattle.am_snapshot.specs.Folds.{writing_fault};
+
+    ghost from_gives = { λ fault e. e ≡ writing_fault fault };
+
+    fn from(fault: WriteFault) -> FoldError {
+        match fault {
+            WriteFault::Write { written } => FoldError::Write { written },
+            WriteFault::TooLarge => FoldError::TooLarge,
+            WriteFault::Memory => FoldError::Memory,
+        }
+    }
+}
+
+/// Reads every version of a row, and then writes the row of the best of them, live or not, in the order of
+/// their keys. Answers how many bytes went out. The moment makes no difference.
+///
+/// # Errors
+///
+/// The first fault of the input, with nothing written. [`FoldError::Write`] where a write fails or takes
+/// nothing: exactly the first `written` bytes of the row went out, and it is not tried again.
+/// [`FoldError::TooLarge`] also where the row would have over 67,108,864 bytes, with nothing written.
+pub fn fold<V: Version + Message, R: Read, W: Write>(
+    alloc: Global,
+    reader: &mut R,
+    writer: &mut W,
+    now: Moment,
+) -> Result<u64, FoldError>
+    ensures row { IfOk result (λ written. (row : List ℕ) × (written ≡ length row) ×
+        Appends (W.contents writer.old) (W.contents writer.new) row ×
+        IfSome (R.remaining reader.old) (λ input. IsFold V.seen V.Key.cmp V.reads input row)) }
+    ensures stopped { IfErr result (StopsFold V.seen V.Key.cmp V.reads (R.remaining reader.old) (R.remaining reader.new) W.contents writer.old writer.new) }
+{
+    let held: Held<V> = take_row(alloc, reader, now)?;
+    Ok(write_row(alloc, held.iter().as_slice(), writer)?)
+}

@@ -1,0 +1,19 @@
+//! Held versions written as a row of messages, and read again.
+#![tactic(auto)]
+
+mod error;
+mod folding;
+mod loading;
+mod outgoing;
+mod reading;
+mod row;
+mod saving;
+
+pub use error::SnapshotError;
+pub use folding::{FoldError, fold};
+pub use loading::load;
+pub use reading::take_row;
+pub use saving::save;
+
+#[cfg(test)]
+mod tests;

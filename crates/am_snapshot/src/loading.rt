@@ -1,0 +1,71 @@
+//! Reading a snapshot.
+
+ghost use Rattle.std.specs.Prelude.{◌≡◌, List, ◌≤◌, length, IfOk, IfErr, OnOk, IfSome, IsPermutation};
+ghost use Rattle.std.specs.Io.KnownBytes.{IsAtEnd};
+ghost use Rattle.am_merge.specs.Maps.{IsMap};
+ghost use Rattle.am_snapshot.specs.Texts.{most};
+ghost use Rattle.am_snapshot.specs.Inputs.{AreMessages};
+ghost use Rattle.am_snapshot.specs.Loads.{AreDistinct, StopsLoad};
+ghost use Rattle.am_snapshot.specs.declared.error.SnapshotError.TheVariants as errors;
+
+use crate::error::SnapshotError;
+use am_merge::Held;
+use am_version_order::{Moment, Version};
+use am_wire::{Message, RowFault, RowReader};
+use std::alloc::{AllocError, Global};
+use std::io::Read;
+
+impl From<RowFault> for SnapshotError {
+    ghost use Rattle.am_snapshot.specs.Loads.{load_fault};
+
+    ghost from_gives = { λ fault e. e ≡ load_fault fault };
+
+    fn from(fault: RowFault) -> SnapshotError {
+        match fault {
+            RowFault::Read { at } => SnapshotError::Read { at },
+            RowFault::Wire(e) => SnapshotError::Wire(e),
+            RowFault::TooLarge => SnapshotError::TooLarge,
+            // A row is not read on after a fault, so `Ended` is never answered.
+            RowFault::Ended | RowFault::Memory => SnapshotError::Memory,
+        }
+    }
+}
+
+impl From<AllocError> for SnapshotError {
+    ghost from_gives = { λ _ e. e ≡ errors.Memory };
+
+    fn from(_e: AllocError) -> SnapshotError {
+        SnapshotError::Memory
+    }
+}
+
+/// Reads the map of exactly the versions of a row, live or not.
+///
+/// It holds the version that is being read and those of the map.
+///
+/// # Errors
+///
+/// The first fault of the input. [`SnapshotError::DuplicateKey`] stands where the row that repeats a key ends.
+pub fn load<V: Version + Message, R: Read>(
+    alloc: Global,
+    reader: &mut R,
+) -> Result<Held<V>, SnapshotError>
+    ensures order { IfOk result (IsMap V.seen V.Key.cmp) }
+    ensures members { IfOk result (λ held. IfSome (R.remaining reader.old) (λ input.
+        (versions : List V) × AreMessages V.reads input versions × AreDistinct V.seen versions × IsPermutation versions held)) }
+    ensures size { OnOk result (IfSome (R.remaining reader.old) (λ input. length input ≤ most)) }
+    ensures end { OnOk result (IsAtEnd (R.remaining reader.new)) }
+
+    ensures stopped { IfErr result (λ e. IfSome (R.remaining reader.old) (λ input.
+        StopsLoad V.seen V.reads input (R.remaining reader.new) e)) }
+{
+    let mut held = Held::new(alloc);
+    let mut rows: RowReader<V> = RowReader::new(alloc);
+    while let Some(version) = rows.next(reader)? {
+        if held.get(version.key()).is_some() {
+            return Err(SnapshotError::DuplicateKey);
+        }
+        held.take(version, Moment::LEAST)?;
+    }
+    Ok(held)
+}

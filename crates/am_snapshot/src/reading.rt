@@ -1,0 +1,37 @@
+//! Reading rows of versions.
+
+ghost use Rattle.std.specs.Prelude.{ℕ, List, ◌≤◌, length, IfOk, IfErr, OnOk, IfSome};
+ghost use Rattle.std.specs.Io.KnownBytes.{IsAtEnd};
+ghost use Rattle.am_snapshot.specs.Texts.{most};
+ghost use Rattle.am_snapshot.specs.Inputs.{AreMessages, StopsAfter};
+ghost use Rattle.am_snapshot.specs.Best.{HoldsBest};
+
+use am_merge::Held;
+use am_version_order::{Moment, Version};
+use am_wire::{Message, RowFault, RowReader};
+use std::alloc::Global;
+use std::io::Read;
+
+/// Reads every version of a row and takes each, live or not. The moment makes no difference.
+///
+/// It holds the version that is being read and the winners. [`RowFault::Ended`] is not answered.
+pub fn take_row<V: Version + Message, R: Read>(
+    alloc: Global,
+    reader: &mut R,
+    now: Moment,
+) -> Result<Held<V>, RowFault>
+    ensures best { IfOk result (λ held. IfSome (R.remaining reader.old) (λ input.
+        (versions : List V) × AreMessages V.reads input versions × HoldsBest V.seen versions held)) }
+    ensures size { OnOk result (IfSome (R.remaining reader.old) (λ input. length input ≤ most)) }
+    ensures end { OnOk result (IsAtEnd (R.remaining reader.new)) }
+
+    ensures fault { IfErr result (λ fault. IfSome (R.remaining reader.old) (λ input.
+        (versions : List V) × StopsAfter V.reads input versions (R.remaining reader.new) fault)) }
+{
+    let mut held = Held::new(alloc);
+    let mut rows = RowReader::new(alloc);
+    while let Some(version) = rows.next(reader)? {
+        held.take(version, now)?;
+    }
+    Ok(held)
+}

@@ -1,0 +1,84 @@
+//! Versions written as a row.
+
+ghost use Rattle.std.specs.Prelude.{◌≡◌, ◌+◌, ◌<◌, ◌≤◌, ◌^◌, ◌++◌, length, vec_len, OnOk, IfErr};
+ghost use Rattle.std.specs.Option.{SomeIff};
+ghost use Rattle.am_snapshot.specs.Texts.{delimited, row_text, most};
+ghost use Rattle.am_snapshot.specs.Writing.{Passes, TakesPart};
+ghost use Rattle.am_snapshot.specs.Rows.{Writes};
+
+use crate::outgoing::{Outgoing, Stopped};
+use am_version_order::Version;
+use am_wire::write_varint;
+use std::alloc::Global;
+use std::io::Write;
+
+/// The most bytes of a row.
+const MOST: u64 = 67_108_864;
+
+/// Why a row was not written.
+#[derive(Clone, Copy)]
+pub enum WriteFault {
+    /// A write failed or took nothing, when so many bytes had gone out.
+    Write { written: u64 },
+    /// The row has over 67,108,864 bytes.
+    TooLarge,
+    Memory,
+}
+
+impl From<Stopped> for WriteFault {
+    ghost use Rattle.am_snapshot.specs.declared.row.WriteFault.TheVariants.{Write};
+
+    ghost from_gives = { λ e fault. fault ≡ Write e.written };
+
+    fn from(e: Stopped) -> WriteFault {
+        WriteFault::Write { written: e.written }
+    }
+}
+
+/// How many bytes the row has, where they aren't too many.
+fn row_length<V: Version>(versions: &[V]) -> Option<u64>
+    ensures { SomeIff result (length (row_text V.seen versions.now) ≤ most) (length (row_text V.seen versions.now)) }
+{
+    let mut total: u64 = 0;
+    for version in versions {
+        let length = version.canonical().len() as u64;
+        let prefix = write_varint(length).as_slice().len() as u64;
+        total = total.saturating_add(prefix).saturating_add(length);
+        if total > MOST {
+            return None;
+        }
+    }
+    Some(total)
+}
+
+/// Sends bytes behind their length on their way.
+fn put_delimited<W: Write>(out: &mut Outgoing, writer: &mut W, bytes: &[u8]) -> Result<(), Stopped>
+    requires { out.old.written + vec_len out.old.gathered + length (delimited bytes.now) < 2 ^ 64 }
+    ensures passed { OnOk result (Passes (W.contents writer.old) (W.contents writer.new) out.old.gathered.items (delimited bytes.now) out.new.gathered.items out.old.written out.new.written) }
+    ensures stopped { IfErr result (λ e. TakesPart (W.contents writer.old) (W.contents writer.new) (out.old.gathered.items ++ delimited bytes.now) out.old.written e.written) }
+{
+    out.put(writer, write_varint(bytes.len() as u64).as_slice())?;
+    out.put(writer, bytes)
+}
+
+/// Writes the versions as a row, by calls of `write`, and answers how many bytes it has. A failed write is
+/// not tried again.
+pub fn write_row<V: Version, W: Write>(
+    alloc: Global,
+    versions: &[V],
+    writer: &mut W,
+) -> Result<u64, WriteFault>
+    ensures { Writes W.contents writer.old writer.new (row_text V.seen versions.now) result }
+{
+    let Some(length) = row_length(versions) else {
+        return Err(WriteFault::TooLarge);
+    };
+    let Ok(mut out) = Outgoing::new(alloc) else {
+        return Err(WriteFault::Memory);
+    };
+    for version in versions {
+        put_delimited(&mut out, writer, version.canonical())?;
+    }
+    out.flush(writer)?;
+    Ok(length)
+}
