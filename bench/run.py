@@ -19,29 +19,52 @@ import rows
 TOP = os.path.dirname(os.path.dirname(os.path.abspath(__file__)))
 
 
+def build_ours():
+    subprocess.run([os.path.join(TOP, "am_tool"), "--help"], check=True, stdout=subprocess.DEVNULL)
+    return [os.path.join(TOP, "crates", "am_tool", "out", "am_tool"), "fold", "--state", "sil", "--now", "0"]
+
+
 def build(folder):
     plain = os.path.join(folder, "plain_fold")
     subprocess.run(["rustc", "-C", "opt-level=3", "-o", plain, os.path.join(TOP, "bench", "plain_fold.rs")], check=True)
-    subprocess.run([os.path.join(TOP, "am_tool"), "--help"], check=True, stdout=subprocess.DEVNULL)
-    return [os.path.join(TOP, "crates", "am_tool", "out", "am_tool"), "fold", "--state", "sil", "--now", "0"], [plain]
+    return build_ours(), [plain]
 
 
-def run(command, source, target):
-    """Wall time in seconds, and peak memory in bytes."""
+def start(command, source, target):
     with open(source, "rb") as i, open(target, "wb") as o:
-        start = time.perf_counter()
-        child = subprocess.Popen(command, stdin=i, stdout=o)
-        _, status, usage = os.wait4(child.pid, 0)
-        spent = time.perf_counter() - start
-    child.returncode = os.waitstatus_to_exitcode(status)
-    if child.returncode != 0:
+        return subprocess.Popen(command, stdin=i, stdout=o)
+
+
+def end(child, command):
+    if child.wait() != 0:
         raise SystemExit("%s ended with %d" % (command[0], child.returncode))
-    return spent, usage.ru_maxrss * 1024
+
+
+def seconds(command, source, target):
+    """Wall time of a run."""
+    begin = time.perf_counter()
+    child = start(command, source, target)
+    end(child, command)
+    return time.perf_counter() - begin
+
+
+def peak(command, source, target):
+    """Peak memory of a run in bytes, as the kernel last showed it before the end. (What it counts for a child that has
+    ended would include this process, of which the child is a copy until it runs its program.)"""
+    child = start(command, source, target)
+    most = 0
+    while child.poll() is None:
+        try:
+            with open("/proc/%d/status" % child.pid) as f:
+                most = max([most] + [int(line.split()[1]) * 1024 for line in f if line.startswith("VmHWM")])
+        except OSError:
+            pass
+    end(child, command)
+    return most
 
 
 def measure(command, source, target, rounds):
-    runs = [run(command, source, target) for _ in range(rounds)]
-    return min(t for t, _ in runs), max(m for _, m in runs)
+    return min(seconds(command, source, target) for _ in range(rounds)), peak(command, source, target)
 
 
 def main():

@@ -1,6 +1,6 @@
 -- An input that is read row by row.
-use Rattle.std.proofs.Common.{◌≡◌, ◌≢◌, ℕ, zero, suc, ◌+◌, ◌-◌, ◌<◌, ◌≤◌, List, [], ◌∷◌, ◌++◌, length, take, drop, map, Option, Some, None, IfSome, Result, Ok, Err, ◌⊎◌, inl, inr, ⊎_elim, refl, sym, ap, subst, ◌∙◌, arith, append_assoc, append-nil, length-append, length-take}
-use Rattle.std.proofs.lemmas.List.{map-append, take-append-le, take-append-drop}
+use Rattle.std.proofs.Common.{◌≡◌, ◌≢◌, ℕ, ◌+◌, ◌-◌, ◌<◌, ◌≤◌, List, [], ◌∷◌, ◌++◌, length, take, drop, map, Option, Some, None, IfSome, Result, Ok, Err, ◌⊎◌, inl, inr, ⊎_elim, refl, sym, ap, subst, ◌∙◌, arith, append_assoc, append-nil, length-append}
+use Rattle.std.proofs.lemmas.List.{map-append, take-append-le}
 use Rattle.std.proofs.Math.Seq.{take-append_seam, drop-append_seam, take-append-add, take-nil}
 use Rattle.std.specs.Io.KnownBytes.{Consumes, IsAtEnd}
 use Rattle.std.proofs.KnownBytes.{Consumes-nil, Consumes-trans}
@@ -11,11 +11,11 @@ use Rattle.am_wire.specs.declared.reader.RowFault.TheVariants.{Read, Wire, TooLa
 use Rattle.am_wire.specs.declared.reader.Standing.{Standing}
 use Rattle.am_wire.specs.declared.reader.Standing.TheVariants.{Before, Over, Refused}
 use Rattle.am_wire.specs.Varint.{varint_within}
-use Rattle.am_wire.specs.Fields.{row_at, pieces, ◌>>=◌}
+use Rattle.am_wire.specs.Fields.{row_at, pieces}
 use Rattle.am_wire.specs.Again.Pieces.{pieces-first}
-use Rattle.am_wire.specs.Reader.{IsCut, IsRow, ReadsAs, HasBadLength, EndsInRow, Stops, Answers, all_but_last}
+use Rattle.am_wire.specs.Reader.{IsCut, ReadsAs, HasBadLength, EndsInRow, Answers, all_but_last}
 use Rattle.am_snapshot.specs.Texts.{most}
-use Rattle.am_snapshot.specs.Inputs.{sound, message_at, messages_of, AreMessages, HasFault, IsCutAfter, StopsAfter}
+use Rattle.am_snapshot.specs.Inputs.{sound, message_at, messages_of, AreMessages, HasFault, StopsAfter}
 use Rattle.am_snapshot.proofs.Whole.{row_at-whole, row_at-fails}
 
 -- where the next row begins

@@ -1,5 +1,5 @@
 -- The faults of reading and of writing a row, as those of a call that does both.
-use Rattle.std.proofs.Common.{◌≡◌, ℕ, List, [], ◌∷◌, ◌++◌, length, map, Bool, true, false, Option, Some, None, IfSome, Result, Ok, Err, inl, inr, refl, sym, ap, ◌∙◌, append_assoc}
+use Rattle.std.proofs.Common.{◌≡◌, ℕ, List, [], ◌∷◌, ◌++◌, length, map, true, false, Option, Some, None, IfSome, Result, Err, inl, inr, refl, ap, ◌∙◌, append_assoc}
 use Rattle.std.specs.Prelude.{Contains, IsPermutation, is_some}
 use Rattle.std.specs.Option.{option_copied}
 use Rattle.std.proofs.lemmas.List.{map-append}
@@ -10,7 +10,7 @@ use Rattle.am_wire.specs.declared.error.WireError.{WireError}
 use Rattle.am_wire.specs.declared.reader.RowFault.{RowFault}
 use Rattle.am_wire.specs.declared.reader.RowFault.TheVariants as reading
 use Rattle.am_merge.specs.Maps.{IsMap}
-use Rattle.am_snapshot.specs.Texts.{row_text, most}
+use Rattle.am_snapshot.specs.Texts.{row_text}
 use Rattle.am_wire.specs.declared.reader.Standing.{Standing}
 use Rattle.am_wire.specs.Fields.{pieces}
 use Rattle.am_snapshot.specs.Inputs.{sound, message_at, messages_of, AreMessages, StopsAfter}

@@ -40,7 +40,7 @@ fn row_length<V: Version>(versions: &[V]) -> Option<u64>
     ensures { SomeIff result (length (row_text V.seen versions.now) ≤ most) (length (row_text V.seen versions.now)) }
 {
     let mut total: u64 = 0;
-    for version in versions {
+    for version in versions.iter() {
         let length = version.canonical().len() as u64;
         let prefix = write_varint(length).as_slice().len() as u64;
         total = total.saturating_add(prefix).saturating_add(length);

@@ -1,6 +1,5 @@
-ghost use Rattle.std.specs.Prelude.{◌≡◌, ◌<◌, ℕ, List, [], length, slice_index, vec_len, Some, Ok, Err, nat_lt, if◌then◌else◌};
-ghost use Rattle.std.proofs.Common.{sym, rules};
-ghost use Rattle.std.proofs.lemmas.Bool.{lt-ltb};
+ghost use Rattle.std.specs.Prelude.{◌≡◌, ◌<◌, ℕ, List, [], length, slice_index, Some, Ok, Err, nat_lt, if◌then◌else◌};
+ghost use Rattle.std.proofs.Common.{ap, sym, rules};
 ghost use Rattle.std.specs.declared.cmp.Ordering.TheVariants.{Equal};
 ghost use Rattle.std.specs.Cmp.{ranked};
 ghost use Rattle.am_version_order.specs.Versions.{Version};
@@ -22,9 +21,9 @@ struct Note {
 }
 
 impl Model for Note {
-    ghost Value = { Version ℕ };
+    ghost Value = { List ℕ };
 
-    ghost view = { λ note. record { key = slice_index note.text.items 0; updated = 0; expires = 0; content = note.text.items } };
+    ghost view = { λ note. note.text.items };
 
     ghost invariant = { λ note. 0 < length note.text.items };
 }
@@ -32,7 +31,7 @@ impl Model for Note {
 impl Version for Note {
     type Key = u8;
 
-    ghost seen = { λ note. note };
+    ghost seen = { λ note. record { key = slice_index note 0; updated = 0; expires = 0; content = note } };
 
     ghost bucket_of = { λ _. [] };
 
@@ -70,15 +69,15 @@ impl Version for Note {
 
     ghost exact_keys = { λ x y tie. ranked x y Equal (sym tie) };
 
-    ghost exact = { λ v w _ _ same. same };
+    ghost exact = { λ v w _ _ same. ap (λ (s : Version ℕ). s.content) same };
 }
 
 impl Message for Note {
-    ghost is_value = { λ note. (0 < length note.content) × (note ≡ record { key = slice_index note.content 0; updated = 0; expires = 0; content = note.content }) };
+    ghost is_value = { λ note. 0 < length note };
 
-    ghost writes = { λ note. note.content };
+    ghost writes = { λ note. note };
 
-    ghost reads = { λ at text. if nat_lt 0 (length text) then Ok (record { key = slice_index text 0; updated = 0; expires = 0; content = text }) else Err (errors.Truncated at) };
+    ghost reads = { λ at text. if nat_lt 0 (length text) then Ok text else Err (errors.Truncated at) };
 
     fn put(&self, out: &mut Vec<u8>) -> Result<(), AllocError> {
         out.extend_from_slice(&self.text)?;

@@ -7,7 +7,7 @@ mod words;
 
 use am_nflog::MeshEntry;
 use am_silence::MeshSilence;
-use am_snapshot::{FoldError, fold};
+pub use am_snapshot::{FoldError, fold};
 use fault::FaultLine;
 use std::io::BufReader;
 use std::process::ExitCode;

@@ -1,7 +1,7 @@
 use crate::fault::FaultLine;
 use am_nflog::MeshEntry;
 use am_silence::MeshSilence;
-use am_snapshot::{FoldError, fold};
+use am_snapshot::{FoldError, SnapshotError, fold, load, save};
 use am_version_order::Moment;
 use am_wire::WireError;
 use std::alloc::{AllocError, Global};
@@ -103,7 +103,8 @@ fn a_late_version_is_held(rt: HostRuntime) -> Result<(), Fail> {
         &[0x12],
         &FIRST_MOMENT,
     ];
-    let expected = joined(alloc, &[&[0x36, 0x0A, 0x27], &joined(alloc, &moments)?])?;
+    let moments = joined(alloc, &moments)?;
+    let expected = joined(alloc, &[&[0x36, 0x0A, 0x27], moments.as_slice()])?;
     let output = folded(alloc, &[0x02, 0x0A, 0x00]).map_err(|_| "a fault")?;
     assert_eq!(rt; output.len(), 55);
     assert_eq!(rt; output.as_slice(), expected.as_slice());
@@ -150,6 +151,21 @@ fn the_first_fault_is_told(rt: HostRuntime) -> Result<(), Fail> {
         assert_eq!(rt; fault.to_string(alloc)?.as_str(), line);
         assert_eq!(rt; fault.status(), 1);
     }
+    Ok(())
+}
+
+#[test]
+fn a_saved_silence_is_loaded(rt: HostRuntime) -> Result<(), Fail> {
+    let alloc = rt.alloc();
+    let later = second();
+    let held = load::<MeshSilence, _>(alloc, &mut later.as_slice()).map_err(|_| "a fault")?;
+    let mut output = Vec::new(alloc);
+    let written = save(alloc, &held, &mut output);
+    assert!(rt; written == Ok(33));
+    assert_eq!(rt; output.as_slice(), later.as_slice());
+    let twice = joined(alloc, &[&FIRST, &later])?;
+    let fault = load::<MeshSilence, _>(alloc, &mut twice.as_slice()).err();
+    assert!(rt; fault == Some(SnapshotError::DuplicateKey));
     Ok(())
 }
 

@@ -1,6 +1,6 @@
 -- What is read is what is spelled.
-use Rattle.std.proofs.Common.{◌≡◌, ℕ, zero, suc, ◌+◌, ◌*◌, ◌/◌, ◌%◌, ◌<◌, ◌≤◌, Bool, ltb, true, false, List, [], ◌∷◌, ◌++◌, length, map, take, drop, Result, refl, ap, ◌∙◌, append_assoc, length-append, arith, inl, inr}
-use Rattle.std.specs.List.{AllPass}
+use Rattle.std.proofs.Common.{◌≡◌, ℕ, zero, suc, ◌+◌, ◌*◌, ◌/◌, ◌%◌, ◌<◌, ◌≤◌, Bool, ltb, true, false, List, [], ◌∷◌, ◌++◌, length, map, take, drop, Result, refl, ap, ◌∙◌, append_assoc, length-append, arith, inl, inr, ◌^◌, Ok, sym}
+use Rattle.std.specs.List.{All, AllPass, flat_map}
 use Rattle.std.proofs.lemmas.Bool.{lt-ltb, le-ltb, cases_lt}
 use Rattle.std.proofs.lemmas.List.{take_at, drop_at}
 use Rattle.std.proofs.lemmas.List.Elements.{All-cons, All-head, All-tail}
@@ -10,10 +10,34 @@ use Rattle.am_wire.specs.Varint.{IsVarint, IsChain, total, varint_at, groups, sh
 use Rattle.am_wire.specs.Fields.{FieldAt, fields_of, field_at, row_at, rows_of, any}
 use Rattle.am_wire.specs.Grammar.{AreSpelled, AreFields, IsRow, AreRows, ArePacked, field_fits}
 use Rattle.am_wire.specs.Reading.{unpacked}
-use Rattle.am_wire.specs.Again.Varints.{varint_read, varint_filled}
+use Rattle.am_wire.specs.Writing.{put_row, put_rows}
+use Rattle.am_wire.specs.Again.Varints.{varint_read, varint_filled, shortest_spells}
 use Rattle.am_wire.specs.Again.Pieces.{done, Reads, pieces-spelled}
 use Rattle.am_wire.specs.Again.Fields.{field_read}
 use Rattle.am_wire.proofs.Found.{IsTaken, IsNumber, field_found, number_found, row_found, pieces_found}
+
+-- ---- one way only
+done_is : {A : Type 0} (x y : A) (xs ys : List A) → map done (x ∷ xs) ≡ map done (y ∷ ys) → (x ≡ y) × (map done xs ≡ map done ys)
+done_is x y xs ys h = (cc, cc)
+
+lists_are : {A : Type 0} (xs ys : List A) → map done xs ≡ map done ys → xs ≡ ys
+lists_are [] [] h = refl
+lists_are [] (y ∷ ys) h = absurd cc
+lists_are (x ∷ xs) [] h = absurd cc
+lists_are {A} (x ∷ xs) (y ∷ ys) h =
+    let parts = done_is x y xs ys h in
+    let rest = lists_are xs ys parts.1 in
+    ap (λ (z : A). z ∷ xs) parts.0 ∙ ap (λ (zs : List A). y ∷ zs) rest
+
+read_is : (x y : ℕ × ℕ) → done x ≡ done y → x ≡ y
+read_is x y h = cc
+
+pub varints_one_way : (n m : ℕ) (text other rest more : List ℕ) → IsVarint text n → IsVarint other m → text ++ rest ≡ other ++ more → (n ≡ m) × (text ≡ other)
+varints_one_way n m text other rest more first second same =
+    let same_read = sym (varint_read 0 n text rest first) ∙ ap (varint_at 0) same ∙ varint_read 0 m other more second in
+    let are = read_is (n, length text) (m, length other) same_read in
+    let len : length text ≡ length other = ap (λ (p : ℕ × ℕ). p.1) are in
+    (ap (λ (p : ℕ × ℕ). p.0) are, sym (take_at text rest (length text) refl) ∙ ap (take (length text)) same ∙ take_at other more (length text) (sym len))
 
 -- ---- fields
 module _ (fits : ℕ → WireType → Bool) where
@@ -41,6 +65,9 @@ module _ (fits : ℕ → WireType → Bool) where
 pub any_fields_read : (at : ℕ) (bytes : List ℕ) (es : List FieldAt) → AreFields es at bytes → fields_of any at bytes ≡ map done es
 any_fields_read at bytes es is = fields_read any at bytes es is (λ k d lt. refl)
 
+pub fields_one_way : (at : ℕ) (bytes : List ℕ) (es others : List FieldAt) → AreFields es at bytes → AreFields others at bytes → es ≡ others
+fields_one_way at bytes es others first second = lists_are es others (sym (any_fields_read at bytes es first) ∙ any_fields_read at bytes others second)
+
 -- ---- rows
 row_read : (message : List ℕ) (at : ℕ) (text : List ℕ) → IsRow message at text → Reads row_at message at text
 unfolding row_at
@@ -66,6 +93,19 @@ rows_found bytes messages h = pieces_found row_at IsRow row_found messages 0 byt
 pub rows_read : (bytes : List ℕ) (messages : List (List ℕ)) → AreRows messages bytes → rows_of bytes ≡ map done messages
 rows_read bytes messages is = pieces-spelled row_at IsRow row_read messages 0 bytes is
 
+pub rows_one_way : (bytes : List ℕ) (messages others : List (List ℕ)) → AreRows messages bytes → AreRows others bytes → messages ≡ others
+rows_one_way bytes messages others first second = lists_are messages others (sym (rows_read bytes messages first) ∙ rows_read bytes others second)
+
+abbrev IsSmall : List ℕ → Type 0
+IsSmall message = length message ≤ 67108864
+
+pub rows_written : (messages : List (List ℕ)) (at : ℕ) → All IsSmall messages → AreSpelled IsRow messages at (put_rows messages)
+rows_written [] at small = refl
+rows_written (m ∷ messages) at small =
+    let low = All-head IsSmall m messages small in
+    let row : IsRow m at (put_row m) = record { size = shortest (length m); size_is = shortest_spells (length m) (omega arith); text_is = refl; not_large = low } in
+    (put_row m, put_rows messages, refl, row, rows_written messages (at + length (put_row m)) (All-tail IsSmall m messages small))
+
 -- ---- packed numbers
 module _ (tag : ℕ) (bytes numbers : List ℕ) where
   abbrev front : ℕ → List ℕ → Result (ℕ × ℕ) WireError
@@ -76,6 +116,17 @@ module _ (tag : ℕ) (bytes numbers : List ℕ) where
 
   pub numbers_read : ArePacked numbers bytes → unpacked tag bytes ≡ map done numbers
   numbers_read is = pieces-spelled front IsNumber (λ n at text v. record { filled = varint_filled text n v; reads = λ rest. varint_read tag n text rest v }) numbers 0 bytes is
+
+pub numbers_one_way : (bytes numbers others : List ℕ) → ArePacked numbers bytes → ArePacked others bytes → numbers ≡ others
+numbers_one_way bytes numbers others first second = lists_are numbers others (sym (numbers_read 0 bytes numbers first) ∙ numbers_read 0 bytes others second)
+
+abbrev Fits64 : ℕ → Type 0
+Fits64 n = n < 2 ^ 64
+
+pub numbers_written : (numbers : List ℕ) (at : ℕ) → All Fits64 numbers → AreSpelled IsNumber numbers at (flat_map shortest numbers)
+numbers_written [] at small = refl
+numbers_written (n ∷ numbers) at small =
+    (shortest n, flat_map shortest numbers, refl, shortest_spells n (All-head Fits64 n numbers small), numbers_written numbers (at + length (shortest n)) (All-tail Fits64 n numbers small))
 
 -- ---- no spelling is shorter
 groups_least : (room : ℕ) (text : List ℕ) → IsChain text → length (groups room (total text)) ≤ length text

@@ -1,4 +1,4 @@
-use Rattle.std.proofs.Common.{◌≡◌, ◌+◌, ◌∙◌, List, ℕ, ap, arith, length, length-append}
+use Rattle.std.proofs.Common.{◌∙◌, List, ℕ, ap, arith, length, length-append}
 use Rattle.std.proofs.lemmas.Result.{err_from_is_err_and}
 use Rattle.am_wire.specs.Varint.{shortest}
 use Rattle.am_snapshot.proofs.Passing.{passes_then, passes_count, stops_in_first, stops_later, ok_then, err_then}

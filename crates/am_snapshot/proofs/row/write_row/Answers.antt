@@ -1,6 +1,5 @@
-use Rattle.std.proofs.Common.{◌≡◌, ◌<◌, ◌≤◌, ◌+◌, ◌∙◌, [], List, ℕ, ap, arith, length, drop}
+use Rattle.std.proofs.Common.{◌≡◌, ◌+◌, [], List, ℕ, ap, arith, length, drop}
 use Rattle.std.proofs.lemmas.Result.{err_from_is_err_and}
-use Rattle.std.proofs.Math.Seq.{take-length}
 use Rattle.am_snapshot.specs.Texts.{delimited, row_text}
 use Rattle.am_snapshot.proofs.Passing.{passes_then, passes_count, passes_whole, stops_first, stops_later, stops_waiting, stopped_row}
 use Rattle.am_snapshot.proofs.RowTexts.{row_end, row_more, row_rest, row_within}

@@ -1,4 +1,4 @@
-use Rattle.am_wire.proofs.Exact.{fields_found, fields_read, any_fields_read}
+use Rattle.am_wire.proofs.Exact.{fields_found, fields_read, any_fields_read, fields_one_way}
 use Rattle.am_wire.proofs.laws.fields_are_the_grammar.Goals as goal
 
 pub returns-clause-found : goal.returns-clause-found
@@ -9,3 +9,6 @@ returns-clause-read c = fields_read
 
 pub returns-clause-any_read : goal.returns-clause-any_read
 returns-clause-any_read c = any_fields_read
+
+pub returns-clause-one_way : goal.returns-clause-one_way
+returns-clause-one_way c = fields_one_way

@@ -2,7 +2,7 @@ use Rattle.std.proofs.Common.{arith}
 use Rattle.am_wire.specs.Again.Varints.{varint_read, shortest_spells}
 use Rattle.am_wire.proofs.Spelled.{read_spells, varint_found}
 use Rattle.am_wire.proofs.Faults.{cut_fails, long_fails, cut_found, long_found}
-use Rattle.am_wire.proofs.Exact.{shortest_least}
+use Rattle.am_wire.proofs.Exact.{shortest_least, varints_one_way}
 use Rattle.am_wire.proofs.laws.varints_are_the_grammar.Goals as goal
 
 pub returns-clause-found : goal.returns-clause-found
@@ -28,3 +28,6 @@ returns-clause-written c = shortest_spells
 
 pub returns-clause-shortest : goal.returns-clause-shortest
 returns-clause-shortest c = shortest_least
+
+pub returns-clause-one_way : goal.returns-clause-one_way
+returns-clause-one_way c = varints_one_way
