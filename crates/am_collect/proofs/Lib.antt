@@ -1,0 +1,4 @@
+pub mod Greatest
+pub mod Fits
+pub mod Histories
+pub mod Runs

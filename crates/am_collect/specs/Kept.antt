@@ -1,0 +1,7 @@
+-- A keeper as contracts see it.
+use Rattle.std.specs.Prelude.{ℕ, List}
+
+-- the versions held, in the order of their keys, and the moment of the last event
+pub record Kept (X : Type 0) : Type 0 where
+  pub held : List X
+  pub last : ℕ

@@ -1,0 +1,4 @@
+pub mod Kept
+pub mod Events
+pub mod Calm
+pub mod Keepers
