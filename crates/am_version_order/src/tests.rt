@@ -41,6 +41,16 @@ fn sums_end_at_the_last_moment(rt: HostRuntime) -> Result<(), Fail> {
     let later = Moment::from_parts(9_223_372_036, 854_775_808);
     assert_eq!(rt; moment.checked_add(longest), later);
     assert_eq!(rt; Some(moment.capped_add(longest)), later);
+    let second = Interval::from_nanos(1_000_000_000).ok_or("an interval")?;
+    assert_eq!(rt;
+        moment.checked_add_times(second, 30),
+        Moment::from_parts(30, 1)
+    );
+    assert_eq!(rt;
+        Moment::GREATEST.checked_add_times(second, 0),
+        Some(Moment::GREATEST)
+    );
+    assert_eq!(rt; moment.checked_add_times(longest, u64::MAX), None);
     assert!(rt; Moment::LEAST < moment && moment < Moment::GREATEST);
     Ok(())
 }

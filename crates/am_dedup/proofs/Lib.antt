@@ -1,0 +1,2 @@
+mod Decides
+mod Sets

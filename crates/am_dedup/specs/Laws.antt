@@ -1,0 +1,13 @@
+-- What a group's entry tells already.
+use Rattle.std.specs.Prelude.{◌≡◌, ℕ, ◌+◌, ◌≤◌, Bool, true}
+use Rattle.std.specs.FinSet.{contains}
+use Rattle.am_dedup.specs.Decisions.{Hashes, Logged}
+
+-- Something fires; the entry lists all that fires, and where resolved ones are wanted, all that is resolved; and the
+-- repeat interval isn't over.
+pub record IsTold (entry : Logged) (firing resolved : Hashes) (repeat : ℕ) (wanted : Bool) (now : ℕ) : Type 0 where
+  pub some : ℕ
+  pub fires : contains firing some ≡ true
+  pub firing_listed : (hash : ℕ) → contains firing hash ≡ true → contains entry.firing hash ≡ true
+  pub resolved_listed : wanted ≡ true → (hash : ℕ) → contains resolved hash ≡ true → contains entry.resolved hash ≡ true
+  pub early : now ≤ entry.timestamp + repeat

@@ -1,0 +1,133 @@
+//! Whether a group of alerts is notified.
+
+ghost use Rattle.std.specs.Prelude.{◌≡◌, ◌+◌, ◌<◌, ◌≤◌, length, option_map, nat_eq, nat_lt, true, false, IfSome, IfNone};
+ghost use Rattle.std.specs.FinSet.{is_subset};
+ghost use Rattle.std.specs.List.{list_any};
+ghost use Rattle.std.specs.Option.{option_copied};
+ghost use Rattle.am_dedup.specs.Decisions.{decision, decision_after, has_none, logged, set_of};
+
+use am_nflog::Entry;
+use am_version_order::{Interval, Moment};
+
+/// Why a group is notified.
+#[derive(Clone, Copy, Debug, PartialEq, Eq)]
+pub enum Reason {
+    /// The log has no entry of the group, and something fires.
+    First,
+    /// Something fires that the entry doesn't list as firing.
+    NewFiring,
+    /// Nothing fires any more of what the entry lists as firing.
+    AllResolved,
+    /// Something is resolved that the entry doesn't list as resolved, and resolved ones are wanted.
+    NewResolved,
+    /// The repeat interval is over.
+    Repeat,
+}
+
+/// Whether a group is notified.
+#[derive(Clone, Copy, Debug, PartialEq, Eq)]
+pub enum Decision {
+    Skip,
+    Notify(Reason),
+}
+
+/// Whether a group is notified at `now`, of which the view of the log has this entry or none. The lists of alert
+/// hashes count as sets. It takes no memory; lists in the order of the entry's take linear time, others at most the
+/// product of the lengths.
+#[tactic(auto, unfolding(crate::specs::Decisions::decision))]
+pub fn decide(
+    entry: Option<&Entry>,
+    firing: &[u64],
+    resolved: &[u64],
+    repeat: Interval,
+    send_resolved: bool,
+    now: Moment,
+) -> Decision
+    ensures { result ≡ decision (option_map logged (option_copied entry.entry)) (set_of firing.now) (set_of resolved.now) repeat send_resolved now }
+{
+    match entry {
+        Some(entry) => decide_after(entry, firing, resolved, repeat, send_resolved, now),
+        None if has_none(firing) => Decision::Skip,
+        None => Decision::Notify(Reason::First),
+    }
+}
+
+// The decision where the log has an entry.
+#[tactic(auto, unfolding(crate::specs::Decisions::decision_after))]
+fn decide_after(
+    entry: &Entry,
+    firing: &[u64],
+    resolved: &[u64],
+    repeat: Interval,
+    send_resolved: bool,
+    now: Moment,
+) -> Decision
+    ensures { result ≡ decision_after (logged entry.now) (set_of firing.now) (set_of resolved.now) repeat send_resolved now }
+{
+    if !is_within(firing, entry.firing_alerts.as_slice()) {
+        Decision::Notify(Reason::NewFiring)
+    } else if has_none(firing) {
+        if has_none(entry.firing_alerts.as_slice()) {
+            Decision::Skip
+        } else {
+            Decision::Notify(Reason::AllResolved)
+        }
+    } else if send_resolved && !is_within(resolved, entry.resolved_alerts.as_slice()) {
+        Decision::Notify(Reason::NewResolved)
+    } else if is_over(entry.timestamp, repeat, now) {
+        Decision::Notify(Reason::Repeat)
+    } else {
+        Decision::Skip
+    }
+}
+
+// Whether an interval that began at `start` is over.
+fn is_over(start: Moment, interval: Interval, now: Moment) -> bool
+    ensures { result ≡ nat_lt (start + interval) now }
+{
+    start.checked_add(interval).is_some_and(|end| end < now)
+}
+
+fn has_none(hashes: &[u64]) -> bool
+    ensures { result ≡ has_none (set_of hashes.now) }
+{
+    hashes.is_empty()
+}
+
+// Whether each of the hashes is listed. Each is looked for first behind the one found before it.
+fn is_within(hashes: &[u64], listed: &[u64]) -> bool
+    ensures { result ≡ is_subset (set_of hashes.now) (set_of listed.now) }
+{
+    let mut behind = 0;
+    for hash in hashes {
+        match place_of(*hash, listed, behind) {
+            Some(place) => behind = place + 1,
+            None => return false,
+        }
+    }
+    true
+}
+
+// Where a hash is listed: the first place from `start` on, or else the first one of all.
+fn place_of(hash: u64, listed: &[u64], start: usize) -> Option<usize>
+    requires { start ≤ length listed.now }
+    ensures found { IfSome result (λ place. (place < length listed.now) × (list_any (λ y. nat_eq y hash) listed.now ≡ true)) }
+    ensures missing { IfNone result (list_any (λ y. nat_eq y hash) listed.now ≡ false) }
+{
+    match first_place_of(hash, &listed[start..]) {
+        Some(place) => Some(start + place),
+        None => first_place_of(hash, &listed[..start]),
+    }
+}
+
+fn first_place_of(hash: u64, hashes: &[u64]) -> Option<usize>
+    ensures found { IfSome result (λ place. (place < length hashes.now) × (list_any (λ y. nat_eq y hash) hashes.now ≡ true)) }
+    ensures missing { IfNone result (list_any (λ y. nat_eq y hash) hashes.now ≡ false) }
+{
+    for (place, other) in hashes.iter().enumerate() {
+        if *other == hash {
+            return Some(place);
+        }
+    }
+    None
+}

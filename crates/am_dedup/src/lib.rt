@@ -1,0 +1,12 @@
+//! Whether a group of alerts is notified, and when an instance is due to do so.
+#![tactic(auto)]
+
+mod decision;
+pub mod laws;
+mod wait;
+
+pub use decision::{Decision, Reason, decide};
+pub use wait::due;
+
+#[cfg(test)]
+mod tests;
