@@ -2,7 +2,7 @@
 use Rattle.std.specs.Prelude.{◌≡◌, ℕ, List}
 use Rattle.std.specs.declared.cmp.Ordering.{Ordering}
 use Rattle.std.specs.declared.cmp.Ordering.TheVariants.{Less, Equal, Greater}
-use Rattle.std.specs.Ordering.{nat_cmp, ordering_then}
+use Rattle.std.specs.Ordering.{nat_cmp, ordering_then, on, then_cmp}
 use Rattle.std.specs.Cmp.Lexicographic.{slice_cmp}
 use Rattle.std.proofs.Common.{refl, sym}
 use Rattle.std.proofs.lemmas.Cmp.{ranked}
@@ -10,10 +10,10 @@ use Rattle.std.proofs.lemmas.Map.Lookups.{exact_bytes}
 use Rattle.am_nflog.specs.declared.entry.LogKey.{LogKey}
 
 abbrev pub key_cmp : LogKey → LogKey → Ordering
-key_cmp j k =
-    ordering_then (slice_cmp nat_cmp j.group_key k.group_key)
-    (ordering_then (slice_cmp nat_cmp j.receiver.group_name k.receiver.group_name)
-    (ordering_then (slice_cmp nat_cmp j.receiver.integration k.receiver.integration) (nat_cmp j.receiver.idx k.receiver.idx)))
+key_cmp =
+    then_cmp (on (λ k. k.group_key) (slice_cmp nat_cmp))
+    (then_cmp (on (λ k. k.receiver.group_name) (slice_cmp nat_cmp))
+    (then_cmp (on (λ k. k.receiver.integration) (slice_cmp nat_cmp)) (on (λ k. k.receiver.idx) nat_cmp)))
 
 then_equal : (a b : Ordering) → ordering_then a b ≡ Equal → (a ≡ Equal) × (b ≡ Equal)
 then_equal Less b h = absurd cc

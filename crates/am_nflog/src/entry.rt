@@ -1,7 +1,12 @@
 //! Entries of the log.
 
 ghost use Rattle.std.specs.Prelude.{◌≡◌, ℕ, List, [], ◌∷◌, ◌++◌, OnOk, IfOk, IfErr};
+ghost use Rattle.std.proofs.Common.{rules};
+ghost use Rattle.std.specs.Cmp.{partial_order_from_own_ties};
+ghost use Rattle.std.specs.Cmp.Rules.{comparing};
+ghost use Rattle.std.specs.Ordering.{as_partial_cmp};
 ghost use Rattle.am_nflog.specs.Entries.{entry};
+ghost use Rattle.am_nflog.specs.Keys.{key_cmp};
 
 use crate::bytes::{Bytes, Hashes};
 use crate::receiver::{Receiver, ReceiverDraft};
@@ -12,10 +17,11 @@ use am_wire::{
     read_message,
 };
 use std::alloc::{AllocError, Global};
+use std::cmp::Ordering;
 
 /// Which group of alerts, and which receiver. Keys are ordered by group key, group name and
 /// integration, byte by byte, and then by index as a number.
-#[derive(Debug, PartialEq, Eq, PartialOrd, Ord, Drop)]
+#[derive(Debug, PartialEq, Eq, Drop)]
 pub struct LogKey {
     pub group_key: Bytes,
     pub receiver: Receiver,
@@ -30,6 +36,35 @@ impl LogKey {
             group_key: self.group_key.try_clone(alloc)?,
             receiver: self.receiver.try_clone(alloc)?,
         })
+    }
+}
+
+impl PartialOrd for LogKey {
+    ghost partial_cmp = { as_partial_cmp key_cmp };
+
+    ghost laws = { partial_order_from_own_ties (Prim.search (comparing, rules) depth 9) (Prim.search (comparing, rules) depth 9) };
+
+    fn partial_cmp(&self, other: &LogKey) -> Option<Ordering> {
+        Some(self.cmp(other))
+    }
+}
+
+impl Ord for LogKey {
+    ghost cmp = { key_cmp };
+
+    ghost total = { Prim.search (comparing, rules) depth 9 };
+
+    ghost matches_partial_cmp = { Prim.search (comparing, rules) depth 9 };
+
+    ghost matches_eq = { Prim.search (comparing, rules) depth 9 };
+
+    fn cmp(&self, other: &LogKey) -> Ordering {
+        let (to, other_to) = (&self.receiver, &other.receiver);
+        self.group_key
+            .cmp(&other.group_key)
+            .then(to.group_name.cmp(&other_to.group_name))
+            .then(to.integration.cmp(&other_to.integration))
+            .then(to.idx.cmp(&other_to.idx))
     }
 }
 

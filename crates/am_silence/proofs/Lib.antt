@@ -1,2 +1,4 @@
 pub mod FirstComments
 pub mod Judging
+pub mod SameMatchers
+pub mod Planning

@@ -6,3 +6,7 @@ pub mod Mesh
 pub mod MeshTable
 pub mod Drafts
 pub mod Again
+pub mod States
+pub mod Ids
+pub mod Plans
+pub mod Refusals

@@ -1,14 +1,25 @@
-//! Silences: how they are read, written and compared.
+//! Silences: how they are read, written and compared, and what posting and ending one makes.
 #![tactic(auto)]
 
+mod checks;
 mod comment;
+mod error;
+mod ids;
 mod matcher;
 mod mesh;
+mod plan;
 mod silence;
+mod state;
+mod update;
+mod versions;
 
+pub use error::SilenceError;
+pub use ids::{IdText, fresh_id};
 pub use matcher::{Matcher, MatcherDraft, MatcherKind, Matchers};
 pub use mesh::{MeshSilence, MeshSilenceDraft};
+pub use plan::{Plan, Posted, Verdict, plan_expire, plan_post};
 pub use silence::{Silence, SilenceDraft};
+pub use state::{State, state_at};
 
 #[cfg(test)]
 mod tests;

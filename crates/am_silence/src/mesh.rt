@@ -1,16 +1,19 @@
 //! Silences as instances pass them on.
 
-ghost use Rattle.std.specs.Prelude.{◌≡◌, ◌≢◌, ℕ, ◌<◌, ◌≤◌, List, [], ◌∷◌, ◌++◌, length, OnOk, IfOk, IfErr, find, ◌⊎◌};
+ghost use Rattle.std.specs.Prelude.{◌≡◌, ◌≢◌, ℕ, ◌<◌, ◌≤◌, List, [], ◌∷◌, ◌++◌, length, OnOk, IfOk, IfErr, false, find, ◌⊎◌};
 ghost use Rattle.am_wire.specs.declared.error.WireError.TheVariants as errors;
 ghost use Rattle.std.specs.Option.{option_copied};
 ghost use Rattle.std.specs.List.{list_any};
 ghost use Rattle.am_silence.specs.Kinds.{is_regexp};
 ghost use Rattle.am_silence.specs.Matchers.{wants_label};
-ghost use Rattle.am_silence.specs.Mesh.{Mesh, writes_mesh_silence, bucket_of};
+ghost use Rattle.am_version_order.specs.Moments.{greatest};
+ghost use Rattle.am_silence.specs.Mesh.{Mesh, IsMesh, writes_mesh_silence, bucket_of};
+ghost use Rattle.am_silence.specs.States.{state_of, is_expired};
 ghost use Rattle.am_silence.specs.MeshTable.{mesh_silence};
 
 use crate::matcher::Matcher;
 use crate::silence::{Silence, SilenceDraft};
+use crate::state::{State, state_at};
 use am_version_order::{Moment, Version};
 use am_wire::{
     Draft, Field, MOST_MESSAGE_BYTES, Message, Part, Schema, Text, TimestampDraft, WireError,
@@ -54,6 +57,7 @@ impl MeshSilence {
         expires_at: Moment,
     ) -> Result<MeshSilence, WireError>
         ensures parts { IfOk result (λ m. m ≡ record { silence = silence; expires_at = expires_at }) }
+        ensures value { IfOk result IsMesh }
         ensures within { IfOk result (λ m. length (writes_mesh_silence m) ≤ 67108864) }
         ensures refused { IfErr result (λ e. (e ≡ errors.Memory) ⊎ ((e ≡ errors.TooLarge) × (67108864 < length (writes_mesh_silence (record { silence = silence; expires_at = expires_at }))))) }
     {
@@ -89,6 +93,14 @@ impl MeshSilence {
         ensures { result.now ≡ self.now.silence }
     {
         &self.silence
+    }
+
+    /// The state of the silence at a moment: at the last one all silences have expired.
+    pub(crate) fn state_at(&self, now: Moment) -> State
+        ensures state { result ≡ state_of self.now.silence now }
+        ensures last { is_expired result ≡ false → now < greatest }
+    {
+        state_at(&self.silence, now)
     }
 
     pub fn expires_at(&self) -> Moment

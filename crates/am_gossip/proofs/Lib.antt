@@ -1,0 +1,11 @@
+pub mod Varints
+pub mod Taking
+pub mod Greeting
+pub mod Counted
+pub mod Fronts
+pub mod Streaming
+pub mod Waiting
+pub mod Spellings
+pub mod Decomposed
+pub mod Written
+pub mod Greeted

@@ -1,0 +1,35 @@
+-- The text of a frame: the byte of its kind, the length of its payload, and the payload.
+use Rattle.std.specs.Prelude.{ℕ, List, [], ◌∷◌, ◌++◌, length, Result, Ok}
+use Rattle.am_wire.specs.Varint.{shortest}
+use Rattle.am_gossip.specs.declared.error.FrameError.{FrameError}
+use Rattle.am_gossip.specs.declared.kind.FrameKind.{FrameKind}
+use Rattle.am_gossip.specs.declared.kind.FrameKind.TheVariants as kinds
+use Rattle.am_gossip.specs.declared.frame.Frame.{Frame}
+use Rattle.am_gossip.specs.declared.frame.Frame.TheVariants.{Delta, Push, Pull, Tick}
+use Rattle.am_gossip.specs.Answers.{◌>>=◌}
+use Rattle.am_gossip.specs.Kinds.{code_of}
+use Rattle.am_gossip.specs.Parts.{reads_part, writes_part, reads_parts, writes_parts}
+
+abbrev pub kind_of : Frame → FrameKind
+kind_of (Delta p) = kinds.Delta
+kind_of (Push parts) = kinds.Push
+kind_of (Pull parts) = kinds.Pull
+kind_of Tick = kinds.Tick
+
+-- the one payload that is written for a frame
+abbrev pub payload_text : Frame → List ℕ
+payload_text (Delta p) = writes_part p
+payload_text (Push parts) = writes_parts parts
+payload_text (Pull parts) = writes_parts parts
+payload_text Tick = []
+
+-- the one text that is written for a frame
+abbrev pub frame_text : Frame → List ℕ
+frame_text f = code_of (kind_of f) ∷ (shortest (length (payload_text f)) ++ payload_text f)
+
+-- the frame of a kind that a payload spells, or the first fault in it
+unfoldable pub reads_payload : FrameKind → List ℕ → Result Frame FrameError
+reads_payload kinds.Delta bytes = reads_part 0 bytes >>= (λ p. Ok (Delta p))
+reads_payload kinds.Push bytes = reads_parts bytes >>= (λ parts. Ok (Push parts))
+reads_payload kinds.Pull bytes = reads_parts bytes >>= (λ parts. Ok (Pull parts))
+reads_payload kinds.Tick bytes = Ok Tick

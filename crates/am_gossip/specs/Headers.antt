@@ -1,0 +1,31 @@
+-- The header of a frame: the byte of its kind, and the length of its payload.
+use Rattle.std.specs.Prelude.{ℕ, ◌+◌, List, [], ◌∷◌, Option, Some, None, Result, Ok, Err, nat_lt, if◌then◌else◌}
+use Rattle.am_wire.specs.declared.error.WireError.{WireError}
+use Rattle.am_wire.specs.declared.error.WireError.TheVariants.{Truncated}
+use Rattle.am_wire.specs.Varint.{varint_at}
+use Rattle.am_gossip.specs.declared.error.FrameError.{FrameError}
+use Rattle.am_gossip.specs.declared.error.FrameError.TheVariants.{Kind, Length}
+use Rattle.am_gossip.specs.declared.kind.FrameKind.{FrameKind}
+use Rattle.am_gossip.specs.Kinds.{kind_at, limit}
+
+-- The header at the front of bytes: its kind, the payload's length and its own length; or it is at fault; or more
+-- bytes are wanting.
+pub data Header : Type 0 where
+  head : FrameKind → ℕ → ℕ → Header
+  bad : FrameError → Header
+  more : Header
+
+-- behind the kind's byte: the length, which is tested when it ends
+abbrev pub sized : FrameKind → Result (ℕ × ℕ) WireError → Header
+sized kind (Ok n) = if nat_lt (limit kind) n.0 then bad Length else head kind n.0 (n.1 + 1)
+sized kind (Err (Truncated at)) = more
+sized kind (Err e) = bad Length
+
+-- the kind is tested when its byte is there
+abbrev pub kinded : Option FrameKind → List ℕ → Header
+kinded None bytes = bad Kind
+kinded (Some kind) bytes = sized kind (varint_at 0 bytes)
+
+unfoldable pub header_of : List ℕ → Header
+header_of [] = more
+header_of (code ∷ bytes) = kinded (kind_at code) bytes

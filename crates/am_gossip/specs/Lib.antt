@@ -1,0 +1,12 @@
+pub mod Answers
+pub mod Kinds
+pub mod Keys
+pub mod Parts
+pub mod Frames
+pub mod Hellos
+pub mod Drafts
+pub mod Headers
+pub mod Streams
+pub mod Grammar
+pub mod Lengths
+pub mod Standings

@@ -1,0 +1,54 @@
+//! Why a frame could not be read or written.
+
+ghost use Rattle.std.specs.Prelude.{◌≡◌};
+ghost use Rattle.am_gossip.specs.declared.error.FrameError.TheVariants.{Memory};
+ghost use Rattle.am_gossip.specs.Answers.{frame_fault};
+
+use am_wire::WireError;
+use std::alloc::{AllocError, AllocFailed};
+use thiserror::Error;
+
+/// The first fault that stands, in the order in which a stream is read.
+#[derive(Clone, Copy, Debug, PartialEq, Eq, Error)]
+pub enum FrameError {
+    #[error("no frame begins with this byte")]
+    Kind,
+    #[error("the length is out of its range")]
+    Length,
+    /// A fault in a payload; offsets count from the payload's first byte.
+    #[error("{0}")]
+    Wire(WireError),
+    #[error("a part's key names no state")]
+    UnknownState,
+    #[error("the stream ended with an earlier fault")]
+    Ended,
+    #[error("out of memory")]
+    Memory,
+}
+
+impl From<WireError> for FrameError {
+    ghost from_gives = { λ e fault. fault ≡ frame_fault e };
+
+    fn from(e: WireError) -> FrameError {
+        match e {
+            WireError::Memory => FrameError::Memory,
+            fault => FrameError::Wire(fault),
+        }
+    }
+}
+
+impl From<AllocError> for FrameError {
+    ghost from_gives = { λ _ e. e ≡ Memory };
+
+    fn from(_e: AllocError) -> FrameError {
+        FrameError::Memory
+    }
+}
+
+impl<T: Drop> From<AllocFailed<T>> for FrameError {
+    ghost from_gives = { λ _ e. e ≡ Memory };
+
+    fn from(_e: AllocFailed<T>) -> FrameError {
+        FrameError::Memory
+    }
+}

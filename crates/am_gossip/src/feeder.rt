@@ -1,0 +1,159 @@
+//! The reader of a stream.
+
+ghost use Rattle.std.specs.Prelude.{◌≡◌, ◌⊎◌, ◌↔◌, ◌++◌, [], Some, None, Err, length, take, vec_len, OnOk, IfOk, IfErr, OnErr};
+ghost use Rattle.am_gossip.specs.Standings.{IsWaiting, EndsAs};
+ghost use Rattle.am_gossip.specs.Streams.{stream_of, waiting_rest, fault_in, rest_bytes};
+
+use crate::error::FrameError;
+use crate::frame::Frame;
+use crate::header::Standing;
+use crate::reading::{End, Read, finish_frame, read_frames};
+use std::alloc::Global;
+use std::marker::Model;
+
+/// What a piece of a stream brought.
+#[derive(Drop)]
+pub struct Fed {
+    /// The frames that end in the piece, in their order.
+    pub frames: Vec<Frame>,
+    /// What stands behind them, where it is a fault.
+    pub fault: Option<FrameError>,
+}
+
+/// Reads the frames in the bytes behind those read so far; what is left of the bytes is held.
+fn take_rest(
+    alloc: Global,
+    mut frames: Vec<Frame>,
+    held: &mut Vec<u8>,
+    bytes: &[u8],
+) -> Result<(Vec<Frame>, End), FrameError>
+    ensures frames { IfOk result (λ x. x.0.items ≡ frames.items ++ (stream_of bytes.now).frames) }
+    ensures end { IfOk result (λ x. EndsAs x.1 held.new.items (stream_of bytes.now).ending) }
+    ensures kept { OnErr result (held.new.items ≡ held.old.items) }
+    ensures refused { IfErr result (λ e. e ≡ FrameError.Memory) }
+{
+    let (rest, end) = read_frames(alloc, &mut frames, bytes)?;
+    if let End::Waits(_) = end {
+        *held = rest.to_vec(alloc)?;
+    }
+    Ok((frames, end))
+}
+
+/// Reads the frames in what is held and a piece behind it; what is left of both is held.
+fn take_piece(
+    alloc: Global,
+    held: &mut Vec<u8>,
+    standing: Standing,
+    piece: &[u8],
+) -> Result<(Vec<Frame>, End), FrameError>
+    requires { IsWaiting standing held.old.items }
+    ensures frames { IfOk result (λ x. x.0.items ≡ (stream_of (held.old.items ++ piece.now)).frames) }
+    ensures end { IfOk result (λ x. EndsAs x.1 held.new.items (stream_of (held.old.items ++ piece.now)).ending) }
+    ensures kept { OnErr result (take (vec_len held.old) held.new.items ≡ held.old.items) }
+    ensures refused { IfErr result (λ e. e ≡ FrameError.Memory) }
+{
+    let mut frames = Vec::new(alloc);
+    let waiting = held.len();
+    if waiting == 0 {
+        return take_rest(alloc, frames, held, piece);
+    }
+    match finish_frame(alloc, held, standing, piece)? {
+        Read::Frame { frame, len } => {
+            frames.push(frame)?;
+            take_rest(alloc, frames, held, &piece[len - waiting..])
+        }
+        Read::Waits(standing) => Ok((frames, End::Waits(standing))),
+        Read::Fault(e) => Ok((frames, End::Fault(e))),
+    }
+}
+
+/// Reads a stream of frames that comes in pieces.
+///
+/// Contracts see it as the rest that waits, or nothing after a fault. It looks at each byte of a header once, and
+/// at a payload once it is whole; only bytes of a frame that isn't whole are held.
+#[derive(Drop)]
+pub struct Feeder {
+    alloc: Global,
+    held: Vec<u8>,
+    standing: Option<Standing>,
+}
+
+impl Model for Feeder {
+    ghost use Rattle.std.specs.Prelude.{List, ℕ, Option};
+    ghost use Rattle.std.specs.Option.{ForSome, option_map};
+    ghost use Rattle.am_gossip.specs.Standings.{IsWaiting};
+
+    ghost Value = { Option (List ℕ) };
+
+    ghost view = { λ f. option_map (λ _. f.held.items) f.standing };
+
+    ghost invariant = { λ f. ForSome f.standing (λ s. IsWaiting s f.held.items) };
+}
+
+impl Feeder {
+    /// At the beginning of a stream. It takes no memory.
+    pub fn new(alloc: Global) -> Self
+        ensures { result ≡ Some [] }
+    {
+        Feeder {
+            alloc,
+            held: Vec::new(alloc),
+            standing: Some(Standing::Before),
+        }
+    }
+
+    /// How many bytes wait for the rest of their frame; 0 after a fault. It takes no memory.
+    pub fn waiting(&self) -> usize
+        ensures { result ≡ length (rest_bytes self.now) }
+    {
+        if self.standing.is_some() {
+            self.held.len()
+        } else {
+            0
+        }
+    }
+
+    /// Reads the next piece of the stream: the frames that end in it, and the fault that stands behind them, if
+    /// there is one.
+    ///
+    /// Where the pieces are cut makes no difference. After a fault every call is [`FrameError::Ended`]; the only
+    /// other refusal is [`FrameError::Memory`], and it leaves the feeder as it was.
+    pub fn feed(&mut self, piece: &[u8]) -> Result<Fed, FrameError>
+        ensures frames { IfOk result (λ fed. fed.frames.items ≡ (stream_of (rest_bytes self.old ++ piece.now)).frames) }
+        ensures fault { IfOk result (λ fed. fed.fault ≡ fault_in (stream_of (rest_bytes self.old ++ piece.now)).ending) }
+        ensures rest { OnOk result (self.new ≡ waiting_rest (stream_of (rest_bytes self.old ++ piece.now)).ending) }
+
+        ensures ended { (result ≡ Err FrameError.Ended) ↔ (self.old ≡ None) }
+        ensures refused { IfErr result (λ e. (e ≡ FrameError.Ended) ⊎ (e ≡ FrameError.Memory)) }
+        ensures unchanged { OnErr result (self.new ≡ self.old) }
+    {
+        let Some(standing) = self.standing else {
+            return Err(FrameError::Ended);
+        };
+        let waiting = self.held.len();
+        let (frames, end) = match take_piece(self.alloc, &mut self.held, standing, piece) {
+            Ok(taken) => taken,
+            Err(e) => {
+                self.held.truncate(waiting);
+                return Err(e);
+            }
+        };
+        match end {
+            End::Waits(standing) => {
+                self.standing = Some(standing);
+                Ok(Fed {
+                    frames,
+                    fault: None,
+                })
+            }
+            End::Fault(e) => {
+                self.standing = None;
+                self.held = Vec::new(self.alloc);
+                Ok(Fed {
+                    frames,
+                    fault: Some(e),
+                })
+            }
+        }
+    }
+}

@@ -1,0 +1,15 @@
+//! Whole headers.
+
+ghost use Rattle.std.specs.Prelude.{◌≤◌};
+
+use crate::kind::FrameKind;
+
+/// A frame's header that was read: its kind, the length of its payload, and its own.
+#[derive(Clone, Copy)]
+pub struct Head {
+    pub kind: FrameKind,
+    pub size: usize,
+    pub len: usize,
+    ghost not_large: { size ≤ 67_108_864 },
+    ghost short: { len ≤ 11 },
+}

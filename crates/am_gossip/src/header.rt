@@ -1,0 +1,80 @@
+//! Headers that come byte by byte.
+
+ghost use Rattle.std.specs.Prelude.{◌++◌, ◌∷◌, [], List, ℕ};
+ghost use Rattle.am_gossip.specs.Standings.{IsAt, Stands};
+ghost use Rattle.am_gossip.specs.declared.header.Standing.TheVariants.{InLength};
+
+use crate::error::FrameError;
+use crate::groups::Groups;
+use crate::head::Head;
+use crate::kind::FrameKind;
+use crate::length::{Next, next_group};
+
+/// How far the frame at the front of a stream was read.
+#[derive(Clone, Copy)]
+pub enum Standing {
+    /// No byte of it came.
+    Before,
+    /// Its kind was read, and these groups of its length.
+    InLength { kind: FrameKind, groups: Groups },
+    /// Its header was read.
+    InPayload(Head),
+}
+
+/// Reads a frame's first byte.
+fn read_kind(code: u8) -> Result<Standing, FrameError>
+    ensures { Stands result (code ∷ []) }
+{
+    match FrameKind::from_code(code) {
+        Some(kind) => Ok(Standing::InLength {
+            kind,
+            groups: Groups::none(),
+        }),
+        None => Err(FrameError::Kind),
+    }
+}
+
+/// Reads on in the length of a frame of this kind.
+fn read_length(kind: FrameKind, groups: Groups, byte: u8) -> Result<Standing, FrameError>
+    ensures { (bytes : List ℕ) → IsAt (InLength kind groups) bytes → Stands result (bytes ++ byte ∷ []) }
+{
+    match next_group(groups, byte) {
+        Next::More(groups) => Ok(Standing::InLength { kind, groups }),
+        Next::TooLong => Err(FrameError::Length),
+        Next::Whole(size) => {
+            if size > kind.limit() {
+                return Err(FrameError::Length);
+            }
+            Ok(Standing::InPayload(Head {
+                kind,
+                size: size as usize,
+                len: groups.places + 2,
+            }))
+        }
+    }
+}
+
+/// Reads one more byte of a frame; behind its header nothing changes.
+fn read_byte(standing: Standing, byte: u8) -> Result<Standing, FrameError>
+    ensures { (before : List ℕ) → IsAt standing before → Stands result (before ++ byte ∷ []) }
+{
+    match standing {
+        Standing::Before => read_kind(byte),
+        Standing::InLength { kind, groups } => read_length(kind, groups, byte),
+        Standing::InPayload(_) => Ok(standing),
+    }
+}
+
+/// Reads on in a header, up to its end or to that of the bytes.
+pub fn read_header(standing: Standing, bytes: &[u8]) -> Result<Standing, FrameError>
+    ensures { (before : List ℕ) → IsAt standing before → Stands result (before ++ bytes.now) }
+{
+    let mut standing = standing;
+    for byte in bytes {
+        if let Standing::InPayload(_) = standing {
+            return Ok(standing);
+        }
+        standing = read_byte(standing, *byte)?;
+    }
+    Ok(standing)
+}

@@ -1,0 +1,28 @@
+//! What peers send one another: frames, and the stream that they come in.
+#![tactic(auto)]
+
+mod bytes;
+mod encode;
+mod error;
+mod feeder;
+mod frame;
+mod groups;
+mod head;
+mod header;
+mod hello;
+mod kind;
+pub mod laws;
+mod length;
+mod payload;
+mod reading;
+
+pub use bytes::Bytes;
+pub use encode::encode_frame;
+pub use error::FrameError;
+pub use feeder::{Fed, Feeder};
+pub use frame::{Frame, FullState, Part, StateKey};
+pub use hello::read_hello;
+pub use kind::FrameKind;
+
+#[cfg(test)]
+mod tests;

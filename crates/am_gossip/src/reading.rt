@@ -1,0 +1,121 @@
+//! The frames in a piece of a stream.
+
+ghost use Rattle.std.specs.Prelude.{◌≡◌, ◌++◌, ◌≤◌, List, ℕ, length, take, IfOk, IfErr, OnOk, vec_len};
+ghost use Rattle.am_gossip.specs.Standings.{IsRead, IsWhole, IsWaiting, Holds, EndsAs};
+ghost use Rattle.am_gossip.specs.Streams.{stream_of};
+ghost use Rattle.am_gossip.specs.declared.error.FrameError.TheVariants.{Memory};
+
+use crate::error::FrameError;
+use crate::frame::Frame;
+use crate::head::Head;
+use crate::header::{Standing, read_header};
+use crate::payload::read_payload;
+use std::alloc::Global;
+
+/// What was read at the front of a stream.
+#[derive(Drop)]
+pub enum Read {
+    /// A frame of so many bytes.
+    Frame { frame: Frame, len: usize },
+    /// The beginning of a frame.
+    Waits(Standing),
+    Fault(FrameError),
+}
+
+/// How the reading of a piece ended.
+#[derive(Clone, Copy)]
+pub enum End {
+    /// With the beginning of a frame, or nothing.
+    Waits(Standing),
+    Fault(FrameError),
+}
+
+/// Reads a frame whose header was read from its whole payload.
+fn read_whole(alloc: Global, head: Head, payload: &[u8]) -> Result<Read, FrameError>
+    ensures read { IfOk result (λ read. (bytes : List ℕ) → IsWhole head bytes payload.now → IsRead read bytes) }
+    ensures refused { IfErr result (λ e. e ≡ Memory) }
+{
+    match read_payload(alloc, head.kind, payload) {
+        Ok(frame) => Ok(Read::Frame {
+            frame,
+            len: head.len + head.size,
+        }),
+        Err(e) => match e {
+            FrameError::Memory => Err(e),
+            _ => Ok(Read::Fault(e)),
+        },
+    }
+}
+
+/// Reads the frame at the front of the bytes.
+pub fn read_frame(alloc: Global, bytes: &[u8]) -> Result<Read, FrameError>
+    ensures read { IfOk result (λ read. IsRead read bytes.now) }
+    ensures refused { IfErr result (λ e. e ≡ Memory) }
+{
+    let standing = match read_header(Standing::Before, bytes) {
+        Ok(standing) => standing,
+        Err(e) => return Ok(Read::Fault(e)),
+    };
+    let Standing::InPayload(head) = standing else {
+        return Ok(Read::Waits(standing));
+    };
+    let len = head.len + head.size;
+    if bytes.len() < len {
+        return Ok(Read::Waits(standing));
+    }
+    read_whole(alloc, head, &bytes[head.len..len])
+}
+
+/// Reads on in the frame that waits: what `held` holds of it, and the piece behind it. What the piece has of the
+/// frame is put behind what is held.
+pub fn finish_frame(
+    alloc: Global,
+    held: &mut Vec<u8>,
+    standing: Standing,
+    piece: &[u8],
+) -> Result<Read, FrameError>
+    requires { IsWaiting standing held.old.items }
+    ensures read { IfOk result (λ read. IsRead read (held.old.items ++ piece.now)) }
+    ensures waits { IfOk result (λ read. Holds read (held.old.items ++ piece.now) held.new.items) }
+    ensures kept { take (vec_len held.old) held.new.items ≡ held.old.items }
+    ensures refused { IfErr result (λ e. e ≡ Memory) }
+{
+    let standing = match read_header(standing, piece) {
+        Ok(standing) => standing,
+        Err(e) => return Ok(Read::Fault(e)),
+    };
+    let Standing::InPayload(head) = standing else {
+        held.extend_from_slice(piece)?;
+        return Ok(Read::Waits(standing));
+    };
+    let missing = head.len + head.size - held.len();
+    if piece.len() < missing {
+        held.extend_from_slice(piece)?;
+        return Ok(Read::Waits(standing));
+    }
+    held.extend_from_slice(&piece[..missing])?;
+    read_whole(alloc, head, &held[head.len..])
+}
+
+/// Reads the frames that lie whole in the bytes, which are not copied, and answers what is left and how it ended.
+pub fn read_frames<'a>(
+    alloc: Global,
+    frames: &mut Vec<Frame>,
+    bytes: &'a [u8],
+) -> Result<(&'a [u8], End), FrameError>
+    ensures frames { OnOk result (frames.new.items ≡ frames.old.items ++ (stream_of bytes.now).frames) }
+    ensures end { IfOk result (λ x. EndsAs x.1 x.0.now (stream_of bytes.now).ending) }
+    ensures refused { IfErr result (λ e. e ≡ Memory) }
+{
+    let mut rest = bytes;
+    loop {
+        match read_frame(alloc, rest)? {
+            Read::Frame { frame, len } => {
+                frames.push(frame)?;
+                rest = &rest[len..];
+            }
+            Read::Waits(standing) => return Ok((rest, End::Waits(standing))),
+            Read::Fault(e) => return Ok((rest, End::Fault(e))),
+        }
+    }
+}

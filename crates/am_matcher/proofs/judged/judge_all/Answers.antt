@@ -1,0 +1,14 @@
+use Rattle.std.proofs.Common.{ap, ◌∙◌}
+use Rattle.am_matcher.specs.Labels.{value_in}
+use Rattle.am_matcher.specs.Matching.{matches_value}
+use Rattle.am_matcher.proofs.Judgements.{match_all-more, all_sound-more}
+use Rattle.am_matcher.proofs.judged.judge_all.Goals as goal
+
+pub loop-matcher-preserved : goal.loop-matcher-preserved
+loop-matcher-preserved c =
+    let value = c.value_of.ensures ∙ ap (value_in c.args.labels.now) c.as_str.ensures.bytes in record {
+      answer =
+          match_all-more c.args.matchers.now c.args.labels.now _ c.matcher-item.result _ _ c.loop-matcher-test.true c.matcher-item.is c.loop-matcher.invariant.answer
+          (c.in_ok-matches.ensures.answer ∙ ap (matches_value c.matcher-item.result) value);
+      sound = all_sound-more _ _ c.matcher-item.result c.loop-matcher-test.true c.matcher-item.is c.loop-matcher.invariant.sound c.in_ok-matches.ensures.sound;
+    }

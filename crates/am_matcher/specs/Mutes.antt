@@ -1,0 +1,57 @@
+-- Which silences mute an alert.
+use Rattle.std.specs.Prelude.{◌≡◌, ℕ, Bool, true, false, not, ◌&&◌, List, [], ◌∷◌, map, filter, nat_lt, nat_le, All}
+use Rattle.am_version_order.specs.Versions.{is_live}
+use Rattle.am_silence.specs.Mesh.{Mesh, mesh_version}
+use Rattle.am_matcher.specs.declared.labels.Label.{Label}
+use Rattle.am_matcher.specs.declared.muting.Effect.{Effect}
+use Rattle.am_matcher.specs.declared.muting.Effect.TheVariants.{Idle, Mutes, Passes, Broken}
+use Rattle.am_matcher.specs.Matching.{IsSoundMatcher, match_all, has_pattern}
+
+-- in view at the moment, begun and not ended
+abbrev pub is_active : ℕ → Mesh → Bool
+is_active now m = (is_live now (mesh_version m) && nat_le m.silence.starts_at now) && nat_lt now m.silence.ends_at
+
+-- What a silence does to an alert: where it is active and no pattern is refused, its matchers say.
+abbrev pub IsEffect : List Label → ℕ → Mesh → Effect → Type 0
+IsEffect labels now m Idle = is_active now m ≡ false
+IsEffect labels now m Mutes = (is_active now m ≡ true) × All IsSoundMatcher m.silence.matchers × (match_all m.silence.matchers labels ≡ true)
+IsEffect labels now m Passes = (is_active now m ≡ true) × All IsSoundMatcher m.silence.matchers × (match_all m.silence.matchers labels ≡ false)
+IsEffect labels now m Broken = (is_active now m ≡ true) × (has_pattern m.silence.matchers ≡ true)
+
+-- the id alone where the effect is that, else none
+abbrev pub if_mutes : Effect → List ℕ → List (List ℕ)
+if_mutes Idle id = []
+if_mutes Mutes id = id ∷ []
+if_mutes Passes id = []
+if_mutes Broken id = []
+
+abbrev pub if_broken : Effect → List ℕ → List (List ℕ)
+if_broken Idle id = []
+if_broken Mutes id = []
+if_broken Passes id = []
+if_broken Broken id = id ∷ []
+
+-- a silence, and whether one of its patterns is refused
+pub record Judged : Type 0 where
+  pub silence : Mesh
+  pub broken : Bool
+
+-- a refused silence has a pattern, and the patterns of another are all read
+pub record IsJudged (j : Judged) : Type 0 where
+  pub refused : j.broken ≡ true → has_pattern j.silence.silence.matchers ≡ true
+  pub read : j.broken ≡ false → All IsSoundMatcher j.silence.silence.matchers
+
+abbrev pub is_muting : List Label → Judged → Bool
+is_muting labels j = not j.broken && match_all j.silence.silence.matchers labels
+
+abbrev pub id_of : Judged → List ℕ
+id_of j = j.silence.silence.id
+
+-- Each active silence is judged. The ids are those of the silences that aren't broken and whose matchers all match, and
+-- the broken ids are those of the broken ones, both in the order of the map.
+pub record AreMuted (labels : List Label) (now : ℕ) (map_of_silences : List Mesh) (ids broken : List (List ℕ)) : Type 0 where
+  pub judged : List Judged
+  pub all_active : map (λ j. j.silence) judged ≡ filter (is_active now) map_of_silences
+  pub are_judged : All IsJudged judged
+  pub ids_are : ids ≡ map id_of (filter (is_muting labels) judged)
+  pub broken_are : broken ≡ map id_of (filter (λ j. j.broken) judged)

@@ -1,0 +1,31 @@
+-- What a pattern means, in the words of the crates that read it and search for it.
+use Rattle.std.specs.Prelude.{ℕ, ◌≤◌, Bool, false, List, ◌++◌, Option, Some, None, codes, chars, is_some, IsSomeAnd}
+use Rattle.regex_syntax.specs.Grammar.{read, Names}
+use Rattle.regex_syntax.specs.Brackets.{Nested}
+use Rattle.regex.specs.Patterns.{Re, find_str, default_config}
+
+-- the text that is compiled for a pattern: it has to match from end to end
+abbrev pub whole_text : List ℕ → List ℕ
+whole_text pattern = codes "^(?:" ++ pattern ++ codes ")$"
+
+-- what the grammar reads in a text is found in another
+abbrev pub has_match : Option (Nested Re × Names) → List ℕ → Bool
+has_match None text = false
+has_match (Some (re, names)) text = is_some (find_str re.value text 0)
+
+-- the text that is compiled has a match
+unfoldable pub is_found : List ℕ → List ℕ → Bool
+is_found source text = has_match (read default_config (chars source)) text
+
+-- the text matches the pattern from end to end
+abbrev pub is_match : List ℕ → List ℕ → Bool
+is_match pattern text = is_found (whole_text pattern) text
+
+-- the grammar reads the text, within the limit on nesting
+unfoldable pub IsReadable : List ℕ → Type 0
+IsReadable source = IsSomeAnd (read default_config (chars source)) (λ (re, names). re.depth ≤ default_config.nest_limit)
+
+-- the pattern is read by itself, and as it is compiled
+pub record IsSound (pattern : List ℕ) : Type 0 where
+  pub alone : IsReadable pattern
+  pub whole : IsReadable (whole_text pattern)

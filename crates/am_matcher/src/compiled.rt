@@ -1,0 +1,125 @@
+//! A matcher that is ready to be asked.
+
+ghost use Rattle.std.specs.Prelude.{◌≡◌, List, ℕ, true, IfOk, OnOk, IsErrOf};
+ghost use Rattle.am_silence.specs.Kinds.{is_regexp};
+ghost use Rattle.am_matcher.specs.Matching.{matches_value, IsSoundMatcher};
+
+use crate::whole::Whole;
+use am_silence::{Matcher, MatcherKind};
+use std::alloc::{AllocError, Global};
+use std::marker::Model;
+use thiserror::Error;
+
+/// Why a matcher was not built.
+#[derive(Clone, Copy, Debug, PartialEq, Eq, Error)]
+pub enum BuildError {
+    /// `regex` refuses the pattern, by itself or as it is compiled.
+    #[error("bad pattern")]
+    BadPattern,
+    #[error("out of memory")]
+    Memory,
+}
+
+impl From<AllocError> for BuildError {
+    ghost use Rattle.std.specs.Prelude.{◌≡◌};
+    ghost use Rattle.am_matcher.specs.declared.compiled.BuildError.TheVariants.{Memory};
+
+    ghost from_gives = { λ _ e. e ≡ Memory };
+
+    fn from(_: AllocError) -> BuildError {
+        BuildError::Memory
+    }
+}
+
+impl From<regex_syntax::Error> for BuildError {
+    ghost use Rattle.std.specs.Prelude.{◌≡◌};
+    ghost use Rattle.am_matcher.specs.Errors.{of_parser};
+
+    ghost from_gives = { λ given e. e ≡ of_parser given.kind };
+
+    fn from(error: regex_syntax::Error) -> BuildError {
+        match error.kind {
+            regex_syntax::ErrorKind::OutOfMemory => BuildError::Memory,
+            _ => BuildError::BadPattern,
+        }
+    }
+}
+
+impl From<regex::Error> for BuildError {
+    ghost use Rattle.std.specs.Prelude.{◌≡◌};
+    ghost use Rattle.am_matcher.specs.Errors.{of_regex};
+
+    ghost from_gives = { λ given e. e ≡ of_regex given };
+
+    fn from(error: regex::Error) -> BuildError {
+        match error {
+            regex::Error::OutOfMemory => BuildError::Memory,
+            _ => BuildError::BadPattern,
+        }
+    }
+}
+
+/// A matcher with its pattern compiled. Contracts see the matcher.
+#[derive(Drop)]
+pub struct Compiled {
+    matcher: Matcher,
+    whole: Option<Whole>,
+}
+
+impl Model for Compiled {
+    ghost use Rattle.std.specs.Prelude.{◌≡◌, Some, None, if◌then◌else◌};
+    ghost use Rattle.am_silence.specs.Kinds.{is_regexp};
+    ghost use Rattle.am_matcher.specs.Patterns.{whole_text};
+    ghost use Rattle.am_silence.specs.declared.matcher.Matcher.{Matcher};
+
+    ghost Value = { Matcher };
+
+    ghost view = { λ c. c.matcher };
+
+    ghost invariant = { λ c.
+        c.whole ≡ (if is_regexp c.matcher.kind then Some (whole_text c.matcher.pattern) else None) };
+}
+
+impl Compiled {
+    /// The matcher with its pattern compiled.
+    ///
+    /// # Errors
+    ///
+    /// [`BuildError::BadPattern`] where `regex` refuses the pattern `p`, by itself or as `^(?:p)$`, for
+    /// another cause than memory. Only a matcher that a regular expression decides has one.
+    pub fn build(alloc: Global, matcher: &Matcher) -> Result<Compiled, BuildError>
+        ensures matcher { IfOk result (λ compiled. compiled ≡ matcher.now) }
+        ensures sound { OnOk result (IsSoundMatcher matcher.now) }
+        ensures bad { IsErrOf result BuildError.BadPattern → is_regexp matcher.now.kind ≡ true }
+    {
+        let whole = if matcher.kind.is_regexp() {
+            Some(Whole::build(alloc, matcher.pattern.as_str())?)
+        } else {
+            None
+        };
+        let matcher = matcher.try_clone(alloc)?;
+        Ok(Compiled { matcher, whole })
+    }
+
+    /// The matcher. It takes no memory.
+    pub fn matcher(&self) -> &Matcher
+        ensures { result.now ≡ self.now }
+    {
+        &self.matcher
+    }
+
+    /// Whether the label's value matches; an absent label is the empty text.
+    pub fn matches(&mut self, value: &str) -> Result<bool, AllocError>
+        ensures answer { IfOk result (λ yes. yes ≡ matches_value self.old value.now) }
+        ensures same { self.new ≡ self.old }
+    {
+        let found = match &self.whole {
+            Some(whole) => whole.matches(value)?,
+            None => self.matcher.pattern.as_str() == value,
+        };
+        Ok(match self.matcher.kind {
+            MatcherKind::Equal | MatcherKind::Regexp => found,
+            MatcherKind::NotEqual | MatcherKind::NotRegexp => !found,
+        })
+    }
+}

@@ -1,0 +1,153 @@
+//! The filters of a query.
+
+ghost use Rattle.std.specs.Prelude.{◌≡◌, ◌≢◌, List, ℕ, true, chars, IfOk, IsErrOf};
+ghost use Rattle.am_silence.specs.declared.matcher.Matcher.{Matcher};
+ghost use Rattle.am_silence.specs.Kinds.{is_regexp};
+ghost use Rattle.am_matcher.specs.Filters.{IsFilter};
+ghost use Rattle.am_matcher.specs.Labels.{last_named};
+ghost use Rattle.am_matcher.specs.Matching.{IsSoundMatcher, pattern_in, passes};
+ghost use Rattle.std.specs.Option.{option_copied};
+
+use crate::compiled::{BuildError, Compiled};
+use crate::filter_text::parts_of;
+use crate::pieces::{inside_of, pieces_of, text_of, text_of_pieces};
+use am_silence::{Matcher, Silence};
+use am_wire::Text;
+use std::alloc::{AllocError, Global};
+use std::marker::Model;
+use thiserror::Error;
+
+/// Why a filter was refused.
+#[derive(Clone, Copy, Debug, PartialEq, Eq, Error)]
+pub enum FilterError {
+    /// The text is no filter.
+    #[error("bad filter")]
+    Syntax,
+    /// `regex` refuses its pattern.
+    #[error("bad pattern")]
+    BadPattern,
+    #[error("out of memory")]
+    Memory,
+}
+
+impl From<AllocError> for FilterError {
+    ghost use Rattle.std.specs.Prelude.{◌≡◌};
+    ghost use Rattle.am_matcher.specs.declared.filter.FilterError.TheVariants.{Memory};
+
+    ghost from_gives = { λ _ e. e ≡ Memory };
+
+    fn from(_: AllocError) -> FilterError {
+        FilterError::Memory
+    }
+}
+
+impl From<BuildError> for FilterError {
+    ghost use Rattle.std.specs.Prelude.{◌≡◌};
+    ghost use Rattle.am_matcher.specs.Errors.{of_build};
+
+    ghost from_gives = { λ given e. e ≡ of_build given };
+
+    fn from(error: BuildError) -> FilterError {
+        match error {
+            BuildError::BadPattern => FilterError::BadPattern,
+            BuildError::Memory => FilterError::Memory,
+        }
+    }
+}
+
+/// The characters of a text.
+fn characters_of(alloc: Global, text: &str) -> Result<Vec<char>, AllocError>
+    ensures { IfOk result (λ characters. characters.items ≡ chars text.now) }
+{
+    text.chars().collect(alloc)
+}
+
+/// What a text that is a filter stands for.
+fn read_filter(alloc: Global, text: &str) -> Result<Matcher, FilterError>
+    ensures read { IfOk result (IsFilter text.now) }
+    ensures syntax { IsErrOf result FilterError.Syntax → (m : Matcher) → ¬ IsFilter text.now m }
+    ensures no_pattern { result ≢ Err FilterError.BadPattern }
+{
+    let characters = characters_of(alloc, text)?;
+    let Some(parts) = parts_of(&characters) else {
+        return Err(FilterError::Syntax);
+    };
+    let pieces = pieces_of(alloc, parts.written)?;
+    let Some(inside) = inside_of(&pieces) else {
+        return Err(FilterError::Syntax);
+    };
+    let name = text_of(alloc, parts.name)?;
+    let pattern = text_of_pieces(alloc, inside)?;
+    Ok(Matcher {
+        kind: parts.kind,
+        name: Text::new(name),
+        pattern: Text::new(pattern),
+    })
+}
+
+/// The last matcher with this name.
+fn last_matcher<'a>(matchers: &'a [Matcher], name: &str) -> Option<&'a Matcher>
+    ensures { option_copied result ≡ last_named (λ m. m.name) name.now matchers.now }
+{
+    matchers
+        .iter()
+        .rev()
+        .find(|matcher| matcher.name.as_str() == name)
+}
+
+/// The pattern of the last matcher with this name, or the empty text.
+fn pattern_of<'a>(matchers: &'a [Matcher], name: &str) -> &'a str
+    ensures { result.now ≡ pattern_in matchers.now name.now }
+{
+    match last_matcher(matchers, name) {
+        Some(matcher) => matcher.pattern.as_str(),
+        None => "",
+    }
+}
+
+/// A filter of a query, as `job=~"x|y"`: a matcher that a silence's own matchers are asked about.
+///
+/// Contracts see the matcher that the text stands for.
+#[derive(Drop)]
+pub struct Filter {
+    compiled: Compiled,
+}
+
+impl Model for Filter {
+    ghost use Rattle.am_silence.specs.declared.matcher.Matcher.{Matcher};
+
+    ghost Value = { Matcher };
+
+    ghost view = { λ f. f.compiled };
+}
+
+impl Filter {
+    /// The filter that the text is.
+    ///
+    /// # Errors
+    ///
+    /// [`FilterError::Syntax`] where the text is no filter, and [`FilterError::BadPattern`] where
+    /// `regex` refuses its pattern.
+    pub fn parse(alloc: Global, text: &str) -> Result<Filter, FilterError>
+        ensures read { IfOk result (IsFilter text.now) }
+        ensures sound { IfOk result IsSoundMatcher }
+        ensures syntax { IsErrOf result FilterError.Syntax → (m : Matcher) → ¬ IsFilter text.now m }
+        ensures bad { IsErrOf result FilterError.BadPattern →
+            (m : Matcher) × IsFilter text.now m × (is_regexp m.kind ≡ true) }
+    {
+        let matcher = read_filter(alloc, text)?;
+        let compiled = Compiled::build(alloc, &matcher)?;
+        Ok(Filter { compiled })
+    }
+
+    /// Whether the silence passes: whether the filter matches the labels that its matchers make, name to
+    /// pattern, whatever their kinds; of matchers with one name the last one counts.
+    pub fn passes(&mut self, silence: &Silence) -> Result<bool, AllocError>
+        ensures answer { IfOk result (λ yes. yes ≡ passes self.old silence.now) }
+        ensures same { self.new ≡ self.old }
+    {
+        let name = self.compiled.matcher().name.as_str();
+        let pattern = pattern_of(silence.matchers.as_slice(), name);
+        self.compiled.matches(pattern)
+    }
+}

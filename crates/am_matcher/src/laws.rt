@@ -1,0 +1,11 @@
+//! What holds of the texts of filters.
+
+ghost use Rattle.std.specs.Prelude.{◌≡◌, ℕ, List};
+ghost use Rattle.am_silence.specs.declared.matcher.Matcher.{Matcher};
+ghost use Rattle.am_matcher.specs.Filters.{IsFilter};
+
+/// A text is read as a filter in one way at most.
+pub fn filter_is_read_in_one_way()
+    ensures { (bytes : List ℕ) (m other : Matcher) →
+        IsFilter bytes m → IsFilter bytes other → m ≡ other }
+{}

@@ -1,0 +1,23 @@
+//! Matchers, verdicts on them, filters and mutes, over the regular expressions of `regex`.
+#![tactic(auto)]
+
+mod compiled;
+mod filter;
+mod filter_text;
+mod judged;
+mod labels;
+pub mod laws;
+mod muted;
+mod muting;
+mod pieces;
+mod whole;
+
+pub use compiled::{BuildError, Compiled};
+pub use filter::{Filter, FilterError};
+pub use judged::verdict;
+pub use labels::{Label, Labels};
+pub use muted::{Ids, Mutes};
+pub use muting::mutes;
+
+#[cfg(test)]
+mod tests;

@@ -1,0 +1,112 @@
+//! Which silences mute an alert.
+
+ghost use Rattle.std.specs.Prelude.{◌≡◌, ◌++◌, ℕ, List, IfOk, OnOk};
+ghost use Rattle.am_silence.specs.Mesh.{Mesh};
+ghost use Rattle.am_matcher.specs.Mutes.{is_active, IsEffect, if_mutes, if_broken, AreMuted};
+
+use crate::compiled::BuildError;
+use crate::judged::judge_all;
+use crate::labels::{Label, Labels};
+use crate::muted::{Ids, Mutes};
+use am_merge::Held;
+use am_silence::MeshSilence;
+use am_version_order::{Moment, Version};
+use am_wire::Text;
+use std::alloc::{AllocError, Global};
+
+/// What a silence does to an alert.
+#[derive(Clone, Copy)]
+pub enum Effect {
+    /// It is not active.
+    Idle,
+    /// All its matchers match.
+    Mutes,
+    /// One of its matchers doesn't match.
+    Passes,
+    /// One of its patterns is refused.
+    Broken,
+}
+
+/// It is in view, and it has begun and hasn't ended.
+fn is_active(version: &MeshSilence, now: Moment) -> bool
+    ensures { result ≡ is_active now version.now }
+{
+    let silence = version.silence();
+    now < version.expires() && silence.starts_at <= now && now < silence.ends_at
+}
+
+/// What a silence does to an alert with these labels. Only the patterns of an active one are compiled.
+fn effect_of(
+    alloc: Global,
+    version: &MeshSilence,
+    labels: &[Label],
+    now: Moment,
+) -> Result<Effect, AllocError>
+    ensures { IfOk result (IsEffect labels.now now version.now) }
+{
+    if !is_active(version, now) {
+        return Ok(Effect::Idle);
+    }
+    match judge_all(alloc, version.silence().matchers.as_slice(), labels) {
+        Ok(true) => Ok(Effect::Mutes),
+        Ok(false) => Ok(Effect::Passes),
+        Err(BuildError::BadPattern) => Ok(Effect::Broken),
+        Err(BuildError::Memory) => Err(AllocError),
+    }
+}
+
+/// Puts the id of a silence where its effect wants it.
+fn put_id(
+    alloc: Global,
+    id: &Text,
+    effect: Effect,
+    ids: &mut Vec<Text>,
+    broken: &mut Vec<Text>,
+) -> Result<(), AllocError>
+    ensures ids { OnOk result (ids.new.items ≡ ids.old.items ++ if_mutes effect id.now) }
+    ensures broken { OnOk result (broken.new.items ≡ broken.old.items ++ if_broken effect id.now) }
+{
+    match effect {
+        Effect::Mutes => ids.push(id.try_clone(alloc)?)?,
+        Effect::Broken => broken.push(id.try_clone(alloc)?)?,
+        Effect::Idle | Effect::Passes => {}
+    }
+    Ok(())
+}
+
+/// Which of these silences mute an alert, and which are broken.
+fn mutes_among(
+    alloc: Global,
+    versions: &[MeshSilence],
+    labels: &[Label],
+    now: Moment,
+) -> Result<Mutes, AllocError>
+    ensures { IfOk result (λ m. AreMuted labels.now now versions.now m.ids m.broken) }
+{
+    let mut ids = Vec::new(alloc);
+    let mut broken = Vec::new(alloc);
+    for version in versions {
+        let effect = effect_of(alloc, version, labels, now)?;
+        put_id(alloc, version.key(), effect, &mut ids, &mut broken)?;
+    }
+    Ok(Mutes {
+        ids: Ids::new(ids),
+        broken: Ids::new(broken),
+    })
+}
+
+/// The silences that mute an alert with these labels, and those with a pattern that `regex` refuses.
+///
+/// Only silences in view that have begun and haven't ended are looked at. One without matchers mutes
+/// every alert. Patterns are compiled for this call alone, and those of an active silence all of them,
+/// since a broken one is told whatever the labels are.
+pub fn mutes(
+    alloc: Global,
+    held: &Held<MeshSilence>,
+    labels: &Labels,
+    now: Moment,
+) -> Result<Mutes, AllocError>
+    ensures { IfOk result (λ m. AreMuted labels.now now held.now m.ids m.broken) }
+{
+    mutes_among(alloc, held.iter().as_slice(), labels.as_slice(), now)
+}

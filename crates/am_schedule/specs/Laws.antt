@@ -1,0 +1,22 @@
+-- What holds of all texts.
+use Rattle.std.specs.Prelude.{◌≡◌, ℕ, ◌+◌, ◌≤◌, List, [], ◌∷◌, ◌++◌, length, None, Err, IsErrAnd}
+use Rattle.am_schedule.specs.declared.error.FaultKind.{FaultKind}
+use Rattle.am_schedule.specs.Schedules.{lines_of, meaning, meanings, first_fault, schedule_of}
+
+-- no line is at fault
+abbrev pub AreSound : List (List ℕ) → Type 0
+AreSound lines = first_fault 1 (meanings [] lines) ≡ None
+
+-- a line of the text is at fault behind lines that are not: it is told
+abbrev pub FirstIsTold : Type 0
+FirstIsTold =
+    (text : List ℕ) (before : List (List ℕ)) (line : List ℕ) (behind : List (List ℕ)) (kind : FaultKind)
+    → lines_of text ≡ before ++ line ∷ behind → AreSound before → meaning before line ≡ Err kind
+    → schedule_of text ≡ Err (record { line = length before + 1; kind = kind })
+
+-- a line of the text is at fault: no later line is told
+abbrev pub NoLaterIsTold : Type 0
+NoLaterIsTold =
+    (text : List ℕ) (before : List (List ℕ)) (line : List ℕ) (behind : List (List ℕ)) (kind : FaultKind)
+    → lines_of text ≡ before ++ line ∷ behind → meaning before line ≡ Err kind
+    → IsErrAnd (schedule_of text) (λ error. error.line ≤ length before + 1)

@@ -1,0 +1,14 @@
+pub mod Readings
+pub mod Words
+pub mod Numbers
+pub mod Times
+pub mod Tables
+pub mod Lists
+pub mod Places
+pub mod Forms
+pub mod VersionLines
+pub mod StepLines
+pub mod Clusters
+pub mod Schedules
+pub mod Readers
+pub mod Laws

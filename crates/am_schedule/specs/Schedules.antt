@@ -1,0 +1,134 @@
+-- What a text says, line by line.
+use Rattle.std.specs.Prelude.{ℕ, ◌+◌, Bool, true, List, [], ◌∷◌, ◌++◌, length, Option, Some, None, Result, Ok, Err, is_none, not, ◌&&◌, ◌==◌, if◌then◌else◌}
+use Rattle.std.specs.List.{slice_split}
+use Rattle.std.specs.Str.{is_utf8}
+use Rattle.am_schedule.specs.declared.error.FaultKind.{FaultKind}
+use Rattle.am_schedule.specs.declared.error.FaultKind.TheVariants as faults
+use Rattle.am_schedule.specs.declared.error.ScheduleError.{ScheduleError}
+use Rattle.am_schedule.specs.declared.cluster.ClusterLine.{ClusterLine}
+use Rattle.am_schedule.specs.declared.form.VersionForm.{VersionForm}
+use Rattle.am_schedule.specs.declared.form.Form.{Form}
+use Rattle.am_schedule.specs.declared.form.Form.TheVariants.{Cluster, Version, Other}
+use Rattle.am_schedule.specs.declared.step.VersionLine.{VersionLine}
+use Rattle.am_schedule.specs.declared.step.Line.{Line}
+use Rattle.am_schedule.specs.declared.schedule.Schedule.{Schedule}
+use Rattle.am_schedule.specs.Readings.{◌>>=◌, or_fault, or_else}
+use Rattle.am_schedule.specs.Words.{words_of, word_at}
+use Rattle.am_schedule.specs.Places.{has_word}
+use Rattle.am_schedule.specs.Forms.{form_in}
+use Rattle.am_schedule.specs.VersionLines.{version_in, is_label}
+use Rattle.am_schedule.specs.StepLines.{line_in}
+use Rattle.am_schedule.specs.Clusters.{cluster_in}
+
+-- the parts before and behind each line feed; a text that ends in one has no part behind it
+abbrev pub unless_empty : List ℕ → List (List ℕ)
+unless_empty [] = []
+unless_empty (byte ∷ bytes) = (byte ∷ bytes) ∷ []
+
+abbrev pub without_empty_last : List (List ℕ) → List (List ℕ)
+without_empty_last [] = []
+without_empty_last (part ∷ []) = unless_empty part
+without_empty_last (part ∷ next ∷ parts) = part ∷ without_empty_last (next ∷ parts)
+
+-- lines are ended by a line feed, which the last may lack
+unfoldable pub lines_of : List ℕ → List (List ℕ)
+lines_of text = without_empty_last (slice_split (λ b. b == 10) text)
+
+-- empty lines and lines that begin with `#` are passed over
+abbrev pub is_passed_over : List ℕ → Bool
+is_passed_over [] = true
+is_passed_over (byte ∷ bytes) = byte == 35
+
+-- the words of a line that isn't passed over
+unfoldable pub words_in : List ℕ → List (List ℕ)
+words_in line = if is_passed_over line then [] else words_of line
+
+abbrev pub value_of : {A : Type 0} → Result A FaultKind → Option A
+value_of (Ok x) = Some x
+value_of (Err kind) = None
+
+-- the first value that is found
+abbrev pub first_value : {A B : Type 0} → (A → Option B) → List A → Option B
+first_value value [] = None
+first_value value (x ∷ xs) = or_else (value x) (first_value value xs)
+
+-- ---- what stands before a line
+
+-- the cluster of the first right cluster line
+unfoldable pub cluster_of : List (List ℕ) → Option ClusterLine
+cluster_of lines = first_value (λ line. value_of (cluster_in (words_in line))) lines
+
+abbrev pub version_by : Option Form → List (List ℕ) → Option VersionLine
+version_by None words = None
+version_by (Some Cluster) words = None
+version_by (Some (Version form)) words = value_of (version_in form words)
+version_by (Some (Other form)) words = None
+
+-- the version that a line gives a label
+unfoldable pub labelled : List ℕ → List (List ℕ) → Option VersionLine
+labelled label words = if has_word 1 label words then version_by (form_in words) words else None
+
+-- the version that lines give a label
+unfoldable pub version_of : List (List ℕ) → List ℕ → Option VersionLine
+version_of lines label = first_value (λ line. labelled label (words_in line)) lines
+
+-- ---- what a line says
+
+-- a line that gives a version a label, which has to be a new one
+unfoldable pub definition_in : (List ℕ → Option VersionLine) → VersionForm → List (List ℕ) → Result VersionLine FaultKind
+definition_in version form words =
+    if is_label (word_at 1 words) && is_none (version (word_at 1 words)) then version_in form words else Err faults.Name
+
+-- a line behind the cluster's
+abbrev pub said_by : List (List ℕ) → (List ℕ → Option VersionLine) → Form → List (List ℕ) → Result (Option Line) FaultKind
+said_by names version Cluster words = Err faults.Cluster
+said_by names version (Version form) words = definition_in version form words >>= λ _. Ok None
+said_by names version (Other form) words = line_in names version form words >>= λ line. Ok (Some line)
+
+-- a line that isn't passed over; the first one is the cluster's
+abbrev pub said_in : Option ClusterLine → (List ℕ → Option VersionLine) → List (List ℕ) → Result (Option Line) FaultKind
+said_in None version words = cluster_in words >>= λ _. Ok None
+said_in (Some cluster) version words = or_fault faults.Words (form_in words) >>= λ form. said_by cluster.names version form words
+
+-- what a line says, where lines stand before it: a step or another line of the schedule, or nothing of its own
+unfoldable pub meaning : List (List ℕ) → List ℕ → Result (Option Line) FaultKind
+meaning before line =
+    if is_utf8 line
+    then (if is_passed_over line then Ok None else said_in (cluster_of before) (version_of before) (words_in line))
+    else Err faults.NotUtf8
+
+-- what each line says
+abbrev pub meanings : List (List ℕ) → List (List ℕ) → List (Result (Option Line) FaultKind)
+meanings before [] = []
+meanings before (line ∷ lines) = meaning before line ∷ meanings (before ++ line ∷ []) lines
+
+-- ---- the whole
+
+-- the first fault, where the lines are counted from a number on
+abbrev pub first_fault : {A : Type 0} → ℕ → List (Result A FaultKind) → Option ScheduleError
+first_fault number [] = None
+first_fault number (Ok x ∷ more) = first_fault (number + 1) more
+first_fault number (Err kind ∷ more) = Some (record { line = number; kind = kind })
+
+-- what is said, with the numbers of the lines
+abbrev pub numbered : ℕ → List (Result (Option Line) FaultKind) → List (Line × ℕ)
+numbered number [] = []
+numbered number (Ok (Some line) ∷ more) = (line, number) ∷ numbered (number + 1) more
+numbered number (Ok None ∷ more) = numbered (number + 1) more
+numbered number (Err kind ∷ more) = numbered (number + 1) more
+
+-- lines with no fault; where no cluster line is among them it is missing at the line behind the last
+abbrev pub whole : Option ClusterLine → ℕ → List (Line × ℕ) → Result Schedule ScheduleError
+whole None count lines = Err (record { line = count + 1; kind = faults.Cluster })
+whole (Some cluster) count lines = Ok (record { names = cluster.names; retention = cluster.retention; peer_timeout = cluster.peer_timeout; lines = lines })
+
+abbrev pub schedule_by : Option ScheduleError → Result Schedule ScheduleError → Result Schedule ScheduleError
+schedule_by None schedule = schedule
+schedule_by (Some error) schedule = Err error
+
+-- the schedule of lines, or the first line at fault
+unfoldable pub schedule_in : List (List ℕ) → Result Schedule ScheduleError
+schedule_in lines = schedule_by (first_fault 1 (meanings [] lines)) (whole (cluster_of lines) (length lines) (numbered 1 (meanings [] lines)))
+
+unfoldable pub schedule_of : List ℕ → Result Schedule ScheduleError
+schedule_of text = schedule_in (lines_of text)

@@ -1,0 +1,104 @@
+//! The cluster line.
+
+ghost use Rattle.std.specs.Prelude.{◌≡◌, ℕ, ◌≤◌, List, length, map, IsTrue};
+ghost use Rattle.am_schedule.specs.declared.error.FaultKind.TheVariants.{Cluster};
+ghost use Rattle.am_schedule.specs.Readings.{Gives, or_fault};
+ghost use Rattle.std.specs.List.{list_any};
+ghost use Rattle.std.specs.Str.{bytes_eq};
+ghost use Rattle.am_schedule.specs.Numbers.{seconds_in};
+ghost use Rattle.am_schedule.specs.Places.{read_at};
+ghost use Rattle.am_schedule.specs.Clusters.{is_name, names_in, as_cluster, cluster_parts, cluster_in};
+
+use crate::error::FaultKind;
+use crate::items::Items;
+use crate::places::seconds_at;
+use crate::word::{Word, behind, word_at};
+use am_version_order::Interval;
+use std::alloc::Global;
+
+/// The members of a cluster and their times.
+#[derive(Debug, Drop)]
+pub(crate) struct ClusterLine {
+    pub names: Items<Word>,
+    pub retention: Interval,
+    pub peer_timeout: Interval,
+}
+
+/// The most bytes that a member's name has.
+const MAX_NAME: usize = 255;
+
+/// Whether a word may be a member's name.
+#[tactic(auto, unfolding(crate::specs::Clusters::is_name))]
+fn is_name(word: &str) -> bool
+    ensures value { result ≡ is_name word.now }
+    ensures short { IsTrue result → length word.now ≤ 255 }
+{
+    if word.is_empty() || word.len() > MAX_NAME {
+        return false;
+    }
+    word != "deliver" && word != "settle"
+}
+
+/// Distinct names, or a wrong cluster line.
+#[tactic(auto, unfolding(crate::specs::Clusters::names_in))]
+fn names(alloc: Global, words: &[&str]) -> Result<Items<Word>, FaultKind>
+    ensures { Gives result (or_fault Cluster (names_in (map (λ w. w.now) words.now))) }
+{
+    let mut names = Vec::new(alloc);
+    for word in words {
+        if !is_name(word) || has_name(&names, word) {
+            return Err(FaultKind::Cluster);
+        }
+        let name = Word::of(alloc, word)?;
+        names.push(name)?;
+    }
+    Ok(Items::new(names))
+}
+
+/// Whether one of the names is that word.
+fn has_name(names: &[Word], word: &str) -> bool
+    ensures { result ≡ list_any (λ t. bytes_eq t word.now) names.now }
+{
+    for name in names {
+        if name.as_str() == word {
+            return true;
+        }
+    }
+    false
+}
+
+/// The numbers and the names of a cluster line.
+#[tactic(auto, unfolding(crate::specs::Clusters::cluster_parts))]
+fn cluster_parts(alloc: Global, words: &[&str]) -> Result<ClusterLine, FaultKind>
+    ensures { Gives result (cluster_parts (map (λ w. w.now) words.now)) }
+{
+    let retention = cluster_seconds(words, 1)?;
+    let peer_timeout = cluster_seconds(words, 2)?;
+    let names = names(alloc, behind(words, 3))?;
+    Ok(ClusterLine {
+        names,
+        retention,
+        peer_timeout,
+    })
+}
+
+/// An interval of the cluster line.
+fn cluster_seconds(words: &[&str], place: usize) -> Result<Interval, FaultKind>
+    ensures { result ≡ as_cluster (read_at seconds_in place (map (λ w. w.now) words.now)) }
+{
+    match seconds_at(words, place) {
+        Ok(seconds) => Ok(seconds),
+        Err(_) => Err(FaultKind::Cluster),
+    }
+}
+
+/// `cluster RETENTION TIMEOUT NAME ..`
+#[tactic(auto, unfolding(crate::specs::Clusters::cluster_in))]
+pub(crate) fn cluster_line(alloc: Global, words: &[&str]) -> Result<ClusterLine, FaultKind>
+    ensures { Gives result (cluster_in (map (λ w. w.now) words.now)) }
+{
+    if word_at(words, 0) != "cluster" || words.len() < 4 || words.len() > 19 {
+        return Err(FaultKind::Cluster);
+    }
+    cluster_parts(alloc, words)
+}

@@ -1,0 +1,120 @@
+//! What the words behind a verb are.
+
+ghost use Rattle.std.specs.Prelude.{◌≡◌, ℕ, List, map};
+ghost use Rattle.am_schedule.specs.Readings.{Gives};
+ghost use Rattle.am_schedule.specs.Tables.{value_in};
+ghost use Rattle.am_schedule.specs.StepLines.{id_in, post_in, group_in, event_in};
+
+use crate::error::FaultKind;
+use crate::form::Verb;
+use crate::lists::pairs;
+use crate::places::{
+    bits_at, hashes_at, member_at, seconds_at, text_at, whole_moment_at, yes_or_no_at,
+};
+use crate::step::{Event, GroupLine, PostLine, VersionLine};
+use crate::versions::versions_of;
+use crate::word::{Word, behind, word_at};
+use std::alloc::Global;
+use std::collections::BTreeMap;
+
+/// `-` is no id.
+fn id(alloc: Global, word: &str) -> Result<Option<Word>, FaultKind>
+    ensures { Gives result (id_in word.now) }
+{
+    if word == "-" {
+        return Ok(None);
+    }
+    let id = Word::read(alloc, word)?;
+    Ok(Some(id))
+}
+
+/// `ID BITS STARTS ENDS NAME VALUE`
+#[tactic(auto, unfolding(crate::specs::StepLines::post_in))]
+fn post(alloc: Global, words: &[&str]) -> Result<PostLine, FaultKind>
+    ensures { Gives result (post_in (map (λ w. w.now) words.now)) }
+{
+    let id = id(alloc, word_at(words, 4))?;
+    let bits = bits_at(words, 5)?;
+    let starts = whole_moment_at(words, 6)?;
+    let ends = whole_moment_at(words, 7)?;
+    let name = text_at(alloc, words, 8)?;
+    let value = text_at(alloc, words, 9)?;
+    Ok(PostLine {
+        id,
+        bits,
+        starts,
+        ends,
+        name,
+        value,
+    })
+}
+
+/// `GROUP RECEIVER FIRING RESOLVED REPEAT`
+#[tactic(auto, unfolding(crate::specs::StepLines::group_in))]
+fn group(alloc: Global, words: &[&str]) -> Result<GroupLine, FaultKind>
+    ensures { Gives result (group_in (map (λ w. w.now) words.now)) }
+{
+    let group = text_at(alloc, words, 4)?;
+    let receiver = text_at(alloc, words, 5)?;
+    let firing = hashes_at(alloc, words, 6)?;
+    let resolved = hashes_at(alloc, words, 7)?;
+    let repeat = seconds_at(words, 8)?;
+    Ok(GroupLine {
+        group,
+        receiver,
+        firing,
+        resolved,
+        repeat,
+    })
+}
+
+/// What happens at a member, by the verb and the words behind it.
+#[tactic(auto, unfolding(crate::specs::StepLines::event_in))]
+pub(crate) fn event(
+    alloc: Global,
+    names: &[Word],
+    versions: &BTreeMap<&str, VersionLine>,
+    verb: Verb,
+    words: &[&str],
+) -> Result<Event, FaultKind>
+    ensures { Gives result (event_in names.now (value_in versions.now) verb (map (λ w. w.now) words.now)) }
+{
+    match verb {
+        Verb::From => {
+            let peer = member_at(alloc, names, words, 4)?;
+            let versions = versions_of(alloc, versions, behind(words, 5))?;
+            Ok(Event::From { peer, versions })
+        }
+        Verb::Post => {
+            let line = post(alloc, words)?;
+            Ok(Event::Post(line))
+        }
+        Verb::Expire => {
+            let id = text_at(alloc, words, 4)?;
+            Ok(Event::Expire { id })
+        }
+        Verb::Notified => {
+            let group = group(alloc, words)?;
+            Ok(Event::Notified(group))
+        }
+        Verb::Decide => {
+            let group = group(alloc, words)?;
+            let resolved_wanted = yes_or_no_at(words, 9)?;
+            Ok(Event::Decide {
+                group,
+                resolved_wanted,
+            })
+        }
+        Verb::Mutes => {
+            let labels = pairs(alloc, behind(words, 4))?;
+            Ok(Event::Mutes { labels })
+        }
+        Verb::Show => Ok(Event::Show),
+        Verb::Tick => Ok(Event::Tick),
+        Verb::Pull => {
+            let peer = member_at(alloc, names, words, 4)?;
+            Ok(Event::Pull { peer })
+        }
+        Verb::Start => Ok(Event::Start),
+    }
+}

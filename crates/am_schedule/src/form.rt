@@ -1,0 +1,86 @@
+//! The forms of lines: which verb a line has, and how many words.
+
+ghost use Rattle.std.specs.Prelude.{◌≡◌, ℕ, List, map};
+ghost use Rattle.am_schedule.specs.Forms.{verb_in, form_in};
+
+use crate::word::word_at;
+
+/// What a line asks of a member.
+#[derive(Clone, Copy, Debug, PartialEq, Eq)]
+pub(crate) enum Verb {
+    From,
+    Post,
+    Expire,
+    Notified,
+    Decide,
+    Mutes,
+    Show,
+    Tick,
+    Pull,
+    Start,
+}
+
+/// The verb behind a member's name, where the line has as many words as it wants.
+#[tactic(auto, unfolding(crate::specs::Forms::verb_in))]
+pub(crate) fn verb_of(words: &[&str]) -> Option<Verb>
+    ensures { result ≡ verb_in (map (λ w. w.now) words.now) }
+{
+    match (word_at(words, 3), words.len()) {
+        ("from", 6..) => Some(Verb::From),
+        ("post", 10) => Some(Verb::Post),
+        ("expire", 5) => Some(Verb::Expire),
+        ("notified", 9) => Some(Verb::Notified),
+        ("decide", 10) => Some(Verb::Decide),
+        ("mutes", 5..) => Some(Verb::Mutes),
+        ("show", 4) => Some(Verb::Show),
+        ("tick", 4) => Some(Verb::Tick),
+        ("pull", 5) => Some(Verb::Pull),
+        ("start", 4) => Some(Verb::Start),
+        _ => None,
+    }
+}
+
+/// A line that gives a version a label.
+#[derive(Clone, Copy, Debug, PartialEq, Eq)]
+pub(crate) enum VersionForm {
+    Silence,
+    Log,
+}
+
+/// A line that is neither the cluster's nor a version's.
+#[derive(Clone, Copy, Debug, PartialEq, Eq)]
+pub(crate) enum LineForm {
+    At,
+    Stop,
+    Save,
+    Lose,
+    Timely,
+    Frames,
+}
+
+/// What a line is, by its first word.
+#[derive(Clone, Copy, Debug, PartialEq, Eq)]
+pub(crate) enum Form {
+    Cluster,
+    Version(VersionForm),
+    Other(LineForm),
+}
+
+/// The form of a line, where it has as many words as that wants.
+#[tactic(auto, unfolding(crate::specs::Forms::form_in))]
+pub(crate) fn form_of(words: &[&str]) -> Option<Form>
+    ensures { result ≡ form_in (map (λ w. w.now) words.now) }
+{
+    match (word_at(words, 0), words.len()) {
+        ("cluster", _) => Some(Form::Cluster),
+        ("sil", 9) => Some(Form::Version(VersionForm::Silence)),
+        ("nfl", 8) => Some(Form::Version(VersionForm::Log)),
+        ("at", _) => Some(Form::Other(LineForm::At)),
+        ("stop", 2) => Some(Form::Other(LineForm::Stop)),
+        ("save", 2) => Some(Form::Other(LineForm::Save)),
+        ("lose", 2) => Some(Form::Other(LineForm::Lose)),
+        ("timely", 3) => Some(Form::Other(LineForm::Timely)),
+        ("frames", 1) => Some(Form::Other(LineForm::Frames)),
+        _ => None,
+    }
+}

@@ -1,0 +1,41 @@
+//! Lists that contracts see as lists.
+
+ghost use Rattle.std.specs.Prelude.{◌≡◌, ℕ, List, map};
+
+use std::marker::Model;
+
+/// Values in their order. Contracts see the list.
+#[derive(Debug, Drop)]
+pub struct Items<T> {
+    items: Vec<T>,
+}
+
+impl<T> Model for Items<T> {
+    ghost use Rattle.std.specs.Prelude.{List};
+
+    ghost Value = { List T };
+
+    ghost view = { λ i. i.items.items };
+}
+
+impl<T> Items<T> {
+    /// These values. It takes no memory.
+    pub fn new(items: Vec<T>) -> Items<T>
+        ensures { result ≡ items.items }
+    {
+        Items { items }
+    }
+
+    pub fn as_slice(&self) -> &[T]
+        ensures { result.now ≡ self.now }
+    {
+        self.items.as_slice()
+    }
+
+    /// Gives the vector back. It takes no memory.
+    pub fn into_vec(self) -> Vec<T>
+        ensures { result.items ≡ self }
+    {
+        self.items
+    }
+}

@@ -1,0 +1,35 @@
+//! Schedules: texts that say, line by line, what happens in a cluster and when.
+#![tactic(auto)]
+
+mod cluster;
+mod error;
+mod events;
+mod form;
+mod items;
+pub mod laws;
+mod line;
+mod lists;
+mod numbers;
+mod places;
+mod reader;
+mod schedule;
+mod shared;
+mod step;
+mod table;
+mod text;
+mod times;
+mod versions;
+mod word;
+
+pub use error::{FaultKind, ScheduleError};
+pub use items::Items;
+pub use schedule::{Schedule, parse};
+pub use shared::Shared;
+pub use step::{
+    Action, Event, GroupLine, Line, LogLine, Pair, PostLine, SilenceLine, Step, VersionLine,
+    Versions,
+};
+pub use word::Word;
+
+#[cfg(test)]
+mod tests;

@@ -1,0 +1,104 @@
+//! Lists of hashes, of names and of pairs.
+
+ghost use Rattle.std.specs.Prelude.{◌≡◌, ℕ, ◌≤◌, List, length, map, option_map, IfOk, IfSome};
+ghost use Rattle.am_schedule.specs.declared.error.FaultKind.TheVariants.{Number, Name};
+ghost use Rattle.am_schedule.specs.Readings.{Gives, or_fault};
+ghost use Rattle.am_schedule.specs.Words.{in_place};
+ghost use Rattle.am_schedule.specs.Numbers.{count_in};
+ghost use Rattle.am_schedule.specs.Lists.{values, hashes_in, yes_or_no_in, member_in, pair_in, pairs_in};
+
+use crate::error::FaultKind;
+use crate::items::Items;
+use crate::numbers::count;
+use crate::step::Pair;
+use crate::table::{empty_table, look_up, set_value};
+use crate::word::{MAX_WORD, Word, split_at};
+use std::alloc::Global;
+
+/// The numbers of all words, or `Number` where one has none.
+fn counts(alloc: Global, words: &[&str]) -> Result<Items<u64>, FaultKind>
+    ensures { Gives result (or_fault Number (values count_in (map (λ w. w.now) words.now))) }
+{
+    let mut numbers = Vec::new(alloc);
+    for word in words {
+        match count(word) {
+            Some(number) => numbers.push(number)?,
+            None => return Err(FaultKind::Number),
+        }
+    }
+    Ok(Items::new(numbers))
+}
+
+/// The hashes of a list: `-` for none, or numbers parted by commas. `Number` where it is no list, then `Name`
+/// where it is too long.
+#[tactic(auto, unfolding(crate::specs::Lists::hashes_in, crate::specs::Words::in_place))]
+pub(crate) fn hashes(alloc: Global, word: &str) -> Result<Items<u64>, FaultKind>
+    ensures { Gives result (in_place (hashes_in word.now) word.now) }
+{
+    let hashes = if word == "-" {
+        Items::new(Vec::new(alloc))
+    } else {
+        let words = split_at(alloc, word, ',')?;
+        counts(alloc, &words)?
+    };
+    if word.len() > MAX_WORD {
+        return Err(FaultKind::Name);
+    }
+    Ok(hashes)
+}
+
+#[tactic(auto, unfolding(crate::specs::Lists::yes_or_no_in))]
+pub(crate) fn yes_or_no(word: &str) -> Option<bool>
+    ensures { result ≡ yes_or_no_in word.now }
+{
+    match word {
+        "yes" => Some(true),
+        "no" => Some(false),
+        _ => None,
+    }
+}
+
+/// The member of that name.
+#[tactic(auto, unfolding(crate::specs::Lists::member_in))]
+pub(crate) fn member(alloc: Global, names: &[Word], word: &str) -> Result<Word, FaultKind>
+    ensures { Gives result (member_in names.now word.now) }
+{
+    for name in names {
+        if name.as_str() == word {
+            return Ok(name.try_clone(alloc)?);
+        }
+    }
+    Err(FaultKind::Name)
+}
+
+/// A label and its value, cut at the first `=`.
+#[tactic(auto, unfolding(crate::specs::Lists::pair_in))]
+fn pair<'a>(word: &'a str) -> Option<(&'a str, &'a str)>
+    ensures parts { option_map (λ p. record { name = p.0.now; value = p.1.now }) result ≡ pair_in word.now }
+    ensures short { IfSome result (λ p. (length p.0.now ≤ 1024) × (length p.1.now ≤ 1024)) }
+{
+    if word.len() > MAX_WORD {
+        return None;
+    }
+    word.split_once('=')
+}
+
+/// The pairs of words, where no name comes twice.
+#[tactic(auto, unfolding(crate::specs::Lists::pairs_in))]
+pub(crate) fn pairs(alloc: Global, words: &[&str]) -> Result<Items<Pair>, FaultKind>
+    ensures { Gives result (pairs_in (map (λ w. w.now) words.now)) }
+{
+    let mut seen = empty_table(alloc);
+    let mut pairs = Vec::new(alloc);
+    for word in words {
+        let (name, value) = pair(word).ok_or(FaultKind::Name)?;
+        if look_up(&seen, name).is_some() {
+            return Err(FaultKind::Name);
+        }
+        set_value(&mut seen, name, ())?;
+        let name = Word::of(alloc, name)?;
+        let value = Word::of(alloc, value)?;
+        pairs.push(Pair { name, value })?;
+    }
+    Ok(Items::new(pairs))
+}

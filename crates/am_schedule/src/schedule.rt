@@ -1,0 +1,74 @@
+//! Schedules and how they are read.
+
+ghost use Rattle.std.specs.Prelude.{◌≡◌, ◌≢◌, ◌+◌, ◌<◌, ◌^◌, ℕ, List, Ok, Err, IfOk, IfErr};
+ghost use Rattle.am_schedule.specs.declared.error.FaultKind.TheVariants.{Memory};
+ghost use Rattle.am_schedule.specs.Schedules.{schedule_of, whole};
+
+use crate::cluster::ClusterLine;
+use crate::error::{FaultKind, ScheduleError};
+use crate::items::Items;
+use crate::reader::Reader;
+use crate::step::Line;
+use crate::text::first_line;
+use crate::word::Word;
+use am_version_order::Interval;
+use std::alloc::Global;
+
+/// A cluster, and what happens in it, line by line.
+#[derive(Debug, Drop)]
+pub struct Schedule {
+    /// The members, in the order of the cluster line.
+    pub names: Items<Word>,
+    pub retention: Interval,
+    pub peer_timeout: Interval,
+    /// The lines behind the cluster's that give no version a label, each with its number, counted from 1.
+    pub lines: Items<(Line, u64)>,
+}
+
+/// The schedule of a text, or the first line at fault.
+pub fn parse(alloc: Global, text: &[u8]) -> Result<Schedule, ScheduleError>
+    ensures read { IfOk result (λ schedule. schedule_of text.now ≡ Ok schedule) }
+    ensures fault { IfErr result (λ error. error.kind ≢ Memory → schedule_of text.now ≡ Err error) }
+{
+    let mut reader = Reader::new(alloc);
+    let mut rest = text;
+    let mut number = 0u64;
+    'lines: while let Some((line, behind)) = first_line(rest) {
+        number += 1;
+        if let Err(kind) = reader.take(alloc, number, line) {
+            return Err(ScheduleError { line: number, kind });
+        }
+        rest = behind;
+    }
+    schedule_from(reader, number)
+}
+
+/// The schedule of that many lines; where no cluster line is among them it is missing at the next line.
+fn schedule_from(reader: Reader<'_>, count: u64) -> Result<Schedule, ScheduleError>
+    requires { count + 1 < 2 ^ 64 }
+    ensures { result ≡ whole reader.entry.cluster count reader.entry.lines.items }
+{
+    let Reader {
+        cluster,
+        versions: _,
+        lines,
+    } = reader;
+    match cluster {
+        Some(
+            ClusterLine {
+                names,
+                retention,
+                peer_timeout,
+            },
+        ) => Ok(Schedule {
+            names,
+            retention,
+            peer_timeout,
+            lines: Items::new(lines),
+        }),
+        None => Err(ScheduleError {
+            line: count + 1,
+            kind: FaultKind::Cluster,
+        }),
+    }
+}

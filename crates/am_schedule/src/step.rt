@@ -1,0 +1,172 @@
+//! The lines of a schedule and what they hold.
+
+ghost use Rattle.std.specs.Prelude.{◌≡◌};
+
+use crate::items::Items;
+use crate::shared::Shared;
+use crate::word::Word;
+use am_version_order::{Interval, Moment};
+use std::marker::Model;
+
+/// A silence version with one matcher that wants the value of a label.
+#[derive(Debug, Drop)]
+pub struct SilenceLine {
+    pub id: Word,
+    pub updated: Moment,
+    pub starts: Moment,
+    pub ends: Moment,
+    pub expires: Moment,
+    pub name: Word,
+    pub value: Word,
+}
+
+/// A log version. `receiver` is the group name; the integration is empty and the index 0.
+#[derive(Debug, Drop)]
+pub struct LogLine {
+    pub group: Word,
+    pub receiver: Word,
+    pub updated: Moment,
+    pub expires: Moment,
+    pub firing: Items<u64>,
+    pub resolved: Items<u64>,
+}
+
+/// A version that a label names.
+#[derive(Debug, Drop)]
+pub enum VersionLine {
+    Silence(Shared<SilenceLine>),
+    Log(Shared<LogLine>),
+}
+
+/// Versions of one state, in the order of their labels.
+#[derive(Debug, Drop)]
+pub enum Versions {
+    Silences(Items<Shared<SilenceLine>>),
+    Log(Items<Shared<LogLine>>),
+}
+
+/// A silence that is posted, with one matcher that wants the value of a label. Author and comment are empty.
+#[derive(Debug, Drop)]
+pub struct PostLine {
+    /// The silence that is to be changed, if one is named.
+    pub id: Option<Word>,
+    /// The bits of a fresh id.
+    pub bits: u128,
+    pub starts: Moment,
+    pub ends: Moment,
+    pub name: Word,
+    pub value: Word,
+}
+
+/// A group of alerts and what is notified of it.
+#[derive(Debug, Drop)]
+pub struct GroupLine {
+    pub group: Word,
+    pub receiver: Word,
+    pub firing: Items<u64>,
+    pub resolved: Items<u64>,
+    pub repeat: Interval,
+}
+
+/// A label and its value.
+#[derive(Debug, Drop)]
+pub struct Pair {
+    pub name: Word,
+    pub value: Word,
+}
+
+/// What happens at a member at a moment.
+#[derive(Debug, Drop)]
+pub enum Event {
+    /// A Delta of these versions comes from a peer.
+    From {
+        peer: Word,
+        versions: Versions,
+    },
+    Post(PostLine),
+    Expire {
+        id: Word,
+    },
+    Notified(GroupLine),
+    Decide {
+        group: GroupLine,
+        resolved_wanted: bool,
+    },
+    /// The labels have distinct names.
+    Mutes {
+        labels: Items<Pair>,
+    },
+    Show,
+    Tick,
+    /// A Push goes to a peer.
+    Pull {
+        peer: Word,
+    },
+    /// The member starts from its last save.
+    Start,
+}
+
+/// What a line does to the cluster.
+#[derive(Debug, Drop)]
+pub enum Action {
+    Event {
+        at: Moment,
+        name: Word,
+        event: Event,
+    },
+    Stop {
+        name: Word,
+    },
+    Save {
+        name: Word,
+    },
+    /// The frame of that number is delivered.
+    Deliver {
+        at: Moment,
+        frame: u64,
+    },
+    /// The frame of that number is lost.
+    Lose {
+        frame: u64,
+    },
+}
+
+/// A step of a cluster. Contracts see its action. Only reading a schedule makes one.
+#[derive(Debug, Drop)]
+pub struct Step {
+    action: Action,
+}
+
+impl Model for Step {
+    ghost use Rattle.am_schedule.specs.declared.step.Action.{Action};
+
+    ghost Value = { Action };
+
+    ghost view = { λ s. s.action };
+}
+
+impl Step {
+    pub(crate) fn new(action: Action) -> Step
+        ensures { result ≡ action }
+    {
+        Step { action }
+    }
+
+    pub fn action(&self) -> &Action
+        ensures { result.now ≡ self.now }
+    {
+        &self.action
+    }
+}
+
+/// A line of a schedule that is neither the cluster's nor a version's.
+#[derive(Debug, Drop)]
+pub enum Line {
+    Step(Step),
+    /// All members agree at that moment.
+    Settle(Moment),
+    /// Whether the run so far is timely within a spread and a flight time.
+    Timely(Interval, Interval),
+    /// The frames in flight are wanted.
+    Frames,
+}

@@ -1,0 +1,106 @@
+//! The lines that give a version a label, and the labels of a `from`.
+
+ghost use Rattle.std.specs.Prelude.{◌≡◌, ℕ, List, map};
+ghost use Rattle.am_schedule.specs.Readings.{Gives};
+ghost use Rattle.am_schedule.specs.Tables.{value_in};
+ghost use Rattle.am_schedule.specs.VersionLines.{silence_in, log_in, version_in, versions_in};
+
+use crate::error::FaultKind;
+use crate::form::VersionForm;
+use crate::items::Items;
+use crate::places::{hashes_at, text_at, whole_moment_at};
+use crate::shared::Shared;
+use crate::step::{LogLine, SilenceLine, VersionLine, Versions};
+use crate::table::look_up;
+use std::alloc::Global;
+use std::collections::BTreeMap;
+
+/// `sil LABEL ID UPDATED STARTS ENDS EXPIRES NAME VALUE`
+#[tactic(auto, unfolding(crate::specs::VersionLines::silence_in))]
+fn silence_line(alloc: Global, words: &[&str]) -> Result<SilenceLine, FaultKind>
+    ensures { Gives result (silence_in (map (λ w. w.now) words.now)) }
+{
+    let id = text_at(alloc, words, 2)?;
+    let updated = whole_moment_at(words, 3)?;
+    let starts = whole_moment_at(words, 4)?;
+    let ends = whole_moment_at(words, 5)?;
+    let expires = whole_moment_at(words, 6)?;
+    let name = text_at(alloc, words, 7)?;
+    let value = text_at(alloc, words, 8)?;
+    Ok(SilenceLine {
+        id,
+        updated,
+        starts,
+        ends,
+        expires,
+        name,
+        value,
+    })
+}
+
+/// `nfl LABEL GROUP RECEIVER UPDATED EXPIRES FIRING RESOLVED`
+#[tactic(auto, unfolding(crate::specs::VersionLines::log_in))]
+fn log_line(alloc: Global, words: &[&str]) -> Result<LogLine, FaultKind>
+    ensures { Gives result (log_in (map (λ w. w.now) words.now)) }
+{
+    let group = text_at(alloc, words, 2)?;
+    let receiver = text_at(alloc, words, 3)?;
+    let updated = whole_moment_at(words, 4)?;
+    let expires = whole_moment_at(words, 5)?;
+    let firing = hashes_at(alloc, words, 6)?;
+    let resolved = hashes_at(alloc, words, 7)?;
+    Ok(LogLine {
+        group,
+        receiver,
+        updated,
+        expires,
+        firing,
+        resolved,
+    })
+}
+
+/// The version of a line behind its label.
+#[tactic(auto, unfolding(crate::specs::VersionLines::version_in))]
+pub(crate) fn version_line(
+    alloc: Global,
+    form: VersionForm,
+    words: &[&str],
+) -> Result<VersionLine, FaultKind>
+    ensures { Gives result (version_in form (map (λ w. w.now) words.now)) }
+{
+    match form {
+        VersionForm::Silence => {
+            let line = silence_line(alloc, words)?;
+            Ok(VersionLine::Silence(Shared::new(alloc, line)?))
+        }
+        VersionForm::Log => {
+            let line = log_line(alloc, words)?;
+            Ok(VersionLine::Log(Shared::new(alloc, line)?))
+        }
+    }
+}
+
+/// The versions of labels: `Name` where one is unknown, then `Words` where they are of two states.
+#[tactic(auto, unfolding(crate::specs::VersionLines::versions_in))]
+pub(crate) fn versions_of(
+    alloc: Global,
+    versions: &BTreeMap<&str, VersionLine>,
+    labels: &[&str],
+) -> Result<Versions, FaultKind>
+    ensures { Gives result (versions_in (value_in versions.now) (map (λ w. w.now) labels.now)) }
+{
+    let mut silences = Vec::new(alloc);
+    let mut log = Vec::new(alloc);
+    for label in labels {
+        match look_up(versions, label) {
+            Some(VersionLine::Silence(line)) => silences.push(line.share()?)?,
+            Some(VersionLine::Log(line)) => log.push(line.share()?)?,
+            None => return Err(FaultKind::Name),
+        }
+    }
+    match (silences.is_empty(), log.is_empty()) {
+        (_, true) => Ok(Versions::Silences(Items::new(silences))),
+        (true, false) => Ok(Versions::Log(Items::new(log))),
+        (false, false) => Err(FaultKind::Words),
+    }
+}

@@ -1,0 +1,113 @@
+//! The words of a line.
+
+ghost use Rattle.std.specs.Prelude.{◌≡◌, ℕ, List, ◌≤◌, ◌<◌, ◌==◌, map, drop, length, IfOk, string_bytes, string_len};
+ghost use Rattle.std.specs.List.{slice_split};
+ghost use Rattle.am_schedule.specs.Readings.{Gives};
+ghost use Rattle.am_schedule.specs.Words.{words_of, word_at, text_in, in_place, is_short};
+
+use crate::error::FaultKind;
+use std::alloc::{AllocError, Global};
+use std::marker::Model;
+
+/// The most bytes that a word has.
+pub(crate) const MAX_WORD: usize = 1024;
+
+/// A word of a line: a text of at most 1,024 bytes. Contracts see its bytes. Only reading a schedule makes one.
+#[derive(Debug, Drop)]
+pub struct Word {
+    text: String,
+}
+
+impl Model for Word {
+    ghost use Rattle.std.specs.Prelude.{List, ℕ, ◌≤◌, length, string_bytes};
+
+    ghost Value = { List ℕ };
+
+    ghost view = { λ w. string_bytes w.text };
+
+    ghost invariant = { λ w. length (string_bytes w.text) ≤ 1024 };
+}
+
+impl Word {
+    pub fn as_str(&self) -> &str
+        ensures text { result.now ≡ self.now }
+        ensures short { length self.now ≤ 1024 }
+    {
+        self.text.as_str()
+    }
+
+    /// The word of a text that is short enough.
+    pub(crate) fn of(alloc: Global, text: &str) -> Result<Word, AllocError>
+        requires { length text.now ≤ 1024 }
+        ensures { IfOk result (λ word. word ≡ text.now) }
+    {
+        let text = String::from_str(alloc, text)?;
+        Ok(Word { text })
+    }
+
+    /// The word of a text, or `Name` where it is too long.
+    #[tactic(auto, unfolding(crate::specs::Words::text_in))]
+    pub(crate) fn read(alloc: Global, text: &str) -> Result<Word, FaultKind>
+        ensures { Gives result (text_in text.now) }
+    {
+        if text.len() > MAX_WORD {
+            return Err(FaultKind::Name);
+        }
+        let word = Word::of(alloc, text)?;
+        Ok(word)
+    }
+
+    /// A copy, or want of memory.
+    pub(crate) fn try_clone(&self, alloc: Global) -> Result<Word, AllocError>
+        ensures { IfOk result (λ copy. copy ≡ self.now) }
+    {
+        Word::of(alloc, self.as_str())
+    }
+}
+
+/// The parts of a text between the places of an ASCII character.
+pub(crate) fn split_at(alloc: Global, text: &str, separator: char) -> Result<Vec<&str>, AllocError>
+    requires { separator < 128 }
+    ensures { IfOk result (λ parts. map (λ p. p.now) parts.items ≡ slice_split (λ b. b == separator) text.now) }
+{
+    text.split(separator).collect(alloc)
+}
+
+/// The words of a line, parted by one space.
+#[tactic(auto, unfolding(crate::specs::Words::words_of))]
+pub(crate) fn split_words(alloc: Global, line: &str) -> Result<Vec<&str>, AllocError>
+    ensures { IfOk result (λ words. map (λ w. w.now) words.items ≡ words_of line.now) }
+{
+    split_at(alloc, line, ' ')
+}
+
+/// The word at a place, or the empty text behind the last one.
+#[tactic(auto, unfolding(crate::specs::Words::word_at))]
+pub(crate) fn word_at<'a>(words: &[&'a str], place: usize) -> &'a str
+    ensures { result.now ≡ word_at place (map (λ w. w.now) words.now) }
+{
+    words.get(place).copied().unwrap_or("")
+}
+
+/// The words behind a place.
+pub(crate) fn behind<'a>(words: &'a [&'a str], place: usize) -> &'a [&'a str]
+    ensures { map (λ w. w.now) result.now ≡ drop place (map (λ w. w.now) words.now) }
+{
+    if place <= words.len() {
+        &words[place..]
+    } else {
+        &[]
+    }
+}
+
+/// The value of a word in the place of a number: `Number` where it has none, then `Name` where it is too long.
+#[tactic(auto, unfolding(crate::specs::Words::in_place))]
+pub(crate) fn in_place<T: Copy>(value: Option<T>, word: &str) -> Result<T, FaultKind>
+    ensures { result ≡ in_place value word.now }
+{
+    let value = value.ok_or(FaultKind::Number)?;
+    if word.len() > MAX_WORD {
+        return Err(FaultKind::Name);
+    }
+    Ok(value)
+}

@@ -1,0 +1,120 @@
+-- What plans make is live, and greater than what it takes the place of.
+use Rattle.std.proofs.Common.{◌≡◌, ◌≢◌, ℕ, ◌+◌, ◌<◌, ◌≤◌, min, Bool, true, false, not, ◌&&◌, nat_lt, nat_le, List, [], ◌∷◌, Option, Some, None, IfSome, option_map, is_some, is_none, if◌then◌else◌, All, refl, sym, ap, ◌∙◌, arith}
+use Rattle.std.proofs.lemmas.Bool.{lt-ltb}
+use Rattle.std.specs.Cmp.{second_so}
+use Rattle.std.proofs.lemmas.Bool.Decides.{nat_tests}
+use Rattle.am_version_order.specs.Moments.{greatest}
+use Rattle.am_version_order.specs.Versions.{Version, IsLive, is_below}
+use Rattle.am_silence.specs.declared.silence.Silence.{Silence}
+use Rattle.am_silence.specs.declared.state.State.{State}
+use Rattle.am_silence.specs.declared.state.State.TheVariants as states
+use Rattle.am_silence.specs.declared.plan.Posted.{Posted}
+use Rattle.am_silence.specs.declared.plan.Verdict.{Verdict}
+use Rattle.am_silence.specs.declared.error.SilenceError.{SilenceError}
+use Rattle.am_silence.specs.declared.error.SilenceError.TheVariants as errors
+use Rattle.am_silence.specs.declared.plan.Plan.TheVariants as plans
+use Rattle.am_silence.specs.Mesh.{Mesh, mesh_version}
+use Rattle.am_silence.specs.States.{state_of, is_expired, has_expired}
+use Rattle.am_silence.specs.Plans.{Post, former, version_of, new_version, updated_version, ended_in, ended_version, same_matchers, allows_update, may_update, new_plan, plan_over, versions, successor, Succeeds}
+use Rattle.am_silence.specs.Refusals.{◌when◌, ◌before◌, matchers_refusal, times_refusal, newer_refusal, former_refusal, posted_refusal}
+
+-- ---- what passed tests say
+
+before_none : (a b : Option SilenceError) → (a before b) ≡ None → (a ≡ None) × (b ≡ None)
+before_none None b h = (refl, h)
+before_none (Some e) b h = absurd cc
+
+when_none : (e : SilenceError) (b : Bool) → (e when b) ≡ None → b ≡ false
+when_none e false h = refl
+when_none e true h = absurd cc
+
+times_pass : (posted : Posted) (now : ℕ) → times_refusal posted now ≡ None → now < posted.ends_at
+unfolding times_refusal
+times_pass posted now h =
+    let both = before_none (errors.EndNotAfterStart when nat_le posted.ends_at posted.starts_at) (errors.EndInPast when nat_le posted.ends_at now) h in
+    let after : nat_le posted.ends_at now ≡ false = when_none errors.EndInPast (nat_le posted.ends_at now) both.1 in
+    grind (arith, nat_tests)
+
+-- the end is after now, and the silence that is posted again was updated before now
+pub posted_passes : (prev : Option Mesh) (posted : Posted) (verdict : Verdict) (now : ℕ) → posted_refusal prev posted verdict now ≡ None
+    → (now < posted.ends_at) × (former_refusal (former prev posted) now ≡ None)
+unfolding posted_refusal
+posted_passes prev posted verdict now h =
+    let known = errors.NotFound when (is_some posted.id && is_none prev) in
+    let matchers = matchers_refusal posted.matchers verdict in
+    let times = times_refusal posted now in
+    let all = before_none (known before matchers before times) (former_refusal (former prev posted) now) h in
+    let tests = before_none (known before matchers) times all.0 in
+    (times_pass posted now tests.1, all.1)
+
+newer_passes : (old : Silence) (now : ℕ) → newer_refusal old now ≡ None → old.updated_at < now
+unfolding newer_refusal
+newer_passes old now h =
+    let later : nat_le now old.updated_at ≡ false = when_none (errors.Newer old.updated_at) (nat_le now old.updated_at) h in
+    grind (arith, nat_tests)
+
+-- ---- live
+
+live_at_end : (s : Silence) (now retention : ℕ) → now < s.ends_at → s.ends_at ≤ greatest → IsLive now (mesh_version (version_of s retention))
+live_at_end s now retention h k = omega arith
+
+-- what ending a silence makes of it
+record IsEnded (old ended : Silence) (now : ℕ) : Type 0 where
+  id : ended.id ≡ old.id
+  ends_at : ended.ends_at ≡ now
+  updated_at : ended.updated_at ≡ now
+
+ended_is : (state : State) (old : Silence) (now : ℕ) → is_expired state ≡ false → IsEnded old (ended_in state old now) now
+ended_is states.Pending old now h = record { id = refl; ends_at = refl; updated_at = refl }
+ended_is states.Active old now h = record { id = refl; ends_at = refl; updated_at = refl }
+ended_is states.Expired old now h = absurd cc
+
+-- ---- greater
+
+below_later : (held v : Mesh) → held.silence.updated_at < v.silence.updated_at → is_below (mesh_version held) (mesh_version v) ≡ true
+unfolding is_below
+below_later held v h = let less : nat_lt held.silence.updated_at v.silence.updated_at ≡ true = lt-ltb _ _ h in rw less refl
+
+pub ended-succeeds : (held : Mesh) (old : Silence) (now retention : ℕ) → old ≡ held.silence → has_expired old now ≡ false → newer_refusal old now ≡ None
+    → Succeeds held (ended_version old now retention)
+ended-succeeds held old now retention same lives older =
+    let is = ended_is (state_of old now) old now lives in
+    let earlier : old.updated_at < now = newer_passes old now older in
+    let held_at : old.updated_at ≡ held.silence.updated_at = ap (λ (s : Silence). s.updated_at) same in
+    let made_at : (ended_version old now retention).silence.updated_at ≡ now = is.updated_at in
+    record { same_id = is.id ∙ ap (λ (s : Silence). s.id) same; greater = below_later held (ended_version old now retention) (omega arith) }
+
+updated-succeeds : (held : Mesh) (p : Post) → newer_refusal held.silence p.now ≡ None → Succeeds held (updated_version held.silence p)
+updated-succeeds held p older =
+    record { same_id = refl; greater = below_later held (updated_version held.silence p) (newer_passes held.silence p.now older) }
+
+-- the version that a plan puts in the place of one that is held
+pub plan-succeeds : (prev : Option Mesh) (p : Post) → former_refusal (former prev p.posted) p.now ≡ None
+    → IfSome (successor (plan_over (former prev p.posted) p)) (λ v. IfSome prev (λ held. Succeeds held v))
+unfolding former_refusal
+plan-succeeds prev p = by_id (is_some p.posted.id) prev
+  where
+    -- the former silence is not expired, and it was updated before now
+    ended : (held : Mesh) (b : Bool) → has_expired held.silence p.now ≡ b → (if b then None else newer_refusal held.silence p.now) ≡ None
+        → IfSome (successor (if b then plans.Create (new_version p) else plans.Replace (new_version p) (ended_version held.silence p.now p.retention))) (λ v. Succeeds held v)
+    ended held true e h = tt
+    ended held false e h = ended-succeeds held held.silence p.now p.retention refl e h
+
+    -- a silence that may be updated has not expired
+    lives : (old : Silence) (state : State) → allows_update state old p.posted p.now ≡ true → is_expired state ≡ false
+    lives old states.Pending h = refl
+    lives old states.Active h = refl
+    lives old states.Expired h = cc
+
+    over : (held : Mesh) (b : Bool) → may_update held.silence p.posted p.now ≡ b → former_refusal (Some held.silence) p.now ≡ None
+        → IfSome (successor (if b then plans.Update (updated_version held.silence p) else new_plan (Some held.silence) p)) (λ v. Succeeds held v)
+    over held true e h =
+        let alive : has_expired held.silence p.now ≡ false = lives held.silence (state_of held.silence p.now) (second_so (same_matchers p.posted.matchers held.silence.matchers) _ e) in
+        updated-succeeds held p (rw alive at h)
+    over held false e h = ended held (has_expired held.silence p.now) refl h
+
+    by_id : (b : Bool) (held : Option Mesh) → former_refusal (if b then option_map (λ m. m.silence) held else None) p.now ≡ None
+        → IfSome (successor (plan_over (if b then option_map (λ m. m.silence) held else None) p)) (λ v. IfSome held (λ h. Succeeds h v))
+    by_id false held h = tt
+    by_id true None h = tt
+    by_id true (Some held) h = over held (may_update held.silence p.posted p.now) refl h

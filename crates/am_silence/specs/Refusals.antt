@@ -1,0 +1,102 @@
+-- Why a silence is not posted, or not ended: tests in their order, of which the first that holds counts.
+use Rattle.std.specs.Prelude.{◌≡◌, ℕ, Bool, true, false, ◌&&◌, ◌==◌, nat_lt, nat_le, List, [], ◌∷◌, length, not, Option, Some, None, is_some, is_none, Result, MatchResult, if◌then◌else◌}
+use Rattle.std.specs.List.{list_any}
+use Rattle.am_silence.specs.declared.matcher.Matcher.{Matcher}
+use Rattle.am_silence.specs.declared.silence.Silence.{Silence}
+use Rattle.am_silence.specs.declared.plan.Posted.{Posted}
+use Rattle.am_silence.specs.declared.plan.Verdict.{Verdict}
+use Rattle.am_silence.specs.declared.plan.Verdict.TheVariants as verdicts
+use Rattle.am_silence.specs.declared.plan.Plan.{Plan}
+use Rattle.am_silence.specs.declared.error.SilenceError.{SilenceError}
+use Rattle.am_silence.specs.declared.error.SilenceError.TheVariants as errors
+use Rattle.am_silence.specs.Mesh.{Mesh, writes_mesh_silence}
+use Rattle.am_silence.specs.States.{has_expired}
+use Rattle.am_silence.specs.Plans.{Post, former, planned, versions, updates, ended_version}
+
+-- an error where its cause holds
+infixl 12 ◌when◌
+abbrev pub ◌when◌ : SilenceError → Bool → Option SilenceError
+error when cause = if cause then Some error else None
+
+-- the first of two errors
+infixl 10 ◌before◌
+abbrev pub ◌before◌ : Option SilenceError → Option SilenceError → Option SilenceError
+(Some error) before later = Some error
+None before later = later
+
+-- a call answers Ok where there is no refusal, and else the refusal
+abbrev pub Refuses : {T : Type 0} → Result T SilenceError → Option SilenceError → Type 0
+Refuses result refusal = MatchResult result (λ _. refusal ≡ None) (λ error. refusal ≡ Some error)
+
+-- ---- what is posted
+
+abbrev pub verdict_refusal : Verdict → Option SilenceError
+verdict_refusal verdicts.Fine = None
+verdict_refusal verdicts.Bad = Some errors.BadPattern
+verdict_refusal verdicts.AllEmpty = Some errors.AllMatchEmpty
+
+-- no matcher, a matcher without a label's name, patterns
+unfoldable pub matchers_refusal : List Matcher → Verdict → Option SilenceError
+matchers_refusal matchers verdict =
+    errors.NoMatcher when (length matchers == 0)
+    before errors.EmptyName when list_any (λ m. length m.name == 0) matchers
+    before verdict_refusal verdict
+
+-- an end that is not after the start as posted, an end that is not after now
+unfoldable pub times_refusal : Posted → ℕ → Option SilenceError
+times_refusal posted now =
+    errors.EndNotAfterStart when nat_le posted.ends_at posted.starts_at
+    before errors.EndInPast when nat_le posted.ends_at now
+
+-- ---- what is held
+
+-- the silence that would get a new version was updated now or later
+unfoldable pub newer_refusal : Silence → ℕ → Option SilenceError
+newer_refusal old now = errors.Newer old.updated_at when nat_le now old.updated_at
+
+-- a former silence gets a new version unless it has expired
+unfoldable pub former_refusal : Option Silence → ℕ → Option SilenceError
+former_refusal None now = None
+former_refusal (Some old) now = if has_expired old now then None else newer_refusal old now
+
+-- the canonical text of a version has over 67,108,864 bytes
+abbrev pub is_too_large : Mesh → Bool
+is_too_large version = nat_lt 67108864 (length (writes_mesh_silence version))
+
+-- a version's canonical text is too large
+unfoldable pub size_refusal : List Mesh → Option SilenceError
+size_refusal made = errors.TooLarge when list_any is_too_large made
+
+-- ---- a post
+
+-- what is posted, and what is held of the silence that is posted again
+unfoldable pub posted_refusal : Option Mesh → Posted → Verdict → ℕ → Option SilenceError
+posted_refusal prev posted verdict now =
+    errors.NotFound when (is_some posted.id && is_none prev)
+    before matchers_refusal posted.matchers verdict
+    before times_refusal posted now
+    before former_refusal (former prev posted) now
+
+-- a new silence is to be made, and its id is held
+unfoldable pub fresh_refusal : Option Silence → Posted → Bool → ℕ → Option SilenceError
+fresh_refusal old posted id_held now = errors.IdInUse when (not (updates old posted now) && id_held)
+
+-- the tests that take no memory
+unfoldable pub early_refusal : Option Mesh → Posted → Verdict → Bool → ℕ → Option SilenceError
+early_refusal prev posted verdict id_held now =
+    posted_refusal prev posted verdict now before fresh_refusal (former prev posted) posted id_held now
+
+unfoldable pub refusal : Option Mesh → Verdict → Bool → Post → Option SilenceError
+refusal prev verdict id_held p =
+    early_refusal prev p.posted verdict id_held p.now before size_refusal (versions (planned prev p))
+
+-- ---- an end
+
+unfoldable pub early_end_refusal : Option Mesh → ℕ → Option SilenceError
+early_end_refusal None now = Some errors.NotFound
+early_end_refusal (Some held) now = errors.AlreadyExpired when has_expired held.silence now before newer_refusal held.silence now
+
+unfoldable pub end_refusal : Option Mesh → ℕ → ℕ → Option SilenceError
+end_refusal None now retention = early_end_refusal None now
+end_refusal (Some held) now retention =
+    early_end_refusal (Some held) now before size_refusal (ended_version held.silence now retention ∷ [])

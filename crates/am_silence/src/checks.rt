@@ -1,0 +1,132 @@
+//! The tests that a post and an end have to pass, which take no memory.
+
+ghost use Rattle.std.specs.Prelude.{◌≡◌, ◌≢◌, ◌==◌, ◌&&◌, length, is_some, is_none, IfOk, IfErr};
+ghost use Rattle.std.specs.List.{list_any};
+ghost use Rattle.std.specs.Option.{option_copied};
+ghost use Rattle.am_silence.specs.declared.error.SilenceError.TheVariants as errors;
+ghost use Rattle.am_silence.specs.Plans.{former};
+ghost use Rattle.am_silence.specs.Refusals.{Refuses, ◌when◌, posted_refusal, matchers_refusal, times_refusal, newer_refusal, former_refusal};
+
+use crate::error::SilenceError;
+use crate::matcher::Matcher;
+use crate::mesh::MeshSilence;
+use crate::plan::{Posted, Verdict};
+use crate::silence::Silence;
+use crate::state::{State, state_at};
+use am_version_order::Moment;
+
+/// The tests of what is posted, and of the silence that is posted again, which is given back.
+#[tactic(auto, unfolding(crate::specs::Refusals::posted_refusal))]
+pub fn check_posted<'a>(
+    prev: Option<&'a MeshSilence>,
+    posted: &Posted,
+    verdict: Verdict,
+    now: Moment,
+) -> Result<Option<&'a Silence>, SilenceError>
+    ensures former { IfOk result (λ old. option_copied old ≡ former (option_copied prev.entry) posted.now) }
+    ensures tests { Refuses result (posted_refusal (option_copied prev.entry) posted.now verdict now) }
+    ensures no_memory { IfErr result (λ e. e ≢ errors.Memory) }
+{
+    let former = former_silence(prev, posted)?;
+    check_matchers(posted.matchers.as_slice(), verdict)?;
+    check_times(posted, now)?;
+    check_former(former, now)?;
+    Ok(former)
+}
+
+// The silence that is posted again, if one is: it has to be there.
+fn former_silence<'a>(
+    prev: Option<&'a MeshSilence>,
+    posted: &Posted,
+) -> Result<Option<&'a Silence>, SilenceError>
+    ensures former { IfOk result (λ old. option_copied old ≡ former (option_copied prev.entry) posted.now) }
+    ensures found { Refuses result (errors.NotFound when (is_some posted.now.id && is_none (option_copied prev.entry))) }
+    ensures no_memory { IfErr result (λ e. e ≢ errors.Memory) }
+{
+    if posted.id.is_none() {
+        return Ok(None);
+    }
+    match prev {
+        Some(version) => Ok(Some(version.silence())),
+        None => Err(SilenceError::NotFound),
+    }
+}
+
+// There are matchers, each names a label, and their patterns are fine.
+#[tactic(auto, unfolding(crate::specs::Refusals::matchers_refusal))]
+fn check_matchers(matchers: &[Matcher], verdict: Verdict) -> Result<(), SilenceError>
+    ensures tests { Refuses result (matchers_refusal matchers.now verdict) }
+    ensures no_memory { IfErr result (λ e. e ≢ errors.Memory) }
+{
+    if matchers.is_empty() {
+        return Err(SilenceError::NoMatcher);
+    }
+    if has_empty_name(matchers) {
+        return Err(SilenceError::EmptyName);
+    }
+    match verdict {
+        Verdict::Fine => Ok(()),
+        Verdict::Bad => Err(SilenceError::BadPattern),
+        Verdict::AllEmpty => Err(SilenceError::AllMatchEmpty),
+    }
+}
+
+// A matcher names no label.
+fn has_empty_name(matchers: &[Matcher]) -> bool
+    ensures { result ≡ list_any (λ m. length m.name == 0) matchers.now }
+{
+    matchers
+        .iter()
+        .any(|matcher| matcher.name.as_str().is_empty())
+}
+
+// The end is after the start, and after now.
+#[tactic(auto, unfolding(crate::specs::Refusals::times_refusal))]
+fn check_times(posted: &Posted, now: Moment) -> Result<(), SilenceError>
+    ensures tests { Refuses result (times_refusal posted.now now) }
+    ensures no_memory { IfErr result (λ e. e ≢ errors.Memory) }
+{
+    if posted.ends_at <= posted.starts_at {
+        return Err(SilenceError::EndNotAfterStart);
+    }
+    if posted.ends_at <= now {
+        return Err(SilenceError::EndInPast);
+    }
+    Ok(())
+}
+
+/// The silence was updated before now, so that a version which is made now is greater.
+#[tactic(auto, unfolding(crate::specs::Refusals::newer_refusal))]
+pub fn check_older(old: &Silence, now: Moment) -> Result<(), SilenceError>
+    ensures tests { Refuses result (newer_refusal old.now now) }
+    ensures no_memory { IfErr result (λ e. e ≢ errors.Memory) }
+{
+    if old.updated_at >= now {
+        return Err(SilenceError::Newer {
+            held: old.updated_at,
+        });
+    }
+    Ok(())
+}
+
+// The same of a silence that is posted again, unless it has expired: it then gets no new version.
+#[tactic(auto, unfolding(crate::specs::Refusals::former_refusal))]
+fn check_former(former: Option<&Silence>, now: Moment) -> Result<(), SilenceError>
+    ensures tests { Refuses result (former_refusal (option_copied former.entry) now) }
+    ensures no_memory { IfErr result (λ e. e ≢ errors.Memory) }
+{
+    match former {
+        Some(old) if state_at(old, now) != State::Expired => check_older(old, now),
+        _ => Ok(()),
+    }
+}
+
+/// No silence has the fresh identifier.
+pub fn check_fresh(id_held: bool) -> Result<(), SilenceError>
+    ensures { Refuses result (errors.IdInUse when id_held) }
+{
+    if id_held {
+        return Err(SilenceError::IdInUse);
+    }
+    Ok(())
+}

@@ -1,0 +1,67 @@
+//! Identifiers of new silences.
+
+ghost use Rattle.std.specs.Prelude.{◌≡◌};
+ghost use Rattle.am_silence.specs.Ids.{id_text};
+
+use std::marker::Model;
+use std::str;
+use uuid::Builder;
+
+/// The 36 bytes of an identifier's text, which contracts see as their list.
+#[derive(Clone, Copy)]
+pub struct IdText {
+    bytes: [u8; 36],
+}
+
+impl Model for IdText {
+    ghost use Rattle.std.specs.Prelude.{List, ℕ};
+    ghost use Rattle.std.specs.Str.{IsUtf8};
+
+    ghost Value = { List ℕ };
+
+    ghost view = { λ id. id.bytes };
+
+    ghost invariant = { λ id. IsUtf8 id.bytes };
+
+    ghost inverse = { λ bytes. record { bytes = bytes } };
+}
+
+impl IdText {
+    pub fn as_str(&self) -> &str
+        ensures { result.now ≡ self.now }
+    {
+        str::from_utf8(&self.bytes).unwrap()
+    }
+}
+
+/// The text of the identifier that these random bits give: RFC 9562, version 4. It takes no memory.
+pub fn fresh_id(bits: u128) -> IdText
+    ensures { result ≡ id_text bits }
+{
+    let id = Builder::from_random_bytes(bits.to_be_bytes()).into_uuid();
+    let mut buffer = [0u8; 36];
+    let text = id.hyphenated().encode_lower(&mut buffer);
+    let mut bytes = [0u8; 36];
+    bytes.copy_from_slice(text.as_bytes());
+    IdText { bytes }
+}
+
+#[cfg(test)]
+mod tests {
+    use super::*;
+
+    #[test]
+    fn fresh_identifiers_have_version_and_variant(rt: HostRuntime) {
+        let rows = [
+            (0, "00000000-0000-4000-8000-000000000000"),
+            (
+                0x0011_2233_4455_6677_8899_aabb_ccdd_eeff,
+                "00112233-4455-4677-8899-aabbccddeeff",
+            ),
+            (u128::MAX, "ffffffff-ffff-4fff-bfff-ffffffffffff"),
+        ];
+        for (bits, want) in rows {
+            assert_eq!(rt; fresh_id(bits).as_str(), want);
+        }
+    }
+}

@@ -1,0 +1,54 @@
+//! Which silences a post updates in place.
+
+ghost use Rattle.std.specs.Prelude.{◌≡◌, ◌==◌, ◌↔◌, IsTrue};
+ghost use Rattle.std.specs.List.{list_all, zip};
+ghost use Rattle.am_silence.specs.Plans.{same_matcher, same_matchers, second_of, allows_update, may_update, MayUpdate};
+
+use crate::matcher::Matcher;
+use crate::plan::Posted;
+use crate::silence::Silence;
+use crate::state::{State, state_at};
+use am_version_order::Moment;
+
+/// The silence is updated in place by a post at `now`.
+pub fn may_update(old: &Silence, posted: &Posted, now: Moment) -> bool
+    ensures test { result ≡ may_update old.now posted.now now }
+    ensures rule { IsTrue result ↔ MayUpdate old.now posted.now now }
+{
+    same_matchers(posted.matchers.as_slice(), old.matchers.as_slice())
+        && match state_at(old, now) {
+            State::Active => {
+                same_second(posted.starts_at, old.starts_at) && posted.ends_at >= now
+            }
+            State::Pending => posted.starts_at >= now,
+            State::Expired => false,
+        }
+}
+
+// The same matchers, in the same order.
+fn same_matchers(posted: &[Matcher], old: &[Matcher]) -> bool
+    ensures test { result ≡ same_matchers posted.now old.now }
+    ensures equal { IsTrue result ↔ (posted.now ≡ old.now) }
+{
+    posted.len() == old.len() && same_pairs(posted, old)
+}
+
+// Each matcher is the same as the one in its place.
+fn same_pairs(posted: &[Matcher], old: &[Matcher]) -> bool
+    ensures { result ≡ list_all (λ pair. same_matcher pair.0 pair.1) (zip posted.now old.now) }
+{
+    posted.iter().zip(old).all(|(a, b)| same_matcher(a, b))
+}
+
+fn same_matcher(a: &Matcher, b: &Matcher) -> bool
+    ensures { result ≡ same_matcher a.now b.now }
+{
+    a.kind == b.kind && a.name == b.name && a.pattern == b.pattern
+}
+
+// The moments lie in one second.
+fn same_second(a: Moment, b: Moment) -> bool
+    ensures { result ≡ (second_of a == second_of b) }
+{
+    a.parts().0 == b.parts().0
+}

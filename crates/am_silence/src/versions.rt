@@ -1,0 +1,110 @@
+//! The versions of silences that posts and ends make.
+
+ghost use Rattle.std.specs.Prelude.{◌≡◌, ◌≢◌, ◌⊎◌, ◌<◌, ◌≤◌, true, false, IfOk, IfErr, OnOk};
+ghost use Rattle.am_version_order.specs.Moments.{greatest};
+ghost use Rattle.am_version_order.specs.Versions.{IsLive};
+ghost use Rattle.am_silence.specs.declared.error.SilenceError.TheVariants as errors;
+ghost use Rattle.am_silence.specs.Mesh.{mesh_version};
+ghost use Rattle.am_silence.specs.States.{has_expired};
+ghost use Rattle.am_silence.specs.Plans.{post_of, silence_of, version_of, new_version, updated_version, ended_version};
+ghost use Rattle.am_silence.specs.Refusals.{is_too_large};
+
+use crate::error::SilenceError;
+use crate::ids::fresh_id;
+use crate::mesh::MeshSilence;
+use crate::plan::Posted;
+use crate::silence::Silence;
+use am_version_order::{Interval, Moment};
+use am_wire::{Text, WireError};
+use std::alloc::Global;
+
+// The version of a silence, which expires a retention after its end.
+fn version_of(
+    alloc: Global,
+    silence: Silence,
+    retention: Interval,
+) -> Result<MeshSilence, SilenceError>
+    ensures made { IfOk result (λ v. v ≡ version_of silence retention) }
+    ensures within { OnOk result (is_too_large (version_of silence retention) ≡ false) }
+    ensures bound { OnOk result (silence.ends_at ≤ greatest) }
+    ensures live { silence.ends_at < greatest → IsLive silence.ends_at (mesh_version (version_of silence retention)) }
+    ensures refused { IfErr result (λ e. (e ≡ errors.Memory) ⊎ ((e ≡ errors.TooLarge) × (is_too_large (version_of silence retention) ≡ true))) }
+{
+    let expires_at = silence.ends_at.capped_add(retention);
+    match MeshSilence::new(alloc, silence, expires_at) {
+        Ok(version) => Ok(version),
+        Err(WireError::TooLarge) => Err(SilenceError::TooLarge),
+        Err(_) => Err(SilenceError::Memory),
+    }
+}
+
+// The posted fields under an identifier and from a start on, updated at `now`.
+fn silence_of(id: Text, starts_at: Moment, posted: Posted, now: Moment) -> Silence
+    ensures { result ≡ silence_of id starts_at posted now }
+{
+    Silence {
+        id,
+        matchers: posted.matchers,
+        starts_at,
+        ends_at: posted.ends_at,
+        updated_at: now,
+        created_by: posted.created_by,
+        comment: posted.comment,
+    }
+}
+
+/// The new silence that is posted: a start before now becomes now.
+pub fn new_version(
+    alloc: Global,
+    posted: Posted,
+    now: Moment,
+    bits: u128,
+    retention: Interval,
+) -> Result<MeshSilence, SilenceError>
+    ensures made { IfOk result (λ v. v ≡ new_version (post_of posted now bits retention)) }
+    ensures within { OnOk result (is_too_large (new_version (post_of posted now bits retention)) ≡ false) }
+    ensures bound { OnOk result (posted.ends_at ≤ greatest) }
+    ensures refused { IfErr result (λ e. (e ≡ errors.Memory) ⊎ ((e ≡ errors.TooLarge) × (is_too_large (new_version (post_of posted now bits retention)) ≡ true))) }
+{
+    let id = Text::copied(alloc, fresh_id(bits).as_str())?;
+    let starts_at = posted.starts_at.max(now);
+    version_of(alloc, silence_of(id, starts_at, posted, now), retention)
+}
+
+/// The silence as it is posted again.
+pub fn updated_version(
+    alloc: Global,
+    old: &Silence,
+    posted: Posted,
+    now: Moment,
+    retention: Interval,
+) -> Result<MeshSilence, SilenceError>
+    ensures made { IfOk result (λ v. v ≡ updated_version old.now (post_of posted now 0 retention)) }
+    ensures within { OnOk result (is_too_large (updated_version old.now (post_of posted now 0 retention)) ≡ false) }
+    ensures bound { OnOk result (posted.ends_at ≤ greatest) }
+    ensures refused { IfErr result (λ e. (e ≡ errors.Memory) ⊎ ((e ≡ errors.TooLarge) × (is_too_large (updated_version old.now (post_of posted now 0 retention)) ≡ true))) }
+{
+    let id = old.id.try_clone(alloc)?;
+    let starts_at = posted.starts_at;
+    version_of(alloc, silence_of(id, starts_at, posted, now), retention)
+}
+
+/// The silence, ended at `now`. A pending one also starts at `now`.
+pub fn ended_version(
+    alloc: Global,
+    old: &Silence,
+    now: Moment,
+    retention: Interval,
+) -> Result<MeshSilence, SilenceError>
+    requires { has_expired old.now now ≡ false }
+    ensures made { IfOk result (λ v. v ≡ ended_version old.now now retention) }
+    ensures within { OnOk result (is_too_large (ended_version old.now now retention) ≡ false) }
+    ensures live { OnOk result (now < greatest → IsLive now (mesh_version (ended_version old.now now retention))) }
+    ensures refused { IfErr result (λ e. (e ≡ errors.Memory) ⊎ ((e ≡ errors.TooLarge) × (is_too_large (ended_version old.now now retention) ≡ true))) }
+{
+    let mut ended = old.try_clone(alloc)?;
+    ended.starts_at = old.starts_at.min(now);
+    ended.ends_at = now;
+    ended.updated_at = now;
+    version_of(alloc, ended, retention)
+}
