@@ -37,7 +37,7 @@ def ours(name, folder):
         f.write("%s: %s\n" % (name, " ".join(needs)))
     place = os.path.join(folder, "crates", name)
     os.makedirs(os.path.join(place, "src"))
-    shutil.copy(os.path.join(source, "main.rt"), os.path.join(place, "src"))
+    shutil.copy(os.path.join(source, "main.rt.in"), os.path.join(place, "src", "main.rt"))
     built = subprocess.run(["rt", "run"], cwd=place, stdout=subprocess.PIPE, stderr=subprocess.STDOUT, text=True)
     if built.returncode != 0:
         raise SystemExit(built.stdout[-3000:])
