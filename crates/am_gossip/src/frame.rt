@@ -4,8 +4,8 @@ ghost use Rattle.std.specs.Prelude.{◌≡◌};
 ghost use Rattle.am_gossip.specs.Keys.{key_of, key_text};
 ghost use Rattle.am_gossip.specs.Frames.{kind_of};
 
-use crate::bytes::Bytes;
 use crate::kind::FrameKind;
+use am_wire::Bytes;
 use std::marker::Model;
 
 /// The state that a part belongs to.

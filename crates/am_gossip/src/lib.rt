@@ -1,7 +1,6 @@
 //! What peers send one another: frames, and the stream that they come in.
 #![tactic(auto)]
 
-mod bytes;
 mod encode;
 mod error;
 mod feeder;
@@ -16,7 +15,7 @@ mod length;
 mod payload;
 mod reading;
 
-pub use bytes::Bytes;
+pub use am_wire::Bytes;
 pub use encode::encode_frame;
 pub use error::FrameError;
 pub use feeder::{Fed, Feeder};

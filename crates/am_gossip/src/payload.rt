@@ -8,12 +8,12 @@ ghost use Rattle.am_gossip.specs.Answers.{Gives};
 ghost use Rattle.am_gossip.specs.Parts.{part_table, parts_fit, parts_in, reads_part, reads_parts};
 ghost use Rattle.am_gossip.specs.Frames.{reads_payload};
 
-use crate::bytes::Bytes;
 use crate::error::FrameError;
 use crate::frame::{Frame, FullState, Part, StateKey};
 use crate::kind::FrameKind;
 use am_wire::{
-    Draft, Field, LastBytes, LastText, Scan, Schema, Value, WireError, WireType, read_message,
+    Bytes, Draft, Field, LastBytes, LastText, Scan, Schema, Value, WireError, WireType,
+    read_message,
 };
 use std::alloc::Global;
 

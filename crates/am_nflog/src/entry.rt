@@ -8,11 +8,11 @@ ghost use Rattle.std.specs.Ordering.{as_partial_cmp};
 ghost use Rattle.am_nflog.specs.Entries.{entry};
 ghost use Rattle.am_nflog.specs.Keys.{key_cmp};
 
-use crate::bytes::{Bytes, Hashes};
+use crate::hashes::Hashes;
 use crate::receiver::{Receiver, ReceiverDraft};
 use am_version_order::Moment;
 use am_wire::{
-    Draft, Field, LastBytes, LastNumber, Message, Part, Schema, TimestampDraft, WireError,
+    Bytes, Draft, Field, LastBytes, LastNumber, Message, Part, Schema, TimestampDraft, WireError,
     WireType, moment_in, pack_numbers, push_bytes, push_message, push_number, push_numbers,
     read_message,
 };

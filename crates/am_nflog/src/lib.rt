@@ -1,14 +1,15 @@
 //! The notification log: what was notified, of which groups, and when.
 #![tactic(auto)]
 
-mod bytes;
 mod entry;
+mod hashes;
 mod make;
 mod mesh;
 mod receiver;
 
-pub use bytes::{Bytes, Hashes};
+pub use am_wire::Bytes;
 pub use entry::{Entry, EntryDraft, LogKey};
+pub use hashes::Hashes;
 pub use make::make_entry;
 pub use mesh::{MeshEntry, MeshEntryDraft};
 pub use receiver::{Receiver, ReceiverDraft};

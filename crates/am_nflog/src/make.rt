@@ -5,12 +5,12 @@ ghost use Rattle.am_wire.specs.declared.error.WireError.TheVariants as errors;
 ghost use Rattle.am_nflog.specs.Mesh.{writes_mesh_entry};
 ghost use Rattle.am_nflog.specs.Made.{made_entry, expiry};
 
-use crate::bytes::{Bytes, Hashes};
 use crate::entry::{Entry, LogKey};
+use crate::hashes::Hashes;
 use crate::mesh::MeshEntry;
 use crate::receiver::Receiver;
 use am_version_order::{Interval, Moment};
-use am_wire::WireError;
+use am_wire::{Bytes, WireError};
 use std::alloc::Global;
 
 /// The entry of a notification at `now`: it expires after the smaller of `retention` and two times

@@ -1,6 +1,7 @@
 //! The wire form: varints, fields, messages and rows.
 #![tactic(auto)]
 
+mod bytes;
 mod draft;
 mod error;
 mod field;
@@ -17,6 +18,7 @@ mod value;
 mod varint;
 mod writing;
 
+pub use bytes::Bytes;
 pub use draft::{Draft, read_message, take_fields};
 pub use error::WireError;
 pub use field::{AnyField, Schema};

@@ -1,0 +1,50 @@
+//! Lists of alert hashes.
+
+ghost use Rattle.std.specs.Prelude.{◌≡◌, ℕ, List, IfOk};
+
+use std::alloc::{AllocError, Global};
+use std::marker::Model;
+
+/// Hashes of alerts, in their order. Contracts see the list.
+#[derive(Debug, Drop)]
+pub struct Hashes {
+    hashes: Vec<u64>,
+}
+
+impl Model for Hashes {
+    ghost use Rattle.std.specs.Prelude.{List, ℕ};
+
+    ghost Value = { List ℕ };
+
+    ghost view = { λ h. h.hashes.items };
+}
+
+impl Hashes {
+    /// These hashes. It takes no memory.
+    pub fn new(hashes: Vec<u64>) -> Hashes
+        ensures { result ≡ hashes.items }
+    {
+        Hashes { hashes }
+    }
+
+    pub fn as_slice(&self) -> &[u64]
+        ensures { result.now ≡ self.now }
+    {
+        self.hashes.as_slice()
+    }
+
+    /// Gives the vector back. It takes no memory.
+    pub fn into_vec(self) -> Vec<u64>
+        ensures { result.items ≡ self }
+    {
+        self.hashes
+    }
+
+    /// A copy, or want of memory.
+    pub fn try_clone(&self, alloc: Global) -> Result<Hashes, AllocError>
+        ensures { IfOk result (λ copy. copy ≡ self.now) }
+    {
+        let hashes = self.as_slice().to_vec(alloc)?;
+        Ok(Hashes { hashes })
+    }
+}
