@@ -38,7 +38,8 @@ def ours(name, folder):
     place = os.path.join(folder, "crates", name)
     os.makedirs(os.path.join(place, "src"))
     shutil.copy(os.path.join(source, "main.rt.in"), os.path.join(place, "src", "main.rt"))
-    built = subprocess.run(["rt", "run"], cwd=place, stdout=subprocess.PIPE, stderr=subprocess.STDOUT, text=True)
+    built = subprocess.run(["rt", "run"], cwd=place, stdin=subprocess.DEVNULL, stdout=subprocess.PIPE,
+                           stderr=subprocess.STDOUT, text=True)
     if built.returncode != 0:
         raise SystemExit(built.stdout[-3000:])
     return os.path.join(place, "out", name)
