@@ -1,5 +1,6 @@
 -- Streams, frame by frame, and what more bytes make of them.
 use Rattle.std.proofs.Common.{◌≡◌, ℕ, zero, suc, ◌+◌, ◌-◌, ◌≤◌, List, [], ◌∷◌, ◌++◌, length, length-append, take, drop, subst, Result, Ok, Err, inl, inr, refl, sym, ap, ◌∙◌, append_assoc, arith}
+use Rattle.std.specs.List.{flat_map}
 use Rattle.std.proofs.lemmas.List.{append-nil}
 use Rattle.std.proofs.Math.Seq.{drop-nil, drop-append-add}
 use Rattle.am_wire.proofs.Items.{rest_is}
@@ -8,7 +9,7 @@ use Rattle.am_gossip.specs.declared.frame.Frame.{Frame}
 use Rattle.am_gossip.specs.declared.reading.End.{End}
 use Rattle.am_gossip.specs.Standings.{EndsAs}
 use Rattle.am_gossip.specs.Headers.{header_of}
-use Rattle.am_gossip.specs.Streams.{Front, whole, fault, wants, front_of, Stream, put_before, next_frame, stream_from, stream_of, ends_with, goes_on}
+use Rattle.am_gossip.specs.Streams.{Front, whole, fault, wants, front_of, Stream, put_before, next_frame, stream_from, stream_of, ends_with, goes_on, fed_in}
 use Rattle.am_gossip.proofs.Fronts.{front_more, front_within, front_found, waits_short}
 
 pub stream-skip : (skip : ℕ) (bytes : List ℕ) → stream_from skip bytes ≡ stream_of (drop skip bytes)
@@ -74,6 +75,14 @@ stream_cut zero (b ∷ bytes) later le =
 
     stays : (r : Front) → (r ≡ wants → ⊥) → front_of (b ∷ bytes) ≡ r → front_of (b ∷ (bytes ++ later)) ≡ r
     stays r other is = elim (front_more (b ∷ bytes) later) [ inl same ↦ same ∙ is | inr waits ↦ absurd (other (sym is ∙ waits)) ]
+
+-- any pieces behind the first bytes
+pub stream_pieces : (bytes : List ℕ) (pieces : List (List ℕ)) → fed_in (stream_of bytes) pieces ≡ stream_of (bytes ++ flat_map (λ piece. piece) pieces)
+stream_pieces bytes [] = ap stream_of (sym (append-nil bytes))
+stream_pieces bytes (piece ∷ pieces) =
+    ap (λ (s : Stream). fed_in s pieces) (sym (stream_cut 0 bytes piece (omega arith)))
+    ∙ stream_pieces (bytes ++ piece) pieces
+    ∙ ap stream_of (append_assoc bytes piece (flat_map (λ p. p) pieces))
 
 -- ---- a loop that has put the first frames behind `start`
 pub record HasRead (start now : List Frame) (bytes rest : List ℕ) : Type 0 where

@@ -57,6 +57,11 @@ ends_with s (Err e) later = s
 abbrev pub goes_on : Stream → List ℕ → Stream
 goes_on s later = ends_with s s.ending later
 
+-- pieces that come one after the other
+abbrev pub fed_in : Stream → List (List ℕ) → Stream
+fed_in s [] = s
+fed_in s (piece ∷ pieces) = fed_in (goes_on s piece) pieces
+
 -- ---- what a feeder holds: the rest that waits, or nothing after a fault
 abbrev pub waiting_rest : Result (List ℕ) FrameError → Option (List ℕ)
 waiting_rest (Ok rest) = Some rest

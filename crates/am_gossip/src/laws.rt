@@ -7,7 +7,7 @@ ghost use Rattle.am_gossip.specs.declared.frame.Frame.{Frame};
 ghost use Rattle.am_gossip.specs.Kinds.{limit};
 ghost use Rattle.am_gossip.specs.Frames.{kind_of, payload_text, frame_text};
 ghost use Rattle.am_gossip.specs.Hellos.{hello_of, IsHello};
-ghost use Rattle.am_gossip.specs.Streams.{Stream, stream_of, goes_on};
+ghost use Rattle.am_gossip.specs.Streams.{Stream, stream_of, goes_on, fed_in};
 ghost use Rattle.am_gossip.specs.Grammar.{IsFrame, IsStream};
 
 /// Bytes are read as the one stream that they are: frames, then a rest at whose front neither a frame nor a fault
@@ -18,10 +18,10 @@ pub fn streams_are_the_grammar()
     ensures one_way { (s t : Stream) (bytes : List ℕ) → IsStream s bytes → IsStream t bytes → s ≡ t }
 {}
 
-/// Two pieces one after the other are read as both joined are.
+/// Two pieces one after the other are read as both joined are, and so is any list of pieces.
 pub fn cuts_change_nothing()
     ensures cut { (first second : List ℕ) → stream_of (first ++ second) ≡ goes_on (stream_of first) second }
-    ensures whole { (bytes : List ℕ) → goes_on (stream_of []) bytes ≡ stream_of bytes }
+    ensures pieces { (pieces : List (List ℕ)) → fed_in (stream_of []) pieces ≡ stream_of (flat_map (λ piece. piece) pieces) }
 {}
 
 /// The one text of a frame whose payload is within its kind's limit is a text of it, and such texts one after the

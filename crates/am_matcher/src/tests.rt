@@ -153,19 +153,46 @@ fn a_broken_pattern_comes_first(rt: HostRuntime) -> Result<(), Fail> {
     Ok(())
 }
 
-// p wants job `x`, q has a broken pattern beside that, r has no matchers, and s wants `x` or `z`.
+// One matcher.
+fn alone(
+    alloc: Global,
+    kind: MatcherKind,
+    name: &str,
+    pattern: &str,
+) -> Result<Vec<Matcher>, AllocError> {
+    let mut matchers = Vec::new(alloc);
+    matchers.push(matcher(alloc, kind, name, pattern)?)?;
+    Ok(matchers)
+}
+
+// It wants job `x`, and has a broken pattern beside that.
+fn broken(alloc: Global) -> Result<Vec<Matcher>, AllocError> {
+    let mut matchers = alone(alloc, MatcherKind::Equal, "job", "x")?;
+    matchers.push(matcher(alloc, MatcherKind::Regexp, "env", "(")?)?;
+    Ok(matchers)
+}
+
+fn hold(
+    alloc: Global,
+    held: &mut Held<MeshSilence>,
+    id: &str,
+    matchers: Vec<Matcher>,
+) -> Result<(), Fail> {
+    let version = version(alloc, id, matchers)?;
+    held.take(version, at(10))?;
+    Ok(())
+}
+
+// p wants job `x`, q is broken, r has no matchers, and s wants `x` or `z`.
 fn held(alloc: Global) -> Result<Held<MeshSilence>, Fail> {
-    let wants_x = matcher(alloc, MatcherKind::Equal, "job", "x")?;
-    let p = version(alloc, "p", vec![in alloc; wants_x]?)?;
-    let wants_x = matcher(alloc, MatcherKind::Equal, "job", "x")?;
-    let broken = matcher(alloc, MatcherKind::Regexp, "env", "(")?;
-    let q = version(alloc, "q", vec![in alloc; wants_x, broken]?)?;
-    let r = version(alloc, "r", Vec::new(alloc))?;
-    let x_or_z = matcher(alloc, MatcherKind::Regexp, "job", "x|z")?;
-    let s = version(alloc, "s", vec![in alloc; x_or_z]?)?;
-    let Ok(held) = Held::from_versions(alloc, vec![in alloc; s, r, q, p]?) else {
-        return Err("a key is refused".into());
-    };
+    let mut held = Held::new(alloc);
+    let wants_x = alone(alloc, MatcherKind::Equal, "job", "x")?;
+    let x_or_z = alone(alloc, MatcherKind::Regexp, "job", "x|z")?;
+    let both = broken(alloc)?;
+    hold(alloc, &mut held, "s", x_or_z)?;
+    hold(alloc, &mut held, "r", Vec::new(alloc))?;
+    hold(alloc, &mut held, "q", both)?;
+    hold(alloc, &mut held, "p", wants_x)?;
     Ok(held)
 }
 
@@ -178,23 +205,34 @@ fn joined(alloc: Global, ids: &Ids) -> Result<String, AllocError> {
     Ok(text)
 }
 
+// The silences that mute an alert of the job at so many seconds, and the broken ones.
+fn muting(
+    alloc: Global,
+    held: &Held<MeshSilence>,
+    value: &str,
+    seconds: i64,
+) -> Result<(String, String), AllocError> {
+    let labels = job(alloc, value)?;
+    let answered = mutes(alloc, held, &labels, at(seconds))?;
+    let ids = joined(alloc, &answered.ids)?;
+    let broken = joined(alloc, &answered.broken)?;
+    Ok((ids, broken))
+}
+
 #[test]
 fn active_silences_mute_labels(rt: HostRuntime) -> Result<(), Fail> {
     let alloc = rt.alloc();
     let held = held(alloc)?;
-    for (value, seconds, muting, broken) in [
+    for (value, seconds, ids, broken) in [
         ("y", 50, "r", "q"),
         ("x", 50, "prs", "q"),
         ("z", 10, "rs", "q"),
         ("x", 9, "", ""),
         ("x", 100, "", ""),
     ] {
-        let labels = job(alloc, value)?;
-        let answered = mutes(alloc, &held, &labels, at(seconds))?;
-        let ids = joined(alloc, &answered.ids)?;
-        assert_eq!(rt; ids.as_str(), muting, "{value} {seconds}");
-        let ids = joined(alloc, &answered.broken)?;
-        assert_eq!(rt; ids.as_str(), broken, "{value} {seconds}");
+        let (muted, told) = muting(alloc, &held, value, seconds)?;
+        assert_eq!(rt; muted.as_str(), ids, "{value} {seconds}");
+        assert_eq!(rt; told.as_str(), broken, "{value} {seconds}");
     }
     Ok(())
 }
@@ -224,11 +262,9 @@ fn only_silences_in_view_mute(rt: HostRuntime) -> Result<(), Fail> {
     let Ok(held) = Held::from_versions(alloc, vec![in alloc; one]?) else {
         return Err("a key is refused".into());
     };
-    let labels = job(alloc, "x")?;
-    for (seconds, muting) in [(49, "p"), (50, "")] {
-        let answered = mutes(alloc, &held, &labels, at(seconds))?;
-        let ids = joined(alloc, &answered.ids)?;
-        assert_eq!(rt; ids.as_str(), muting, "{seconds}");
+    for (seconds, ids) in [(49, "p"), (50, "")] {
+        let (muted, _) = muting(alloc, &held, "x", seconds)?;
+        assert_eq!(rt; muted.as_str(), ids, "{seconds}");
     }
     Ok(())
 }

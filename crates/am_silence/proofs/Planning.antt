@@ -1,10 +1,10 @@
 -- What plans make is live, and greater than what it takes the place of.
-use Rattle.std.proofs.Common.{◌≡◌, ◌≢◌, ℕ, ◌+◌, ◌<◌, ◌≤◌, min, Bool, true, false, not, ◌&&◌, nat_lt, nat_le, List, [], ◌∷◌, Option, Some, None, IfSome, option_map, is_some, is_none, if◌then◌else◌, All, refl, sym, ap, ◌∙◌, arith}
+use Rattle.std.proofs.Common.{◌≡◌, ℕ, ◌<◌, ◌≤◌, Bool, true, false, ◌&&◌, nat_lt, nat_le, Option, Some, None, IfSome, option_map, is_some, is_none, if◌then◌else◌, refl, ap, ◌∙◌, arith}
 use Rattle.std.proofs.lemmas.Bool.{lt-ltb}
 use Rattle.std.specs.Cmp.{second_so}
 use Rattle.std.proofs.lemmas.Bool.Decides.{nat_tests}
 use Rattle.am_version_order.specs.Moments.{greatest}
-use Rattle.am_version_order.specs.Versions.{Version, IsLive, is_below}
+use Rattle.am_version_order.specs.Versions.{IsLive, is_below}
 use Rattle.am_silence.specs.declared.silence.Silence.{Silence}
 use Rattle.am_silence.specs.declared.state.State.{State}
 use Rattle.am_silence.specs.declared.state.State.TheVariants as states
@@ -15,7 +15,7 @@ use Rattle.am_silence.specs.declared.error.SilenceError.TheVariants as errors
 use Rattle.am_silence.specs.declared.plan.Plan.TheVariants as plans
 use Rattle.am_silence.specs.Mesh.{Mesh, mesh_version}
 use Rattle.am_silence.specs.States.{state_of, is_expired, has_expired}
-use Rattle.am_silence.specs.Plans.{Post, former, version_of, new_version, updated_version, ended_in, ended_version, same_matchers, allows_update, may_update, new_plan, plan_over, versions, successor, Succeeds}
+use Rattle.am_silence.specs.Plans.{Post, former, version_of, new_version, updated_version, ended_in, ended_version, same_matchers, allows_update, may_update, new_plan, plan_over, successor, Succeeds}
 use Rattle.am_silence.specs.Refusals.{◌when◌, ◌before◌, matchers_refusal, times_refusal, newer_refusal, former_refusal, posted_refusal}
 
 -- ---- what passed tests say

@@ -1,7 +1,7 @@
 -- What is written is read again. These are lemmas: they stand here, and not in proofs, since the laws of the messages are
 -- proved by them.
-use Rattle.std.proofs.Common.{◌≡◌, ◌≢◌, ℕ, ◌+◌, ◌%◌, ◌^◌, ◌<◌, ◌≤◌, Bool, true, false, cond, ltb, List, [], ◌∷◌, length, map, Option, Some, None, Result, Ok, Err, refl, sym, ap, ◌∙◌, arith}
-use Rattle.std.specs.Prelude.{All, slice_get}
+use Rattle.std.proofs.Common.{◌≡◌, ℕ, ◌^◌, ◌<◌, Bool, true, cond, ltb, List, [], ◌∷◌, length, map, Option, Some, None, Result, Ok, refl, ap, ◌∙◌, arith}
+use Rattle.std.specs.Prelude.{slice_get}
 use Rattle.std.specs.Option.{option_map_or}
 use Rattle.std.proofs.lemmas.Bool.{lt-ltb}
 use Rattle.am_version_order.specs.Versions.{Version}
@@ -9,9 +9,8 @@ use Rattle.am_wire.specs.declared.error.WireError.{WireError}
 use Rattle.am_wire.specs.declared.error.WireError.TheVariants as errors
 use Rattle.am_wire.specs.Fields.{FieldAt}
 use Rattle.am_wire.specs.Reading.{Row, varint_row, text_row, part_row, item_row, last_number, last_number_place, last_text, last_place, messages, joined, is_given, message_in, ◌then◌}
-use Rattle.am_wire.specs.Timestamps.{timestamp, low_half, moment_of, moment_test}
-use Rattle.am_wire.specs.Again.Slots.{written, fields_at}
-use Rattle.am_wire.specs.Again.Written.{Means, ReadsAs, EachReads, read_by-reads, IsWritten, written_nothing, written_number, written_text, written_part, written_items, number_again, text_again, given_again, part_again, items_again, nothing_again, reads_whole}
+use Rattle.am_wire.specs.Timestamps.{timestamp, low_half, moment_test}
+use Rattle.am_wire.specs.Again.Written.{Means, ReadsAs, EachReads, read_by-reads, written_nothing, written_number, written_text, written_part, written_items, number_again, text_again, given_again, part_again, items_again, nothing_again, reads_whole}
 use Rattle.am_wire.specs.Again.Moments.{MeansMoment, moment_reads, moment_part_again}
 use Rattle.am_silence.specs.declared.matcher.Matcher.{Matcher}
 use Rattle.am_silence.specs.declared.matcher.MatcherKind.{MatcherKind}
@@ -20,7 +19,7 @@ use Rattle.am_silence.specs.declared.silence.Silence.{Silence}
 use Rattle.am_silence.specs.Kinds.{kind_code, kind_of}
 use Rattle.am_silence.specs.Matchers.{matcher, matcher_tests, matcher_value, reads_matcher, writes_matcher, IsMatcher}
 use Rattle.am_silence.specs.Comments.{comment, comment_tests}
-use Rattle.am_silence.specs.Silences.{silence, silence_tests, silence_value, first_comment, author_of, comment_of, reads_silence, writes_silence, IsSilence}
+use Rattle.am_silence.specs.Silences.{silence, silence_tests, silence_value, first_comment, reads_silence, writes_silence, IsSilence}
 use Rattle.am_silence.specs.Mesh.{Mesh, IsMesh, mesh_version, writes_mesh_silence}
 use Rattle.am_silence.specs.MeshTable.{mesh_silence, mesh_silence_tests, mesh_silence_value, reads_mesh_silence}
 

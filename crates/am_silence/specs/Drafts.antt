@@ -1,12 +1,11 @@
 -- What a message's draft holds after some fields.
-use Rattle.std.specs.Prelude.{◌≡◌, ℕ, true, false, List, [], ◌∷◌, map, MatchOption}
+use Rattle.std.specs.Prelude.{◌≡◌, true, false, List, map, MatchOption}
 use Rattle.am_wire.specs.Fields.{FieldAt}
 use Rattle.am_wire.specs.Parts.{IsPart}
 use Rattle.am_wire.specs.Reading.{last_number, last_text, last_number_place, messages}
 use Rattle.am_wire.specs.Timestamps.{timestamp}
 use Rattle.am_wire.specs.TimestampDrafts.{IsTimestampDraft}
 use Rattle.am_silence.specs.Matchers.{matcher, matcher_value}
-use Rattle.am_silence.specs.Comments.{comment}
 use Rattle.am_silence.specs.Silences.{silence, first_comment}
 use Rattle.am_silence.specs.declared.matcher.MatcherDraft.{MatcherDraft}
 use Rattle.am_silence.specs.declared.comment.CommentDraft.{CommentDraft}

@@ -1,5 +1,5 @@
 -- A silence as instances pass it on: silence = 1, expires_at = 2.
-use Rattle.std.specs.Prelude.{◌≡◌, ℕ, ◌≤◌, ◌^◌, Bool, true, false, List, [], ◌∷◌, ◌++◌, length, Option, Some, None, find, if◌then◌else◌, ◌==◌, not, ◌&&◌, ◌||◌}
+use Rattle.std.specs.Prelude.{ℕ, ◌≤◌, ◌^◌, List, [], ◌++◌, length, Option, None, find, if◌then◌else◌}
 use Rattle.std.specs.List.{list_any}
 use Rattle.std.specs.Option.{option_map_or}
 use Rattle.am_version_order.specs.Moments.{greatest}

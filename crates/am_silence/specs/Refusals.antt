@@ -1,12 +1,11 @@
 -- Why a silence is not posted, or not ended: tests in their order, of which the first that holds counts.
-use Rattle.std.specs.Prelude.{◌≡◌, ℕ, Bool, true, false, ◌&&◌, ◌==◌, nat_lt, nat_le, List, [], ◌∷◌, length, not, Option, Some, None, is_some, is_none, Result, MatchResult, if◌then◌else◌}
+use Rattle.std.specs.Prelude.{◌≡◌, ℕ, Bool, ◌&&◌, ◌==◌, nat_lt, nat_le, List, [], ◌∷◌, length, not, Option, Some, None, is_some, is_none, Result, MatchResult, if◌then◌else◌}
 use Rattle.std.specs.List.{list_any}
 use Rattle.am_silence.specs.declared.matcher.Matcher.{Matcher}
 use Rattle.am_silence.specs.declared.silence.Silence.{Silence}
 use Rattle.am_silence.specs.declared.plan.Posted.{Posted}
 use Rattle.am_silence.specs.declared.plan.Verdict.{Verdict}
 use Rattle.am_silence.specs.declared.plan.Verdict.TheVariants as verdicts
-use Rattle.am_silence.specs.declared.plan.Plan.{Plan}
 use Rattle.am_silence.specs.declared.error.SilenceError.{SilenceError}
 use Rattle.am_silence.specs.declared.error.SilenceError.TheVariants as errors
 use Rattle.am_silence.specs.Mesh.{Mesh, writes_mesh_silence}

@@ -1,6 +1,6 @@
 -- A silence: id text = 1, matchers repeated = 2, starts_at = 3, ends_at = 4, updated_at = 5, old comments repeated = 7,
 -- created_by text = 8, comment text = 9. Old comments are read and never written.
-use Rattle.std.specs.Prelude.{◌≡◌, ℕ, ◌≤◌, List, [], ◌∷◌, ◌++◌, map, Option, Some, None, Result, All, slice_get}
+use Rattle.std.specs.Prelude.{ℕ, ◌≤◌, List, [], ◌∷◌, ◌++◌, map, Option, Result, All, slice_get}
 use Rattle.std.specs.Option.{option_map_or}
 use Rattle.std.specs.Str.{IsUtf8}
 use Rattle.am_version_order.specs.Moments.{greatest}
@@ -9,7 +9,6 @@ use Rattle.am_wire.specs.Fields.{FieldAt}
 use Rattle.am_wire.specs.Reading.{Table, table_of, text_row, part_row, item_row, ◌then◌, last_text, messages, read_by}
 use Rattle.am_wire.specs.Timestamps.{timestamp, moment_of, moment_test, writes_moment}
 use Rattle.am_wire.specs.Writing.{put_chunk, put_text, put_messages}
-use Rattle.am_silence.specs.declared.matcher.Matcher.{Matcher}
 use Rattle.am_silence.specs.declared.silence.Silence.{Silence}
 use Rattle.am_silence.specs.Matchers.{matcher, matcher_value, matcher_tests, writes_matcher, IsMatcher}
 use Rattle.am_silence.specs.Comments.{comment, comment_tests}

@@ -1,7 +1,7 @@
 use Rattle.std.proofs.Common.{◌≡◌, IfSome}
 use Rattle.std.specs.Option.{option_copied}
 use Rattle.std.proofs.lemmas.Result.{IfOk-weaker}
-use Rattle.am_silence.specs.Plans.{post_of, former, plan_over, successor, Succeeds}
+use Rattle.am_silence.specs.Plans.{post_of, plan_over, successor, Succeeds}
 use Rattle.am_silence.proofs.Planning.{posted_passes, plan-succeeds}
 use Rattle.am_silence.proofs.plan.plan_post.Goals as goal
 

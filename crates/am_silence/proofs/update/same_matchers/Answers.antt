@@ -1,4 +1,3 @@
-use Rattle.std.proofs.Common.{◌≡◌}
 use Rattle.am_silence.proofs.SameMatchers.{same_matchers-pairs, same_matchers-equal}
 use Rattle.am_silence.proofs.update.same_matchers.Goals as goal
 

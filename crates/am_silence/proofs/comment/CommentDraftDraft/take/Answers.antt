@@ -1,4 +1,3 @@
-use Rattle.std.proofs.Common.{rules}
 use Rattle.am_wire.specs.Reading.{chunk_in}
 use Rattle.am_wire.proofs.Picked.{goes_here, goes_past, part_here, part_past}
 use Rattle.am_silence.proofs.comment.CommentDraftDraft.take.Goals as goal

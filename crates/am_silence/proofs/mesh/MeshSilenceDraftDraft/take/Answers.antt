@@ -1,4 +1,4 @@
-use Rattle.am_wire.proofs.Picked.{goes_here, goes_past, part_here, part_past, items_here, items_past}
+use Rattle.am_wire.proofs.Picked.{goes_past, part_here, part_past, items_past}
 use Rattle.am_silence.proofs.mesh.MeshSilenceDraftDraft.take.Goals as goal
 
 pub returns-in_ok-put-in-1-clause-held : goal.returns-in_ok-put-in-1-clause-held

@@ -1,4 +1,4 @@
-use Rattle.am_wire.proofs.Picked.{goes_here, goes_past, part_here, part_past, items_here, items_past}
+use Rattle.am_wire.proofs.Picked.{goes_here, goes_past, part_here, part_past, items_past}
 use Rattle.am_silence.proofs.FirstComments.{comment_past}
 use Rattle.am_silence.proofs.silence.SilenceDraftDraft.take.Goals as goal
 

@@ -1,6 +1,5 @@
-use Rattle.std.proofs.Common.{sym, subst}
+use Rattle.std.proofs.Common.{subst}
 use Rattle.std.specs.Prelude.{All}
-use Rattle.std.specs.Str.{IsUtf8}
 use Rattle.am_silence.specs.Matchers.{IsMatcher}
 use Rattle.am_silence.proofs.silence.SilenceMessage.put.Goals as goal
 
