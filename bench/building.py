@@ -1,7 +1,9 @@
 """Builds the programs of bench/programs over the repository's crates, each in a folder of its own."""
+import argparse
 import os
 import shutil
 import subprocess
+import tempfile
 
 TOP = os.path.dirname(os.path.dirname(os.path.abspath(__file__)))
 
@@ -61,3 +63,19 @@ def rows(program, rounds):
             key = (" ".join(words), answer)
             least[key] = min(least.get(key, int(nanoseconds)), int(nanoseconds))
     return least
+
+
+def rounds_wanted(description, default):
+    """How often each program is run, by the command line."""
+    words = argparse.ArgumentParser(description=description, formatter_class=argparse.RawDescriptionHelpFormatter)
+    words.add_argument("--rounds", type=int, default=default)
+    return words.parse_args().rounds
+
+
+def beside(name, yardstick, rounds):
+    """The rows of a program of ours and of a plain one, which have to give the same answers."""
+    with tempfile.TemporaryDirectory() as folder:
+        mine, other = rows(ours(name, folder), rounds), rows(plain(yardstick, folder), rounds)
+    if mine.keys() != other.keys():
+        raise SystemExit("the answers differ: %s and %s" % (mine.keys(), other.keys()))
+    return mine, other

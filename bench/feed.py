@@ -5,21 +5,11 @@
 For each size: the least time of the rounds in nanoseconds, for each KiB, and the ratio to the plain program. The time
 for each KiB is to stay where it is when the Push grows.
 """
-import argparse
-import tempfile
-
 import building
 
 
 def main():
-    words = argparse.ArgumentParser(description=__doc__, formatter_class=argparse.RawDescriptionHelpFormatter)
-    words.add_argument("--rounds", type=int, default=3)
-    rounds = words.parse_args().rounds
-    with tempfile.TemporaryDirectory() as folder:
-        ours = building.rows(building.ours("time_feed", folder), rounds)
-        plain = building.rows(building.plain("plain_feed", folder), rounds)
-    if ours.keys() != plain.keys():
-        raise SystemExit("the answers differ: %s and %s" % (ours.keys(), plain.keys()))
+    ours, plain = building.beside("time_feed", "plain_feed", building.rounds_wanted(__doc__, 3))
     print("%-18s %14s %8s %14s %8s" % ("push", "ours", "each KiB", "plain", "ratio"))
     for key, nanoseconds in ours.items():
         size = int(key[0].split()[0])

@@ -5,16 +5,13 @@
 Each count once without patterns and once with a pattern in a tenth of the silences: the least time of the rounds in
 nanoseconds, and for each silence; the ratio to the time without patterns says what compiling them costs.
 """
-import argparse
 import tempfile
 
 import building
 
 
 def main():
-    words = argparse.ArgumentParser(description=__doc__, formatter_class=argparse.RawDescriptionHelpFormatter)
-    words.add_argument("--rounds", type=int, default=3)
-    rounds = words.parse_args().rounds
+    rounds = building.rounds_wanted(__doc__, 3)
     with tempfile.TemporaryDirectory() as folder:
         ours = building.rows(building.ours("time_mutes", folder), rounds)
     print("%-42s %14s %12s %8s" % ("silences", "ns", "each", "ratio"))
