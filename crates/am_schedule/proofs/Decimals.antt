@@ -1,5 +1,5 @@
 -- Decimal digits and what std's `parse` makes of them.
-use Rattle.std.proofs.Common.{inl, inr, suc, lit<, ◌≡◌, ℕ, ◌<◌, ◌≤◌, ◌^◌, ◌-◌, ◌+◌, ◌*◌, Bool, true, false, List, [], ◌∷◌, length, Option, Some, None, Result, Ok, Err, rules, arith, sym, refl, ap, ◌∙◌}
+use Rattle.std.proofs.Common.{inl, inr, suc, lit<, ◌≡◌, ℕ, ◌<◌, ◌≤◌, ◌^◌, ◌-◌, ◌+◌, ◌*◌, Bool, true, false, List, length, Some, None, Result, Ok, Err, rules, arith, sym, refl, ap, ◌∙◌}
 use Rattle.std.specs.Prelude.{nat_lt, ◌&&◌, if◌then◌else◌}
 use Rattle.std.specs.List.{list_all}
 use Rattle.std.specs.Char.{is_ascii_digit}

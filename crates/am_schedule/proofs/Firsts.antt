@@ -1,11 +1,10 @@
 -- The first fault of lines.
-use Rattle.std.proofs.Common.{◌≡◌, ℕ, ◌+◌, ◌≤◌, List, [], ◌∷◌, ◌++◌, length, Option, Some, None, Result, Ok, Err, refl, sym, ap, ◌∙◌, append_assoc, add-zero, suc, arith}
+use Rattle.std.proofs.Common.{◌≡◌, ℕ, ◌+◌, ◌≤◌, List, [], ◌∷◌, ◌++◌, length, Option, Some, None, Result, Ok, Err, refl, ap, ◌∙◌, append_assoc, add-zero, suc, arith}
 use Rattle.std.proofs.lemmas.List.{append-nil}
-use Rattle.std.specs.Prelude.{IsErrAnd}
 use Rattle.am_schedule.specs.declared.error.FaultKind.{FaultKind}
 use Rattle.am_schedule.specs.declared.error.ScheduleError.{ScheduleError}
 use Rattle.am_schedule.specs.declared.step.Line.{Line}
-use Rattle.am_schedule.specs.Schedules.{meaning, meanings, first_fault, schedule_by, schedule_in, schedule_of, lines_of}
+use Rattle.am_schedule.specs.Schedules.{meaning, meanings, first_fault, schedule_in, schedule_of}
 use Rattle.am_schedule.specs.Laws.{FirstIsTold, NoLaterIsTold}
 
 -- the fault of a line behind sound ones

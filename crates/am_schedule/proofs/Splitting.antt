@@ -1,9 +1,9 @@
 -- The lines of a text, from the front.
-use Rattle.std.proofs.Common.{◌≡◌, ℕ, ◌+◌, ◌<◌, Bool, true, false, List, [], ◌∷◌, length, refl, arith, ap, sym, ◌∙◌}
-use Rattle.std.specs.Prelude.{not, ◌==◌, if◌then◌else◌}
+use Rattle.std.proofs.Common.{◌≡◌, ℕ, ◌+◌, ◌<◌, Bool, true, false, List, [], ◌∷◌, length, refl, arith}
+use Rattle.std.specs.Prelude.{◌==◌, if◌then◌else◌}
 use Rattle.std.specs.List.{slice_split, onto_first, position_or_len, before_first, after_first}
 use Rattle.std.proofs.lemmas.List.Splits.{slice_split_first}
-use Rattle.am_schedule.specs.Schedules.{lines_of, without_empty_last}
+use Rattle.am_schedule.specs.Schedules.{lines_of}
 
 one_part_by : (p : ℕ → Bool) (x : ℕ) (xs : List ℕ) (b : Bool) → p x ≡ b → position_or_len p (x ∷ xs) ≡ length (x ∷ xs) → (position_or_len p xs ≡ length xs → slice_split p xs ≡ xs ∷ []) → slice_split p (x ∷ xs) ≡ (x ∷ xs) ∷ []
 one_part_by p x xs true is e later = let bad : 0 ≡ length (x ∷ xs) = rw is at e in absurd (omega arith)

@@ -1,5 +1,5 @@
 -- Versions that are read one after the other.
-use Rattle.std.proofs.Common.{◌≡◌, ℕ, List, [], ◌∷◌, ◌++◌, Option, Some, None, Result, Ok, Err, refl, append_assoc}
+use Rattle.std.proofs.Common.{◌≡◌, List, [], ◌∷◌, ◌++◌, Option, Some, None, Result, refl, append_assoc}
 use Rattle.std.specs.Prelude.{option_map, filter_map}
 use Rattle.am_schedule.specs.declared.error.FaultKind.{FaultKind}
 use Rattle.am_schedule.specs.declared.error.FaultKind.TheVariants.{Name}

@@ -1,7 +1,7 @@
 -- A line that is taken, and what stands before the next one.
 use Rattle.std.proofs.Common.{◌≡◌, ◌≢◌, ℕ, Bool, true, false, List, [], ◌∷◌, ◌++◌, Option, Some, None, Result, Ok, Err, refl, sym, ap, ◌∙◌, rules}
 use Rattle.std.specs.Prelude.{IfOk, IfErr, is_none, ◌&&◌, codes, if◌then◌else◌}
-use Rattle.std.specs.Str.{bytes_eq, is_utf8, IsUtf8}
+use Rattle.std.specs.Str.{bytes_eq, is_utf8}
 use Rattle.std.proofs.lemmas.List.{append-nil}
 use Rattle.std.proofs.lemmas.Slice.Eq.{bytes_eq-Decides}
 use Rattle.am_schedule.specs.declared.error.FaultKind.{FaultKind}
@@ -9,7 +9,6 @@ use Rattle.am_schedule.specs.declared.error.FaultKind.TheVariants as faults
 use Rattle.am_schedule.specs.declared.cluster.ClusterLine.{ClusterLine}
 use Rattle.am_schedule.specs.declared.form.VersionForm.{VersionForm}
 use Rattle.am_schedule.specs.declared.form.LineForm.{LineForm}
-use Rattle.am_schedule.specs.declared.form.Form.{Form}
 use Rattle.am_schedule.specs.declared.form.Form.TheVariants.{Cluster, Version, Other}
 use Rattle.am_schedule.specs.declared.step.VersionLine.{VersionLine}
 use Rattle.am_schedule.specs.declared.step.Line.{Line}

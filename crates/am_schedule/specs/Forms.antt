@@ -1,10 +1,8 @@
 -- The forms of lines: which verb a line has, and how many words.
-use Rattle.std.specs.Prelude.{ℕ, Bool, List, length, Option, Some, None, nat_le, ◌&&◌, ◌==◌, codes, if◌then◌else◌}
+use Rattle.std.specs.Prelude.{ℕ, List, length, Option, Some, None, nat_le, ◌&&◌, ◌==◌, codes, if◌then◌else◌}
 use Rattle.am_schedule.specs.declared.form.Verb.{Verb}
 use Rattle.am_schedule.specs.declared.form.Verb.TheVariants as verbs
-use Rattle.am_schedule.specs.declared.form.VersionForm.{VersionForm}
 use Rattle.am_schedule.specs.declared.form.VersionForm.TheVariants as versions
-use Rattle.am_schedule.specs.declared.form.LineForm.{LineForm}
 use Rattle.am_schedule.specs.declared.form.LineForm.TheVariants as lines
 use Rattle.am_schedule.specs.declared.form.Form.{Form}
 use Rattle.am_schedule.specs.declared.form.Form.TheVariants.{Cluster, Version, Other}

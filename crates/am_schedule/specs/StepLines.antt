@@ -1,5 +1,5 @@
 -- The lines that are steps, and the other lines behind the cluster's.
-use Rattle.std.specs.Prelude.{ℕ, Bool, List, [], ◌∷◌, length, drop, Option, Some, None, Result, Ok, Err, nat_le, ◌&&◌, ◌==◌, codes, if◌then◌else◌}
+use Rattle.std.specs.Prelude.{ℕ, List, length, drop, Option, Some, None, Result, Ok, Err, ◌==◌, codes, if◌then◌else◌}
 use Rattle.std.specs.Str.{bytes_eq}
 use Rattle.am_schedule.specs.declared.error.FaultKind.{FaultKind}
 use Rattle.am_schedule.specs.declared.error.FaultKind.TheVariants as faults
@@ -10,7 +10,6 @@ use Rattle.am_schedule.specs.declared.step.PostLine.{PostLine}
 use Rattle.am_schedule.specs.declared.step.GroupLine.{GroupLine}
 use Rattle.am_schedule.specs.declared.step.Event.{Event}
 use Rattle.am_schedule.specs.declared.step.Event.TheVariants as events
-use Rattle.am_schedule.specs.declared.step.Action.{Action}
 use Rattle.am_schedule.specs.declared.step.Action.TheVariants as actions
 use Rattle.am_schedule.specs.declared.step.Line.{Line}
 use Rattle.am_schedule.specs.declared.step.Line.TheVariants as kinds

@@ -1,6 +1,5 @@
 -- The lines that give a version a label.
-use Rattle.std.specs.Prelude.{ℕ, ◌++◌, Bool, List, [], ◌∷◌, length, drop, Option, Some, None, Result, Ok, Err, filter_map, nat_lt, ◌&&◌, ◌==◌, codes, if◌then◌else◌}
-use Rattle.std.specs.Str.{bytes_eq}
+use Rattle.std.specs.Prelude.{ℕ, Bool, List, [], ◌∷◌, length, Option, Some, None, Result, Ok, Err, filter_map, nat_lt, ◌&&◌}
 use Rattle.am_schedule.specs.declared.error.FaultKind.{FaultKind}
 use Rattle.am_schedule.specs.declared.error.FaultKind.TheVariants.{Words, Name}
 use Rattle.am_schedule.specs.declared.form.VersionForm.{VersionForm}
@@ -14,8 +13,8 @@ use Rattle.am_schedule.specs.declared.step.Versions.TheVariants as states
 use Rattle.am_schedule.specs.Readings.{◌>>=◌, or_fault}
 use Rattle.am_schedule.specs.Times.{whole_moment_in}
 use Rattle.am_schedule.specs.Lists.{values, hashes_in}
-use Rattle.am_schedule.specs.Words.{word_at, is_short}
-use Rattle.am_schedule.specs.Places.{read_at, text_at, is_form}
+use Rattle.am_schedule.specs.Words.{is_short}
+use Rattle.am_schedule.specs.Places.{read_at, text_at}
 
 -- sil LABEL ID UPDATED STARTS ENDS EXPIRES NAME VALUE
 unfoldable pub silence_in : List (List ℕ) → Result SilenceLine FaultKind

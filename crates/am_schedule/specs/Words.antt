@@ -1,7 +1,6 @@
 -- The words of a line.
-use Rattle.std.specs.Prelude.{ℕ, Bool, List, [], length, map, Option, Result, Ok, Err, nat_le, ◌==◌, if◌then◌else◌, get_or}
+use Rattle.std.specs.Prelude.{ℕ, Bool, List, [], length, Option, Result, Ok, Err, nat_le, ◌==◌, if◌then◌else◌, get_or}
 use Rattle.std.specs.List.{slice_split}
-use Rattle.std.specs.Borrow.{Bor}
 use Rattle.am_schedule.specs.declared.error.FaultKind.{FaultKind}
 use Rattle.am_schedule.specs.declared.error.FaultKind.TheVariants.{Number, Name}
 use Rattle.am_schedule.specs.Readings.{◌>>=◌, or_fault}

@@ -1,4 +1,4 @@
-use Rattle.std.proofs.Common.{◌≡◌, ◌++◌, [], drop, map}
+use Rattle.std.proofs.Common.{◌≡◌, drop, map}
 use Rattle.am_schedule.specs.Clusters.{names_in}
 use Rattle.am_schedule.proofs.Names.{names_behind}
 use Rattle.am_schedule.proofs.cluster.names.Given as goal

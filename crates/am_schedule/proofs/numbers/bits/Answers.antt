@@ -1,4 +1,4 @@
-use Rattle.std.proofs.Common.{◌<◌, ◌+◌, ◌*◌, ◌^◌, arith}
+use Rattle.std.proofs.Common.{◌<◌, arith}
 use Rattle.am_schedule.proofs.numbers.bits.Goals as goal
 use Rattle.am_schedule.proofs.Decimals.{bits_small}
 

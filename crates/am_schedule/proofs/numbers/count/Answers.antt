@@ -1,4 +1,4 @@
-use Rattle.std.proofs.Common.{◌∙◌, ◌<◌, length, sym, arith}
+use Rattle.std.proofs.Common.{◌<◌, length, arith}
 use Rattle.std.proofs.lemmas.Grind.{common_steps}
 use Rattle.am_schedule.proofs.numbers.count.Goals as goal
 use Rattle.am_schedule.proofs.Decimals.{parsed_ok, parsed_err}

@@ -1,4 +1,4 @@
-use Rattle.std.proofs.Common.{◌≡◌, ◌-◌, ◌≤◌, length, take, drop, arith, length-drop, refl}
+use Rattle.std.proofs.Common.{◌-◌, ◌≤◌, length, drop, arith, length-drop, refl}
 use Rattle.std.proofs.lemmas.List.{take_all}
 use Rattle.std.proofs.lemmas.List.{drop-map}
 use Rattle.am_schedule.proofs.word.behind.Goals as goal

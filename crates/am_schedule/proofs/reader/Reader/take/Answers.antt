@@ -1,9 +1,7 @@
 use Rattle.std.proofs.Common.{◌≡◌, true, false, map, None, sym, ◌∙◌}
-use Rattle.std.specs.Str.{is_utf8}
 use Rattle.std.proofs.lemmas.Bool.{false_from_ne_true}
 use Rattle.std.proofs.lemmas.List.{append-nil}
 use Rattle.std.proofs.lemmas.Str.{IsUtf8-from_is_utf8, is_utf8-from_IsUtf8}
-use Rattle.am_schedule.specs.Words.{words_of}
 use Rattle.am_schedule.specs.Schedules.{is_passed_over, words_in}
 use Rattle.am_schedule.proofs.Taking.{no_text, passed_meaning, passed_stands, kept_words, all_taken, all_faults}
 use Rattle.am_schedule.proofs.reader.Reader.take.Goals as goal

@@ -1,4 +1,4 @@
-use Rattle.std.proofs.Common.{◌≡◌, List, map, Some, refl}
+use Rattle.std.proofs.Common.{◌≡◌, map, Some, refl}
 use Rattle.am_schedule.specs.declared.form.Form.TheVariants.{Version, Other}
 use Rattle.am_schedule.specs.Forms.{form_in}
 use Rattle.am_schedule.proofs.Taking.{cluster_took, version_took, other_took}
