@@ -1,12 +1,12 @@
 -- What is written is read again. These are lemmas: they stand here, and not in proofs, since the laws of the messages are
 -- proved by them.
-use Rattle.std.proofs.Common.{◌≡◌, ℕ, ◌+◌, ◌%◌, ◌^◌, ◌<◌, ◌≤◌, Bool, true, false, not, cond, eqb, List, [], ◌∷◌, length, Option, Some, None, Result, Ok, Err, refl, sym, ap, ◌∙◌, arith}
+use Rattle.std.proofs.Common.{◌≡◌, ℕ, ◌^◌, ◌<◌, Bool, true, false, not, cond, eqb, List, [], ◌∷◌, length, Option, Some, Result, Ok, refl, ap, ◌∙◌, arith}
 use Rattle.am_version_order.specs.Versions.{Version}
 use Rattle.am_wire.specs.declared.error.WireError.{WireError}
 use Rattle.am_wire.specs.declared.error.WireError.TheVariants as errors
 use Rattle.am_wire.specs.Fields.{FieldAt}
 use Rattle.am_wire.specs.Reading.{Row, varint_row, text_row, blob_row, part_row, numbers_row, last_number, last_text, last_place, all_numbers, joined, is_given, ◌then◌}
-use Rattle.am_wire.specs.Timestamps.{timestamp, low_half, moment_of, moment_test}
+use Rattle.am_wire.specs.Timestamps.{timestamp, low_half, moment_test}
 use Rattle.am_wire.specs.Again.Written.{Means, ReadsAs, read_by-reads, written_nothing, written_number, written_text, written_blob, written_numbers, written_part, number_again, text_again, numbers_again, given_again, part_again, reads_whole}
 use Rattle.am_wire.specs.Again.Moments.{MeansMoment, moment_reads, moment_part_again}
 use Rattle.am_nflog.specs.declared.receiver.Receiver.{Receiver}

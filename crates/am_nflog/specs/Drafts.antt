@@ -1,5 +1,5 @@
 -- What a message's draft holds after some fields.
-use Rattle.std.specs.Prelude.{◌≡◌, ℕ, List}
+use Rattle.std.specs.Prelude.{◌≡◌, List}
 use Rattle.am_wire.specs.Fields.{FieldAt}
 use Rattle.am_wire.specs.Parts.{IsPart}
 use Rattle.am_wire.specs.Reading.{last_number, last_text, all_numbers}

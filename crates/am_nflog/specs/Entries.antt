@@ -1,6 +1,6 @@
 -- An entry: group_key bytes = 1, receiver = 2, group_hash bytes = 3, resolved bool = 4, timestamp = 5,
 -- firing_alerts repeated uint64 = 6, resolved_alerts repeated uint64 = 7.
-use Rattle.std.specs.Prelude.{◌≡◌, ℕ, ◌<◌, ◌≤◌, ◌^◌, Bool, List, [], ◌∷◌, ◌++◌, Option, Some, Result, All, not, ◌==◌, if◌then◌else◌}
+use Rattle.std.specs.Prelude.{ℕ, ◌<◌, ◌≤◌, ◌^◌, List, [], ◌∷◌, ◌++◌, Option, Some, Result, All, not, ◌==◌, if◌then◌else◌}
 use Rattle.am_version_order.specs.Moments.{greatest}
 use Rattle.am_wire.specs.declared.error.WireError.{WireError}
 use Rattle.am_wire.specs.declared.error.WireError.TheVariants as errors

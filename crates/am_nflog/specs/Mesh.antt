@@ -1,5 +1,5 @@
 -- An entry as instances pass it on: entry = 1, expires_at = 2.
-use Rattle.std.specs.Prelude.{◌≡◌, ℕ, ◌≤◌, ◌^◌, List, ◌++◌, length}
+use Rattle.std.specs.Prelude.{ℕ, ◌≤◌, ◌^◌, List, ◌++◌, length}
 use Rattle.am_version_order.specs.Moments.{greatest}
 use Rattle.am_version_order.specs.Versions.{Version}
 use Rattle.am_wire.specs.Timestamps.{writes_moment}

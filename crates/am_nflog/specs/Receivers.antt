@@ -1,5 +1,5 @@
 -- A receiver: group_name text = 1, integration text = 2, idx uint32 = 3.
-use Rattle.std.specs.Prelude.{◌≡◌, ℕ, ◌<◌, ◌^◌, List, [], ◌∷◌, ◌++◌, Option, None, Result}
+use Rattle.std.specs.Prelude.{ℕ, ◌<◌, ◌^◌, List, [], ◌∷◌, ◌++◌, Option, None, Result}
 use Rattle.std.specs.Str.{IsUtf8}
 use Rattle.am_wire.specs.declared.error.WireError.{WireError}
 use Rattle.am_wire.specs.Fields.{FieldAt}

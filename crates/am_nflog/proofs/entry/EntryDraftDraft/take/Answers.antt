@@ -1,4 +1,4 @@
-use Rattle.am_wire.proofs.Picked.{goes_here, goes_past, part_here, part_past, picked-there, picked-here}
+use Rattle.am_wire.proofs.Picked.{goes_here, goes_past, part_here, part_past}
 use Rattle.am_nflog.proofs.Lists.{list_past}
 use Rattle.am_nflog.proofs.entry.EntryDraftDraft.take.Goals as goal
 
