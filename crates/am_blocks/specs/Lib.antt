@@ -1,0 +1,4 @@
+pub mod Cuts
+pub mod Rows
+pub mod Searches
+pub mod Spots

@@ -1,0 +1,173 @@
+//! A list of small items in order, in blocks.
+
+ghost use Rattle.std.specs.Prelude.{◌≡◌, ℕ, ◌+◌, [], length, drop, slice_get, Some, IsOk, IfOk, IfErr, OnOk};
+ghost use Rattle.std.specs.List.{insert, remove};
+
+use crate::block::Block;
+use crate::parts::{fill, put, take_out};
+use crate::probe::Probe;
+use crate::searches::{leading, search_block};
+use crate::spot::Spot;
+use crate::walk::Walk;
+use std::alloc::{AllocError, Global};
+use std::marker::Model;
+
+/// A list of small items in order, in blocks of fewer than 128.
+///
+/// Contracts see it as `Rows`: the items, block by block, and what room there is.
+#[derive(Drop)]
+pub struct Blocks<T: Copy> {
+    blocks: Vec<Block<T>>,
+    // Empty blocks that wait for items.
+    spares: Vec<Block<T>>,
+    alloc: Global,
+}
+
+impl<T: Copy> Model for Blocks<T> {
+    ghost use Rattle.std.specs.Prelude.{vec_len, vec_capacity};
+    ghost use Rattle.am_blocks.specs.Rows.{Rows, rows_code, AreSound, AreEmpty};
+
+    ghost Value = { Rows T };
+
+    ghost coded = { rows_code T.code };
+
+    ghost view = { λ list. record {
+      blocks = list.blocks.items;
+      spare = vec_len list.spares;
+      capacity = vec_capacity list.blocks;
+    } };
+
+    ghost invariant = { λ list. AreSound list.blocks.items × AreEmpty list.spares.items };
+}
+
+impl<T: Copy> Blocks<T> {
+    ghost use Rattle.am_blocks.specs.Rows.{HasRoom, entries};
+    ghost use Rattle.am_blocks.specs.Spots.{IsWithin, IsItem, place};
+    ghost use Rattle.am_blocks.specs.Searches.{IsRising, IsFound, IsMissing};
+
+    /// The empty list. It takes no memory.
+    pub fn new(alloc: Global) -> Self
+        ensures { result.blocks ≡ [] }
+    {
+        Blocks {
+            blocks: Vec::new(alloc),
+            spares: Vec::new(alloc),
+            alloc,
+        }
+    }
+
+    /// Makes room, so that as many insertions can't fail.
+    ///
+    /// # Errors
+    ///
+    /// Want of memory: the items stay as they are.
+    pub fn reserve(&mut self, additional: usize) -> Result<(), AllocError>
+        ensures room { OnOk result (HasRoom self.new additional) }
+        ensures items { self.new.blocks ≡ self.old.blocks }
+        ensures kept { (n : ℕ) → HasRoom self.old n → HasRoom self.new n }
+        // Where there was room already, nothing is asked for.
+        ensures succeeds { HasRoom self.old additional → IsOk result }
+        ensures had_room { HasRoom self.old additional → self.new ≡ self.old }
+    {
+        if self.blocks.capacity() - self.blocks.len() < additional {
+            self.blocks.reserve(additional)?;
+        }
+        fill(&mut self.spares, additional, self.alloc)
+    }
+
+    /// Where an item is that is looked for, or else where it would go.
+    pub fn search<P: Probe<T>>(&self, probe: &P) -> Result<Spot, Spot>
+        requires { IsRising (P.order probe.now) (entries self.now) }
+        ensures found { IfOk result (IsFound (P.order probe.now) self.now) }
+        ensures missing { IfErr result (IsMissing (P.order probe.now) self.now) }
+    {
+        let leading = leading(&self.blocks, probe);
+        if leading == 0 {
+            return Err(Spot {
+                block: 0,
+                offset: 0,
+            });
+        }
+        let block = leading - 1;
+        match search_block(self.blocks[block].as_slice(), probe) {
+            Ok(offset) => Ok(Spot { block, offset }),
+            Err(offset) => Err(Spot { block, offset }),
+        }
+    }
+
+    /// The item at a spot.
+    pub fn get(&self, spot: Spot) -> T
+        requires { IsItem self.now spot }
+        ensures { slice_get (entries self.now) (place self.now spot) ≡ Some result }
+    {
+        self.blocks[spot.block].as_slice()[spot.offset]
+    }
+
+    /// The first item, or `None` where there is none.
+    pub fn first(&self) -> Option<T>
+        ensures { result ≡ slice_get (entries self.now) 0 }
+    {
+        let block = self.blocks.first()?;
+        block.as_slice().first().copied()
+    }
+
+    /// The place behind the last item.
+    pub fn end(&self) -> Spot
+        ensures within { IsWithin self.now result }
+        ensures end { place self.now result ≡ length (entries self.now) }
+    {
+        match self.blocks.last() {
+            Some(block) => Spot {
+                block: self.blocks.len() - 1,
+                offset: block.len(),
+            },
+            None => Spot {
+                block: 0,
+                offset: 0,
+            },
+        }
+    }
+
+    /// All items in order.
+    pub fn walk(&self) -> Walk<'_, T>
+        ensures { result ≡ entries self.now }
+    {
+        Walk {
+            items: &[],
+            blocks: &self.blocks,
+        }
+    }
+
+    /// The items from a place on, in order.
+    pub fn walk_from(&self, spot: Spot) -> Walk<'_, T>
+        requires { IsWithin self.now spot }
+        ensures { result ≡ drop (place self.now spot) (entries self.now) }
+    {
+        if spot.block == self.blocks.len() {
+            return Walk::none();
+        }
+        Walk {
+            items: &self.blocks[spot.block].as_slice()[spot.offset..],
+            blocks: &self.blocks[spot.block + 1..],
+        }
+    }
+
+    /// Puts an item at a place. It takes no memory.
+    pub fn insert(&mut self, spot: Spot, item: T)
+        requires room { HasRoom self.old 1 }
+        requires within { IsWithin self.old spot }
+        ensures items { entries self.new ≡ insert (entries self.old) (place self.old spot) item }
+        ensures room { (n : ℕ) → HasRoom self.old (n + 1) → HasRoom self.new n }
+    {
+        put(&mut self.blocks, &mut self.spares, spot, item);
+    }
+
+    /// Takes the item at a spot out. It takes no memory.
+    pub fn remove(&mut self, spot: Spot)
+        requires { IsItem self.old spot }
+        ensures items { entries self.new ≡ remove (entries self.old) (place self.old spot) }
+        ensures room { (n : ℕ) → HasRoom self.old n → HasRoom self.new n }
+    {
+        take_out(&mut self.blocks, &mut self.spares, spot);
+    }
+}
