@@ -46,14 +46,18 @@ pub trait Version: Drop {
     fn bucket(&self) -> &[u8]
         ensures { result.now ≡ bucket_of self.now };
 
-    /// The order of the versions of one key. It takes no memory.
+    /// The order of the versions of one key. It takes no memory, and looks no further than the first difference.
     fn compare(&self, other: &Self) -> Ordering
         ensures { result ≡ rank_cmp (seen self.now) (seen other.now) }
     {
-        self.updated()
-            .cmp(&other.updated())
-            .then(self.expires().cmp(&other.expires()))
-            .then(self.canonical().cmp(other.canonical()))
+        match self.updated().cmp(&other.updated()) {
+            Ordering::Equal => {}
+            order => return order,
+        }
+        match self.expires().cmp(&other.expires()) {
+            Ordering::Equal => self.canonical().cmp(other.canonical()),
+            order => order,
+        }
     }
 
     /// A copy, or want of memory.

@@ -9,3 +9,4 @@ pub mod Found
 pub mod Exact
 pub mod ReaderLemmas
 pub mod Unpacking
+pub mod Sizes

@@ -1,6 +1,7 @@
 -- Rows that are read piece by piece.
-use Rattle.std.proofs.Common.{◌≡◌, ℕ, zero, suc, ◌+◌, ◌-◌, ◌<◌, ◌≤◌, ◌≢◌, ltb, nat_lt, if◌then◌else◌, Option, Some, true, false, List, [], ◌∷◌, ◌++◌, length, take, drop, Result, Ok, Err, refl, sym, ap, subst, ◌∙◌, arith, inl, inr, length-append, append-nil, add-one, slice_set, length-take}
+use Rattle.std.proofs.Common.{◌≡◌, ℕ, zero, suc, ◌+◌, ◌-◌, ◌<◌, ◌≤◌, ◌≢◌, ltb, nat_lt, if◌then◌else◌, Option, Some, None, true, false, List, [], ◌∷◌, ◌++◌, length, take, drop, Result, Ok, Err, refl, sym, ap, subst, ◌∙◌, arith, inl, inr, length-append, append-nil, add-one, slice_set, length-take, take-append-drop}
 use Rattle.std.proofs.lemmas.Bool.{lt-ltb, le-ltb, cases_lt}
+use Rattle.std.proofs.lemmas.List.{take-take, drop-take}
 use Rattle.std.proofs.Math.Seq.{take-length, take-append_seam, drop-append_seam, take-suc-set, take-append-add}
 use Rattle.am_wire.specs.declared.error.WireError.{WireError}
 use Rattle.am_wire.specs.declared.error.WireError.TheVariants.{Truncated, LongVarint}
@@ -11,7 +12,7 @@ use Rattle.am_wire.specs.declared.reader.Standing.{Standing}
 use Rattle.am_wire.specs.declared.reader.Standing.TheVariants.{Before, Refused}
 use Rattle.am_wire.specs.Varint.{one_more, varint_within, varint_at}
 use Rattle.am_wire.specs.Fields.{row_at, ◌>>=◌}
-use Rattle.std.specs.Io.KnownBytes.{Consumes, IsAtEnd}
+use Rattle.std.specs.Io.KnownBytes.{Consumes, Keeps, IsAtEnd}
 use Rattle.std.proofs.KnownBytes.{Consumes-nil, Consumes-trans}
 use Rattle.am_wire.specs.Reader.{most, IsCut, IsRow, ReadsAs, Stops, Answers, row_fault, all_but_last, length_at, IsLength, ByteStops, BytesStop}
 use Rattle.am_wire.proofs.Spelled.{more_ok}
@@ -227,6 +228,23 @@ module _ (at len : ℕ) (text : List ℕ) (old now : Option (List ℕ)) (h : Has
           unfinished = rw more still;
           consumed = rw more given;
         }
+
+-- ---- a loop that has read the first bytes of a message
+-- a piece more is read behind them
+pub more_read : (a b c : Option (List ℕ)) (old new : List ℕ) (len n : ℕ) → Consumes a b (take len old) → take len new ≡ take len old → Consumes b c (take n (drop len new)) → Consumes a c (take (len + n) new)
+more_read a b c old new len n first front more =
+    let cut : take len (take (len + n) new) ≡ take len old = take-take len (len + n) new (omega arith) ∙ front in
+    let rest : drop len (take (len + n) new) ≡ take n (drop len new) = drop-take len n new in
+    let whole : take len old ++ take n (drop len new) ≡ take (len + n) new =
+    ap (λ (x : List ℕ). x ++ take n (drop len new)) (sym cut) ∙ ap (λ (x : List ℕ). take len (take (len + n) new) ++ x) (sym rest) ∙ take-append-drop len (take (len + n) new) in
+    subst (λ (x : List ℕ). Consumes a c x) whole (Consumes-trans a b c _ _ first more)
+
+-- a read that fails, or finds no byte
+pub none_read : (a b c : Option (List ℕ)) (bytes : List ℕ) → Consumes a b bytes → Keeps b c → Consumes a c bytes
+none_read None b c bytes first same = tt
+none_read (Some xs) None c bytes first same = absurd first
+none_read (Some xs) (Some ys) None bytes first same = absurd same
+none_read (Some xs) (Some ys) (Some zs) bytes first same = first ∙ ap (λ (l : List ℕ). bytes ++ l) (sym same)
 
 -- ---- a message behind its length
 module _ (at size start : ℕ) (text : List ℕ) (h : IsLength at size start text) where

@@ -5,6 +5,7 @@ pub mod Reading
 pub mod Parts
 pub mod Rows
 pub mod Writing
+pub mod Sizes
 pub mod Timestamps
 pub mod TimestampDrafts
 pub mod Grammar

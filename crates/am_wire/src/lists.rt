@@ -8,9 +8,10 @@ ghost use Rattle.am_wire.specs.Varint.{shortest};
 ghost use Rattle.am_wire.specs.Writing.{put_chunk, put_text, put_numbers};
 
 use crate::error::WireError;
+use crate::size::varints_size;
 use crate::value::{Field, Value};
 use crate::varint::{varint_from, write_varint};
-use crate::writing::{begin_chunk, end_chunk, push_chunk};
+use crate::writing::{push_chunk, push_size};
 use std::alloc::AllocError;
 
 /// The last bytes of a field.
@@ -83,9 +84,8 @@ pub fn pack_numbers(out: &mut Vec<u8>, number: u32, numbers: &[u64]) -> Result<(
     ensures range { All (λ n. n < 2 ^ 64) numbers.now }
 {
     if !numbers.is_empty() {
-        let start = begin_chunk(out, number)?;
+        push_size(out, number, varints_size(numbers))?;
         push_varints(out, numbers)?;
-        end_chunk(out, start)?;
     }
     Ok(())
 }

@@ -1,13 +1,15 @@
 //! Messages, which are written in one way and read from every spelling.
 
-ghost use Rattle.std.specs.Prelude.{◌≡◌, ℕ, List, ◌++◌, ◌+◌, ◌<◌, ◌≤◌, ◌^◌, Result, Ok, OnOk, OnErr, IfErr, ◌⊎◌, length};
+ghost use Rattle.std.specs.Prelude.{◌≡◌, ℕ, List, ◌++◌, ◌+◌, ◌<◌, ◌≤◌, ◌^◌, Result, Ok, Err, OnOk, OnErr, IfErr, ◌⊎◌, ◌↔◌, length};
 ghost use Rattle.am_wire.specs.Reading.{Gives};
+ghost use Rattle.am_wire.specs.Sizes.{counted};
 ghost use Rattle.am_wire.specs.Writing.{put_chunk};
 ghost use Rattle.am_wire.specs.declared.error.WireError.{WireError};
 ghost use Rattle.am_wire.specs.declared.error.WireError.TheVariants as errors;
 
 use crate::error::WireError;
-use crate::writing::{append_text, begin_chunk, end_chunk};
+use crate::rows::MOST_MESSAGE_BYTES;
+use crate::writing::push_size;
 use std::alloc::{AllocError, Global};
 
 /// A value that has one text of its own, and is read from every text that spells it.
@@ -21,23 +23,34 @@ pub trait Message: Sized + Drop {
     /// The value that a text spells, or the first fault; the text begins at this offset of the outermost input.
     ghost reads: { ℕ → List ℕ → Result Self WireError };
 
+    /// How many bytes the text has, and [`u64::MAX`] for every length that is no less. It takes no memory.
+    fn size(&self) -> u64
+        ensures { result ≡ counted (length (writes self.now)) };
+
     /// Writes the text at the end of the bytes. Want of memory may leave a part of it there.
     fn put(&self, out: &mut Vec<u8>) -> Result<(), AllocError>
         ensures written { OnOk result (out.new.items ≡ out.old.items ++ writes self.now) }
         ensures value { OnOk result (is_value self.now) };
 
     /// Writes the text at the end of the bytes, which grow by their own allocator. It refuses by
-    /// [`WireError::TooLarge`] and [`WireError::Memory`] alone, and leaves the bytes as they were.
+    /// [`WireError::TooLarge`], exactly where the text has over 67,108,864 bytes, and by [`WireError::Memory`],
+    /// and leaves the bytes as they were.
     fn encode(&self, out: &mut Vec<u8>) -> Result<(), WireError>
         ensures written { OnOk result (out.new.items ≡ out.old.items ++ writes self.now) }
         ensures value { OnOk result (is_value self.now) }
         ensures size { OnOk result (length (writes self.now) ≤ 67108864) }
         ensures unchanged { OnErr result (out.new.items ≡ out.old.items) }
-        ensures refused { IfErr result (λ e. (e ≡ errors.Memory) ⊎ ((e ≡ errors.TooLarge) × (67108864 < length (writes self.now)))) }
+        ensures too_large { (result ≡ Err errors.TooLarge) ↔ (67108864 < length (writes self.now)) }
+        ensures refused { IfErr result (λ e. (e ≡ errors.Memory) ⊎ (e ≡ errors.TooLarge)) }
     {
-        let mut text = Vec::new(*out.allocator());
+        let size = self.size();
+        if size > MOST_MESSAGE_BYTES {
+            return Err(WireError::TooLarge);
+        }
+        let mut text = Vec::with_capacity(*out.allocator(), size as usize)?;
         self.put(&mut text)?;
-        append_text(out, &text)
+        out.extend_from_slice(&text)?;
+        Ok(())
     }
 
     /// Reads a value from all of the bytes, which begin at the offset `at` of the outermost input, or answers
@@ -67,7 +80,21 @@ pub fn push_message<M: Message>(
     ensures written { OnOk result (out.new.items ≡ out.old.items ++ put_chunk number (M.writes message.now)) }
     ensures value { OnOk result (M.is_value message.now) }
 {
-    let start = begin_chunk(out, number)?;
-    message.put(out)?;
-    end_chunk(out, start)
+    push_sized(out, number, message.size(), message)
+}
+
+/// Writes a message whose [`Message::size`] is known as a field.
+pub fn push_sized<M: Message>(
+    out: &mut Vec<u8>,
+    number: u32,
+    size: u64,
+    message: &M,
+) -> Result<(), AllocError>
+    requires number { number < 2 ^ 29 }
+    requires size { size ≡ counted (length (M.writes message.now)) }
+    ensures written { OnOk result (out.new.items ≡ out.old.items ++ put_chunk number (M.writes message.now)) }
+    ensures value { OnOk result (M.is_value message.now) }
+{
+    push_size(out, number, size)?;
+    message.put(out)
 }

@@ -1,7 +1,7 @@
 //! Messages of a row, read one after the other.
 
-ghost use Rattle.std.specs.Prelude.{◌≡◌, ℕ, List, [], ◌∷◌, ◌++◌, ◌+◌, ◌<◌, ◌≤◌, ◌^◌, None, length, vec_len, IfOk, IfErr, IfSome, MatchResult};
-ghost use Rattle.std.specs.Io.KnownBytes.{Consumes, IsAtEnd};
+ghost use Rattle.std.specs.Prelude.{◌≡◌, ℕ, List, [], ◌∷◌, ◌++◌, ◌+◌, ◌<◌, ◌≤◌, ◌^◌, None, length, take, drop, vec_len, IfOk, OnOk, IfErr, OnErr, IfSome, MatchResult};
+ghost use Rattle.std.specs.Io.KnownBytes.{Consumes, Keeps, IsAtEnd};
 ghost use Rattle.am_wire.specs.Reader.{most, IsRow, Stops, Answers, row_fault, ByteStops, length_at, IsLength, BytesStop};
 ghost use Rattle.am_wire.specs.declared.reader.RowFault.TheVariants.{Memory};
 ghost use Rattle.am_wire.specs.declared.reader.Standing.TheVariants.{Before};
@@ -11,9 +11,12 @@ use crate::message::Message;
 use crate::rows::MOST_MESSAGE_BYTES;
 use crate::varint::varint_from;
 use std::alloc::{AllocError, Global};
-use std::io::Read;
+use std::io::{self, Read};
 use std::marker::{Model, PhantomData};
 use thiserror::Error;
+
+/// The least room that is made for the bytes of a message.
+const LEAST_ROOM: usize = 4096;
 
 /// Why a message of a row was not read.
 #[derive(Clone, Copy, Debug, PartialEq, Eq, Error)]
@@ -60,11 +63,13 @@ pub enum Standing {
     Refused,
 }
 
-/// Reads a row of messages, and holds only the one that is being read.
+/// Reads a row of messages, and holds only the one that is being read. Each is read into the room of those
+/// before it.
 #[derive(Drop)]
 pub struct RowReader<V: Message> {
     alloc: Global,
     standing: Standing,
+    message: Vec<u8>,
     of: PhantomData<V>,
 }
 
@@ -83,13 +88,14 @@ impl<V: Message> Model for RowReader<V> {
 }
 
 impl<V: Message> RowReader<V> {
-    /// Stands before the first row of an input.
+    /// Stands before the first row of an input. It takes no memory.
     pub fn new(alloc: Global) -> Self
         ensures { result ≡ Before 0 }
     {
         RowReader {
             alloc,
             standing: Standing::Before { at: 0 },
+            message: Vec::new(alloc),
             of: PhantomData,
         }
     }
@@ -113,8 +119,8 @@ impl<V: Message> RowReader<V> {
             self.standing = Standing::Over;
             return Ok(None);
         };
-        let message = read_message_bytes(self.alloc, reader, at, start, size)?;
-        let value = V::decode_at(self.alloc, &message, start)?;
+        read_message_bytes(&mut self.message, reader, at, start, size)?;
+        let value = V::decode_at(self.alloc, &self.message, start)?;
         self.standing = Standing::Before { at: start + size };
         Ok(Some(value))
     }
@@ -183,60 +189,89 @@ fn read_length<R: Read>(reader: &mut R, at: usize) -> Result<Option<(usize, usiz
     }
 }
 
-/// Reads so many bytes, or fewer at the end of the input; `start` bytes stand before them. They are held as
-/// they come, so that no length takes memory by itself.
+/// Reads bytes into the room that stands behind the first `at` of them, and answers how many.
+fn read_at<R: Read>(reader: &mut R, room: &mut [u8], at: usize) -> io::Result<usize>
+    requires { at < length room.old }
+    ensures front { take at room.new ≡ take at room.old }
+    ensures fits { IfOk result (λ n. at + n ≤ length room.new) }
+    ensures ok { IfOk result (λ n. Consumes (R.remaining reader.old) (R.remaining reader.new) (take n (drop at room.new))) }
+    ensures err { OnErr result (Keeps (R.remaining reader.old) (R.remaining reader.new)) }
+    ensures end { IfOk result (λ n. n ≡ 0 → IsAtEnd (R.remaining reader.new)) }
+{
+    reader.read(&mut room[at..])
+}
+
+/// Makes room behind the first `len` of the bytes, of which so many are wanted: at most as much as they take
+/// themselves, or 4,096 bytes.
+fn make_room(bytes: &mut Vec<u8>, len: usize, wanted: usize) -> Result<(), AllocError>
+    requires within { len ≤ vec_len bytes.old }
+    requires below { len < wanted }
+    requires most { vec_len bytes.old ≤ wanted }
+    ensures front { take len bytes.new.items ≡ take len bytes.old.items }
+    ensures room { OnOk result (len < vec_len bytes.new) }
+    ensures most { vec_len bytes.new ≤ wanted }
+{
+    if bytes.len() > len {
+        return Ok(());
+    }
+    let more = (wanted - len).min(len.max(LEAST_ROOM));
+    bytes.resize(len + more, 0)
+}
+
+/// Reads so many bytes, or fewer at the end of the input, in place of those that are held; `start` bytes stand
+/// before them. Room is made as they come, so that no length takes memory by itself.
 fn read_up_to<R: Read>(
-    alloc: Global,
+    bytes: &mut Vec<u8>,
     reader: &mut R,
     start: usize,
     wanted: usize,
-) -> Result<Vec<u8>, RowFault>
+) -> Result<(), RowFault>
     requires { start + wanted < 2 ^ 64 }
-    ensures whole { IfOk result (λ v. Consumes (R.remaining reader.old) (R.remaining reader.new) v.items) }
-    ensures size { IfOk result (λ v. vec_len v ≤ wanted) }
-    ensures end { IfOk result (λ v. vec_len v < wanted → IsAtEnd (R.remaining reader.new)) }
-    ensures fault { IfErr result (λ fault. (bytes : List ℕ) ×
-        Consumes (R.remaining reader.old) (R.remaining reader.new) bytes × BytesStop start wanted bytes fault) }
+    ensures whole { OnOk result (Consumes (R.remaining reader.old) (R.remaining reader.new) bytes.new.items) }
+    ensures size { OnOk result (vec_len bytes.new ≤ wanted) }
+    ensures end { OnOk result (vec_len bytes.new < wanted → IsAtEnd (R.remaining reader.new)) }
+    ensures fault { IfErr result (λ fault. (read : List ℕ) ×
+        Consumes (R.remaining reader.old) (R.remaining reader.new) read × BytesStop start wanted read fault) }
 {
-    let mut bytes: Vec<u8> = Vec::new(alloc);
-    let mut piece = [0; 4096];
-    while bytes.len() < wanted {
-        let place = start + bytes.len();
-        let room = (wanted - bytes.len()).min(piece.len());
-        match reader.read(&mut piece[..room]) {
+    let mut len = 0;
+    bytes.clear();
+    while len < wanted {
+        make_room(bytes, len, wanted)?;
+        match read_at(reader, bytes.as_mut_slice(), len) {
             Ok(0) => break,
-            Ok(n) => bytes.extend_from_slice(&piece[..n])?,
-            Err(_) => return Err(RowFault::Read { at: place }),
+            Ok(n) => len += n,
+            Err(_) => return Err(RowFault::Read { at: start + len }),
         }
     }
-    Ok(bytes)
+    bytes.truncate(len);
+    Ok(())
 }
 
-/// Reads the message of `size` bytes of the row at the offset `at`; it begins at the offset `start`.
+/// Reads the message of `size` bytes of the row at the offset `at` into the bytes; it begins at the offset `start`.
 fn read_message_bytes<R: Read>(
-    alloc: Global,
+    bytes: &mut Vec<u8>,
     reader: &mut R,
     at: usize,
     start: usize,
     size: usize,
-) -> Result<Vec<u8>, RowFault>
+) -> Result<(), RowFault>
     requires place { start ≤ most }
     requires size { size ≤ most }
-    ensures { (bytes : List ℕ) × Consumes (R.remaining reader.old) (R.remaining reader.new) bytes ×
+    ensures { (read : List ℕ) × Consumes (R.remaining reader.old) (R.remaining reader.new) read ×
         ((text : List ℕ) → IsLength at size start text → MatchResult result
-        (λ message. (message.items ≡ bytes) × (length bytes ≡ size) × IsRow at (text ++ bytes) bytes ×
-        (at + length (text ++ bytes) ≤ most))
-        (Stops at (text ++ bytes) (R.remaining reader.new))) }
+        (λ _. (bytes.new.items ≡ read) × (length read ≡ size) × IsRow at (text ++ read) read ×
+        (at + length (text ++ read) ≤ most))
+        (Stops at (text ++ read) (R.remaining reader.new))) }
 {
     let room = MOST_MESSAGE_BYTES as usize + 1 - start;
-    let bytes = read_up_to(alloc, reader, start, size.min(room))?;
+    read_up_to(bytes, reader, start, size.min(room))?;
     if bytes.len() == room {
         return Err(RowFault::TooLarge);
     }
     if bytes.len() < size {
         return Err(RowFault::Wire(WireError::Truncated { at }));
     }
-    Ok(bytes)
+    Ok(())
 }
 
 #[cfg(test)]

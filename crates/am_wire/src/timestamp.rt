@@ -12,6 +12,7 @@ use crate::error::WireError;
 use crate::field::Schema;
 use crate::message::Message;
 use crate::parts::{LastNumber, Part};
+use crate::size::number_size;
 use crate::value::{Field, WireType};
 use crate::writing::push_number;
 use am_version_order::Moment;
@@ -99,6 +100,12 @@ impl Message for Moment {
     ghost reads = { reads_moment };
 
     ghost again = { moment_again };
+
+    #[tactic(auto, unfolding(crate::specs::Timestamps::writes_moment))]
+    fn size(&self) -> u64 {
+        let (seconds, nanos) = self.parts();
+        number_size(1, seconds.cast_unsigned()) + number_size(2, u64::from(nanos))
+    }
 
     #[tactic(auto, unfolding(crate::specs::Timestamps::writes_moment))]
     fn put(&self, out: &mut Vec<u8>) -> Result<(), AllocError> {

@@ -1,7 +1,7 @@
 //! Fields at the end of a vector. Where memory is wanting, a part of a field may be left there; only
 //! [`append_text`] writes all or nothing.
 
-ghost use Rattle.std.specs.Prelude.{◌≡◌, ℕ, List, ◌++◌, ◌<◌, ◌≤◌, ◌^◌, OnOk, IfOk, OnErr, IfErr, ◌⊎◌, length, vec_len};
+ghost use Rattle.std.specs.Prelude.{◌≡◌, ℕ, List, ◌++◌, ◌<◌, ◌≤◌, ◌^◌, OnOk, IfOk, OnErr, IfErr, ◌⊎◌, ◌↔◌, length, vec_len};
 ghost use Rattle.am_wire.specs.Varint.{shortest};
 ghost use Rattle.am_wire.specs.declared.error.WireError.TheVariants as errors;
 ghost use Rattle.am_wire.specs.Writing.{tag, put_number, put_chunk, put_text};
@@ -11,10 +11,15 @@ use crate::rows::MOST_MESSAGE_BYTES;
 use crate::varint::write_varint;
 use std::alloc::AllocError;
 
+#[tactic(auto, unfolding(crate::specs::Varint::groups))]
 fn push_varint(out: &mut Vec<u8>, value: u64) -> Result<(), AllocError>
     ensures ok { OnOk result (out.new.items ≡ out.old.items ++ shortest value) }
 {
-    out.extend_from_slice(write_varint(value).as_slice())?;
+    if value < 128 {
+        out.push(value as u8)?;
+    } else {
+        out.extend_from_slice(write_varint(value).as_slice())?;
+    }
     Ok(())
 }
 
@@ -30,13 +35,21 @@ pub fn push_number(out: &mut Vec<u8>, number: u32, value: u64) -> Result<(), All
     Ok(())
 }
 
+/// Writes what stands in front of so many bytes in a field: its tag, and the length.
+pub fn push_size(out: &mut Vec<u8>, number: u32, size: u64) -> Result<(), AllocError>
+    requires { number < 2 ^ 29 }
+    ensures ok { OnOk result (out.new.items ≡ out.old.items ++ (tag number 2 ++ shortest size)) }
+{
+    push_varint(out, u64::from(number) * 8 + 2)?;
+    push_varint(out, size)
+}
+
 /// Writes bytes as a field, also where there are none.
 pub fn push_chunk(out: &mut Vec<u8>, number: u32, bytes: &[u8]) -> Result<(), AllocError>
     requires { number < 2 ^ 29 }
     ensures ok { OnOk result (out.new.items ≡ out.old.items ++ put_chunk number bytes.now) }
 {
-    push_varint(out, u64::from(number) * 8 + 2)?;
-    push_varint(out, bytes.len() as u64)?;
+    push_size(out, number, bytes.len() as u64)?;
     out.extend_from_slice(bytes)?;
     Ok(())
 }
@@ -74,12 +87,14 @@ pub fn end_chunk(out: &mut Vec<u8>, start: usize) -> Result<(), AllocError>
     Ok(())
 }
 
-/// Puts the whole text of a message at the end; an error leaves the bytes as they were.
+/// Puts the whole text of a message at the end; an error leaves the bytes as they were. A text that is too
+/// large is refused as that, whatever memory there is.
 pub fn append_text(out: &mut Vec<u8>, text: &[u8]) -> Result<(), WireError>
     ensures ok { OnOk result (out.new.items ≡ out.old.items ++ text.now) }
     ensures size { OnOk result (length text.now ≤ 67108864) }
     ensures err { OnErr result (out.new.items ≡ out.old.items) }
-    ensures refused { IfErr result (λ e. (e ≡ errors.Memory) ⊎ ((e ≡ errors.TooLarge) × (67108864 < length text.now))) }
+    ensures too_large { (result ≡ Err errors.TooLarge) ↔ (67108864 < length text.now) }
+    ensures refused { IfErr result (λ e. (e ≡ errors.Memory) ⊎ (e ≡ errors.TooLarge)) }
 {
     if text.len() as u64 > MOST_MESSAGE_BYTES {
         return Err(WireError::TooLarge);

@@ -12,25 +12,25 @@ returns-in_err-size g c =
     let (bytes, read, stop) = c.in_err-size.ensures.fault in
     (bytes, read, rw (here, p.1, p.2) (answers_stop g.V.Message.reads _ _ _ _ stop))
 
-pub returns-in_err-message : goal.returns-in_err-message
-returns-in_err-message g c =
+pub returns-in_err-read_message_bytes : goal.returns-in_err-read_message_bytes
+returns-in_err-read_message_bytes g c =
     let here : c.args.self.now ≡ Before c.in-Before.at = sym c.self.view_is ∙ c.in-Before.is in
-    let p = err_from_is_err_and c.from_residual-in_err-message.result c.from_residual-in_err-message.ensures.1 in
-    rw (here, p.1, p.2) (answers_cut g.V.Message.reads _ _ _ _ _ _ (rw c.in-Some.is at c.in_ok-size.ensures.some) _ c.in_err-message.ensures)
+    let p = err_from_is_err_and c.from_residual-in_err-read_message_bytes.result c.from_residual-in_err-read_message_bytes.ensures.1 in
+    rw (here, p.1, p.2) (answers_cut g.V.Message.reads _ _ _ _ _ _ (rw c.in-Some.is at c.in_ok-size.ensures.some) _ c.in_err-read_message_bytes.ensures)
 
 pub returns-in_err-value : goal.returns-in_err-value
 returns-in_err-value g c =
     let here : c.args.self.now ≡ Before c.in-Before.at = sym c.self.view_is ∙ c.in-Before.is in
     let p = err_from_is_err_and c.from_residual-in_err-value.result c.from_residual-in_err-value.ensures.1 in
-    rw (here, p.1, p.2) (answers_fault g.V.Message.reads _ _ _ _ _ _ (rw c.in-Some.is at c.in_ok-size.ensures.some) _ c.in_ok-message.ensures _ c.deref.ensures.value _ c.in_err-value.ensures)
+    rw (here, p.1, p.2) (answers_fault g.V.Message.reads _ _ _ _ _ _ (rw c.in-Some.is at c.in_ok-size.ensures.some) _ c.in_ok-read_message_bytes.ensures _ c.deref.ensures.value _ c.in_err-value.ensures)
 
 pub invariant_of-self-2 : goal.invariant_of-self-2
 invariant_of-self-2 g c = λ at same.
-    let below : c.in-Some.start + c.in-Some.size ≤ most = ends_below g.V.Message.reads _ _ _ _ _ _ (rw c.in-Some.is at c.in_ok-size.ensures.some) _ c.in_ok-message.ensures in
+    let below : c.in-Some.start + c.in-Some.size ≤ most = ends_below g.V.Message.reads _ _ _ _ _ _ (rw c.in-Some.is at c.in_ok-size.ensures.some) _ c.in_ok-read_message_bytes.ensures in
     let e : c.in-Some.start + c.in-Some.size ≡ at = cc in
     omega (arith, below, e)
 
 pub returns : goal.returns
 returns g c =
     let here : c.args.self.now ≡ Before c.in-Before.at = sym c.self.view_is ∙ c.in-Before.is in
-    rw here (answers_value g.V.Message.reads _ _ _ _ _ _ (rw c.in-Some.is at c.in_ok-size.ensures.some) _ c.in_ok-message.ensures _ c.deref.ensures.value _ c.in_ok-value.ensures)
+    rw here (answers_value g.V.Message.reads _ _ _ _ _ _ (rw c.in-Some.is at c.in_ok-size.ensures.some) _ c.in_ok-read_message_bytes.ensures _ c.deref.ensures.value _ c.in_ok-value.ensures)
