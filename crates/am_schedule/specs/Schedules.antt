@@ -16,7 +16,8 @@ use Rattle.am_schedule.specs.Readings.{◌>>=◌, or_fault, or_else}
 use Rattle.am_schedule.specs.Words.{words_of, word_at}
 use Rattle.am_schedule.specs.Places.{has_word}
 use Rattle.am_schedule.specs.Forms.{form_in}
-use Rattle.am_schedule.specs.VersionLines.{version_in, is_label}
+use Rattle.am_schedule.specs.Labels.{is_label}
+use Rattle.am_schedule.specs.VersionLines.{version_in}
 use Rattle.am_schedule.specs.StepLines.{line_in}
 use Rattle.am_schedule.specs.Clusters.{cluster_in}
 
