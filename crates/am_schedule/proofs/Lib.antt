@@ -1,4 +1,5 @@
 pub mod Decimals
+pub mod EventRows
 pub mod Pairs
 pub mod States
 pub mod Names

@@ -7,7 +7,7 @@ use Rattle.am_schedule.specs.declared.step.Line.{Line}
 use Rattle.am_schedule.specs.declared.schedule.Schedule.{Schedule}
 use Rattle.am_schedule.specs.declared.reader.Reader.{Reader}
 use Rattle.am_schedule.specs.Readers.{Stands}
-use Rattle.am_schedule.specs.Schedules.{meaning, meanings, first_fault, numbered, whole, cluster_of, schedule_by, schedule_in, schedule_of, lines_of}
+use Rattle.am_schedule.specs.Schedules.{meaning, meanings, first_fault, AreSound, IsReached, numbered, whole, cluster_of, schedule_by, schedule_in, schedule_of, lines_of}
 
 -- the schedule of lines behind others
 abbrev pub left_of : List (List ℕ) → List (Line × ℕ) → List (List ℕ) → Result Schedule ScheduleError
@@ -39,16 +39,35 @@ line_left before said line lines x is =
 pub none_left : (before : List (List ℕ)) (said : List (Line × ℕ)) → left_of before said [] ≡ whole (cluster_of before) (length before) said
 none_left before said = simp append-nil
 
+-- ---- no fault so far
+
+sound_by : (r : Result (Option Line) FaultKind) (number : ℕ) (before all : List (Result (Option Line) FaultKind))
+    → (first_fault (number + 1) before ≡ None → first_fault (number + 1) all ≡ None) → first_fault number (r ∷ before) ≡ None → first_fault number (r ∷ all) ≡ None
+sound_by (Ok x) number before all later sound = later sound
+sound_by (Err kind) number before all later sound = absurd cc
+
+-- a line more without a fault
+sound_more : (number : ℕ) (done before : List (List ℕ)) (line : List ℕ) (x : Option Line) → meaning (done ++ before) line ≡ Ok x → first_fault number (meanings done before) ≡ None
+    → first_fault number (meanings done (before ++ line ∷ [])) ≡ None
+sound_more number done [] line x says sound = let here : meaning done line ≡ Ok x = simp append-nil at says in rw here refl
+sound_more number done (y ∷ before) line x says sound =
+    sound_by (meaning done y) number (meanings (done ++ y ∷ []) before) (meanings (done ++ y ∷ []) (before ++ line ∷ []))
+    (sound_more (number + 1) (done ++ y ∷ []) before line x (rw append_assoc says)) sound
+
+-- ---- a reader in a text
+
 -- a reader behind some lines of a text, with the rest of it
 pub record IsReading (text rest : List ℕ) (number : ℕ) (reader : Reader) : Type 0 where
   pub before : List (List ℕ)
   pub count : number ≡ length before
   pub stands : Stands before reader
   pub left : schedule_of text ≡ left_of before reader.lines.items (lines_of rest)
+  pub parts : lines_of text ≡ before ++ lines_of rest
+  pub sound : AreSound before
   pub room : number + length rest ≤ length text
 
 pub at_start : (text : List ℕ) (reader : Reader) → Stands [] reader → reader.lines.items ≡ [] → IsReading text text 0 reader
-at_start text reader stands none = record { before = []; count = refl; stands = stands; left = rw none (sym (all_left text)); room = omega arith }
+at_start text reader stands none = record { before = []; count = refl; stands = stands; left = rw none (sym (all_left text)); parts = refl; sound = refl; room = omega arith }
 
 pub at_fault : (text rest line behind : List ℕ) (number : ℕ) (reader : Reader) (kind : FaultKind) (reading : IsReading text rest number reader) → lines_of rest ≡ line ∷ lines_of behind
     → meaning reading.before line ≡ Err kind → schedule_of text ≡ Err (record { line = number + 1; kind = kind })
@@ -63,7 +82,20 @@ behind_line text rest line behind number old new x reading is shorter says stand
   count = ap (λ n. n + 1) reading.count ∙ sym (simp length-append);
   stands = stands;
   left = reading.left ∙ rw (is, lines, reading.count) (line_left reading.before old.lines.items line (lines_of behind) x says);
+  parts = reading.parts ∙ rw (is, append_assoc) refl;
+  sound = sound_more 1 [] reading.before line x says reading.sound;
   room = omega (arith, reading.room);
+}
+
+-- the next line is reached
+pub line_reached : (text rest line behind : List ℕ) (number : ℕ) (reader : Reader) (reading : IsReading text rest number reader) → lines_of rest ≡ line ∷ lines_of behind → IsReached text (number + 1)
+line_reached text rest line behind number reader reading is = record {
+  before = reading.before;
+  line = line;
+  behind = lines_of behind;
+  parts = reading.parts ∙ rw is refl;
+  counted = ap (λ n. n + 1) reading.count;
+  sound = reading.sound;
 }
 
 pub at_end : (text rest : List ℕ) (number : ℕ) (reader : Reader) → IsReading text rest number reader → lines_of rest ≡ [] → schedule_of text ≡ whole reader.cluster number reader.lines.items

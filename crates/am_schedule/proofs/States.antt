@@ -9,7 +9,7 @@ use Rattle.am_schedule.specs.declared.step.VersionLine.{VersionLine}
 use Rattle.am_schedule.specs.declared.step.VersionLine.TheVariants.{Silence, Log}
 use Rattle.am_schedule.specs.declared.step.Versions.{Versions}
 use Rattle.am_schedule.specs.Readings.{◌>>=◌, or_fault}
-use Rattle.am_schedule.specs.VersionLines.{of_one_state, silence_of, log_of}
+use Rattle.am_schedule.specs.Labels.{of_one_state, silence_of, log_of}
 
 -- versions, and those that come behind them
 abbrev pub states_behind : List SilenceLine → List LogLine → Option (List VersionLine) → Result Versions FaultKind

@@ -17,7 +17,8 @@ use Rattle.am_schedule.specs.Words.{word_at, words_of}
 use Rattle.am_schedule.specs.Places.{has_word}
 use Rattle.am_schedule.specs.Tables.{value_in}
 use Rattle.am_schedule.specs.Forms.{form_in}
-use Rattle.am_schedule.specs.VersionLines.{version_in, is_label}
+use Rattle.am_schedule.specs.Labels.{is_label}
+use Rattle.am_schedule.specs.VersionLines.{version_in}
 use Rattle.am_schedule.specs.StepLines.{line_in}
 use Rattle.am_schedule.specs.Clusters.{cluster_in}
 use Rattle.am_schedule.specs.Schedules.{value_of, first_value, words_in, labelled, version_by, cluster_of, version_of, definition_in, said_in, meaning, is_passed_over, numbered}

@@ -1,11 +1,7 @@
 -- What holds of all texts.
-use Rattle.std.specs.Prelude.{◌≡◌, ℕ, ◌+◌, ◌≤◌, List, [], ◌∷◌, ◌++◌, length, None, Err, IsErrAnd}
+use Rattle.std.specs.Prelude.{◌≡◌, ℕ, ◌+◌, ◌≤◌, List, [], ◌∷◌, ◌++◌, length, Err, IsErrAnd}
 use Rattle.am_schedule.specs.declared.error.FaultKind.{FaultKind}
-use Rattle.am_schedule.specs.Schedules.{lines_of, meaning, meanings, first_fault, schedule_of}
-
--- no line is at fault
-abbrev pub AreSound : List (List ℕ) → Type 0
-AreSound lines = first_fault 1 (meanings [] lines) ≡ None
+use Rattle.am_schedule.specs.Schedules.{lines_of, meaning, AreSound, schedule_of}
 
 -- a line of the text is at fault behind lines that are not: it is told
 abbrev pub FirstIsTold : Type 0

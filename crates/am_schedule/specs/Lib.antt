@@ -5,6 +5,9 @@ pub mod Times
 pub mod Tables
 pub mod Lists
 pub mod Places
+pub mod Labels
+pub mod Slots
+pub mod Rows
 pub mod Forms
 pub mod VersionLines
 pub mod StepLines

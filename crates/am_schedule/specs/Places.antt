@@ -1,5 +1,5 @@
 -- What the words of a line are read as, by their places.
-use Rattle.std.specs.Prelude.{ℕ, Bool, List, length, Option, Result, ◌==◌, ◌&&◌}
+use Rattle.std.specs.Prelude.{ℕ, Bool, List, Option, Result}
 use Rattle.std.specs.Str.{bytes_eq}
 use Rattle.am_schedule.specs.declared.error.FaultKind.{FaultKind}
 use Rattle.am_schedule.specs.Words.{word_at, text_in, in_place}
@@ -18,7 +18,3 @@ member_at names place words = member_in names (word_at place words)
 -- the word at a place
 abbrev pub has_word : ℕ → List ℕ → List (List ℕ) → Bool
 has_word place word words = bytes_eq (word_at place words) word
-
--- a line begins with that verb and has that many words
-abbrev pub is_form : List ℕ → ℕ → List (List ℕ) → Bool
-is_form verb count words = has_word 0 verb words && (length words == count)

@@ -1,5 +1,5 @@
 -- What a text says, line by line.
-use Rattle.std.specs.Prelude.{ℕ, ◌+◌, Bool, true, List, [], ◌∷◌, ◌++◌, length, Option, Some, None, Result, Ok, Err, is_none, ◌&&◌, ◌==◌, if◌then◌else◌}
+use Rattle.std.specs.Prelude.{◌≡◌, ℕ, ◌+◌, Bool, true, List, [], ◌∷◌, ◌++◌, length, Option, Some, None, Result, Ok, Err, is_none, ◌&&◌, ◌==◌, if◌then◌else◌}
 use Rattle.std.specs.List.{slice_split}
 use Rattle.std.specs.Str.{is_utf8}
 use Rattle.am_schedule.specs.declared.error.FaultKind.{FaultKind}
@@ -16,7 +16,8 @@ use Rattle.am_schedule.specs.Readings.{◌>>=◌, or_fault, or_else}
 use Rattle.am_schedule.specs.Words.{words_of, word_at}
 use Rattle.am_schedule.specs.Places.{has_word}
 use Rattle.am_schedule.specs.Forms.{form_in}
-use Rattle.am_schedule.specs.VersionLines.{version_in, is_label}
+use Rattle.am_schedule.specs.Labels.{is_label}
+use Rattle.am_schedule.specs.VersionLines.{version_in}
 use Rattle.am_schedule.specs.StepLines.{line_in}
 use Rattle.am_schedule.specs.Clusters.{cluster_in}
 
@@ -109,6 +110,19 @@ abbrev pub first_fault : {A : Type 0} → ℕ → List (Result A FaultKind) → 
 first_fault number [] = None
 first_fault number (Ok x ∷ more) = first_fault (number + 1) more
 first_fault number (Err kind ∷ more) = Some (record { line = number; kind = kind })
+
+-- no line is at fault
+abbrev pub AreSound : List (List ℕ) → Type 0
+AreSound lines = first_fault 1 (meanings [] lines) ≡ None
+
+-- a line of the text by its number, with no line at fault before it
+pub record IsReached (text : List ℕ) (number : ℕ) : Type 0 where
+  pub before : List (List ℕ)
+  pub line : List ℕ
+  pub behind : List (List ℕ)
+  pub parts : lines_of text ≡ before ++ line ∷ behind
+  pub counted : number ≡ length before + 1
+  pub sound : AreSound before
 
 -- what is said, with the numbers of the lines
 abbrev pub numbered : ℕ → List (Result (Option Line) FaultKind) → List (Line × ℕ)

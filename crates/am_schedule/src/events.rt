@@ -3,7 +3,8 @@
 ghost use Rattle.std.specs.Prelude.{◌≡◌, ℕ, List, map};
 ghost use Rattle.am_schedule.specs.Readings.{Gives};
 ghost use Rattle.am_schedule.specs.Tables.{value_in};
-ghost use Rattle.am_schedule.specs.StepLines.{id_in, post_in, group_in, event_in};
+ghost use Rattle.am_schedule.specs.Slots.{id_in};
+ghost use Rattle.am_schedule.specs.StepLines.{post_in, group_in, event_in};
 
 use crate::error::FaultKind;
 use crate::form::Verb;
@@ -69,7 +70,7 @@ fn group(alloc: Global, words: &[&str]) -> Result<GroupLine, FaultKind>
 }
 
 /// What happens at a member, by the verb and the words behind it.
-#[tactic(auto, unfolding(crate::specs::StepLines::event_in))]
+#[tactic(auto, using(crate::proofs::EventRows::event_by))]
 pub(crate) fn event(
     alloc: Global,
     names: &[Word],

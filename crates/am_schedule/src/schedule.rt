@@ -2,7 +2,7 @@
 
 ghost use Rattle.std.specs.Prelude.{◌≡◌, ◌≢◌, ◌+◌, ◌<◌, ◌^◌, ℕ, List, Ok, Err, IfOk, IfErr};
 ghost use Rattle.am_schedule.specs.declared.error.FaultKind.TheVariants.{Memory};
-ghost use Rattle.am_schedule.specs.Schedules.{schedule_of, whole};
+ghost use Rattle.am_schedule.specs.Schedules.{schedule_of, whole, IsReached};
 
 use crate::cluster::ClusterLine;
 use crate::error::{FaultKind, ScheduleError};
@@ -25,10 +25,16 @@ pub struct Schedule {
     pub lines: Items<(Line, u64)>,
 }
 
-/// The schedule of a text, or the first line at fault.
+/// The schedule of a text.
+///
+/// # Errors
+///
+/// The first line at fault, and what is wrong with it. `Memory` where memory runs out, with the line that is read
+/// then; no line before that is at fault.
 pub fn parse(alloc: Global, text: &[u8]) -> Result<Schedule, ScheduleError>
     ensures read { IfOk result (λ schedule. schedule_of text.now ≡ Ok schedule) }
     ensures fault { IfErr result (λ error. error.kind ≢ Memory → schedule_of text.now ≡ Err error) }
+    ensures memory { IfErr result (λ error. error.kind ≡ Memory → IsReached text.now error.line) }
 {
     let mut reader = Reader::new(alloc);
     let mut rest = text;

@@ -3,7 +3,8 @@
 ghost use Rattle.std.specs.Prelude.{◌≡◌, ℕ, List, map};
 ghost use Rattle.am_schedule.specs.Readings.{Gives};
 ghost use Rattle.am_schedule.specs.Tables.{value_in};
-ghost use Rattle.am_schedule.specs.VersionLines.{silence_in, log_in, version_in, versions_in};
+ghost use Rattle.am_schedule.specs.VersionLines.{silence_in, log_in, version_in};
+ghost use Rattle.am_schedule.specs.Labels.{versions_in};
 
 use crate::error::FaultKind;
 use crate::form::VersionForm;
@@ -81,7 +82,7 @@ pub(crate) fn version_line(
 }
 
 /// The versions of labels: `Name` where one is unknown, then `Words` where they are of two states.
-#[tactic(auto, unfolding(crate::specs::VersionLines::versions_in))]
+#[tactic(auto, unfolding(crate::specs::Labels::versions_in))]
 pub(crate) fn versions_of(
     alloc: Global,
     versions: &BTreeMap<&str, VersionLine>,

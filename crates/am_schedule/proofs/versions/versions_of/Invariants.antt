@@ -1,7 +1,7 @@
 use Rattle.std.proofs.Common.{◌≡◌, drop, map}
 use Rattle.am_schedule.specs.Tables.{value_in}
 use Rattle.am_schedule.specs.Lists.{values}
-use Rattle.am_schedule.specs.VersionLines.{versions_in}
+use Rattle.am_schedule.specs.Labels.{versions_in}
 use Rattle.am_schedule.proofs.States.{states_behind}
 use Rattle.am_schedule.proofs.versions.versions_of.Given as goal
 
