@@ -1,15 +1,87 @@
-//! Frames as they are written.
+//! Frames as they are written. How long each part is, is known before anything is written.
 
-ghost use Rattle.std.specs.Prelude.{◌≡◌, ◌++◌, ◌<◌, ◌≤◌, ◌⊎◌, length, OnOk, IfOk, IfErr};
-ghost use Rattle.am_wire.specs.Writing.{put_chunk};
+ghost use Rattle.std.specs.Prelude.{◌≡◌, ℕ, List, ◌++◌, ◌+◌, ◌<◌, ◌≤◌, ◌^◌, ◌⊎◌, ◌↔◌, Err, length, OnOk, IfOk, IfErr};
+ghost use Rattle.am_wire.specs.Varint.{shortest};
+ghost use Rattle.am_wire.specs.Writing.{put_chunk, put_text};
 ghost use Rattle.am_gossip.specs.Kinds.{limit};
 ghost use Rattle.am_gossip.specs.Parts.{writes_part, writes_parts};
 ghost use Rattle.am_gossip.specs.Frames.{frame_text, kind_of, payload_text};
 
 use crate::error::FrameError;
 use crate::frame::{Frame, Part};
-use am_wire::{begin_chunk, end_chunk, push_bytes, push_text};
+use am_wire::{push_bytes, push_text, write_varint};
 use std::alloc::{AllocError, Global};
+
+/// The tag of a part in a full state: bytes under the number 1.
+const PART_TAG: u64 = 10;
+
+/// How many bytes the shortest spelling of a number has.
+fn varint_len(value: u64) -> u64
+    ensures exact { result ≡ length (shortest value) }
+    ensures short { result ≤ 10 }
+{
+    write_varint(value).as_slice().len() as u64
+}
+
+/// How many bytes a field has whose payload is so many bytes.
+fn chunk_len(number: u32, size: u64) -> u64
+    requires number { number < 2 ^ 29 }
+    requires size { size + 20 < 2 ^ 64 }
+    ensures exact { (bytes : List ℕ) → length bytes ≡ size → result ≡ length (put_chunk number bytes) }
+    ensures bounded { result ≤ size + 20 }
+{
+    varint_len(u64::from(number) * 8 + 2) + varint_len(size) + size
+}
+
+/// How many bytes a field of these bytes has; where there are none, it is left out.
+fn bytes_len(number: u32, bytes: &[u8]) -> u64
+    requires { number < 2 ^ 29 }
+    ensures exact { result ≡ length (put_text number bytes.now) }
+    ensures bounded { result ≤ length bytes.now + 20 }
+{
+    if bytes.is_empty() {
+        0
+    } else {
+        chunk_len(number, bytes.len() as u64)
+    }
+}
+
+#[tactic(auto, unfolding(crate::specs::Parts::writes_part))]
+fn part_len(part: &Part) -> u64
+    ensures exact { result ≡ length (writes_part part.now) }
+    ensures bounded { result + 40 < 2 ^ 64 }
+{
+    bytes_len(1, part.key.as_str().as_bytes()) + bytes_len(2, part.bytes.as_slice())
+}
+
+/// How many bytes a full state has.
+#[tactic(auto, unfolding(crate::specs::Parts::writes_parts))]
+fn parts_len(parts: &[Part]) -> u128
+    ensures { result ≡ length (writes_parts parts.now) }
+{
+    let mut len = 0;
+    for part in parts {
+        len += u128::from(chunk_len(1, part_len(part)));
+    }
+    len
+}
+
+fn payload_len(frame: &Frame) -> u128
+    ensures { result ≡ length (payload_text frame.now) }
+{
+    match frame {
+        Frame::Delta(part) => u128::from(part_len(part)),
+        Frame::Push(state) | Frame::Pull(state) => parts_len(state.parts()),
+        Frame::Tick => 0,
+    }
+}
+
+fn push_varint(out: &mut Vec<u8>, value: u64) -> Result<(), AllocError>
+    ensures ok { OnOk result (out.new.items ≡ out.old.items ++ shortest value) }
+{
+    out.extend_from_slice(write_varint(value).as_slice())?;
+    Ok(())
+}
 
 #[tactic(auto, unfolding(crate::specs::Parts::writes_part))]
 fn push_part(out: &mut Vec<u8>, part: &Part) -> Result<(), AllocError>
@@ -23,9 +95,9 @@ fn push_part(out: &mut Vec<u8>, part: &Part) -> Result<(), AllocError>
 fn push_item(out: &mut Vec<u8>, part: &Part) -> Result<(), AllocError>
     ensures ok { OnOk result (out.new.items ≡ out.old.items ++ put_chunk 1 (writes_part part.now)) }
 {
-    let start = begin_chunk(out, 1)?;
-    push_part(out, part)?;
-    end_chunk(out, start)
+    push_varint(out, PART_TAG)?;
+    push_varint(out, part_len(part))?;
+    push_part(out, part)
 }
 
 #[tactic(auto, unfolding(crate::specs::Parts::writes_parts))]
@@ -49,21 +121,27 @@ fn push_payload(out: &mut Vec<u8>, frame: &Frame) -> Result<(), AllocError>
 }
 
 /// Writes a frame in its one form: the byte of its kind, the length of its payload in the shortest spelling, and
-/// the payload. A payload over its kind's limit, of 4,194,304 bytes for a Delta and 67,108,864 for a Push or a
-/// Pull, is [`FrameError::Length`]; the only other refusal is [`FrameError::Memory`].
+/// the payload. It takes memory once, for exactly these bytes.
+///
+/// # Errors
+///
+/// [`FrameError::Length`] for a payload over its kind's limit, of 4,194,304 bytes for a Delta and 67,108,864 for a
+/// Push or a Pull, whatever memory there is; else [`FrameError::Memory`].
 pub fn encode_frame(alloc: Global, frame: &Frame) -> Result<Vec<u8>, FrameError>
     ensures written { IfOk result (λ bytes. bytes.items ≡ frame_text frame.now) }
     ensures size { OnOk result (length (payload_text frame.now) ≤ limit (kind_of frame.now)) }
-    ensures refused { IfErr result (λ e. (e ≡ FrameError.Memory) ⊎ ((e ≡ FrameError.Length) ×
-        (limit (kind_of frame.now) < length (payload_text frame.now)))) }
+    ensures too_long { (result ≡ Err FrameError.Length) ↔ (limit (kind_of frame.now) < length (payload_text frame.now)) }
+    ensures refused { IfErr result (λ e. (e ≡ FrameError.Length) ⊎ (e ≡ FrameError.Memory)) }
 {
     let kind = frame.kind();
-    let mut out = Vec::new(alloc);
-    out.push(kind.code())?;
-    push_payload(&mut out, frame)?;
-    if (out.len() - 1) as u64 > kind.limit() {
+    let size = payload_len(frame);
+    if size > u128::from(kind.limit()) {
         return Err(FrameError::Length);
     }
-    end_chunk(&mut out, 1)?;
+    let size = size as u64;
+    let mut out = Vec::with_capacity(alloc, 1 + (varint_len(size) + size) as usize)?;
+    out.push(kind.code())?;
+    push_varint(&mut out, size)?;
+    push_payload(&mut out, frame)?;
     Ok(out)
 }

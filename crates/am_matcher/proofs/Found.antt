@@ -1,14 +1,24 @@
 -- What a compiled pattern finds is what the grammar reads in its text.
-use Rattle.std.proofs.Common.{◌≡◌, ◌<◌, ◌≤◌, ℕ, true, List, length, Option, None, Some, IsSomeAnd, is_some, get_or, subst}
+use Rattle.std.proofs.Common.{◌≡◌, ◌<◌, ◌≤◌, ◌⊎◌, inl, inr, ℕ, Bool, true, false, true≢false, List, length, Option, None, Some, IsSomeAnd, is_some, get_or, subst, refl, sym, ap, ◌∙◌, arith}
+use Rattle.std.specs.Prelude.{◌≢◌, IfSome}
 use Rattle.std.specs.Str.{chars}
 use Rattle.regex_syntax.specs.Grammar.{Names, read}
 use Rattle.regex_syntax.specs.Brackets.{Nested}
-use Rattle.regex_syntax.specs.Verdict.{Reads}
+use Rattle.regex_syntax.specs.Verdict.{Reads, Refuses}
+use Rattle.regex_syntax.specs.declared.error.ErrorKind.{ErrorKind}
+use Rattle.regex_syntax.specs.declared.error.ErrorKind.TheVariants as parser
 use Rattle.regex.specs.Patterns.{Re, SameCaptures, Config, find_str, default_config}
 use Rattle.regex.specs.Strings.{regex_pattern, regex_source, regex_config, IsReadFromSource}
+use Rattle.regex.specs.Sources.{IsRefusal}
+use Rattle.regex.specs.Failures.{IsRightKind}
+use Rattle.regex.specs.declared.error.Error.{Error}
+use Rattle.regex.specs.declared.error.Error.TheVariants as regex
 use Rattle.regex.specs.declared.string.regex.Regex.{Regex}
 use Rattle.regex.proofs.ForCallers.{is_match_alike}
-use Rattle.am_matcher.specs.Patterns.{has_match, is_found, IsReadable}
+use Rattle.am_matcher.specs.declared.compiled.BuildError.{BuildError}
+use Rattle.am_matcher.specs.declared.compiled.BuildError.TheVariants as build
+use Rattle.am_matcher.specs.Errors.{of_parser, of_regex}
+use Rattle.am_matcher.specs.Patterns.{has_match, is_found, IsReadable, IsRefusedFor}
 
 found_in : (o : Option (Nested Re × Names)) (a : Re) (names : Names) (most : ℕ) (n : ℕ) (hay : List ℕ) →
     ((k : ℕ) → get_or hay k 0 < 256) →
@@ -40,3 +50,34 @@ pub readable_as_compiled : (r : Regex) (source : List ℕ) → regex_source r �
 unfolding Reads
 readable_as_compiled r source same is_default is_read =
     subst IsReadable same (readable_as_read (regex_config r) (regex_source r) _ _ _ is_default is_read)
+
+-- ---- what is refused
+abbrev is_memory : BuildError → Bool
+is_memory build.BadPattern = false
+is_memory build.Memory = true
+
+pub memory_is_not_bad : build.Memory ≡ build.BadPattern → ⊥
+memory_is_not_bad e = true≢false (ap is_memory e)
+
+unread_in : (o : Option (Nested Re × Names)) (most : ℕ) → (o ≡ None) ⊎ IfSome o (λ (re, _). most < re.depth) →
+    IsSomeAnd o (λ (re, _). re.depth ≤ most) → ⊥
+unread_in None most refused readable = readable
+unread_in (Some (re, found)) most (inl none) readable = true≢false (ap is_some none)
+unread_in (Some (re, found)) most (inr deep) readable = omega (arith, deep, readable)
+
+unread_as_refused : (source : List ℕ) (kind : ErrorKind) → Refuses default_config source kind → kind ≢ parser.OutOfMemory → IsReadable source → ⊥
+unfolding IsReadable Refuses
+unread_as_refused source kind (inl memory) other readable = absurd (other memory)
+unread_as_refused source kind (inr (inl none)) other readable = unread_in (read default_config (chars source)) _ (inl none) readable
+unread_as_refused source kind (inr (inr deep)) other readable = unread_in (read default_config (chars source)) _ (inr deep.1) readable
+
+pub unread_by_parser : (config : Config) (source : List ℕ) (kind : ErrorKind) → config ≡ default_config → Refuses config source kind → of_parser kind ≡ build.BadPattern → IsReadable source → ⊥
+unread_by_parser config source kind is_default refuses bad =
+    unread_as_refused source kind (subst (λ (c : Config). Refuses c source kind) is_default refuses) (λ memory. memory_is_not_bad (sym (ap of_parser memory) ∙ bad))
+
+pub refused_by_regex : (source : List ℕ) (error : Error) → IsRefusal default_config source error → IsRightKind default_config source error → error ≢ regex.Internal → of_regex error ≡ build.BadPattern → IsRefusedFor source error
+unfolding Reads
+refused_by_regex source (regex.Syntax e) refusal kind no_internal bad = unread_as_refused source e.kind (refusal e refl) kind
+refused_by_regex source regex.CompiledTooBig refusal kind no_internal bad = readable_as_read default_config source _ _ _ refl kind.2
+refused_by_regex source regex.Internal refusal kind no_internal bad = absurd (no_internal refl)
+refused_by_regex source regex.OutOfMemory refusal kind no_internal bad = absurd (memory_is_not_bad bad)

@@ -1,3 +1,4 @@
+pub mod HandedOn
 pub mod Found
 pub mod Judgements
 pub mod Runs

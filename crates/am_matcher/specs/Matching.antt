@@ -1,6 +1,6 @@
 -- What matchers say of labels.
-use Rattle.std.specs.Prelude.{◌≡◌, ℕ, Bool, true, false, not, List, [], All}
-use Rattle.std.specs.List.{list_any, list_all}
+use Rattle.std.specs.Prelude.{◌≡◌, ℕ, Bool, true, false, not, List, [], All, Any}
+use Rattle.std.specs.List.{list_all}
 use Rattle.std.specs.Option.{option_map_or}
 use Rattle.am_silence.specs.declared.matcher.Matcher.{Matcher}
 use Rattle.am_silence.specs.declared.matcher.MatcherKind.TheVariants as kinds
@@ -11,7 +11,7 @@ use Rattle.am_matcher.specs.Texts.{is_text}
 use Rattle.am_silence.specs.declared.silence.Silence.{Silence}
 use Rattle.am_matcher.specs.Labels.{last_named, value_in}
 use Rattle.am_matcher.specs.declared.labels.Label.{Label}
-use Rattle.am_matcher.specs.Patterns.{is_match, IsSound}
+use Rattle.am_matcher.specs.Patterns.{is_match, IsSound, IsBroken}
 
 -- the value is the text, or is not, or matches the pattern from end to end, or does not
 abbrev pub matches_value : Matcher → List ℕ → Bool
@@ -26,18 +26,18 @@ matches_value m value = elim m.kind [
 abbrev pub IsSoundMatcher : Matcher → Type 0
 IsSoundMatcher m = is_regexp m.kind ≡ true → IsSound m.pattern
 
+-- a regular expression decides, and its pattern is broken
+abbrev pub IsBrokenMatcher : Matcher → Type 0
+IsBrokenMatcher m = (is_regexp m.kind ≡ true) × IsBroken m.pattern
+
 -- each of them matches its label's value
 abbrev pub match_all : List Matcher → List Label → Bool
 match_all matchers labels = list_all (λ m. matches_value m (value_in labels m.name)) matchers
 
--- a regular expression decides about one of them
-abbrev pub has_pattern : List Matcher → Bool
-has_pattern matchers = list_any (λ m. is_regexp m.kind) matchers
-
--- Bad is for a pattern that is refused; else each pattern is read, and the matchers say whether all match the empty text
+-- Bad is for a pattern that is broken; else each pattern is read, and the matchers say whether all match the empty text
 -- (with no labels each value is the empty text)
 abbrev pub IsVerdict : List Matcher → Verdict → Type 0
-IsVerdict matchers Bad = has_pattern matchers ≡ true
+IsVerdict matchers Bad = Any IsBrokenMatcher matchers
 IsVerdict matchers AllEmpty = All IsSoundMatcher matchers × (list_all (λ m. matches_value m []) matchers ≡ true)
 IsVerdict matchers Fine = All IsSoundMatcher matchers × (list_all (λ m. matches_value m []) matchers ≡ false)
 

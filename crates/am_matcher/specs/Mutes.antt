@@ -1,22 +1,22 @@
 -- Which silences mute an alert.
-use Rattle.std.specs.Prelude.{◌≡◌, ℕ, Bool, true, false, not, ◌&&◌, List, [], ◌∷◌, map, filter, nat_lt, nat_le, All}
+use Rattle.std.specs.Prelude.{◌≡◌, ℕ, Bool, true, false, not, ◌&&◌, List, [], ◌∷◌, map, filter, nat_lt, nat_le, All, Any}
 use Rattle.am_version_order.specs.Versions.{is_live}
 use Rattle.am_silence.specs.Mesh.{Mesh, mesh_version}
 use Rattle.am_matcher.specs.declared.labels.Label.{Label}
 use Rattle.am_matcher.specs.declared.muting.Effect.{Effect}
 use Rattle.am_matcher.specs.declared.muting.Effect.TheVariants.{Idle, Mutes, Passes, Broken}
-use Rattle.am_matcher.specs.Matching.{IsSoundMatcher, match_all, has_pattern}
+use Rattle.am_matcher.specs.Matching.{IsSoundMatcher, IsBrokenMatcher, match_all}
 
 -- in view at the moment, begun and not ended
 abbrev pub is_active : ℕ → Mesh → Bool
 is_active now m = (is_live now (mesh_version m) && nat_le m.silence.starts_at now) && nat_lt now m.silence.ends_at
 
--- What a silence does to an alert: where it is active and no pattern is refused, its matchers say.
+-- What a silence does to an alert: where it is active and no pattern is broken, its matchers say.
 abbrev pub IsEffect : List Label → ℕ → Mesh → Effect → Type 0
 IsEffect labels now m Idle = is_active now m ≡ false
 IsEffect labels now m Mutes = (is_active now m ≡ true) × All IsSoundMatcher m.silence.matchers × (match_all m.silence.matchers labels ≡ true)
 IsEffect labels now m Passes = (is_active now m ≡ true) × All IsSoundMatcher m.silence.matchers × (match_all m.silence.matchers labels ≡ false)
-IsEffect labels now m Broken = (is_active now m ≡ true) × (has_pattern m.silence.matchers ≡ true)
+IsEffect labels now m Broken = (is_active now m ≡ true) × Any IsBrokenMatcher m.silence.matchers
 
 -- the id alone where the effect is that, else none
 abbrev pub if_mutes : Effect → List ℕ → List (List ℕ)
@@ -31,14 +31,14 @@ if_broken Mutes id = []
 if_broken Passes id = []
 if_broken Broken id = id ∷ []
 
--- a silence, and whether one of its patterns is refused
+-- a silence, and whether one of its patterns is told as broken
 pub record Judged : Type 0 where
   pub silence : Mesh
   pub broken : Bool
 
--- a refused silence has a pattern, and the patterns of another are all read
+-- one of the patterns of a broken silence is broken, and the patterns of another are all read
 pub record IsJudged (j : Judged) : Type 0 where
-  pub refused : j.broken ≡ true → has_pattern j.silence.silence.matchers ≡ true
+  pub refused : j.broken ≡ true → Any IsBrokenMatcher j.silence.silence.matchers
   pub read : j.broken ≡ false → All IsSoundMatcher j.silence.silence.matchers
 
 abbrev pub is_muting : List Label → Judged → Bool

@@ -1,8 +1,10 @@
 -- What a pattern means, in the words of the crates that read it and search for it.
-use Rattle.std.specs.Prelude.{ℕ, ◌≤◌, Bool, false, List, ◌++◌, Option, Some, None, codes, chars, is_some, IsSomeAnd}
+use Rattle.std.specs.Prelude.{ℕ, ◌≤◌, ◌⊎◌, Bool, false, List, ◌++◌, Option, Some, None, codes, chars, is_some, IsSomeAnd}
 use Rattle.regex_syntax.specs.Grammar.{read, Names}
 use Rattle.regex_syntax.specs.Brackets.{Nested}
 use Rattle.regex.specs.Patterns.{Re, find_str, default_config}
+use Rattle.regex.specs.declared.error.Error.{Error}
+use Rattle.regex.specs.declared.error.Error.TheVariants.{Syntax, CompiledTooBig, Internal, OutOfMemory}
 
 -- the text that is compiled for a pattern: it has to match from end to end
 abbrev pub whole_text : List ℕ → List ℕ
@@ -29,3 +31,15 @@ IsReadable source = IsSomeAnd (read default_config (chars source)) (λ (re, name
 pub record IsSound (pattern : List ℕ) : Type 0 where
   pub alone : IsReadable pattern
   pub whole : IsReadable (whole_text pattern)
+
+-- What an error of `regex` for a text says, where it is none of memory: the grammar doesn't read the text, or it does, and
+-- what is compiled is too big. How big that is, its contract leaves open.
+abbrev pub IsRefusedFor : List ℕ → Error → Type 0
+IsRefusedFor text (Syntax e) = ¬ IsReadable text
+IsRefusedFor text CompiledTooBig = IsReadable text
+IsRefusedFor text Internal = ⊥
+IsRefusedFor text OutOfMemory = ⊥
+
+-- The grammar doesn't read the pattern by itself, or it does, and `regex` refuses the text that is compiled for it.
+abbrev pub IsBroken : List ℕ → Type 0
+IsBroken pattern = (¬ IsReadable pattern) ⊎ (IsReadable pattern × (error : Error) × IsRefusedFor (whole_text pattern) error)

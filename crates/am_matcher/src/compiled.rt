@@ -1,8 +1,7 @@
 //! A matcher that is ready to be asked.
 
-ghost use Rattle.std.specs.Prelude.{◌≡◌, List, ℕ, true, IfOk, OnOk, IsErrOf};
-ghost use Rattle.am_silence.specs.Kinds.{is_regexp};
-ghost use Rattle.am_matcher.specs.Matching.{matches_value, IsSoundMatcher};
+ghost use Rattle.std.specs.Prelude.{◌≡◌, List, ℕ, IfOk, OnOk, IsErrOf};
+ghost use Rattle.am_matcher.specs.Matching.{matches_value, IsSoundMatcher, IsBrokenMatcher};
 
 use crate::whole::Whole;
 use am_silence::{Matcher, MatcherKind};
@@ -90,7 +89,7 @@ impl Compiled {
     pub fn build(alloc: Global, matcher: &Matcher) -> Result<Compiled, BuildError>
         ensures matcher { IfOk result (λ compiled. compiled ≡ matcher.now) }
         ensures sound { OnOk result (IsSoundMatcher matcher.now) }
-        ensures bad { IsErrOf result BuildError.BadPattern → is_regexp matcher.now.kind ≡ true }
+        ensures broken { IsErrOf result BuildError.BadPattern → IsBrokenMatcher matcher.now }
     {
         let whole = if matcher.kind.is_regexp() {
             Some(Whole::build(alloc, matcher.pattern.as_str())?)

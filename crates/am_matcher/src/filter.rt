@@ -1,11 +1,10 @@
 //! The filters of a query.
 
-ghost use Rattle.std.specs.Prelude.{◌≡◌, ◌≢◌, List, ℕ, true, chars, IfOk, IsErrOf};
+ghost use Rattle.std.specs.Prelude.{◌≡◌, ◌≢◌, List, ℕ, chars, IfOk, IsErrOf};
 ghost use Rattle.am_silence.specs.declared.matcher.Matcher.{Matcher};
-ghost use Rattle.am_silence.specs.Kinds.{is_regexp};
 ghost use Rattle.am_matcher.specs.Filters.{IsFilter};
 ghost use Rattle.am_matcher.specs.Labels.{last_named};
-ghost use Rattle.am_matcher.specs.Matching.{IsSoundMatcher, pattern_in, passes};
+ghost use Rattle.am_matcher.specs.Matching.{IsSoundMatcher, IsBrokenMatcher, pattern_in, passes};
 ghost use Rattle.std.specs.Option.{option_copied};
 
 use crate::compiled::{BuildError, Compiled};
@@ -132,8 +131,8 @@ impl Filter {
         ensures read { IfOk result (IsFilter text.now) }
         ensures sound { IfOk result IsSoundMatcher }
         ensures syntax { IsErrOf result FilterError.Syntax → (m : Matcher) → ¬ IsFilter text.now m }
-        ensures bad { IsErrOf result FilterError.BadPattern →
-            (m : Matcher) × IsFilter text.now m × (is_regexp m.kind ≡ true) }
+        ensures broken { IsErrOf result FilterError.BadPattern →
+            (m : Matcher) × IsFilter text.now m × IsBrokenMatcher m }
     {
         let matcher = read_filter(alloc, text)?;
         let compiled = Compiled::build(alloc, &matcher)?;

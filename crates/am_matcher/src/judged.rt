@@ -1,8 +1,7 @@
 //! Matchers that are asked once.
 
-ghost use Rattle.std.specs.Prelude.{◌≡◌, List, ℕ, [], true, All, IfOk, OnOk, IsErrOf};
-ghost use Rattle.am_silence.specs.Kinds.{is_regexp};
-ghost use Rattle.am_matcher.specs.Matching.{matches_value, IsSoundMatcher, match_all, has_pattern, IsVerdict};
+ghost use Rattle.std.specs.Prelude.{◌≡◌, List, ℕ, [], All, Any, IfOk, OnOk, IsErrOf};
+ghost use Rattle.am_matcher.specs.Matching.{matches_value, IsSoundMatcher, IsBrokenMatcher, match_all, IsVerdict};
 
 use crate::compiled::BuildError;
 use crate::labels::{Label, value_of};
@@ -14,7 +13,7 @@ use std::alloc::{AllocError, Global};
 fn judge(alloc: Global, matcher: &Matcher, value: &str) -> Result<bool, BuildError>
     ensures answer { IfOk result (λ yes. yes ≡ matches_value matcher.now value.now) }
     ensures sound { OnOk result (IsSoundMatcher matcher.now) }
-    ensures bad { IsErrOf result BuildError.BadPattern → is_regexp matcher.now.kind ≡ true }
+    ensures broken { IsErrOf result BuildError.BadPattern → IsBrokenMatcher matcher.now }
 {
     let pattern = matcher.pattern.as_str();
     let found = if matcher.kind.is_regexp() {
@@ -33,7 +32,7 @@ fn judge(alloc: Global, matcher: &Matcher, value: &str) -> Result<bool, BuildErr
 pub fn judge_all(alloc: Global, matchers: &[Matcher], labels: &[Label]) -> Result<bool, BuildError>
     ensures answer { IfOk result (λ yes. yes ≡ match_all matchers.now labels.now) }
     ensures sound { OnOk result (All IsSoundMatcher matchers.now) }
-    ensures bad { IsErrOf result BuildError.BadPattern → has_pattern matchers.now ≡ true }
+    ensures broken { IsErrOf result BuildError.BadPattern → Any IsBrokenMatcher matchers.now }
 {
     let mut all = true;
     for matcher in matchers {

@@ -1,9 +1,9 @@
 //! Patterns that are searched for from end to end.
 
-ghost use Rattle.std.specs.Prelude.{◌≡◌, IfOk, OnOk};
+ghost use Rattle.std.specs.Prelude.{◌≡◌, IfOk, OnOk, IsErrOf};
 ghost use Rattle.regex.specs.Strings.{regex_source, regex_config, IsReadFromSource};
 ghost use Rattle.regex.specs.Patterns.{default_config};
-ghost use Rattle.am_matcher.specs.Patterns.{whole_text, is_found, IsReadable, IsSound};
+ghost use Rattle.am_matcher.specs.Patterns.{whole_text, is_found, IsReadable, IsSound, IsBroken};
 
 use crate::compiled::BuildError;
 use regex::Regex;
@@ -34,7 +34,8 @@ impl Model for Whole {
 ///
 /// One that is too big is so once it is wrapped too, and is refused there.
 fn read_alone(alloc: Global, pattern: &str) -> Result<(), BuildError>
-    ensures { OnOk result (IsReadable pattern.now) }
+    ensures read { OnOk result (IsReadable pattern.now) }
+    ensures unread { IsErrOf result BuildError.BadPattern → ¬ IsReadable pattern.now }
 {
     parse(alloc, pattern, &Config::default())?;
     Ok(())
@@ -45,6 +46,7 @@ impl Whole {
     pub fn build(alloc: Global, pattern: &str) -> Result<Whole, BuildError>
         ensures source { IfOk result (λ whole. whole ≡ whole_text pattern.now) }
         ensures sound { OnOk result (IsSound pattern.now) }
+        ensures broken { IsErrOf result BuildError.BadPattern → IsBroken pattern.now }
     {
         read_alone(alloc, pattern)?;
         let text = format!(in alloc; "^(?:{pattern})$")?;

@@ -1,7 +1,8 @@
-use Rattle.std.proofs.Common.{ap, ◌∙◌}
+use Rattle.std.proofs.Common.{ap, sym, ◌∙◌}
 use Rattle.am_matcher.specs.Labels.{value_in}
 use Rattle.am_matcher.specs.Matching.{matches_value}
 use Rattle.am_matcher.proofs.Judgements.{match_all-more, all_sound-more}
+use Rattle.am_matcher.proofs.HandedOn.{handed_on}
 use Rattle.am_matcher.proofs.judged.judge_all.Goals as goal
 
 pub loop-matcher-preserved : goal.loop-matcher-preserved
@@ -12,3 +13,8 @@ loop-matcher-preserved c =
           (c.in_ok-matches.ensures.answer ∙ ap (matches_value c.matcher-item.result) value);
       sound = all_sound-more _ _ c.matcher-item.result c.loop-matcher-test.true c.matcher-item.is c.loop-matcher.invariant.sound c.in_ok-matches.ensures.sound;
     }
+
+pub returns-in_err-matches-clause-broken : goal.returns-in_err-matches-clause-broken
+returns-in_err-matches-clause-broken c bad =
+    let broken = c.in_err-matches.ensures.broken (handed_on c.from_residual.result c.in_err-matches.field-0.0 _ c.from_residual.ensures.1 bad) in
+    (_, c.matcher-item.result, c.loop-matcher-test.true, sym c.matcher-item.is, broken)
