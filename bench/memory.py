@@ -49,7 +49,7 @@ def main():
         source, target = os.path.join(folder, "row"), os.path.join(folder, "winners")
         for mebibytes in a.mebibytes:
             size = min(mebibytes * 2 ** 20, LIMIT)
-            rows.write(size // VERSION + size // VERSION // 8, a.keys, source)
+            rows.write("sil", size // VERSION + size // VERSION // 8, a.keys, source)
             read = cut(source, size)
             most = peak(ours, source, target)
             print("%9.2f %12.2f %12.2f" % (read / 2 ** 20, os.path.getsize(target) / 2 ** 20, most / 2 ** 20))

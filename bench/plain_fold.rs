@@ -1,9 +1,9 @@
-//! A plain yardstick: folds a row of silence versions to the greatest of each id.
+//! A plain yardstick: folds a row of versions to the greatest of each key.
 //!
 //!     rustc -C opt-level=3 -o plain_fold plain_fold.rs
-//!     plain_fold < ROW > WINNERS
+//!     plain_fold sil|nfl < ROW > WINNERS
 //!
-//! A hand-written reader of the messages into owned values, a BTreeMap from id to the greatest version
+//! A hand-written reader of the messages into owned values, a BTreeMap from key to the greatest version
 //! (update moment, expiry, canonical bytes), and a writer in key order. No crate but std. It knows nothing
 //! of faults and panics at them: this is a yardstick and not a product.
 
@@ -30,7 +30,7 @@ struct Comment {
     at: Stamp,
 }
 
-struct Version {
+struct Silence {
     id: String,
     matchers: Vec<Matcher>,
     starts: Stamp,
@@ -119,8 +119,8 @@ fn stamp(b: &[u8]) -> Stamp {
     s
 }
 
-fn read(b: &[u8]) -> Version {
-    let mut v = Version {
+fn read_silence(b: &[u8]) -> Silence {
+    let mut v = Silence {
         id: String::new(),
         matchers: Vec::new(),
         starts: ZERO,
@@ -227,7 +227,7 @@ fn put_stamp(out: &mut Vec<u8>, tag: u8, s: Stamp) {
     });
 }
 
-fn write(v: &Version, out: &mut Vec<u8>) {
+fn write_silence(v: &Silence, out: &mut Vec<u8>) {
     put_message(out, 10, |out| {
         put_text(out, 10, &v.id);
         for m in &v.matchers {
@@ -249,6 +249,172 @@ fn write(v: &Version, out: &mut Vec<u8>) {
     put_stamp(out, 18, v.expires);
 }
 
+#[derive(Clone, PartialEq, Eq, PartialOrd, Ord, Default)]
+struct LogKey {
+    group_key: Vec<u8>,
+    group_name: String,
+    integration: String,
+    idx: u32,
+}
+
+struct Entry {
+    key: LogKey,
+    group_hash: Vec<u8>,
+    resolved: bool,
+    at: Stamp,
+    firing: Vec<u64>,
+    resolved_alerts: Vec<u64>,
+    expires: Stamp,
+    canonical: Vec<u8>,
+}
+
+fn numbers(v: Value, out: &mut Vec<u64>) {
+    match v {
+        Value::Number(n) => out.push(n),
+        Value::Bytes(b) => {
+            let mut at = 0;
+            while at < b.len() {
+                out.push(varint(b, &mut at));
+            }
+        }
+    }
+}
+
+fn read_entry(b: &[u8]) -> Entry {
+    let mut e = Entry {
+        key: LogKey::default(),
+        group_hash: Vec::new(),
+        resolved: false,
+        at: ZERO,
+        firing: Vec::new(),
+        resolved_alerts: Vec::new(),
+        expires: ZERO,
+        canonical: Vec::new(),
+    };
+    fields(b, |n, f| match n {
+        1 => fields(bytes(f), |n, f| match n {
+            1 => e.key.group_key = bytes(f).to_vec(),
+            2 => fields(bytes(f), |n, f| match n {
+                1 => e.key.group_name = text(f),
+                2 => e.key.integration = text(f),
+                3 => e.key.idx = number(f) as u32,
+                _ => {}
+            }),
+            3 => e.group_hash = bytes(f).to_vec(),
+            4 => e.resolved = number(f) != 0,
+            5 => e.at = stamp(bytes(f)),
+            6 => numbers(f, &mut e.firing),
+            7 => numbers(f, &mut e.resolved_alerts),
+            _ => {}
+        }),
+        2 => e.expires = stamp(bytes(f)),
+        _ => {}
+    });
+    e
+}
+
+fn put_bytes(out: &mut Vec<u8>, tag: u8, b: &[u8]) {
+    if !b.is_empty() {
+        out.push(tag);
+        put_varint(out, b.len() as u64);
+        out.extend_from_slice(b);
+    }
+}
+
+fn put_numbers(out: &mut Vec<u8>, tag: u8, numbers: &[u64]) {
+    if !numbers.is_empty() {
+        put_message(out, tag, |out| {
+            for n in numbers {
+                put_varint(out, *n);
+            }
+        });
+    }
+}
+
+fn write_entry(e: &Entry, out: &mut Vec<u8>) {
+    put_message(out, 10, |out| {
+        put_bytes(out, 10, &e.key.group_key);
+        put_message(out, 18, |out| {
+            put_text(out, 10, &e.key.group_name);
+            put_text(out, 18, &e.key.integration);
+            if e.key.idx != 0 {
+                out.push(24);
+                put_varint(out, u64::from(e.key.idx));
+            }
+        });
+        put_bytes(out, 26, &e.group_hash);
+        if e.resolved {
+            out.extend_from_slice(&[32, 1]);
+        }
+        put_stamp(out, 42, e.at);
+        put_numbers(out, 50, &e.firing);
+        put_numbers(out, 58, &e.resolved_alerts);
+    });
+    put_stamp(out, 18, e.expires);
+}
+
+trait Version {
+    type Key: Ord + Clone;
+
+    fn read(b: &[u8]) -> Self;
+
+    fn write(&self, out: &mut Vec<u8>);
+
+    fn keep(&mut self, canonical: Vec<u8>);
+
+    fn key(&self) -> &Self::Key;
+
+    fn rank(&self) -> (Stamp, Stamp, &[u8]);
+}
+
+impl Version for Silence {
+    type Key = String;
+
+    fn read(b: &[u8]) -> Self {
+        read_silence(b)
+    }
+
+    fn write(&self, out: &mut Vec<u8>) {
+        write_silence(self, out);
+    }
+
+    fn keep(&mut self, canonical: Vec<u8>) {
+        self.canonical = canonical;
+    }
+
+    fn key(&self) -> &String {
+        &self.id
+    }
+
+    fn rank(&self) -> (Stamp, Stamp, &[u8]) {
+        (self.updated, self.expires, &self.canonical)
+    }
+}
+
+impl Version for Entry {
+    type Key = LogKey;
+
+    fn read(b: &[u8]) -> Self {
+        read_entry(b)
+    }
+
+    fn write(&self, out: &mut Vec<u8>) {
+        write_entry(self, out);
+    }
+
+    fn keep(&mut self, canonical: Vec<u8>) {
+        self.canonical = canonical;
+    }
+
+    fn key(&self) -> &LogKey {
+        &self.key
+    }
+
+    fn rank(&self) -> (Stamp, Stamp, &[u8]) {
+        (self.at, self.expires, &self.canonical)
+    }
+}
+
 fn rows<'a>(b: &'a [u8], mut each: impl FnMut(&'a [u8])) {
     let mut at = 0;
     while at < b.len() {
@@ -258,28 +424,37 @@ fn rows<'a>(b: &'a [u8], mut each: impl FnMut(&'a [u8])) {
     }
 }
 
-fn take(held: &mut BTreeMap<String, Version>, mut v: Version) {
+fn take<V: Version>(held: &mut BTreeMap<V::Key, V>, mut v: V) {
     let mut canonical = Vec::with_capacity(256);
-    write(&v, &mut canonical);
-    v.canonical = canonical;
-    if let Some(h) = held.get_mut(&v.id) {
-        if (h.updated, h.expires, &h.canonical) < (v.updated, v.expires, &v.canonical) {
+    v.write(&mut canonical);
+    v.keep(canonical);
+    if let Some(h) = held.get_mut(v.key()) {
+        if h.rank() < v.rank() {
             *h = v;
         }
     } else {
-        held.insert(v.id.clone(), v);
+        held.insert(v.key().clone(), v);
     }
 }
 
-fn main() {
+fn fold<V: Version>() {
     let mut data = Vec::new();
     std::io::stdin().read_to_end(&mut data).expect("input");
-    let mut held = BTreeMap::new();
-    rows(&data, |row| take(&mut held, read(row)));
+    let mut held: BTreeMap<V::Key, V> = BTreeMap::new();
+    rows(&data, |row| take(&mut held, V::read(row)));
     let mut out = Vec::with_capacity(data.len());
     for v in held.values() {
-        put_varint(&mut out, v.canonical.len() as u64);
-        out.extend_from_slice(&v.canonical);
+        let canonical = v.rank().2;
+        put_varint(&mut out, canonical.len() as u64);
+        out.extend_from_slice(canonical);
     }
     std::io::stdout().write_all(&out).expect("output");
+}
+
+fn main() {
+    match std::env::args().nth(1).as_deref() {
+        Some("sil") => fold::<Silence>(),
+        Some("nfl") => fold::<Entry>(),
+        _ => panic!("sil or nfl"),
+    }
 }

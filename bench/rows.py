@@ -1,14 +1,16 @@
-"""Rows of synthetic silence versions, for the benchmarks.
+"""Rows of synthetic versions, for the benchmarks.
 
-    python3 rows.py COUNT KEYS OUT [--seed N]
+    python3 rows.py sil|nfl COUNT KEYS OUT [--order random|rising|falling] [--seed N]
 
-Writes COUNT versions of KEYS silences, about 190 bytes each, in mixed order. A silence has two EQUAL matchers,
-and one in ten a REGEXP matcher beside them. The hand-written encoder here is for speed.
+Writes COUNT versions of KEYS keys, silences or log entries of about 190 bytes each, in mixed order or in rising or
+falling order of their keys. A silence has two EQUAL matchers, and one in ten a REGEXP matcher beside them. The
+hand-written encoder here is for speed.
 """
 import argparse
 import random
 
 NOW = 1_800_000_000
+ORDERS = ("random", "rising", "falling")
 
 
 def varint(n):
@@ -33,6 +35,10 @@ def identifier(r):
     return ("%s-%s-4%s-a%s-%s" % (h[:8], h[8:12], h[13:16], h[17:20], h[20:])).encode()
 
 
+def group_key(r):
+    return b'{}/{team="t%d"}:{alertname="Alert%d", cluster="c%016x"}' % (r.randrange(20), r.randrange(500), r.getrandbits(64))
+
+
 def matcher(kind, name, pattern):
     return field(2, (b"\x08" + varint(kind) if kind else b"") + field(2, name) + field(3, pattern))
 
@@ -47,22 +53,55 @@ def silence(r, key, i, wave):
     return field(1, body) + field(2, timestamp(end + 432000, 0))
 
 
-def write(count, keys, out, seed=1):
+def entry(r, key, i, wave):
+    receiver = field(1, b"team-%d" % (i % 20)) + field(2, b"webhook") + (b"\x18" + varint(i % 3) if i % 3 else b"")
+    firing = b"".join(varint(r.getrandbits(64)) for _ in range(1 + i % 8))
+    resolved = b"".join(varint(r.getrandbits(64)) for _ in range(i % 3))
+    body = (field(1, key) + field(2, receiver) + field(5, timestamp(NOW - 3600 + wave * 60, r.randrange(1, 10 ** 9)))
+            + field(6, firing) + (field(7, resolved) if resolved else b""))
+    return field(1, body) + field(2, timestamp(NOW + 86400 + i % 1000, 0))
+
+
+def write(state, count, keys, out, order="random", seed=1):
     r = random.Random(seed)
+    names, message = (identifier, silence) if state == "sil" else (group_key, entry)
+    ids = [names(r) for _ in range(keys)]
     both = [(i % keys, i // keys) for i in range(count)]
-    r.shuffle(both)
-    ids = [identifier(r) for _ in range(keys)]
+    if order == "random":
+        r.shuffle(both)
+    else:
+        both.sort(key=lambda x: (ids[x[0]], x[1]), reverse=order == "falling")
     with open(out, "wb", buffering=1 << 20) as f:
         for i, wave in both:
-            message = silence(r, ids[i], i, wave)
-            f.write(varint(len(message)) + message)
+            text = message(r, ids[i], i, wave)
+            f.write(varint(len(text)) + text)
+
+
+def write_small(out, limit, falling):
+    """Distinct silences of 40 bytes a row, as many as there is room for, in the order of their keys."""
+    stamps = field(3, b"") + field(4, b"") + field(5, b"")
+    tail = field(2, b"")
+
+    def row(i):
+        body = field(1, b"%027x" % i) + stamps
+        text = field(1, body) + tail
+        return varint(len(text)) + text
+
+    size = len(row(0))
+    count = limit // size
+    with open(out, "wb", buffering=1 << 20) as f:
+        for i in range(count - 1, -1, -1) if falling else range(count):
+            f.write(row(i))
+    return count
 
 
 if __name__ == "__main__":
     p = argparse.ArgumentParser(description=__doc__, formatter_class=argparse.RawDescriptionHelpFormatter)
+    p.add_argument("state", choices=("sil", "nfl"))
     p.add_argument("count", type=int)
     p.add_argument("keys", type=int)
     p.add_argument("out")
+    p.add_argument("--order", choices=ORDERS, default="random")
     p.add_argument("--seed", type=int, default=1)
     a = p.parse_args()
-    write(a.count, a.keys, a.out, a.seed)
+    write(a.state, a.count, a.keys, a.out, a.order, a.seed)

@@ -1,33 +1,36 @@
-"""Folds rows of silence versions by am_tool and by a plain program, in one run.
+"""Folds rows of versions by am_tool and by a plain program, in one run.
 
-    python3 bench/run.py [--rounds N] [--counts N ..] [--out FOLDER]
+    python3 bench/run.py [--rounds N] [--counts N ..] [--states sil nfl] [--orders random rising falling] [--out FOLDER]
 
-Both read standard input and write standard output, and what they write is compared. For each row: the least wall
-time of the rounds in nanoseconds for each version, the ratio of am_tool to the plain program, and the peak memory of
-both in MiB. The rows have about 190 bytes a version. In `many keys` every tenth key comes twice; in `few keys` there
-is one key for each hundred versions, so that reading decides. am_tool is built by `./am_tool --help` where it isn't.
+Both read standard input and write standard output, and what they write is compared. For each row: the least user and
+system time of the rounds, the two programs taken in turn, in nanoseconds for each version; the ratio of am_tool to the
+plain program; and the peak memory of both in MiB, with their ratio. The rows have about 190 bytes a version; a tenth or
+nine tenths of the versions have keys of their own. am_tool is built by `./am_tool --help` where it isn't.
 """
 import argparse
 import filecmp
 import os
 import subprocess
 import tempfile
-import time
 
 import rows
 
 TOP = os.path.dirname(os.path.dirname(os.path.abspath(__file__)))
+LINE = "%-5s %-8s %9s %9s %11s %11s %7s %11s %11s %7s"
+HEAD = ("state", "order", "versions", "keys", "am_tool ns", "plain ns", "ratio", "am_tool MiB", "plain MiB", "ratio")
 
 
-def build_ours():
+def build_ours(state="sil"):
+    """The command that folds rows of a state by am_tool, which is built where it isn't."""
     subprocess.run([os.path.join(TOP, "am_tool"), "--help"], check=True, stdout=subprocess.DEVNULL)
-    return [os.path.join(TOP, "crates", "am_tool", "out", "am_tool"), "fold", "--state", "sil", "--now", "0"]
+    return [os.path.join(TOP, "crates", "am_tool", "out", "am_tool"), "fold", "--state", state, "--now", "0"]
 
 
-def build(folder):
+def build_plain(folder):
+    """Builds the plain program, and says where it is."""
     plain = os.path.join(folder, "plain_fold")
     subprocess.run(["rustc", "-C", "opt-level=3", "-o", plain, os.path.join(TOP, "bench", "plain_fold.rs")], check=True)
-    return build_ours(), [plain]
+    return plain
 
 
 def start(command, source, target):
@@ -35,17 +38,13 @@ def start(command, source, target):
         return subprocess.Popen(command, stdin=i, stdout=o)
 
 
-def end(child, command):
-    if child.wait() != 0:
-        raise SystemExit("%s ended with %d" % (command[0], child.returncode))
-
-
 def seconds(command, source, target):
-    """Wall time of a run."""
-    begin = time.perf_counter()
+    """User and system time of a whole process."""
     child = start(command, source, target)
-    end(child, command)
-    return time.perf_counter() - begin
+    _, status, used = os.wait4(child.pid, 0)
+    if status != 0:
+        raise SystemExit("%s ended with %d" % (command[0], status))
+    return used.ru_utime + used.ru_stime
 
 
 def peak(command, source, target):
@@ -59,32 +58,40 @@ def peak(command, source, target):
                 most = max([most] + [int(line.split()[1]) * 1024 for line in f if line.startswith("VmHWM")])
         except OSError:
             pass
-    end(child, command)
+    if child.returncode != 0:
+        raise SystemExit("%s ended with %d" % (command[0], child.returncode))
     return most
 
 
-def measure(command, source, target, rounds):
-    return min(seconds(command, source, target) for _ in range(rounds)), peak(command, source, target)
+def measure(commands, source, targets, rounds):
+    """The least time of each command, taken in turn, and the peak memory of each."""
+    least = [min(times) for times in zip(*([seconds(c, source, t) for c, t in zip(commands, targets)] for _ in range(rounds)))]
+    return least, [peak(c, source, t) for c, t in zip(commands, targets)]
 
 
 def main():
     p = argparse.ArgumentParser(description=__doc__, formatter_class=argparse.RawDescriptionHelpFormatter)
-    p.add_argument("--rounds", type=int, default=5)
-    p.add_argument("--counts", type=int, nargs="+", default=[10000, 100000])
+    p.add_argument("--rounds", type=int, default=10)
+    p.add_argument("--counts", type=int, nargs="+", default=[1000, 10000, 100000])
+    p.add_argument("--states", nargs="+", choices=("sil", "nfl"), default=["sil", "nfl"])
+    p.add_argument("--orders", nargs="+", choices=rows.ORDERS, default=rows.ORDERS)
     p.add_argument("--out", help="folder for the rows and the plain program (default: a temporary one)")
     a = p.parse_args()
     folder = a.out or tempfile.mkdtemp()
-    proved, plain = build(folder)
-    print("%-10s %9s %9s %14s %14s %7s %14s %14s" % ("row", "versions", "keys", "am_tool ns", "plain ns", "ratio", "am_tool MiB", "plain MiB"))
-    for count in a.counts:
-        for name, keys in (("few keys", max(1, count // 100)), ("many keys", count * 10 // 11)):
-            source, ours, theirs = (os.path.join(folder, x) for x in ("row", "ours", "theirs"))
-            rows.write(count, keys, source)
-            t, m = measure(proved, source, ours, a.rounds)
-            u, n = measure(plain, source, theirs, a.rounds)
-            if not filecmp.cmp(ours, theirs, shallow=False):
-                raise SystemExit("the two programs write different winners")
-            print("%-10s %9d %9d %14.0f %14.0f %7.2f %14.1f %14.1f" % (name, count, keys, t / count * 1e9, u / count * 1e9, t / u, m / 2 ** 20, n / 2 ** 20))
+    plain = build_plain(folder)
+    source, *targets = (os.path.join(folder, x) for x in ("row", "ours", "theirs"))
+    print(LINE % HEAD)
+    for state in a.states:
+        commands = [build_ours(state), [plain, state]]
+        for count in a.counts:
+            for keys in (count // 10, count * 9 // 10):
+                for order in a.orders:
+                    rows.write(state, count, keys, source, order)
+                    (t, u), (m, n) = measure(commands, source, targets, a.rounds)
+                    if not filecmp.cmp(*targets, shallow=False):
+                        raise SystemExit("the two programs write different winners")
+                    each = ["%.0f" % (x / count * 1e9) for x in (t, u)] + ["%.2f" % (t / u)]
+                    print(LINE % (state, order, count, keys, *each, "%.1f" % (m / 2 ** 20), "%.1f" % (n / 2 ** 20), "%.2f" % (m / n)), flush=True)
 
 
 if __name__ == "__main__":
