@@ -8,7 +8,7 @@ use Rattle.std.specs.Ordering.{eq_by_cmp}
 use Rattle.am_version_order.specs.Versions.{Version, is_below, IsLive}
 use Rattle.am_version_order.proofs.Ranks.{below_itself, below_past, below_trans, tied}
 use Rattle.am_merge.specs.Maps.{greater_of, if_live, IsMap, at}
-use Rattle.am_merge.specs.Views.{IsBest, IsShown, IsShownAt}
+use Rattle.am_merge.specs.Views.{IsBest, IsInView, IsViewAt}
 use Rattle.am_merge.proofs.Keys.{IsKeyOrder, at-above, eq_itself, same_key}
 use Rattle.am_merge.proofs.Puts.{greater_of-none}
 use Rattle.am_merge.proofs.Joins.{greater_of-assoc}
@@ -105,11 +105,11 @@ module _ {K X : Type 0} (seen : X → Version K) where
   best_same set other v same best = record { member = (same v).0 best.member; unbeaten = λ w c. best.unbeaten w ((same w).1 c) }
 
   -- sets with the same members show the same
-  pub shown_same : (is_value : X → Type 0) → ((v w : X) → is_value v → is_value w → seen v ≡ seen w → v ≡ w) → (set other : List X) (now : ℕ) (key : K) (one two : Option X) → HaveSame set other → All is_value set → IsShownAt seen set now key one → IsShownAt seen other now key two → one ≡ two
-  shown_same is_value exact set other now key None None same values none none_too = refl
-  shown_same is_value exact set other now key None (Some w) same values none found = absurd (none w (record { best = best_same other set w (λ v. ((same v).1, (same v).0)) found.1.best; live = found.1.live }) found.0)
-  shown_same is_value exact set other now key (Some v) None same values found none = absurd (none v (record { best = best_same set other v same found.1.best; live = found.1.live }) found.0)
-  shown_same is_value exact set other now key (Some v) (Some w) same values one two =
+  pub same_view : (is_value : X → Type 0) → ((v w : X) → is_value v → is_value w → seen v ≡ seen w → v ≡ w) → (set other : List X) (now : ℕ) (key : K) (one two : Option X) → HaveSame set other → All is_value set → IsViewAt seen set now key one → IsViewAt seen other now key two → one ≡ two
+  same_view is_value exact set other now key None None same values none none_too = refl
+  same_view is_value exact set other now key None (Some w) same values none found = absurd (none w (record { best = best_same other set w (λ v. ((same v).1, (same v).0)) found.1.best; live = found.1.live }) found.0)
+  same_view is_value exact set other now key (Some v) None same values found none = absurd (none v (record { best = best_same set other v same found.1.best; live = found.1.live }) found.0)
+  same_view is_value exact set other now key (Some v) (Some w) same values one two =
       let best = best_same other set w (λ u. ((same u).1, (same u).0)) two.1.best in
       let value_of : (u : X) → Contains set u → is_value u = λ u c. All-contains is_value set u values c in
       ap Some (exact v w (value_of v one.1.best.member) (value_of w best.member) (best_alike set v w (one.0 ∙ sym two.0) one.1.best best))
@@ -169,8 +169,8 @@ module _ {K X : Type 0} (seen : X → Version K) where
     }
 
     -- where the greatest isn't live, or there is none, no version of the key is in view
-    none_shown : (vs : List X) (now : ℕ) (v : X) → if_live seen now (greatest cmp vs (seen v).key) ≡ None → ¬ IsShown seen vs now v
-    none_shown vs now v e shown =
+    none_in_view : (vs : List X) (now : ℕ) (v : X) → if_live seen now (greatest cmp vs (seen v).key) ≡ None → ¬ IsInView seen vs now v
+    none_in_view vs now v e shown =
         let past = greatest_past vs v shown.best.member in
         let same : seen past.top ≡ seen v = best_alike vs past.top v (greatest-Some vs (seen v).key past.top past.is).1 (greatest-best vs (seen v).key past.top past.is) shown.best in
         let live : now < (seen past.top).expires = subst (λ s. IsLive now s) (sym same) shown.live in
@@ -179,9 +179,9 @@ module _ {K X : Type 0} (seen : X → Version K) where
         cc
 
     -- a bare set shows the greatest version of a key, while it is live
-    pub greatest_shown : (vs : List X) (now : ℕ) (key : K) (found : Option X) → if_live seen now (greatest cmp vs key) ≡ found → IsShownAt seen vs now key found
-    greatest_shown vs now key None e = λ v shown same. none_shown vs now v (ap (λ k. if_live seen now (greatest cmp vs k)) same ∙ e) shown
-    greatest_shown vs now key (Some v) e =
+    pub greatest_in_view : (vs : List X) (now : ℕ) (key : K) (found : Option X) → if_live seen now (greatest cmp vs key) ≡ found → IsViewAt seen vs now key found
+    greatest_in_view vs now key None e = λ v shown same. none_in_view vs now v (ap (λ k. if_live seen now (greatest cmp vs k)) same ∙ e) shown
+    greatest_in_view vs now key (Some v) e =
         let one = live_from now (greatest cmp vs key) v e in
         ((greatest-Some vs key v one.0).1, record { best = greatest-best vs key v one.0; live = one.1 })
 

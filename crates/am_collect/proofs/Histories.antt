@@ -7,13 +7,13 @@ use Rattle.std.specs.declared.cmp.Ordering.{Ordering}
 use Rattle.std.specs.Ordering.{eq_by_cmp}
 use Rattle.am_version_order.specs.Versions.{Version, is_below}
 use Rattle.am_merge.specs.Maps.{greater_of, if_live, IsMap, at}
-use Rattle.am_merge.specs.Views.{IsShownAt}
+use Rattle.am_merge.specs.Views.{IsViewAt}
 use Rattle.am_merge.proofs.Keys.{IsKeyOrder, same_key}
 use Rattle.am_merge.proofs.Puts.{greater_of-none}
 use Rattle.am_collect.specs.Events.{Event, Events, taken, collections, delivered, collected, last_moment, after, after_all}
 use Rattle.am_collect.specs.Events.Event.{Delivered, Collected, Passed}
 use Rattle.am_collect.specs.Calm.{IsCalm, IsCalmAt, IsInTime}
-use Rattle.am_collect.proofs.Greatest.{greatest, greatest-push, greatest-Some, greatest-best, greatest_shown, at-greatest}
+use Rattle.am_collect.proofs.Greatest.{greatest, greatest-push, greatest-Some, greatest-best, greatest_in_view, at-greatest}
 use Rattle.am_collect.proofs.Fits.{Fits, IsReached, IsUpTo, fits_later, fits_take, fits_collect, fits_view}
 
 -- an event more at the end
@@ -93,8 +93,8 @@ module _ {K X : Type 0} (seen : X → Version K) (cmp : K → K → Ordering) (k
         (sound_all (past ++ e ∷ []) rest (after seen cmp map e.0 e.1) (λ before f after is. calm before f after (is ∙ joined)) (sound_next past e map (calm past e rest refl) sound))
 
     -- calm events show the bare set
-    pub calm_shows : (events : Events X) (now : ℕ) → IsMap seen cmp start → IsCalm seen start from events → last_moment from events ≤ now → IsShownAt seen (taken start events) now key (if_live seen now (after_all seen cmp (at seen cmp start) events key))
+    pub calm_shows : (events : Events X) (now : ℕ) → IsMap seen cmp start → IsCalm seen start from events → last_moment from events ≤ now → IsViewAt seen (taken start events) now key (if_live seen now (after_all seen cmp (at seen cmp start) events key))
     calm_shows events now map calm forward =
         let begin : IsSoundAfter [] (at seen cmp start key) = record { upto = λ moment c. (let few = c.1 in omega arith); fits = inl (at-greatest seen cmp keys start key map ∙ ap (λ vs. greatest seen cmp vs key) (sym (append-nil start))) } in
         let sound = sound_all [] events (at seen cmp start) calm begin in
-        greatest_shown seen cmp keys (taken start events) now key _ (fits_view seen (after_all seen cmp (at seen cmp start) events key) (greatest seen cmp (taken start events) key) (collections events) (last_moment from events) now forward sound.upto sound.fits)
+        greatest_in_view seen cmp keys (taken start events) now key _ (fits_view seen (after_all seen cmp (at seen cmp start) events key) (greatest seen cmp (taken start events) key) (collections events) (last_moment from events) now forward sound.upto sound.fits)

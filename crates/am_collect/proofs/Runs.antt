@@ -5,13 +5,13 @@ use Rattle.std.proofs.lemmas.List.{take_more, map-append}
 use Rattle.std.specs.declared.cmp.Ordering.{Ordering}
 use Rattle.am_version_order.specs.Versions.{Version}
 use Rattle.am_merge.specs.Maps.{if_live, at}
-use Rattle.am_merge.specs.Views.{IsShownAt}
+use Rattle.am_merge.specs.Views.{IsViewAt}
 use Rattle.am_merge.proofs.Keys.{IsKeyOrder}
 use Rattle.am_collect.specs.declared.keeper.Step.{Step}
 use Rattle.am_collect.specs.Kept.{Kept}
 use Rattle.am_collect.specs.Events.{Events, HaveSame, MoveForward, taken, last_moment, after, after_all}
-use Rattle.am_collect.specs.Keepers.{IsLeftBy, IsCalmlyLeft, ShowsBareSet, shown_at, event_of, events_of}
-use Rattle.am_collect.proofs.Greatest.{shown_same}
+use Rattle.am_collect.specs.Keepers.{IsLeftBy, IsCalmlyLeft, ShowsBareSet, view_at, event_of, events_of}
+use Rattle.am_collect.proofs.Greatest.{same_view}
 use Rattle.am_collect.proofs.Histories.{last_moment-append, calm_shows}
 
 MoveForward-append : {X : Type 0} (from : ℕ) (past events : Events X) → MoveForward from past → MoveForward (last_moment from past) events → MoveForward from (past ++ events)
@@ -48,13 +48,13 @@ module _ {K X : Type 0} (seen : X → Version K) (cmp : K → K → Ordering) wh
   shows keys old new events left start past is_map before calm now key forward =
       let whole = IsLeftBy-append start old new past events before left in
       let last = whole.last in
-      subst (λ found. IsShownAt seen (taken start.held (past ++ events)) now key (if_live seen now found)) (sym (whole.map key))
+      subst (λ found. IsViewAt seen (taken start.held (past ++ events)) now key (if_live seen now found)) (sym (whole.map key))
       (calm_shows seen cmp keys key start.held start.last (past ++ events) now is_map calm (omega arith))
 
-  shown_by : IsKeyOrder cmp → (start new : Kept X) (events : Events X) (now : ℕ) (key : K) → IsCalmlyLeft seen cmp start events new → new.last ≤ now → IsShownAt seen (taken start.held events) now key (shown_at seen cmp new now key)
+  shown_by : IsKeyOrder cmp → (start new : Kept X) (events : Events X) (now : ℕ) (key : K) → IsCalmlyLeft seen cmp start events new → new.last ≤ now → IsViewAt seen (taken start.held events) now key (view_at seen cmp new now key)
   shown_by keys start new events now key calmly forward =
       let last = calmly.left.last in
-      subst (λ found. IsShownAt seen (taken start.held events) now key (if_live seen now found)) (sym (calmly.left.map key))
+      subst (λ found. IsViewAt seen (taken start.held events) now key (if_live seen now found)) (sym (calmly.left.map key))
       (calm_shows seen cmp keys key start.held start.last events now calmly.map calmly.calm (omega arith))
 
   -- keepers that calmly took the same show the same
@@ -62,8 +62,8 @@ module _ {K X : Type 0} (seen : X → Version K) (cmp : K → K → Ordering) wh
       (start begin : Kept X) (events others : Events X) (one other : Kept X) (now : ℕ) (key : K) →
       IsCalmlyLeft seen cmp start events one → IsCalmlyLeft seen cmp begin others other →
       HaveSame (taken start.held events) (taken begin.held others) → All is_value (taken start.held events) →
-      one.last ≤ now → other.last ≤ now → shown_at seen cmp one now key ≡ shown_at seen cmp other now key
+      one.last ≤ now → other.last ≤ now → view_at seen cmp one now key ≡ view_at seen cmp other now key
   agree keys is_value exact start begin events others one other now key first second same values after_first after_second =
-      shown_same seen is_value exact (taken start.held events) (taken begin.held others) now key (shown_at seen cmp one now key) (shown_at seen cmp other now key) same values
+      same_view seen is_value exact (taken start.held events) (taken begin.held others) now key (view_at seen cmp one now key) (view_at seen cmp other now key) same values
       (shown_by keys start one events now key first after_first)
       (shown_by keys begin other others now key second after_second)

@@ -5,7 +5,7 @@ use Rattle.std.specs.declared.cmp.Ordering.{Ordering}
 use Rattle.am_version_order.specs.Versions.{Version}
 use Rattle.am_merge.specs.Maps.{IsMap, at, if_live, swept}
 use Rattle.am_merge.specs.Takings.{IsTaking}
-use Rattle.am_merge.specs.Views.{IsShownAt}
+use Rattle.am_merge.specs.Views.{IsViewAt}
 use Rattle.am_collect.specs.declared.keeper.Step.{Step}
 use Rattle.am_collect.specs.declared.keeper.Step.TheVariants.{Take, Collect}
 use Rattle.am_collect.specs.declared.keeper.Stepped.{Stepped}
@@ -51,9 +51,9 @@ module _ {K X : Type 0} (seen : X → Version K) (cmp : K → K → Ordering) wh
   IsStepping now held Collect new (Took taken) = ⊥
   IsStepping now held Collect new (Swept went) = (new ≡ swept seen now held) × (went + length new ≡ length held)
 
-  -- the version of the key that a keeper shows
-  abbrev pub shown_at : Kept X → ℕ → K → Option X
-  shown_at kept now key = if_live seen now (at seen cmp kept.held key)
+  -- the version of the key that a keeper has in view
+  abbrev pub view_at : Kept X → ℕ → K → Option X
+  view_at kept now key = if_live seen now (at seen cmp kept.held key)
 
   -- the events, each at a moment that wasn't before the last, leave new of old
   pub record IsLeftBy (old : Kept X) (events : Events X) (new : Kept X) : Type 0 where
@@ -71,4 +71,4 @@ module _ {K X : Type 0} (seen : X → Version K) (cmp : K → K → Ordering) wh
   abbrev pub ShowsBareSet : Kept X → Events X → Kept X → Type 0
   ShowsBareSet old events new =
       (start : Kept X) (past : Events X) → IsMap seen cmp start.held → IsLeftBy start past old → IsCalm seen start.held start.last (past ++ events) →
-      (now : ℕ) (key : K) → new.last ≤ now → IsShownAt seen (taken start.held (past ++ events)) now key (shown_at new now key)
+      (now : ℕ) (key : K) → new.last ≤ now → IsViewAt seen (taken start.held (past ++ events)) now key (view_at new now key)

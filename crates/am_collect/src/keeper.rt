@@ -84,7 +84,7 @@ impl<V: Version> Model for Keeper<V> {
 }
 
 impl<V: Version> Keeper<V> {
-    ghost use Rattle.am_collect.specs.Keepers.{IsLeftBy, IsRefusal, IsStepping, IsStop, ShowsBareSet, accepted, event_of, events_of, shown_at};
+    ghost use Rattle.am_collect.specs.Keepers.{IsLeftBy, IsRefusal, IsStepping, IsStop, ShowsBareSet, accepted, event_of, events_of, view_at};
 
     /// A keeper of these versions, of which no two have one key.
     pub fn start(alloc: Global, versions: Vec<V>, now: Moment) -> Result<Self, KeeperError>
@@ -118,7 +118,7 @@ impl<V: Version> Keeper<V> {
 
     /// The version of a key, where it is live. It takes no memory.
     pub fn view(&self, key: &V::Key, now: Moment) -> Option<&V>
-        ensures { option_copied result ≡ shown_at V.seen V.Key.cmp self.now now key.now }
+        ensures { option_copied result ≡ view_at V.seen V.Key.cmp self.now now key.now }
     {
         self.held.get(key).filter(|version| now < version.expires())
     }

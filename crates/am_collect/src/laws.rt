@@ -1,22 +1,29 @@
 //! What holds of calm events, and of the keepers that saw them. That joining maps is commutative,
 //! associative and idempotent stands in `am_merge::laws`.
 
-ghost use Rattle.std.specs.Prelude.{◌≡◌, ◌≤◌, ℕ, List, All};
+ghost use Rattle.std.specs.Prelude.{◌≡◌, ◌≤◌, ℕ, List, ◌++◌, All};
 ghost use Rattle.am_merge.specs.Maps.{IsMap, at, if_live};
-ghost use Rattle.am_merge.specs.Views.{IsShownAt};
+ghost use Rattle.am_merge.specs.Views.{IsViewAt};
 ghost use Rattle.am_collect.specs.Events.{Events, HaveSame, taken, after_all, last_moment};
 ghost use Rattle.am_collect.specs.Calm.{IsCalm};
 ghost use Rattle.am_collect.specs.Kept.{Kept};
-ghost use Rattle.am_collect.specs.Keepers.{IsCalmlyLeft, shown_at};
+ghost use Rattle.am_collect.specs.Keepers.{IsCalmlyLeft, IsLeftBy, view_at};
 
 use am_version_order::Version;
+
+/// What some events left of a keeper, and others after them of that, all of them leave of it.
+pub fn events_follow_events<V: Version>()
+    ensures { (old between new : Kept V) (past events : Events V) →
+        IsLeftBy V.seen V.Key.cmp old past between → IsLeftBy V.seen V.Key.cmp between events new →
+        IsLeftBy V.seen V.Key.cmp old (past ++ events) new }
+{}
 
 /// After calm events a map shows, at every key and at every moment from the last event on, what
 /// the bare set of all that it started with and all that was delivered shows.
 pub fn calm_events_show_the_bare_set<V: Version>()
     ensures { (start : List V) (from : ℕ) (events : Events V) (now : ℕ) (key : V.Key) →
         IsMap V.seen V.Key.cmp start → IsCalm V.seen start from events → last_moment from events ≤ now →
-        IsShownAt V.seen (taken start events) now key (if_live V.seen now (after_all V.seen V.Key.cmp (at V.seen V.Key.cmp start) events key)) }
+        IsViewAt V.seen (taken start events) now key (if_live V.seen now (after_all V.seen V.Key.cmp (at V.seen V.Key.cmp start) events key)) }
 {}
 
 /// Two keepers that took the same versions in calm events, in any order and however often, show
@@ -26,5 +33,5 @@ pub fn calm_keepers_agree<V: Version>()
         IsCalmlyLeft V.seen V.Key.cmp start events one → IsCalmlyLeft V.seen V.Key.cmp begin others other →
         HaveSame (taken start.held events) (taken begin.held others) → All V.is_value (taken start.held events) →
         one.last ≤ now → other.last ≤ now →
-        shown_at V.seen V.Key.cmp one now key ≡ shown_at V.seen V.Key.cmp other now key }
+        view_at V.seen V.Key.cmp one now key ≡ view_at V.seen V.Key.cmp other now key }
 {}

@@ -5,3 +5,5 @@ pub mod Joins
 pub mod Merges
 pub mod Twins
 pub mod Sweeps
+pub mod Exists
+pub mod Values

@@ -1,4 +1,4 @@
--- What a bare set of versions shows. A set is a list in any order, with repetitions.
+-- The view of a bare set of versions. A set is a list in any order, with repetitions.
 -- X is the type of versions, and `seen` is what the merge sees of one.
 use Rattle.std.specs.Prelude.{◌≡◌, ◌≢◌, ℕ, List, false, Option, MatchOption, Contains}
 use Rattle.am_version_order.specs.Versions.{Version, is_below, IsLive}
@@ -10,10 +10,10 @@ module _ {K X : Type 0} (seen : X → Version K) where
     pub unbeaten : (w : X) → Contains set w → (seen w).key ≡ (seen v).key → is_below (seen v) (seen w) ≡ false
 
   -- the best come first, and of these the live ones are in view
-  pub record IsShown (set : List X) (now : ℕ) (v : X) : Type 0 where
+  pub record IsInView (set : List X) (now : ℕ) (v : X) : Type 0 where
     pub best : IsBest set v
     pub live : IsLive now (seen v)
 
   -- the version of the key that is in view, or none where no version of the key is
-  abbrev pub IsShownAt : List X → ℕ → K → Option X → Type 0
-  IsShownAt set now key found = MatchOption found ((v : X) → IsShown set now v → (seen v).key ≢ key) (λ v. ((seen v).key ≡ key) × IsShown set now v)
+  abbrev pub IsViewAt : List X → ℕ → K → Option X → Type 0
+  IsViewAt set now key found = MatchOption found ((v : X) → IsInView set now v → (seen v).key ≢ key) (λ v. ((seen v).key ≡ key) × IsInView set now v)

@@ -1,9 +1,15 @@
 //! What holds of joining and sweeping maps.
 
-ghost use Rattle.std.specs.Prelude.{◌≡◌, ◌↔◌, ℕ, List, All};
+ghost use Rattle.std.specs.Prelude.{◌≡◌, ◌↔◌, ℕ, List, All, IsPermutation};
 ghost use Rattle.am_merge.specs.Maps.{IsMap, IsJoin, HidesNone, swept};
 
 use am_version_order::Version;
+
+/// Two maps have a join.
+pub fn join_exists<V: Version>()
+    ensures { (a b : List V) → IsMap V.seen V.Key.cmp a → IsMap V.seen V.Key.cmp b →
+        (joined : List V) × IsMap V.seen V.Key.cmp joined × IsJoin V.seen V.Key.cmp a b joined }
+{}
 
 /// Two maps have no two joins.
 pub fn join_is_unique<V: Version>()
@@ -38,4 +44,16 @@ pub fn sweep_and_join_commute<V: Version>()
         IsJoin V.seen V.Key.cmp a b joined →
         (IsJoin V.seen V.Key.cmp (swept V.seen now a) (swept V.seen now b) (swept V.seen now joined)
         ↔ (HidesNone V.seen V.Key.cmp now a b × HidesNone V.seen V.Key.cmp now b a)) }
+{}
+
+/// Where all versions are values, those of a map made of them are, and those of a join and of what a
+/// sweep leaves. A map changes by these alone.
+pub fn values_stay_values<V: Version>()
+    ensures made { (versions map : List V) → IsPermutation versions map →
+        All V.is_value versions → All V.is_value map }
+    ensures joined { (a b joined : List V) →
+        IsMap V.seen V.Key.cmp joined → IsJoin V.seen V.Key.cmp a b joined →
+        All V.is_value a → All V.is_value b → All V.is_value joined }
+    ensures swept { (now : ℕ) (map : List V) →
+        All V.is_value map → All V.is_value (swept V.seen now map) }
 {}

@@ -15,8 +15,9 @@ use Rattle.am_wire.specs.Fields.{row_at, pieces}
 use Rattle.am_wire.specs.Again.Pieces.{pieces-first}
 use Rattle.am_wire.specs.Reader.{IsCut, ReadsAs, HasBadLength, EndsInRow, Answers, all_but_last}
 use Rattle.am_snapshot.specs.Texts.{most}
-use Rattle.am_snapshot.specs.Inputs.{sound, message_at, messages_of, AreMessages, HasFault, StopsAfter}
+use Rattle.am_snapshot.specs.Inputs.{sound, message_at, messages_of, AreMessages, HasFault, IsTooLargeAfter, StopsAfter}
 use Rattle.am_snapshot.proofs.Whole.{row_at-whole, row_at-fails}
+use Rattle.am_snapshot.proofs.Ends.{ends_once}
 
 -- where the next row begins
 abbrev pub offset : Standing → ℕ
@@ -46,6 +47,10 @@ known_end (Some xs) (Some ys) bytes P read end here = subst P (sym (read ∙ ap 
 pub some_then : {A : Type 0} (P Q : A → Type 0) → ((x : A) → P x → Q x) → (o : Option A) → IfSome o P → IfSome o Q
 some_then P Q follows None p = tt
 some_then P Q follows (Some x) p = follows x p
+
+append_same : (xs ys zs : List ℕ) → xs ++ ys ≡ xs ++ zs → ys ≡ zs
+append_same xs ys zs same =
+    sym (drop-append_seam xs ys) ∙ ap (λ (l : List ℕ). drop (length xs) l) same ∙ drop-append_seam xs zs
 
 module _ {A : Type 0} (reads : ℕ → List ℕ → Result A WireError) where
   abbrev from : ℕ → List ℕ → List (Result A WireError)
@@ -148,6 +153,30 @@ module _ {A : Type 0} (reads : ℕ → List ℕ → Result A WireError) where
       ap (λ (x : List ℕ). messages_of reads x) (append_assoc bytes row rest)
       ∙ HasRead-fault bytes (row ++ rest) messages e so_far (message_at-fault (length bytes) row rest e gives) (filled_more row rest (whole_filled (length bytes) row (gives.0, length row) gives.1))
 
+  -- bytes behind a row that is whole, or whose length is at fault, don't make it one that is cut
+  told : (at : ℕ) (row rest : List ℕ) (e : WireError) (left : List ℕ) → (HasBadLength at row e ⊎ EndsInRow at row (Some left) e) ⊎ ReadsAs reads at row (Err e) → (left ≡ [] → ⊥) → IsCut at (row ++ rest) → ⊥
+  told at row rest e left (inl (inl bad)) more cut = bad.1 (let k = row_at-fails at row rest e bad.0 bad.1 in cc)
+  told at row rest e left (inl (inr ends)) more cut = more ends.2
+  told at row rest e left (inr (message, is_row, value)) more cut = let k = row_at-whole at row rest (message, length row) is_row in absurd cc
+
+  -- the input is not merely too large
+  not_too_large : (bytes row : List ℕ) (messages : List A) (e : WireError) (left : List ℕ) → HasRead bytes messages
+      → (HasBadLength (length bytes) row e ⊎ EndsInRow (length bytes) row (Some left) e) ⊎ ReadsAs reads (length bytes) row (Err e)
+      → length bytes + length row ≤ most → ¬ IsTooLargeAfter reads ((bytes ++ row) ++ left) messages
+  not_too_large bytes row messages e left so_far fault small large =
+      let room = most - length (bytes ++ row) in
+      let all : length (bytes ++ row) + room ≡ most = omega (arith, small, length-append bytes row) in
+      let front : take most ((bytes ++ row) ++ left) ≡ bytes ++ (row ++ take room left) =
+      ap (λ (n : ℕ). take n ((bytes ++ row) ++ left)) (sym all) ∙ take-append-add (bytes ++ row) left room ∙ append_assoc bytes row (take room left) in
+      let same : bytes ++ (row ++ take room left) ≡ large.cut.whole ++ large.cut.begun = sym front ∙ large.cut.parts in
+      let whole = ends_once reads messages bytes large.cut.whole (row ++ take room left) large.cut.begun same (HasRead-whole bytes messages so_far) large.cut.before in
+      let begun : row ++ take room left ≡ large.cut.begun = append_same bytes (row ++ take room left) large.cut.begun (same ∙ ap (λ (l : List ℕ). l ++ large.cut.begun) (sym whole)) in
+      let cut : IsCut (length bytes) (row ++ take room left) =
+      subst (λ (l : List ℕ). IsCut (length bytes) l) (sym begun) (subst (λ (l : List ℕ). IsCut (length l) large.cut.begun) (sym whole) large.cut.cut) in
+      told (length bytes) row (take room left) e left fault
+      (λ end. (let len : length left ≡ 0 = ap (λ (l : List ℕ). length l) end in omega (arith, large.more, small, len, length-append bytes row, length-append (bytes ++ row) left)))
+      cut
+
   -- it stands in the input, and in what may be read of it
   faults_twice : (bytes row : List ℕ) (messages : List A) (e : WireError) (left : List ℕ) → HasRead bytes messages
       → (HasBadLength (length bytes) row e ⊎ EndsInRow (length bytes) row (Some left) e) ⊎ ReadsAs reads (length bytes) row (Err e)
@@ -158,6 +187,7 @@ module _ {A : Type 0} (reads : ℕ → List ℕ → Result A WireError) where
       let front : take most ((bytes ++ row) ++ left) ≡ (bytes ++ row) ++ take room left = ap (λ (n : ℕ). take n ((bytes ++ row) ++ left)) (sym all) ∙ take-append-add (bytes ++ row) left room in (
         faults bytes row messages e left so_far fault left (λ end. end),
         ap (λ (x : List ℕ). messages_of reads x) front ∙ faults bytes row messages e left so_far fault (take room left) (λ end. ap (λ (x : List ℕ). take room x) end ∙ take-nil room),
+        not_too_large bytes row messages e left so_far fault small,
       )
 
   stops_at : (bytes row : List ℕ) (messages : List A) (left : List ℕ) (fault : RowFault) (next : Standing) → HasRead bytes messages → length bytes ≤ most
@@ -174,7 +204,10 @@ module _ {A : Type 0} (reads : ℕ → List ℕ → Result A WireError) where
       let within : most ≤ length (bytes ++ row) = omega (arith, stop.1, length-append bytes row) in
       let front : take most ((bytes ++ row) ++ left) ≡ bytes ++ all_but_last row =
       take-append-le most (bytes ++ row) left within ∙ ap (λ (m : ℕ). take m (bytes ++ row)) n ∙ take-append-add bytes row (length row - 1) in
-      (record { whole = bytes; begun = all_but_last row; parts = front; before = HasRead-whole bytes messages so_far; cut = stop.0 }, omega (arith, stop.1, length-append bytes row, length-append (bytes ++ row) left))
+      record {
+        cut = record { whole = bytes; begun = all_but_last row; parts = front; before = HasRead-whole bytes messages so_far; cut = stop.0 };
+        more = omega (arith, stop.1, length-append bytes row, length-append (bytes ++ row) left);
+      }
   stops_at bytes row messages left Memory next so_far small answer = tt
   stops_at bytes row messages left Ended next so_far small answer = absurd answer.0
 

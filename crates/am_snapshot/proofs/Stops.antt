@@ -1,5 +1,5 @@
 -- The faults of reading and of writing a row, as those of a call that does both.
-use Rattle.std.proofs.Common.{◌≡◌, ℕ, List, [], ◌∷◌, ◌++◌, length, map, true, false, Option, Some, None, IfSome, Result, Err, inl, inr, refl, ap, ◌∙◌, append_assoc}
+use Rattle.std.proofs.Common.{◌≡◌, ◌≤◌, ℕ, List, [], ◌∷◌, ◌++◌, length, map, true, false, Option, Some, None, IfSome, Result, Err, inl, inr, refl, ap, ◌∙◌, append_assoc}
 use Rattle.std.specs.Prelude.{Contains, IsPermutation, is_some}
 use Rattle.std.specs.Option.{option_copied}
 use Rattle.std.proofs.lemmas.List.{map-append}
@@ -10,17 +10,22 @@ use Rattle.am_wire.specs.declared.error.WireError.{WireError}
 use Rattle.am_wire.specs.declared.reader.RowFault.{RowFault}
 use Rattle.am_wire.specs.declared.reader.RowFault.TheVariants as reading
 use Rattle.am_merge.specs.Maps.{IsMap}
-use Rattle.am_snapshot.specs.Texts.{row_text}
+use Rattle.am_snapshot.specs.Texts.{row_text, most}
 use Rattle.am_wire.specs.declared.reader.Standing.{Standing}
 use Rattle.am_wire.specs.Fields.{pieces}
 use Rattle.am_snapshot.specs.Inputs.{sound, message_at, messages_of, AreMessages, StopsAfter}
 use Rattle.am_snapshot.specs.Loads.{AreDistinct, RepeatsKey, StopsLoad, load_fault}
 use Rattle.am_snapshot.specs.Best.{HoldsBest}
 use Rattle.am_snapshot.specs.Rows.{Writes}
-use Rattle.am_snapshot.specs.Folds.{IsFold, StopsFold, reading_fault, writing_fault}
+use Rattle.am_snapshot.specs.Folds.{IsFold, IsFoldWithin, StopsFold, reading_fault, writing_fault}
 use Rattle.am_snapshot.specs.declared.row.WriteFault.{WriteFault}
 use Rattle.am_snapshot.specs.declared.row.WriteFault.TheVariants as writing
 use Rattle.am_snapshot.proofs.RowReads.{ReadsSoFar, HasRead-whole, some_then}
+
+-- two facts of what is there
+both_then : {A : Type 0} (P Q R : A → Type 0) → ((x : A) → P x → Q x → R x) → (o : Option A) → IfSome o P → IfSome o Q → IfSome o R
+both_then P Q R follows None p q = tt
+both_then P Q R follows (Some x) p q = follows x p q
 
 module _ {K X : Type 0} (seen : X → Version K) (cmp : K → K → Ordering) (reads : ℕ → List ℕ → Result X WireError) (start left : Option (List ℕ)) where
   pub fold_reading : {W : Type 0} (contents : W → Option (List ℕ)) (old : W) (fault : RowFault)
@@ -35,9 +40,13 @@ module _ {K X : Type 0} (seen : X → Version K) (cmp : K → K → Ordering) (r
       → IfSome start (λ input. IsFold seen cmp reads input row)
   is_fold map row text order best = some_then _ _ (λ input one. record { versions = one.0; all = one.1; map = map; order = order; best = one.2; text = text }) start best
 
+  -- with the input's length
+  pub fold_within : (row : List ℕ) → IfSome start (λ input. IsFold seen cmp reads input row) → IfSome start (λ input. length input ≤ most) → IfSome start (λ input. IsFoldWithin seen cmp reads input row)
+  fold_within row fold size = both_then _ _ _ (λ input one small. record { fold = one; size = small }) start fold size
+
   pub fold_writing : {W : Type 0} (contents : W → Option (List ℕ)) (old new : W) (row : List ℕ) (fault : WriteFault)
-      → IfSome start (λ input. IsFold seen cmp reads input row) → Writes contents old new row (Err fault) → StopsFold seen cmp reads start left contents old new (writing_fault fault)
-  fold_writing contents old new row (writing.Write k) fold wrote = (row, wrote.1, wrote.2, fold)
+      → IfSome start (λ input. IsFoldWithin seen cmp reads input row) → Writes contents old new row (Err fault) → StopsFold seen cmp reads start left contents old new (writing_fault fault)
+  fold_writing contents old new row (writing.Write k) fold wrote = (row, wrote.1, wrote.0, wrote.2, fold)
   fold_writing contents old new row writing.TooLarge fold wrote = (wrote.1, some_then _ _ (λ input one. inr (row, one, wrote.0)) start fold)
   fold_writing contents old new row writing.Memory fold wrote = wrote.1
 
@@ -85,5 +94,6 @@ load_repeat {K} {X} seen reads (Some xs) (Some ys) standing bytes versions versi
       same_key = same;
       bytes = bytes;
       rows = HasRead-whole reads bytes (versions ++ version ∷ []) so_far.read;
+      size = so_far.small;
       read = so_far.consumed;
     }

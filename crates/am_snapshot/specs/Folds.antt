@@ -1,5 +1,5 @@
 -- What folding a row writes, and what it leaves where it stops.
-use Rattle.std.specs.Prelude.{◌≡◌, ℕ, ◌<◌, List, length, take, Option, IfSome, Result, ◌⊎◌}
+use Rattle.std.specs.Prelude.{◌≡◌, ℕ, ◌<◌, ◌≤◌, List, length, take, Option, IfSome, Result, ◌⊎◌}
 use Rattle.std.specs.Io.KnownBytes.{Appends}
 use Rattle.std.specs.declared.cmp.Ordering.{Ordering}
 use Rattle.am_version_order.specs.Versions.{Version}
@@ -37,11 +37,27 @@ module _ {K X : Type 0} (seen : X → Version K) (cmp : K → K → Ordering) (r
     pub best : HoldsBest seen versions map
     pub text : row ≡ row_text seen map
 
-  -- Exactly the first bytes of the row went out; or the input is at fault, or the row is too large, and the writer is
-  -- as it was. `start` is what the reader had to give, `left` what it has then, and `contents` what a writer holds.
+  -- the row of an input that may be read whole
+  pub record IsFoldWithin (input row : List ℕ) : Type 0 where
+    pub fold : IsFold input row
+    pub size : length input ≤ most
+
+  -- the row of such an input is longer than a row may be
+  abbrev pub IsFoldTooLarge : List ℕ → Type 0
+  IsFoldTooLarge input = (row : List ℕ) × IsFoldWithin input row × (most < length row)
+
+  -- Exactly the first bytes of a row that may be written went out; or the input is at fault, or the row is too large,
+  -- and the writer is as it was. `start` is what the reader had to give, `left` what it has then, and `contents` what a
+  -- writer holds.
   abbrev pub StopsFold : Option (List ℕ) → Option (List ℕ) → {W : Type 0} → (W → Option (List ℕ)) → W → W → FoldError → Type 0
-  StopsFold start left contents old new (Write k) = (row : List ℕ) × (k < length row) × Appends (contents old) (contents new) (take k row) × IfSome start (λ input. IsFold input row)
-  StopsFold start left contents old new (Read at) = (new ≡ old) × IfSome start (λ input. (versions : List X) × StopsAfter reads input versions left (reading.Read at))
-  StopsFold start left contents old new (Wire e) = (new ≡ old) × IfSome start (λ input. (versions : List X) × StopsAfter reads input versions left (reading.Wire e))
-  StopsFold start left contents old new TooLarge = (new ≡ old) × IfSome start (λ input. ((versions : List X) × StopsAfter reads input versions left reading.TooLarge) ⊎ ((row : List ℕ) × IsFold input row × (most < length row)))
+  StopsFold start left contents old new (Write k) =
+      (row : List ℕ) × (k < length row) × (length row ≤ most) × Appends (contents old) (contents new) (take k row)
+      × IfSome start (λ input. IsFoldWithin input row)
+  StopsFold start left contents old new (Read at) =
+      (new ≡ old) × IfSome start (λ input. (versions : List X) × StopsAfter reads input versions left (reading.Read at))
+  StopsFold start left contents old new (Wire e) =
+      (new ≡ old) × IfSome start (λ input. (versions : List X) × StopsAfter reads input versions left (reading.Wire e))
+  StopsFold start left contents old new TooLarge =
+      (new ≡ old)
+      × IfSome start (λ input. ((versions : List X) × StopsAfter reads input versions left reading.TooLarge) ⊎ IsFoldTooLarge input)
   StopsFold start left contents old new Memory = new ≡ old

@@ -40,12 +40,17 @@ module _ {A : Type 0} (reads : ℕ → List ℕ → Result A WireError) where
     pub before : AreMessages whole messages
     pub cut : IsCut (length whole) begun
 
+  -- there are more bytes than may be read, and none of those is at fault: the last of them are no whole message yet
+  pub record IsTooLargeAfter (input : List ℕ) (messages : List A) : Type 0 where
+    pub cut : IsCutAfter (take most input) messages
+    pub more : most < length input
+
   -- Why the input was not read to its end, after these messages. The fault stands in the whole input and already in
-  -- what may be read of it; or a read failed when just so many bytes had come, of which none is at fault; or there
-  -- are more bytes than may be read, and none of those is at fault.
+  -- what may be read of it, where it is more than that an input which is too large is cut there; or a read failed
+  -- when just so many bytes had come, of which none is at fault; or the input is too large.
   abbrev pub StopsAfter : List ℕ → List A → Option (List ℕ) → RowFault → Type 0
-  StopsAfter input messages left (Wire e) = HasFault input messages e × HasFault (take most input) messages e
+  StopsAfter input messages left (Wire e) = HasFault input messages e × HasFault (take most input) messages e × ¬ IsTooLargeAfter input messages
   StopsAfter input messages left (Read k) = IsCutAfter (take k input) messages × (k ≤ most) × (k ≤ length input) × (left ≡ Some (drop k input))
-  StopsAfter input messages left TooLarge = IsCutAfter (take most input) messages × (most < length input)
+  StopsAfter input messages left TooLarge = IsTooLargeAfter input messages
   StopsAfter input messages left Memory = ⊤
   StopsAfter input messages left Ended = ⊥

@@ -1,10 +1,11 @@
 -- What loading a snapshot answers.
-use Rattle.std.specs.Prelude.{◌≡◌, ◌≢◌, ℕ, List, [], ◌∷◌, ◌++◌, map, Contains, AllPairs, Option, Some, Result, Ok, ⊤}
+use Rattle.std.specs.Prelude.{◌≡◌, ◌≢◌, ℕ, ◌≤◌, List, [], ◌∷◌, ◌++◌, length, map, Contains, AllPairs, Option, Some, Result, Ok, ⊤}
 use Rattle.std.specs.Io.KnownBytes.{Consumes}
 use Rattle.am_version_order.specs.Versions.{Version}
 use Rattle.am_wire.specs.declared.error.WireError.{WireError}
 use Rattle.am_wire.specs.declared.reader.RowFault.{RowFault}
 use Rattle.am_wire.specs.declared.reader.RowFault.TheVariants as reading
+use Rattle.am_snapshot.specs.Texts.{most}
 use Rattle.am_snapshot.specs.Inputs.{sound, messages_of, AreMessages, StopsAfter}
 use Rattle.am_snapshot.specs.declared.error.SnapshotError.{SnapshotError}
 use Rattle.am_snapshot.specs.declared.error.SnapshotError.TheVariants.{Read, Write, Wire, DuplicateKey, TooLarge, Memory}
@@ -23,8 +24,8 @@ module _ {K X : Type 0} (seen : X → Version K) where
   AreDistinct versions = AllPairs (λ v w. (seen v).key ≢ (seen w).key) versions
 
   module _ (reads : ℕ → List ℕ → Result X WireError) where
-    -- The input begins with distinct versions and one more that repeats a key; the reader gave just their rows, and
-    -- has `left` then.
+    -- The input begins with distinct versions and one more that repeats a key; the reader gave just their rows,
+    -- which may be read, and has `left` then.
     pub record RepeatsKey (input : List ℕ) (left : Option (List ℕ)) : Type 0 where
       pub versions : List X
       pub version : X
@@ -36,6 +37,7 @@ module _ {K X : Type 0} (seen : X → Version K) where
       pub same_key : (seen earlier).key ≡ (seen version).key
       pub bytes : List ℕ
       pub rows : AreMessages reads bytes (versions ++ version ∷ [])
+      pub size : length bytes ≤ most
       pub read : Consumes (Some input) left bytes
 
     -- the fault that stands first: none of the versions before it repeats a key

@@ -1,7 +1,8 @@
 //! Folding rows of versions.
 
-ghost use Rattle.std.specs.Prelude.{◌≡◌, ℕ, List, length, IfOk, IfErr, IfSome};
+ghost use Rattle.std.specs.Prelude.{◌≡◌, ◌≤◌, ℕ, List, length, IfOk, OnOk, IfErr, IfSome};
 ghost use Rattle.std.specs.Io.KnownBytes.{Appends};
+ghost use Rattle.am_snapshot.specs.Texts.{most};
 ghost use Rattle.am_snapshot.specs.Folds.{IsFold, StopsFold};
 
 use crate::reading::take_row;
@@ -75,6 +76,9 @@ pub fn fold<V: Version + Message, R: Read, W: Write>(
     ensures row { IfOk result (λ written. (row : List ℕ) × (written ≡ length row) ×
         Appends (W.contents writer.old) (W.contents writer.new) row ×
         IfSome (R.remaining reader.old) (λ input. IsFold V.seen V.Key.cmp V.reads input row)) }
+    ensures size { OnOk result (IfSome (R.remaining reader.old) (λ input. length input ≤ most)) }
+    ensures room { IfOk result (λ written. written ≤ most) }
+
     ensures stopped { IfErr result (StopsFold V.seen V.Key.cmp V.reads (R.remaining reader.old) (R.remaining reader.new) W.contents writer.old writer.new) }
 {
     let held: Held<V> = take_row(alloc, reader, now)?;
