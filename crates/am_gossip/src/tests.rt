@@ -11,50 +11,107 @@ const V1: [u8; 33] = [
     0x01,
 ];
 
-/// What stands before it in a Delta.
-const DELTA_HEAD: [u8; 9] = [0x01, 0x28, 0x0A, 0x03, 0x73, 0x69, 0x6C, 0x12, 0x21];
+/// A Delta of it.
+const DELTA: [u8; 42] = [
+    0x01, 0x28, 0x0A, 0x03, 0x73, 0x69, 0x6C, 0x12, 0x21, 0x20, 0x0A, 0x19, 0x0A, 0x01, 0x61, 0x12,
+    0x08, 0x12, 0x03, 0x6A, 0x6F, 0x62, 0x1A, 0x01, 0x78, 0x1A, 0x02, 0x08, 0x0A, 0x22, 0x02, 0x08,
+    0x64, 0x2A, 0x02, 0x08, 0x0A, 0x12, 0x03, 0x08, 0xC8, 0x01,
+];
 
 /// A Push of two empty states.
 const PUSH: [u8; 16] = [
     0x02, 0x0E, 0x0A, 0x05, 0x0A, 0x03, 0x73, 0x69, 0x6C, 0x0A, 0x05, 0x0A, 0x03, 0x6E, 0x66, 0x6C,
 ];
 
-fn empty_part(alloc: Global, key: StateKey) -> Part {
-    Part {
-        key,
-        bytes: Bytes::new(Vec::new(alloc)),
-    }
+/// A Pull whose parts are both of the log.
+const LOG_TWICE: [u8; 19] = [
+    0x03, 0x11, 0x0A, 0x08, 0x0A, 0x03, 0x6E, 0x66, 0x6C, 0x12, 0x01, 0x07, 0x0A, 0x05, 0x0A, 0x03,
+    0x6E, 0x66, 0x6C,
+];
+
+/// That Delta, a Tick, that Push and an empty Pull.
+const STREAM: [u8; 62] = [
+    0x01, 0x28, 0x0A, 0x03, 0x73, 0x69, 0x6C, 0x12, 0x21, 0x20, 0x0A, 0x19, 0x0A, 0x01, 0x61, 0x12,
+    0x08, 0x12, 0x03, 0x6A, 0x6F, 0x62, 0x1A, 0x01, 0x78, 0x1A, 0x02, 0x08, 0x0A, 0x22, 0x02, 0x08,
+    0x64, 0x2A, 0x02, 0x08, 0x0A, 0x12, 0x03, 0x08, 0xC8, 0x01, 0x04, 0x00, 0x02, 0x0E, 0x0A, 0x05,
+    0x0A, 0x03, 0x73, 0x69, 0x6C, 0x0A, 0x05, 0x0A, 0x03, 0x6E, 0x66, 0x6C, 0x03, 0x00,
+];
+
+/// A varint of nine groups at the least, which goes on, behind a byte.
+const fn long_varint(first: u8) -> [u8; 11] {
+    [
+        first, 0xFF, 0xFF, 0xFF, 0xFF, 0xFF, 0xFF, 0xFF, 0xFF, 0xFF, 0xFF,
+    ]
+}
+
+// ---- what is written
+
+fn part(alloc: Global, key: StateKey, bytes: &[u8]) -> Result<Part, AllocError> {
+    let bytes = Bytes::copied(alloc, bytes)?;
+    Ok(Part { key, bytes })
 }
 
 fn empty_states(alloc: Global) -> Result<FullState, AllocError> {
     let mut parts = Vec::new(alloc);
-    parts.push(empty_part(alloc, StateKey::Sil))?;
-    parts.push(empty_part(alloc, StateKey::Nfl))?;
+    parts.push(part(alloc, StateKey::Sil, &[])?)?;
+    parts.push(part(alloc, StateKey::Nfl, &[])?)?;
     Ok(FullState::new(parts))
 }
 
-fn delta_of_v1(alloc: Global) -> Result<Frame, AllocError> {
-    let bytes = Bytes::copied(alloc, &V1)?;
-    Ok(Frame::Delta(Part {
-        key: StateKey::Sil,
-        bytes,
-    }))
+/// Whether a frame is written as these bytes.
+fn is_written(alloc: Global, frame: &Frame, bytes: &[u8]) -> Result<bool, FrameError> {
+    let written = encode_frame(alloc, frame)?;
+    Ok(written.as_slice() == bytes)
 }
 
-fn delta_bytes(alloc: Global) -> Result<Vec<u8>, AllocError> {
-    let mut bytes = DELTA_HEAD.to_vec(alloc)?;
-    bytes.extend_from_slice(&V1)?;
-    Ok(bytes)
+#[test]
+fn a_tick_is_two_bytes(rt: HostRuntime) -> Result<(), Fail> {
+    let written = is_written(rt.alloc(), &Frame::Tick, &[0x04, 0x00])?;
+    assert!(rt; written);
+    Ok(())
 }
 
-/// Each of the four kinds.
-fn stream_bytes(alloc: Global) -> Result<Vec<u8>, AllocError> {
-    let mut bytes = delta_bytes(alloc)?;
-    bytes.extend_from_slice(&[0x04, 0x00])?;
-    bytes.extend_from_slice(&PUSH)?;
-    bytes.extend_from_slice(&[0x03, 0x00])?;
-    Ok(bytes)
+#[test]
+fn a_delta_is_written(rt: HostRuntime) -> Result<(), Fail> {
+    let frame = Frame::Delta(part(rt.alloc(), StateKey::Sil, &V1)?);
+    let written = is_written(rt.alloc(), &frame, &DELTA)?;
+    assert!(rt; written);
+    Ok(())
 }
+
+#[test]
+fn a_push_of_two_empty_states_is_written(rt: HostRuntime) -> Result<(), Fail> {
+    let frame = Frame::Push(empty_states(rt.alloc())?);
+    let written = is_written(rt.alloc(), &frame, &PUSH)?;
+    assert!(rt; written);
+    Ok(())
+}
+
+/// How many bytes a frame is written as.
+fn written_len(alloc: Global, frame: &Frame) -> Result<usize, FrameError> {
+    let written = encode_frame(alloc, frame)?;
+    Ok(written.len())
+}
+
+/// The same, of a Delta of the log with so many bytes.
+fn delta_len(alloc: Global, size: usize) -> Result<usize, FrameError> {
+    let bytes = Bytes::new(vec![in alloc; 0; size]?);
+    let key = StateKey::Nfl;
+    written_len(alloc, &Frame::Delta(Part { key, bytes }))
+}
+
+#[test]
+fn a_payload_over_its_limit_is_not_written(rt: HostRuntime) {
+    for (size, want) in [
+        (4_194_294, Ok(4_194_309)),
+        (4_194_295, Err(FrameError::Length)),
+    ] {
+        let len = delta_len(rt.alloc(), size);
+        assert_eq!(rt; len, want, "{size}");
+    }
+}
+
+// ---- what is read
 
 /// Feeds a piece; where memory is wanting, sees that nothing changed, and tries once more.
 fn fed(rt: &impl Abort, feeder: &mut Feeder, piece: &[u8]) -> Result<Fed, FrameError> {
@@ -68,14 +125,204 @@ fn fed(rt: &impl Abort, feeder: &mut Feeder, piece: &[u8]) -> Result<Fed, FrameE
     }
 }
 
-/// The frames written one after the other.
-fn written(alloc: Global, frames: &[Frame]) -> Result<Vec<u8>, FrameError> {
-    let mut bytes = Vec::new(alloc);
+/// What a piece brought.
+#[derive(Clone, Copy, Debug, PartialEq, Eq)]
+struct Brought {
+    frames: usize,
+    fault: Option<FrameError>,
+    waiting: usize,
+}
+
+fn seen(rt: &impl Abort, feeder: &mut Feeder, piece: &[u8]) -> Result<Brought, FrameError> {
+    let answer = fed(rt, feeder, piece)?;
+    Ok(Brought {
+        frames: answer.frames.len(),
+        fault: answer.fault,
+        waiting: feeder.waiting(),
+    })
+}
+
+fn without_fault(frames: usize, waiting: usize) -> Brought {
+    Brought {
+        frames,
+        fault: None,
+        waiting,
+    }
+}
+
+fn is_part(part: &Part, key: StateKey, bytes: &[u8]) -> bool {
+    part.key == key && part.bytes.as_slice() == bytes
+}
+
+/// Whether a frame is of the kind and has two parts, or one, or none.
+fn is_frame(frame: &Frame, kind: FrameKind, wanted: &[(StateKey, &[u8])]) -> bool {
+    if frame.kind() != kind {
+        return false;
+    }
+    match (frame, wanted) {
+        (Frame::Tick, []) => true,
+        (Frame::Delta(part), [one]) => is_part(part, one.0, one.1),
+        (Frame::Push(state) | Frame::Pull(state), [one, two]) => match state.parts() {
+            [first, second] => is_part(first, one.0, one.1) && is_part(second, two.0, two.1),
+            _ => false,
+        },
+        _ => false,
+    }
+}
+
+/// Whether the bytes are one frame of the kind with these parts.
+fn is_read(
+    rt: &impl Abort,
+    feeder: &mut Feeder,
+    bytes: &[u8],
+    kind: FrameKind,
+    parts: &[(StateKey, &[u8])],
+) -> Result<bool, FrameError> {
+    let answer = fed(rt, feeder, bytes)?;
+    Ok(match answer.frames.as_slice() {
+        [frame] => answer.fault.is_none() && is_frame(frame, kind, parts),
+        _ => false,
+    })
+}
+
+/// Parts keep their order, and a key may come twice.
+#[test]
+fn frames_are_read(rt: HostRuntime) -> Result<(), Fail> {
+    let v1 = (StateKey::Sil, V1.as_slice());
+    let silences = (StateKey::Sil, [].as_slice());
+    let log = (StateKey::Nfl, [].as_slice());
+    let seven = (StateKey::Nfl, [0x07].as_slice());
+    let mut feeder = Feeder::new(rt.alloc());
+    let tick = is_read(&rt, &mut feeder, &[0x04, 0x00], FrameKind::Tick, &[])?;
+    assert!(rt; tick);
+    let delta = is_read(&rt, &mut feeder, &DELTA, FrameKind::Delta, &[v1])?;
+    assert!(rt; delta);
+    let push = is_read(&rt, &mut feeder, &PUSH, FrameKind::Push, &[silences, log])?;
+    assert!(rt; push);
+    let pull = is_read(&rt, &mut feeder, &LOG_TWICE, FrameKind::Pull, &[seven, log])?;
+    assert!(rt; pull);
+    assert_eq!(rt; feeder.waiting(), 0);
+    Ok(())
+}
+
+/// Writes the frames behind the bytes.
+fn write_all(alloc: Global, frames: &[Frame], bytes: &mut Vec<u8>) -> Result<(), FrameError> {
     for frame in frames {
         let text = encode_frame(alloc, frame)?;
         bytes.extend_from_slice(&text)?;
     }
-    Ok(bytes)
+    Ok(())
+}
+
+/// Writes the frames that a piece brought behind the bytes, and answers how many they are.
+fn rewritten(
+    rt: &impl Abort,
+    alloc: Global,
+    feeder: &mut Feeder,
+    piece: &[u8],
+    bytes: &mut Vec<u8>,
+) -> Result<usize, FrameError> {
+    let answer = fed(rt, feeder, piece)?;
+    assert_eq!(rt; answer.fault, None);
+    write_all(alloc, &answer.frames, bytes)?;
+    Ok(answer.frames.len())
+}
+
+/// The same of a stream that is cut in two.
+fn cut_in_two(
+    rt: &impl Abort,
+    alloc: Global,
+    front: &[u8],
+    rest: &[u8],
+    bytes: &mut Vec<u8>,
+) -> Result<usize, FrameError> {
+    let mut feeder = Feeder::new(alloc);
+    let first = rewritten(rt, alloc, &mut feeder, front, bytes)?;
+    assert_eq!(rt;
+        bytes.len().checked_add(feeder.waiting()),
+        Some(front.len())
+    );
+    let second = rewritten(rt, alloc, &mut feeder, rest, bytes)?;
+    assert_eq!(rt; feeder.waiting(), 0);
+    Ok(first.saturating_add(second))
+}
+
+#[test]
+fn each_cut_in_two_gives_the_same_frames(rt: HostRuntime) -> Result<(), Fail> {
+    let mut bytes = Vec::new(rt.alloc());
+    for cut in 0..=STREAM.len() {
+        bytes.clear();
+        let (front, rest) = STREAM.split_at(cut);
+        let frames = cut_in_two(&rt, rt.alloc(), front, rest, &mut bytes)?;
+        assert_eq!(rt; frames, 4);
+        assert_eq!(rt; bytes.as_slice(), STREAM.as_slice());
+    }
+    Ok(())
+}
+
+/// Writes the frames of a stream that comes byte by byte behind the bytes.
+fn byte_by_byte(rt: &impl Abort, alloc: Global, bytes: &mut Vec<u8>) -> Result<(), FrameError> {
+    let mut feeder = Feeder::new(alloc);
+    for byte in STREAM {
+        rewritten(rt, alloc, &mut feeder, &[byte], bytes)?;
+    }
+    Ok(())
+}
+
+#[test]
+fn single_bytes_give_the_same_frames(rt: HostRuntime) -> Result<(), Fail> {
+    let mut bytes = Vec::new(rt.alloc());
+    byte_by_byte(&rt, rt.alloc(), &mut bytes)?;
+    assert_eq!(rt; bytes.as_slice(), STREAM.as_slice());
+    Ok(())
+}
+
+#[test]
+fn a_rest_waits_and_an_empty_piece_changes_nothing(rt: HostRuntime) -> Result<(), Fail> {
+    let mut feeder = Feeder::new(rt.alloc());
+    for (piece, want) in [
+        (&PUSH[..5], without_fault(0, 5)),
+        ([].as_slice(), without_fault(0, 5)),
+        (&PUSH[5..], without_fault(1, 0)),
+    ] {
+        let brought = seen(&rt, &mut feeder, piece)?;
+        assert_eq!(rt; brought, want);
+    }
+    Ok(())
+}
+
+/// Where memory is wanting, each call is made once more.
+#[test]
+fn a_piece_that_found_no_memory_is_fed_again(rt: HostRuntime) -> Result<(), Fail> {
+    let mut feeder = Feeder::new(rt.alloc());
+    for (piece, want) in [
+        (&DELTA[..4], without_fault(0, 4)),
+        (&DELTA[4..9], without_fault(0, 9)),
+        (&DELTA[9..29], without_fault(0, 29)),
+        (&DELTA[29..], without_fault(1, 0)),
+        (&PUSH[..3], without_fault(0, 3)),
+        (&PUSH[3..], without_fault(1, 0)),
+        (&PUSH[..1], without_fault(0, 1)),
+        (&PUSH[1..], without_fault(1, 0)),
+    ] {
+        let brought = seen(&rt, &mut feeder, piece)?;
+        assert_eq!(rt; brought, want);
+    }
+    Ok(())
+}
+
+#[test]
+fn a_frame_that_found_no_memory_is_written_again(rt: HostRuntime) -> Result<(), Fail> {
+    let written = match is_written(rt.alloc(), &Frame::Tick, &[0x04, 0x00]) {
+        Err(FrameError::Memory) => is_written(rt.alloc(), &Frame::Tick, &[0x04, 0x00])?,
+        answer => answer?,
+    };
+    assert!(rt; written);
+    Ok(())
+}
+
+fn is_ended(feeder: &mut Feeder, piece: &[u8]) -> bool {
+    matches!(feeder.feed(piece), Err(FrameError::Ended))
 }
 
 /// The fault that stands at the front of the bytes, after which each call is Ended.
@@ -85,325 +332,134 @@ fn fault_of(
     bytes: &[u8],
 ) -> Result<Option<FrameError>, FrameError> {
     let mut feeder = Feeder::new(alloc);
-    let answer = fed(rt, &mut feeder, bytes)?;
-    assert_eq!(rt; answer.frames.len(), 0);
+    let answer = seen(rt, &mut feeder, bytes)?;
+    assert_eq!(rt; answer.frames, 0);
     if answer.fault.is_some() {
-        assert_eq!(rt; feeder.waiting(), 0);
-        assert_eq!(rt; feeder.feed(&[0x04, 0x00]).err(), Some(FrameError::Ended));
-        assert_eq!(rt; feeder.feed(&[]).err(), Some(FrameError::Ended));
+        assert_eq!(rt; answer.waiting, 0);
+        let ended = is_ended(&mut feeder, &[0x04, 0x00]) && is_ended(&mut feeder, &[]);
+        assert!(rt; ended);
     }
     Ok(answer.fault)
 }
 
-#[test]
-fn a_tick_is_two_bytes(rt: HostRuntime) -> Result<(), Fail> {
-    let alloc = rt.alloc();
-    let bytes = encode_frame(alloc, &Frame::Tick)?;
-    assert_eq!(rt; bytes.as_slice(), [0x04, 0x00].as_slice());
-    let mut feeder = Feeder::new(alloc);
-    let answer = fed(&rt, &mut feeder, &bytes)?;
-    assert_eq!(rt; answer.frames.len(), 1);
-    assert_eq!(rt; answer.frames[0].kind(), FrameKind::Tick);
-    assert_eq!(rt; answer.fault, None);
-    assert_eq!(rt; feeder.waiting(), 0);
-    Ok(())
-}
-
-#[test]
-fn a_delta_is_written_and_read(rt: HostRuntime) -> Result<(), Fail> {
-    let alloc = rt.alloc();
-    let wanted = delta_bytes(alloc)?;
-    let frame = delta_of_v1(alloc)?;
-    let bytes = encode_frame(alloc, &frame)?;
-    assert_eq!(rt; bytes.as_slice(), wanted.as_slice());
-    let mut feeder = Feeder::new(alloc);
-    let answer = fed(&rt, &mut feeder, &bytes)?;
-    assert_eq!(rt; answer.frames.len(), 1);
-    match &answer.frames[0] {
-        Frame::Delta(part) => {
-            assert_eq!(rt; part.key, StateKey::Sil);
-            assert_eq!(rt; part.bytes.as_slice(), V1.as_slice());
-        }
-        _ => assert!(rt; false),
+/// These faults stand at the fronts of these bytes, or none.
+fn faults_are(
+    rt: &impl Abort,
+    alloc: Global,
+    rows: &[(&[u8], Option<FrameError>)],
+) -> Result<(), FrameError> {
+    for (bytes, want) in rows {
+        let fault = fault_of(rt, alloc, bytes)?;
+        assert_eq!(rt; fault, *want, "{bytes:?}");
     }
-    Ok(())
-}
-
-#[test]
-fn a_push_of_two_empty_states(rt: HostRuntime) -> Result<(), Fail> {
-    let alloc = rt.alloc();
-    let frame = Frame::Push(empty_states(alloc)?);
-    let bytes = encode_frame(alloc, &frame)?;
-    assert_eq!(rt; bytes.as_slice(), PUSH.as_slice());
-    let mut feeder = Feeder::new(alloc);
-    let answer = fed(&rt, &mut feeder, &PUSH)?;
-    assert_eq!(rt; answer.frames.len(), 1);
-    match &answer.frames[0] {
-        Frame::Push(state) => {
-            let parts = state.parts();
-            assert_eq!(rt; parts.len(), 2);
-            assert_eq!(rt; parts[0].key, StateKey::Sil);
-            assert_eq!(rt; parts[1].key, StateKey::Nfl);
-            assert_eq!(rt; parts[1].bytes.as_slice().len(), 0);
-        }
-        _ => assert!(rt; false),
-    }
-    Ok(())
-}
-
-#[test]
-fn parts_keep_their_order_and_a_key_may_come_twice(rt: HostRuntime) -> Result<(), Fail> {
-    let alloc = rt.alloc();
-    let bytes = [
-        0x03, 0x11, 0x0A, 0x08, 0x0A, 0x03, 0x6E, 0x66, 0x6C, 0x12, 0x01, 0x07, 0x0A, 0x05, 0x0A,
-        0x03, 0x6E, 0x66, 0x6C,
-    ];
-    let mut feeder = Feeder::new(alloc);
-    let answer = fed(&rt, &mut feeder, &bytes)?;
-    assert_eq!(rt; answer.fault, None);
-    assert_eq!(rt; answer.frames.len(), 1);
-    match &answer.frames[0] {
-        Frame::Pull(state) => {
-            let parts = state.parts();
-            assert_eq!(rt; parts.len(), 2);
-            assert_eq!(rt; parts[0].bytes.as_slice(), [0x07].as_slice());
-            assert_eq!(rt; parts[1].key, StateKey::Nfl);
-        }
-        _ => assert!(rt; false),
-    }
-    Ok(())
-}
-
-#[test]
-fn each_cut_in_two_gives_the_same_frames(rt: HostRuntime) -> Result<(), Fail> {
-    let alloc = rt.alloc();
-    let stream = stream_bytes(alloc)?;
-    for cut in 0..=stream.len() {
-        let mut feeder = Feeder::new(alloc);
-        let first = fed(&rt, &mut feeder, &stream[..cut])?;
-        let mut bytes = written(alloc, &first.frames)?;
-        assert_eq!(rt; bytes.len() + feeder.waiting(), cut);
-        let second = fed(&rt, &mut feeder, &stream[cut..])?;
-        bytes.extend_from_slice(&written(alloc, &second.frames)?)?;
-        assert_eq!(rt; first.frames.len() + second.frames.len(), 4);
-        assert_eq!(rt; bytes.as_slice(), stream.as_slice());
-        assert_eq!(rt; feeder.waiting(), 0);
-    }
-    Ok(())
-}
-
-#[test]
-fn single_bytes_give_the_same_frames(rt: HostRuntime) -> Result<(), Fail> {
-    let alloc = rt.alloc();
-    let stream = stream_bytes(alloc)?;
-    let mut feeder = Feeder::new(alloc);
-    let mut bytes = Vec::new(alloc);
-    for byte in stream.iter() {
-        let piece = [*byte];
-        let answer = fed(&rt, &mut feeder, &piece)?;
-        assert_eq!(rt; answer.fault, None);
-        bytes.extend_from_slice(&written(alloc, &answer.frames)?)?;
-    }
-    assert_eq!(rt; bytes.as_slice(), stream.as_slice());
-    Ok(())
-}
-
-#[test]
-fn a_rest_waits_and_an_empty_piece_changes_nothing(rt: HostRuntime) -> Result<(), Fail> {
-    let alloc = rt.alloc();
-    let mut feeder = Feeder::new(alloc);
-    let answer = fed(&rt, &mut feeder, &PUSH[..5])?;
-    assert_eq!(rt; answer.frames.len(), 0);
-    assert_eq!(rt; feeder.waiting(), 5);
-    let answer = fed(&rt, &mut feeder, &[])?;
-    assert_eq!(rt; answer.frames.len(), 0);
-    assert_eq!(rt; feeder.waiting(), 5);
-    let answer = fed(&rt, &mut feeder, &PUSH[5..])?;
-    assert_eq!(rt; answer.frames.len(), 1);
-    Ok(())
-}
-
-/// Where memory is wanting, each call is made once more.
-#[test]
-fn a_piece_that_found_no_memory_is_fed_again(rt: HostRuntime) -> Result<(), Fail> {
-    let alloc = rt.alloc();
-    let mut feeder = Feeder::new(alloc);
-    let mut frames = 0usize;
-    let pieces = [
-        &DELTA_HEAD[..4],
-        &DELTA_HEAD[4..],
-        &V1[..20],
-        &V1[20..],
-        &PUSH[..3],
-        &PUSH[3..],
-        &PUSH[..1],
-        &PUSH[1..],
-    ];
-    for piece in pieces {
-        let answer = fed(&rt, &mut feeder, piece)?;
-        assert_eq!(rt; answer.fault, None);
-        frames = frames.saturating_add(answer.frames.len());
-    }
-    assert_eq!(rt; frames, 3);
-    assert_eq!(rt; feeder.waiting(), 0);
-    let bytes = match encode_frame(alloc, &Frame::Tick) {
-        Err(FrameError::Memory) => encode_frame(alloc, &Frame::Tick)?,
-        answer => answer?,
-    };
-    assert_eq!(rt; bytes.as_slice(), [0x04, 0x00].as_slice());
     Ok(())
 }
 
 #[test]
 fn a_kind_is_tested_when_its_byte_is_read(rt: HostRuntime) -> Result<(), Fail> {
-    let alloc = rt.alloc();
-    assert_eq!(rt; fault_of(&rt, alloc, &[0x05])?, Some(FrameError::Kind));
-    assert_eq!(rt; fault_of(&rt, alloc, &[0x00])?, Some(FrameError::Kind));
+    let kind = Some(FrameError::Kind);
+    let rows = [([0x05].as_slice(), kind), ([0x00].as_slice(), kind)];
+    faults_are(&rt, rt.alloc(), &rows)?;
     Ok(())
 }
 
 #[test]
 fn a_length_is_tested_when_it_ends(rt: HostRuntime) -> Result<(), Fail> {
-    let alloc = rt.alloc();
     let length = Some(FrameError::Length);
-    assert_eq!(rt; fault_of(&rt, alloc, &[0x04, 0x01])?, length);
-    assert_eq!(rt; fault_of(&rt, alloc, &[0x04, 0x81])?, None);
-    assert_eq!(rt;
-        fault_of(&rt, alloc, &[0x01, 0x80, 0x80, 0x80, 0x02])?,
-        None
-    );
-    assert_eq!(rt;
-        fault_of(&rt, alloc, &[0x01, 0x81, 0x80, 0x80, 0x02])?,
-        length
-    );
-    assert_eq!(rt;
-        fault_of(&rt, alloc, &[0x02, 0x80, 0x80, 0x80, 0x20])?,
-        None
-    );
-    assert_eq!(rt;
-        fault_of(&rt, alloc, &[0x02, 0x81, 0x80, 0x80, 0x20])?,
-        length
-    );
-    assert_eq!(rt;
-        fault_of(&rt, alloc, &[0x03, 0x81, 0x80, 0x80, 0x20])?,
-        length
-    );
-    let mut long = [0xFF; 11];
-    long[0] = 0x02;
-    assert_eq!(rt; fault_of(&rt, alloc, &long[..10])?, None);
-    assert_eq!(rt; fault_of(&rt, alloc, &long)?, length);
-    Ok(())
-}
-
-#[test]
-fn lengths_may_be_spelled_long(rt: HostRuntime) -> Result<(), Fail> {
-    let alloc = rt.alloc();
-    let mut feeder = Feeder::new(alloc);
-    let answer = fed(&rt, &mut feeder, &[0x04, 0x80, 0x80, 0x00, 0x04, 0x00])?;
-    assert_eq!(rt; answer.frames.len(), 2);
-    let hello = read_hello(&[0x00, 0x81, 0x80, 0x00, 0x61, 0x04])?;
-    assert_eq!(rt; hello, Some(("a", 5)));
-    Ok(())
-}
-
-#[test]
-fn frames_before_a_fault_are_answered(rt: HostRuntime) -> Result<(), Fail> {
-    let alloc = rt.alloc();
-    let mut feeder = Feeder::new(alloc);
-    let answer = fed(&rt, &mut feeder, &[0x04, 0x00, 0x05])?;
-    assert_eq!(rt; answer.frames.len(), 1);
-    assert_eq!(rt; answer.fault, Some(FrameError::Kind));
-    assert_eq!(rt; feeder.feed(&[0x04, 0x00]).err(), Some(FrameError::Ended));
+    let long = long_varint(0x02);
+    let rows = [
+        ([0x04, 0x01].as_slice(), length),
+        ([0x04, 0x81].as_slice(), None),
+        ([0x01, 0x80, 0x80, 0x80, 0x02].as_slice(), None),
+        ([0x01, 0x81, 0x80, 0x80, 0x02].as_slice(), length),
+        ([0x02, 0x80, 0x80, 0x80, 0x20].as_slice(), None),
+        ([0x02, 0x81, 0x80, 0x80, 0x20].as_slice(), length),
+        ([0x03, 0x81, 0x80, 0x80, 0x20].as_slice(), length),
+        (&long[..10], None),
+        (long.as_slice(), length),
+    ];
+    faults_are(&rt, rt.alloc(), &rows)?;
     Ok(())
 }
 
 #[test]
 fn faults_in_a_delta(rt: HostRuntime) -> Result<(), Fail> {
-    let alloc = rt.alloc();
     let unknown = Some(FrameError::UnknownState);
     let wrong_type = Some(FrameError::Wire(WireError::WrongType { at: 2 }));
     let cut = Some(FrameError::Wire(WireError::Truncated { at: 3 }));
     let not_utf8 = Some(FrameError::Wire(WireError::NotUtf8 { at: 0 }));
-    assert_eq!(rt; fault_of(&rt, alloc, &[0x01, 0x00])?, unknown);
-    assert_eq!(rt;
-        fault_of(&rt, alloc, &[0x01, 0x03, 0x0A, 0x01, 0x61])?,
-        unknown
-    );
-    assert_eq!(rt;
-        fault_of(&rt, alloc, &[0x01, 0x04, 0x12, 0x00, 0x08, 0x01])?,
-        wrong_type
-    );
-    assert_eq!(rt;
-        fault_of(&rt, alloc, &[0x01, 0x05, 0x0A, 0x01, 0x61, 0x12, 0x05])?,
-        cut
-    );
-    assert_eq!(rt;
-        fault_of(&rt, alloc, &[0x01, 0x03, 0x0A, 0x01, 0xFF])?,
-        not_utf8
-    );
+    let rows = [
+        ([0x01, 0x00].as_slice(), unknown),
+        ([0x01, 0x03, 0x0A, 0x01, 0x61].as_slice(), unknown),
+        ([0x01, 0x04, 0x12, 0x00, 0x08, 0x01].as_slice(), wrong_type),
+        ([0x01, 0x05, 0x0A, 0x01, 0x61, 0x12, 0x05].as_slice(), cut),
+        ([0x01, 0x03, 0x0A, 0x01, 0xFF].as_slice(), not_utf8),
+    ];
+    faults_are(&rt, rt.alloc(), &rows)?;
     Ok(())
 }
 
 #[test]
 fn an_unknown_state_is_tested_where_its_part_ends(rt: HostRuntime) -> Result<(), Fail> {
-    let alloc = rt.alloc();
     let unknown = Some(FrameError::UnknownState);
     let cut = Some(FrameError::Wire(WireError::Truncated { at: 0 }));
     let inner = Some(FrameError::Wire(WireError::Truncated { at: 2 }));
-    assert_eq!(rt;
-        fault_of(&rt, alloc, &[0x02, 0x04, 0x0A, 0x00, 0x0A, 0x05])?,
-        unknown
-    );
-    assert_eq!(rt; fault_of(&rt, alloc, &[0x02, 0x02, 0x0A, 0x05])?, cut);
-    assert_eq!(rt;
-        fault_of(&rt, alloc, &[0x02, 0x04, 0x0A, 0x02, 0x12, 0x05])?,
-        inner
-    );
+    let rows = [
+        ([0x02, 0x04, 0x0A, 0x00, 0x0A, 0x05].as_slice(), unknown),
+        ([0x02, 0x02, 0x0A, 0x05].as_slice(), cut),
+        ([0x02, 0x04, 0x0A, 0x02, 0x12, 0x05].as_slice(), inner),
+    ];
+    faults_are(&rt, rt.alloc(), &rows)?;
     Ok(())
 }
 
 #[test]
-fn greetings(rt: HostRuntime) -> Result<(), Fail> {
-    assert_eq!(rt; read_hello(&[0x00, 0x01, 0x61])?, Some(("a", 3)));
-    assert_eq!(rt; read_hello(&[0x00, 0x02, 0x61])?, None);
-    assert_eq!(rt; read_hello(&[0x00, 0x80])?, None);
-    assert_eq!(rt; read_hello(&[])?, None);
-    assert_eq!(rt; read_hello(&[0x05]).err(), Some(FrameError::Kind));
-    assert_eq!(rt; read_hello(&[0x00, 0x00]).err(), Some(FrameError::Length));
-    assert_eq!(rt;
-        read_hello(&[0x00, 0x80, 0x02]).err(),
-        Some(FrameError::Length)
-    );
-    assert_eq!(rt; read_hello(&[0x00, 0xFF, 0x01])?, None);
-    let not_utf8 = Some(FrameError::Wire(WireError::NotUtf8 { at: 0 }));
-    assert_eq!(rt; read_hello(&[0x00, 0x01, 0xFF]).err(), not_utf8);
-    let mut long = [0xFF; 11];
-    long[0] = 0x00;
-    assert_eq!(rt; read_hello(&long[..10])?, None);
-    assert_eq!(rt; read_hello(&long).err(), Some(FrameError::Length));
+fn lengths_may_be_spelled_long(rt: HostRuntime) -> Result<(), Fail> {
+    let mut feeder = Feeder::new(rt.alloc());
+    let brought = seen(&rt, &mut feeder, &[0x04, 0x80, 0x80, 0x00, 0x04, 0x00])?;
+    assert_eq!(rt; brought, without_fault(2, 0));
     Ok(())
 }
 
 #[test]
-fn a_payload_over_its_limit_is_not_written(rt: HostRuntime) -> Result<(), Fail> {
-    let alloc = rt.alloc();
-    let mut bytes = vec![in alloc; 0; 4_194_294]?;
-    let whole = Frame::Delta(Part {
-        key: StateKey::Nfl,
-        bytes: Bytes::copied(alloc, &bytes)?,
-    });
-    assert_eq!(rt; encode_frame(alloc, &whole)?.len(), 4_194_309);
-    bytes.push(0)?;
-    let large = Frame::Delta(Part {
-        key: StateKey::Nfl,
-        bytes: Bytes::new(bytes),
-    });
-    assert_eq!(rt; encode_frame(alloc, &large).err(), Some(FrameError::Length));
+fn frames_before_a_fault_are_answered(rt: HostRuntime) -> Result<(), Fail> {
+    let mut feeder = Feeder::new(rt.alloc());
+    let brought = seen(&rt, &mut feeder, &[0x04, 0x00, 0x05])?;
+    assert_eq!(rt; brought.frames, 1);
+    assert_eq!(rt; brought.fault, Some(FrameError::Kind));
+    let ended = is_ended(&mut feeder, &[0x04, 0x00]);
+    assert!(rt; ended);
     Ok(())
 }
 
 #[test]
-fn kinds_and_keys_go_both_ways(rt: HostRuntime) -> Result<(), Fail> {
+fn greetings(rt: HostRuntime) {
+    let not_utf8 = FrameError::Wire(WireError::NotUtf8 { at: 0 });
+    let long = long_varint(0x00);
+    for (bytes, want) in [
+        ([0x00, 0x01, 0x61].as_slice(), Ok(Some(("a", 3)))),
+        (
+            [0x00, 0x81, 0x80, 0x00, 0x61, 0x04].as_slice(),
+            Ok(Some(("a", 5))),
+        ),
+        ([0x00, 0x02, 0x61].as_slice(), Ok(None)),
+        ([0x00, 0x80].as_slice(), Ok(None)),
+        ([].as_slice(), Ok(None)),
+        ([0x05].as_slice(), Err(FrameError::Kind)),
+        ([0x00, 0x00].as_slice(), Err(FrameError::Length)),
+        ([0x00, 0x80, 0x02].as_slice(), Err(FrameError::Length)),
+        ([0x00, 0xFF, 0x01].as_slice(), Ok(None)),
+        ([0x00, 0x01, 0xFF].as_slice(), Err(not_utf8)),
+        (&long[..10], Ok(None)),
+        (long.as_slice(), Err(FrameError::Length)),
+    ] {
+        let greeting = read_hello(bytes);
+        assert!(rt; greeting == want, "{bytes:?}");
+    }
+}
+
+#[test]
+fn kinds_and_keys_go_both_ways(rt: HostRuntime) {
     for code in 0..=5u8 {
         match FrameKind::from_code(code) {
             Some(kind) => assert_eq!(rt; kind.code(), code),
@@ -415,17 +471,27 @@ fn kinds_and_keys_go_both_ways(rt: HostRuntime) -> Result<(), Fail> {
     assert_eq!(rt; StateKey::from_text("Sil"), None);
     assert_eq!(rt; StateKey::Sil.as_str(), "sil");
     assert_eq!(rt; FrameKind::Push.limit(), 67_108_864);
+}
+
+/// Whether a copy equals its source, and gives back as many bytes.
+fn is_copied(alloc: Global, bytes: &Bytes) -> Result<bool, AllocError> {
+    let copy = bytes.try_clone(alloc)?;
+    let same = copy == *bytes;
+    Ok(same && copy.into_vec().len() == bytes.as_slice().len())
+}
+
+#[test]
+fn bytes_are_copied(rt: HostRuntime) -> Result<(), Fail> {
+    let one = part(rt.alloc(), StateKey::Sil, &V1)?;
+    let copied = is_copied(rt.alloc(), &one.bytes)?;
+    assert!(rt; copied);
     Ok(())
 }
 
 #[test]
-fn vectors_are_given_back(rt: HostRuntime) -> Result<(), Fail> {
-    let alloc = rt.alloc();
-    let part = empty_part(alloc, StateKey::Sil);
-    let copy = part.bytes.try_clone(alloc)?;
-    assert!(rt; copy == part.bytes);
-    assert_eq!(rt; copy.into_vec().len(), 0);
-    let state = empty_states(alloc)?;
-    assert_eq!(rt; state.into_vec().len(), 2);
+fn parts_are_given_back(rt: HostRuntime) -> Result<(), Fail> {
+    let state = empty_states(rt.alloc())?;
+    let parts = state.into_vec();
+    assert_eq!(rt; parts.len(), 2);
     Ok(())
 }
