@@ -5,6 +5,13 @@ use am_snapshot::FoldError;
 use am_wire::WireError;
 use std::fmt;
 
+/// Prints a fault on standard error, and answers the exit status of the program.
+pub fn report<R: Eprint>(rt: &R, error: FoldError) -> u8 {
+    let line = FaultLine(error);
+    let _ = eprintln!(rt; "am_tool: {line}");
+    line.status()
+}
+
 /// A fault as it is printed: its names from outer to inner, and its number.
 #[derive(Clone, Copy)]
 pub struct FaultLine(pub FoldError);

@@ -8,7 +8,6 @@ mod words;
 use am_nflog::MeshEntry;
 use am_silence::MeshSilence;
 pub use am_snapshot::{FoldError, fold};
-use fault::FaultLine;
 use std::io::BufReader;
 use std::process::ExitCode;
 use words::{Job, StateName};
@@ -27,18 +26,14 @@ fn run(rt: &HostRuntime, job: Job) -> Result<u64, FoldError> {
 }
 
 fn main(rt: HostRuntime) -> ExitCode {
-    let job = match words::job_of(&rt) {
-        Ok(job) => job,
-        Err(status) => return ExitCode::from(status),
+    let status = match words::job_of(&rt) {
+        Ok(job) => match run(&rt, job) {
+            Ok(_) => status::DONE,
+            Err(error) => fault::report(&rt, error),
+        },
+        Err(error) => words::report(&rt, &error),
     };
-    match run(&rt, job) {
-        Ok(_) => ExitCode::SUCCESS,
-        Err(error) => {
-            let line = FaultLine(error);
-            let _ = eprintln!(rt; "am_tool: {line}");
-            ExitCode::from(line.status())
-        }
-    }
+    ExitCode::from(status)
 }
 
 #[cfg(test)]

@@ -1,12 +1,13 @@
 //! The command line.
 
-use crate::status;
+use crate::{fault, status};
+use am_snapshot::FoldError;
 use am_version_order::Moment;
 use clap::error::ErrorKind;
 use clap::{Arg, ArgAction, ArgMatches, Command};
 use std::alloc::{AllocError, Global};
-use std::env;
 use std::rt::Env;
+use std::{env, io};
 
 /// What the words ask for.
 #[derive(Clone, Copy, Debug)]
@@ -24,45 +25,93 @@ pub enum StateName {
     Log,
 }
 
-/// The job that the words of the command line ask for. Where there is none, as after a mistake or a
-/// call for help, the text for that is printed, and the answer is the status.
-pub fn job_of<R: Env + Print + Eprint + AllocGlobal>(rt: &R) -> Result<Job, u8> {
-    let Ok(words) = env::args(rt) else {
-        let _ = eprintln!(rt; "am_tool: a word of the command line is not UTF-8");
-        return Err(status::WORDS);
-    };
-    let Ok(words) = words.collect(rt.alloc()) else {
-        return Err(out_of_memory(rt));
-    };
-    let words: Vec<String> = words;
+/// Why the words of the command line give no job.
+#[derive(Debug, Drop)]
+pub enum WordsError {
+    /// A word is not UTF-8.
+    NotUtf8,
+    /// Help was asked for, or a mistake was made: the text says which.
+    Text(clap::Error),
+    /// Memory ran out.
+    Memory,
+}
+
+impl From<AllocError> for WordsError {
+    fn from(_error: AllocError) -> WordsError {
+        WordsError::Memory
+    }
+}
+
+impl From<clap::Error> for WordsError {
+    fn from(error: clap::Error) -> WordsError {
+        match error.kind() {
+            ErrorKind::OutOfMemory => WordsError::Memory,
+            _ => WordsError::Text(error),
+        }
+    }
+}
+
+/// The job that the words of the command line ask for.
+pub fn job_of<R: Env + AllocGlobal>(rt: &R) -> Result<Job, WordsError> {
+    let words = words_of(rt)?;
     if words.len() <= 1 {
         return Ok(Job::Fold {
             state: StateName::Silences,
             now: since_1970(0),
         });
     }
-    let Ok(mut command) = command(rt.alloc()) else {
-        return Err(out_of_memory(rt));
+    let mut command = command(rt.alloc())?;
+    let matches = command.try_get_matches_from_mut(words.as_slice())?;
+    read_job(&mut command, &matches)
+}
+
+// The program's name and the words behind it.
+fn words_of<R: Env + AllocGlobal>(rt: &R) -> Result<Vec<String>, WordsError> {
+    match env::args(rt) {
+        Ok(words) => Ok(words.collect(rt.alloc())?),
+        Err(error) if error.kind() == io::ErrorKind::OutOfMemory => Err(WordsError::Memory),
+        Err(_) => Err(WordsError::NotUtf8),
+    }
+}
+
+/// Prints why there is no job: a help text on standard output, all else on standard error. Answers the exit
+/// status of the program.
+pub fn report<R: Print + Eprint + AllocGlobal>(rt: &R, error: &WordsError) -> u8 {
+    match error {
+        WordsError::NotUtf8 => {
+            let _ = eprintln!(rt; "am_tool: a word of the command line is not UTF-8");
+            status::WORDS
+        }
+        WordsError::Text(text) if text.kind() == ErrorKind::DisplayHelp => print_help(rt, text),
+        WordsError::Text(text) => {
+            let _ = text.print(rt);
+            status::WORDS
+        }
+        WordsError::Memory => fault::report(rt, FoldError::Memory),
+    }
+}
+
+fn print_help<R: Print + Eprint + AllocGlobal>(rt: &R, help: &clap::Error) -> u8 {
+    let Ok(text) = help.to_string(rt.alloc()) else {
+        return fault::report(rt, FoldError::Memory);
     };
-    match command.try_get_matches_from_mut(words.as_slice()) {
-        Ok(matches) => read_job(rt, &mut command, &matches),
-        Err(error) => Err(told(rt, &error)),
+    match print_counted(rt, text.as_str()) {
+        Ok(()) => status::DONE,
+        Err(written) => fault::report(rt, FoldError::Write { written }),
     }
 }
 
-// Prints a mistake or a help text, and answers the status.
-fn told<R: Print + Eprint>(rt: &R, error: &clap::Error) -> u8 {
-    let _ = error.print(rt);
-    match error.kind() {
-        ErrorKind::OutOfMemory => status::MEMORY,
-        ErrorKind::DisplayHelp => status::DONE,
-        _ => status::WORDS,
+// Writes a text to standard output. Where a write fails or takes nothing: how many bytes went out.
+fn print_counted<R: Print>(rt: &R, text: &str) -> Result<(), u64> {
+    let mut left = text.as_bytes();
+    while !left.is_empty() {
+        let taken = rt.write_some(left).unwrap_or(0);
+        if taken == 0 {
+            return Err((text.len() - left.len()) as u64);
+        }
+        left = &left[taken..];
     }
-}
-
-fn out_of_memory<R: Eprint>(rt: &R) -> u8 {
-    let _ = eprintln!(rt; "am_tool: Memory");
-    status::MEMORY
+    Ok(())
 }
 
 fn command<'a>(alloc: Global) -> Result<Command<'a>, AllocError> {
@@ -89,25 +138,22 @@ fn command<'a>(alloc: Global) -> Result<Command<'a>, AllocError> {
         .subcommand(fold)
 }
 
-fn read_job<R: Print + Eprint>(
-    rt: &R,
-    command: &mut Command<'_>,
-    matches: &ArgMatches<'_>,
-) -> Result<Job, u8> {
-    let Some(("fold", fold)) = matches.subcommand() else {
-        return Err(status::WORDS);
-    };
-    let state = match fold.get_str("state") {
+fn read_job(command: &mut Command<'_>, matches: &ArgMatches<'_>) -> Result<Job, WordsError> {
+    let fold = matches.subcommand_matches("fold");
+    let state = match fold.and_then(|fold| fold.get_str("state")) {
         Some("nfl") => StateName::Log,
         _ => StateName::Silences,
     };
-    if let Some(nanos) = fold.get_str("now").and_then(whole_number) {
-        let now = since_1970(nanos);
-        return Ok(Job::Fold { state, now });
-    }
-    match command.error(ErrorKind::ValueValidation, BAD_NOW) {
-        Ok(error) => Err(told(rt, &error)),
-        Err(_) => Err(out_of_memory(rt)),
+    let now = fold.and_then(|fold| fold.get_str("now"));
+    match now.and_then(whole_number) {
+        Some(nanos) => Ok(Job::Fold {
+            state,
+            now: since_1970(nanos),
+        }),
+        None => {
+            let error = command.error(ErrorKind::ValueValidation, BAD_NOW)?;
+            Err(WordsError::from(error))
+        }
     }
 }
 

@@ -1,0 +1,249 @@
+#!/usr/bin/env python3
+"""Runs the built am_tool as a user meets it, and compares its status and all that it prints.
+
+    tests/command_line.py [PROGRAM]
+
+PROGRAM is crates/am_tool/out/am_tool if it isn't given; ./am_tool and rt ci build it. Prints each case that
+fails, and at the end how many passed. The texts are written by hand: those of am_tool from docs/FORMATS.md,
+those of the command line as clap words them.
+"""
+
+import os
+import resource
+import signal
+import subprocess
+import sys
+import tempfile
+
+TOP = os.path.dirname(os.path.dirname(os.path.abspath(__file__)))
+PROGRAM = f"{TOP}/crates/am_tool/out/am_tool"
+
+# Id `a`, EQUAL job `x`, start 10 s, end 100 s, update 10 s, expiry 200 s; and the same with update 20 s.
+FIRST = bytes.fromhex("200a190a0161120812036a6f621a01781a02080a220208642a02080a120308c801")
+SECOND = FIRST.replace(bytes.fromhex("2a02080a"), bytes.fromhex("2a020814"))
+# Group key `g`, receiver `r`, `w`, 0, timestamp 10 s, firing 1 and 2, expiry 200 s.
+ENTRY = bytes.fromhex("1a0a130a016712060a01721201772a02080a32020102120308c801")
+
+FOLD = ["fold", "--state", "sil", "--now", "0"]
+
+HELP = """The state that instances of Alertmanager share
+
+Usage: am_tool <COMMAND>
+
+Commands:
+  fold  Reads a row of versions, and writes the one that counts of each key, in key order
+  help  Print this message or the help of the given subcommand(s)
+
+Options:
+  -h, --help  Print help
+"""
+
+FOLD_HELP = """Reads a row of versions, and writes the one that counts of each key, in key order
+
+Usage: am_tool fold --state <STATE> --now <NANOSECONDS>
+
+Options:
+      --state <STATE>      The state that the row is of: silences or the notification log [possible values: sil, nfl]
+      --now <NANOSECONDS>  The moment of taking, in whole nanoseconds since 1970-01-01T00:00:00Z
+  -h, --help               Print help
+"""
+
+USAGE = "\nUsage: am_tool <COMMAND>\n\nFor more information, try '--help'.\n"
+FOLD_USAGE = "\nUsage: am_tool fold --state <STATE> --now <NANOSECONDS>\n\nFor more information, try '--help'.\n"
+
+TWICE = "error: the argument '{}' cannot be used multiple times\n" + FOLD_USAGE
+MISSING = "error: the following required arguments were not provided:\n{}" + FOLD_USAGE
+UNEXPECTED = "error: unexpected argument '{}' found\n"
+BAD_NOW = (
+    "error: invalid value for '--now <NANOSECONDS>': a whole number below 2^64 is wanted, in digits alone\n"
+    + USAGE
+)
+BAD_STATE = (
+    "error: invalid value '{}' for '--state <STATE>'\n"
+    "  [possible values: sil, nfl]\n\nFor more information, try '--help'.\n"
+)
+NO_STATE = (
+    "error: a value is required for '--state <STATE>' but none was supplied\n"
+    "  [possible values: sil, nfl]\n\nFor more information, try '--help'.\n"
+)
+UNKNOWN = "error: unrecognized subcommand '{}'\n"
+NOT_UTF8 = "am_tool: a word of the command line is not UTF-8\n"
+
+# Words and standard input; status, standard output and standard error.
+CASES = [
+    # without words silences are folded
+    ([], b"", 0, b"", ""),
+    ([], FIRST + SECOND, 0, SECOND, ""),
+    # both flags in both orders, parted by a blank or by `=`
+    (FOLD, SECOND + FIRST, 0, SECOND, ""),
+    (["fold", "--now", "0", "--state", "sil"], FIRST + SECOND, 0, SECOND, ""),
+    (["fold", "--now=0", "--state=nfl"], ENTRY + ENTRY, 0, ENTRY, ""),
+    (["fold", "--state", "nfl", "--now", "0"], FIRST, 1, b"", "am_tool: Wire WrongType 13\n"),
+    # several snapshots one after the other; late versions are folded too
+    (["fold", "--state", "sil", "--now", "300000000000"], SECOND + FIRST + FIRST, 0, SECOND, ""),
+    # help
+    (["--help"], b"", 0, HELP.encode(), ""),
+    (["-h"], b"", 0, HELP.encode(), ""),
+    (["help"], b"", 0, HELP.encode(), ""),
+    (["fold", "--help"], b"", 0, FOLD_HELP.encode(), ""),
+    (["fold", "-h"], b"", 0, FOLD_HELP.encode(), ""),
+    (["help", "fold"], b"", 0, FOLD_HELP.encode(), ""),
+    (FOLD + ["--help"], FIRST, 0, FOLD_HELP.encode(), ""),
+    # a flag twice, or none
+    (FOLD + ["--state", "sil"], b"", 2, b"", TWICE.format("--state <STATE>")),
+    (FOLD + ["--now", "1"], b"", 2, b"", TWICE.format("--now <NANOSECONDS>")),
+    (["fold"], b"", 2, b"", MISSING.format("  --state <STATE>\n  --now <NANOSECONDS>\n")),
+    (["fold", "--now", "0"], b"", 2, b"", MISSING.format("  --state <STATE>\n")),
+    (["fold", "--state", "sil"], b"", 2, b"", MISSING.format("  --now <NANOSECONDS>\n")),
+    # moments
+    (["fold", "--state", "sil", "--now", "18446744073709551615"], FIRST, 0, FIRST, ""),
+    (["fold", "--state", "sil", "--now", "0000000000000000000000001"], FIRST, 0, FIRST, ""),
+    (["fold", "--state", "sil", "--now", "18446744073709551616"], FIRST, 2, b"", BAD_NOW),
+    (["fold", "--state", "sil", "--now", "+5"], FIRST, 2, b"", BAD_NOW),
+    (["fold", "--state", "sil", "--now=-5"], FIRST, 2, b"", BAD_NOW),
+    (["fold", "--state", "sil", "--now", ""], FIRST, 2, b"", BAD_NOW),
+    (["fold", "--state", "sil", "--now", " 5"], FIRST, 2, b"", BAD_NOW),
+    (["fold", "--state", "sil", "--now", "1e3"], FIRST, 2, b"", BAD_NOW),
+    (["fold", "--state", "sil", "--now", "0x10"], FIRST, 2, b"", BAD_NOW),
+    (["fold", "--state", "sil", "--now", "\u0665"], FIRST, 2, b"", BAD_NOW),
+    # states
+    (["fold", "--state", "mem", "--now", "0"], FIRST, 2, b"", BAD_STATE.format("mem")),
+    (["fold", "--state", "SIL", "--now", "0"], FIRST, 2, b"", BAD_STATE.format("SIL")),
+    (["fold", "--now", "0", "--state"], FIRST, 2, b"", NO_STATE),
+    # unknown words
+    (FOLD + ["extra"], b"", 2, b"", UNEXPECTED.format("extra") + FOLD_USAGE),
+    (
+        ["fold", "--stat", "sil", "--now", "0"],
+        b"",
+        2,
+        b"",
+        UNEXPECTED.format("--stat") + "\n  tip: a similar argument exists: '--state'\n" + FOLD_USAGE,
+    ),
+    (["--now", "0"], b"", 2, b"", UNEXPECTED.format("--now") + USAGE),
+    (["--version"], b"", 2, b"", UNEXPECTED.format("--version") + USAGE),
+    (["unfold"], b"", 2, b"", UNKNOWN.format("unfold") + "\n  tip: a similar subcommand exists: 'fold'\n" + USAGE),
+    (["show"], b"", 2, b"", UNKNOWN.format("show") + USAGE),
+    ([""], b"", 2, b"", UNKNOWN.format("") + USAGE),
+    # words that are not UTF-8
+    ([b"\xff"], b"", 2, b"", NOT_UTF8),
+    (["fold", "--state", b"sil\xc3", "--now", "0"], FIRST, 2, b"", NOT_UTF8),
+    # faults of the input, of which nothing is written
+    (FOLD, SECOND + FIRST[:-1], 1, b"", "am_tool: Wire Truncated 33\n"),
+    (FOLD, bytes.fromhex("020000"), 1, b"", "am_tool: Wire FieldNumber 1\n"),
+    (FOLD, bytes.fromhex("00"), 1, b"", "am_tool: Wire MissingMessage 1\n"),
+    (FOLD, bytes.fromhex("81808020"), 1, b"", "am_tool: Wire TooLarge\n"),
+]
+
+# Versions of two keys, and how many bytes of them a file takes.
+TWO_KEYS = SECOND + SECOND.replace(b"\x01a", b"\x01b")
+CUT = 40
+
+passed, failed = 0, 0
+
+
+def run(words, **how):
+    """Status, standard output and standard error, each None where it did not go to a pipe."""
+    if "input" not in how:
+        how.setdefault("stdin", subprocess.DEVNULL)
+    how = {"stdout": subprocess.PIPE, "stderr": subprocess.PIPE, **how}
+    ran = subprocess.run([PROGRAM, *words], check=False, timeout=60, **how)
+    return ran.returncode, ran.stdout, None if ran.stderr is None else ran.stderr.decode()
+
+
+def compare(name, found, wanted):
+    global passed, failed
+    if found == wanted:
+        passed += 1
+    else:
+        failed += 1
+        print(f"{name}: status, output and error are\n  {found}\nand not\n  {wanted}")
+
+
+def test_words():
+    for words, given, status, output, error in CASES:
+        compare(f"am_tool {words}", run(words, input=given), (status, output, error))
+
+
+def closing(number):
+    return {"preexec_fn": lambda: os.close(number)}
+
+
+def test_streams():
+    """Standard streams that can't be read or written."""
+    row = {"input": FIRST + SECOND}
+    stopped = "am_tool: Write 0\n"
+    with open("/dev/full", "wb") as full:
+        on_full = {"stdout": full}
+        compare("a full disk", run(FOLD, **row, **on_full), (3, None, stopped))
+        compare("nothing to write on a full disk", run(FOLD, **on_full), (0, None, ""))
+        compare("help on a full disk", run(["--help"], **on_full), (3, None, stopped))
+        compare("a mistake told on a full disk", run(["fold"], stderr=full), (2, b"", None))
+        compare("a fault told on a full disk", run(FOLD, input=FIRST[:9], stderr=full), (1, b"", None))
+    compare("a closed output", run(FOLD, **row, **closing(1)), (3, b"", stopped))
+    compare("help on a closed output", run(["--help"], **closing(1)), (3, b"", stopped))
+    compare("a closed input", run(FOLD, **closing(0)), (3, b"", "am_tool: Read 0\n"))
+    directory = os.open("/", os.O_RDONLY)
+    compare("a directory as input", run(FOLD, stdin=directory), (3, b"", "am_tool: Read 0\n"))
+    os.close(directory)
+    reader, writer = os.pipe()
+    os.close(reader)
+    compare("an output that nobody reads", run(FOLD, **row, stdout=writer), (3, None, stopped))
+    os.close(writer)
+
+
+def test_cut_output():
+    """A file that takes no more than so many bytes: exactly these went out."""
+
+    def limit():
+        signal.signal(signal.SIGXFSZ, signal.SIG_IGN)
+        resource.setrlimit(resource.RLIMIT_FSIZE, (CUT, CUT))
+
+    with tempfile.TemporaryFile() as file:
+        how = {"input": TWO_KEYS, "stdout": file, "preexec_fn": limit, "restore_signals": False}
+        compare("an output that is cut", run(FOLD, **how), (3, None, f"am_tool: Write {CUT}\n"))
+        file.seek(0)
+        compare("the bytes before the cut", file.read(), TWO_KEYS[:CUT])
+
+
+def outcomes_under_limits(words, **how):
+    """What comes of the words as the memory that the program may take rises, until it is enough."""
+    found = []
+    for limit in range(1 << 20, 1 << 26, 1 << 16):
+        ran = run(words, preexec_fn=lambda: resource.setrlimit(resource.RLIMIT_AS, (limit, limit)), **how)
+        # the program did not start
+        if ran[0] < 0 or ran[0] == 127:
+            continue
+        if ran not in found:
+            found.append(ran)
+        if ran[0] != 4:
+            break
+    return found
+
+
+def test_memory():
+    """Wherever memory is refused, the program says so and nothing else."""
+    refused = (4, b"", "am_tool: Memory\n")
+    compare("refused memory", outcomes_under_limits(FOLD, input=FIRST), [refused, (0, FIRST, "")])
+    many = FOLD + ["x"] * 20_000
+    mistake = (2, b"", UNEXPECTED.format("x") + FOLD_USAGE)
+    compare("refused memory among many words", outcomes_under_limits(many), [refused, mistake])
+
+
+def main():
+    global PROGRAM
+    if len(sys.argv) > 1:
+        PROGRAM = os.path.abspath(sys.argv[1])
+    if not os.access(PROGRAM, os.X_OK):
+        print(f"{PROGRAM} is not there: rt ci or ./am_tool builds it")
+        print("command line: 0 passed, 1 failed")
+        return 1
+    test_words()
+    test_streams()
+    test_cut_output()
+    test_memory()
+    print(f"command line: {passed} passed, {failed} failed")
+    return 1 if failed else 0
+
+
+if __name__ == "__main__":
+    sys.exit(main())
