@@ -13,8 +13,8 @@ use crate::receiver::{Receiver, ReceiverDraft};
 use am_version_order::Moment;
 use am_wire::{
     Bytes, Draft, Field, LastBytes, LastNumber, Message, Part, Schema, TimestampDraft, WireError,
-    WireType, moment_in, pack_numbers, push_bytes, push_message, push_number, push_numbers,
-    read_message,
+    WireType, bytes_size, message_size, moment_in, number_size, numbers_size, pack_numbers,
+    push_bytes, push_message, push_number, push_numbers, read_message,
 };
 use std::alloc::{AllocError, Global};
 use std::cmp::Ordering;
@@ -60,11 +60,18 @@ impl Ord for LogKey {
 
     fn cmp(&self, other: &LogKey) -> Ordering {
         let (to, other_to) = (&self.receiver, &other.receiver);
-        self.group_key
-            .cmp(&other.group_key)
-            .then(to.group_name.cmp(&other_to.group_name))
-            .then(to.integration.cmp(&other_to.integration))
-            .then(to.idx.cmp(&other_to.idx))
+        match self.group_key.cmp(&other.group_key) {
+            Ordering::Equal => {}
+            order => return order,
+        }
+        match to.group_name.cmp(&other_to.group_name) {
+            Ordering::Equal => {}
+            order => return order,
+        }
+        match to.integration.cmp(&other_to.integration) {
+            Ordering::Equal => to.idx.cmp(&other_to.idx),
+            order => order,
+        }
     }
 }
 
@@ -197,6 +204,17 @@ impl Message for Entry {
     ghost reads = { reads_entry };
 
     ghost again = { entry_again };
+
+    #[tactic(auto, unfolding(crate::specs::Entries::writes_entry))]
+    fn size(&self) -> u64 {
+        bytes_size(1, self.key.group_key.as_slice())
+            .saturating_add(message_size(2, &self.key.receiver))
+            .saturating_add(bytes_size(3, self.group_hash.as_slice()))
+            .saturating_add(number_size(4, u64::from(self.resolved)))
+            .saturating_add(message_size(5, &self.timestamp))
+            .saturating_add(numbers_size(6, self.firing_alerts.as_slice()))
+            .saturating_add(numbers_size(7, self.resolved_alerts.as_slice()))
+    }
 
     #[tactic(auto, unfolding(crate::specs::Entries::writes_entry))]
     fn put(&self, out: &mut Vec<u8>) -> Result<(), AllocError> {

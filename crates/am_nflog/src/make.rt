@@ -1,6 +1,6 @@
 //! The entry that a notification leaves.
 
-ghost use Rattle.std.specs.Prelude.{◌≡◌, ◌<◌, ◌≤◌, ◌↔◌, ◌⊎◌, length, IfOk, IfErr, IfSome, IsNone};
+ghost use Rattle.std.specs.Prelude.{◌≡◌, ◌<◌, ◌≤◌, ◌↔◌, ◌⊎◌, length, Err, IfOk, IfErr, OnErr, IfSome, IsNone};
 ghost use Rattle.am_wire.specs.declared.error.WireError.TheVariants as errors;
 ghost use Rattle.am_nflog.specs.Mesh.{writes_mesh_entry};
 ghost use Rattle.am_nflog.specs.Made.{made_entry, expiry};
@@ -14,7 +14,9 @@ use am_wire::{Bytes, WireError};
 use std::alloc::Global;
 
 /// The entry of a notification at `now`: it expires after the smaller of `retention` and two times
-/// `repeat`, and [`Moment::GREATEST`] caps that. Where this is not after `now`, no entry is made.
+/// `repeat`, and [`Moment::GREATEST`] caps that. Where this is not after `now`, no entry is made, and nothing
+/// is refused. Else it refuses by [`WireError::TooLarge`], exactly where the canonical text of the version has
+/// over 67,108,864 bytes, and by [`WireError::Memory`].
 pub fn make_entry(
     alloc: Global,
     group_key: Bytes,
@@ -27,7 +29,10 @@ pub fn make_entry(
 ) -> Result<Option<MeshEntry>, WireError>
     ensures made { IfOk result (λ made. IfSome made (λ m. m ≡ made_entry group_key receiver firing resolved repeat retention now)) }
     ensures none { IfOk result (λ made. IsNone made ↔ (expiry repeat retention now ≤ now)) }
-    ensures refused { IfErr result (λ e. (e ≡ errors.Memory) ⊎ ((e ≡ errors.TooLarge) × (67108864 < length (writes_mesh_entry (made_entry group_key receiver firing resolved repeat retention now))))) }
+    ensures wanted { OnErr result (now < expiry repeat retention now) }
+    ensures too_large { (result ≡ Err errors.TooLarge) ↔ ((now < expiry repeat retention now) ×
+        (67108864 < length (writes_mesh_entry (made_entry group_key receiver firing resolved repeat retention now)))) }
+    ensures refused { IfErr result (λ e. (e ≡ errors.Memory) ⊎ (e ≡ errors.TooLarge)) }
 {
     let by_retention = now.capped_add(retention);
     let by_repeat = now.capped_add(repeat).capped_add(repeat);

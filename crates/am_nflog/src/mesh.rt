@@ -1,7 +1,9 @@
 //! Entries as instances pass them on.
 
-ghost use Rattle.std.specs.Prelude.{◌≡◌, ℕ, ◌<◌, ◌≤◌, List, [], ◌∷◌, ◌++◌, length, OnOk, IfOk, IfErr, ◌⊎◌};
+ghost use Rattle.std.specs.Prelude.{◌≡◌, ℕ, ◌<◌, ◌≤◌, List, [], ◌∷◌, ◌++◌, length, Err, OnOk, IfOk, IfErr, ◌⊎◌, ◌↔◌};
 ghost use Rattle.am_wire.specs.declared.error.WireError.TheVariants as errors;
+ghost use Rattle.am_wire.specs.Sizes.{counted};
+ghost use Rattle.am_nflog.specs.Entries.{writes_entry};
 ghost use Rattle.am_nflog.specs.Mesh.{Mesh, writes_mesh_entry};
 ghost use Rattle.am_nflog.specs.MeshTable.{mesh_entry};
 
@@ -9,7 +11,7 @@ use crate::entry::{Entry, EntryDraft, LogKey};
 use am_version_order::{Moment, Version};
 use am_wire::{
     Draft, Field, MOST_MESSAGE_BYTES, Message, Part, Schema, TimestampDraft, WireError, WireType,
-    append_text, moment_in, push_message, read_message,
+    append_text, chunk_size, message_size, moment_in, push_message, push_sized, read_message,
 };
 use std::alloc::{AllocError, Global};
 use std::marker::Model;
@@ -39,27 +41,37 @@ impl Model for MeshEntry {
 }
 
 impl MeshEntry {
-    /// A version of these parts. It refuses by [`WireError::TooLarge`] where its canonical text has over
-    /// 67,108,864 bytes, and by [`WireError::Memory`].
+    /// A version of these parts. It refuses by [`WireError::TooLarge`], exactly where its canonical text has
+    /// over 67,108,864 bytes, and by [`WireError::Memory`].
     pub fn new(alloc: Global, entry: Entry, expires_at: Moment) -> Result<MeshEntry, WireError>
         ensures parts { IfOk result (λ m. m ≡ record { entry = entry; expires_at = expires_at }) }
         ensures within { IfOk result (λ m. length (writes_mesh_entry m) ≤ 67108864) }
-        ensures refused { IfErr result (λ e. (e ≡ errors.Memory) ⊎ ((e ≡ errors.TooLarge) × (67108864 < length (writes_mesh_entry (record { entry = entry; expires_at = expires_at }))))) }
+        ensures too_large { (result ≡ Err errors.TooLarge) ↔
+            (67108864 < length (writes_mesh_entry (record { entry = entry; expires_at = expires_at }))) }
+        ensures refused { IfErr result (λ e. (e ≡ errors.Memory) ⊎ (e ≡ errors.TooLarge)) }
     {
-        let version = MeshEntry::of_parts(alloc, entry, expires_at)?;
-        if version.canonical().len() as u64 > MOST_MESSAGE_BYTES {
+        let size = entry.size();
+        if version_size(size, expires_at) > MOST_MESSAGE_BYTES {
             return Err(WireError::TooLarge);
         }
+        let version = MeshEntry::of_parts(alloc, entry, size, expires_at)?;
         Ok(version)
     }
 
-    // A version of these parts, however long its text is.
+    // A version of these parts, however long its text is; the entry has so many bytes.
     #[tactic(auto, unfolding(crate::specs::Mesh::writes_mesh_entry))]
-    fn of_parts(alloc: Global, entry: Entry, expires_at: Moment) -> Result<MeshEntry, AllocError>
+    fn of_parts(
+        alloc: Global,
+        entry: Entry,
+        size: u64,
+        expires_at: Moment,
+    ) -> Result<MeshEntry, AllocError>
+        requires { size ≡ counted (length (writes_entry entry)) }
         ensures { IfOk result (λ m. m ≡ record { entry = entry; expires_at = expires_at }) }
     {
-        let mut canonical = Vec::new(alloc);
-        push_message(&mut canonical, 1, &entry)?;
+        let room = version_size(size, expires_at) as usize;
+        let mut canonical = Vec::with_capacity(alloc, room)?;
+        push_sized(&mut canonical, 1, size, &entry)?;
         push_message(&mut canonical, 2, &expires_at)?;
         Ok(MeshEntry {
             entry,
@@ -79,6 +91,15 @@ impl MeshEntry {
     {
         self.expires_at
     }
+}
+
+// How many bytes a version has whose entry has so many.
+#[tactic(auto, unfolding(crate::specs::Mesh::writes_mesh_entry))]
+fn version_size(entry_size: u64, expires_at: Moment) -> u64
+    ensures { (m : Mesh) → entry_size ≡ counted (length (writes_entry m.entry)) → expires_at ≡ m.expires_at →
+        result ≡ counted (length (writes_mesh_entry m)) }
+{
+    chunk_size(1, entry_size).saturating_add(message_size(2, &expires_at))
 }
 
 /// An entry that is passed on as it is read.
@@ -137,7 +158,8 @@ impl<'a> Draft<'a> for MeshEntryDraft<'a> {
         }
         let entry = self.entry.draft.finish(alloc, self.entry.at)?;
         let expires_at = moment_in(alloc, self.expires_at)?;
-        let version = MeshEntry::of_parts(alloc, entry, expires_at)?;
+        let size = entry.size();
+        let version = MeshEntry::of_parts(alloc, entry, size, expires_at)?;
         Ok(version)
     }
 }
@@ -154,6 +176,10 @@ impl Message for MeshEntry {
     ghost reads = { reads_mesh_entry };
 
     ghost again = { mesh_again };
+
+    fn size(&self) -> u64 {
+        self.canonical().len() as u64
+    }
 
     fn put(&self, out: &mut Vec<u8>) -> Result<(), AllocError> {
         out.extend_from_slice(self.canonical())

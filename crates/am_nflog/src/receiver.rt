@@ -4,8 +4,8 @@ ghost use Rattle.std.specs.Prelude.{◌≡◌, ℕ, List, [], ◌∷◌, ◌++�
 ghost use Rattle.am_nflog.specs.Receivers.{receiver};
 
 use am_wire::{
-    Draft, Field, LastNumber, LastText, Message, Schema, Text, WireError, WireType, push_number,
-    push_text, read_message,
+    Draft, Field, LastNumber, LastText, Message, Schema, Text, WireError, WireType, number_size,
+    push_number, push_text, read_message, text_size,
 };
 use std::alloc::{AllocError, Global};
 
@@ -106,6 +106,13 @@ impl Message for Receiver {
     ghost reads = { reads_receiver };
 
     ghost again = { receiver_again };
+
+    #[tactic(auto, unfolding(crate::specs::Receivers::writes_receiver))]
+    fn size(&self) -> u64 {
+        text_size(1, self.group_name.as_str())
+            .saturating_add(text_size(2, self.integration.as_str()))
+            .saturating_add(number_size(3, u64::from(self.idx)))
+    }
 
     #[tactic(auto, unfolding(crate::specs::Receivers::writes_receiver))]
     fn put(&self, out: &mut Vec<u8>) -> Result<(), AllocError> {

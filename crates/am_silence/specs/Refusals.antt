@@ -80,7 +80,7 @@ posted_refusal prev posted verdict now =
 unfoldable pub fresh_refusal : Option Silence → Posted → Bool → ℕ → Option SilenceError
 fresh_refusal old posted id_held now = errors.IdInUse when (not (updates old posted now) && id_held)
 
--- the tests that take no memory
+-- the tests that come before those of the versions' lengths
 unfoldable pub early_refusal : Option Mesh → Posted → Verdict → Bool → ℕ → Option SilenceError
 early_refusal prev posted verdict id_held now =
     posted_refusal prev posted verdict now before fresh_refusal (former prev posted) posted id_held now

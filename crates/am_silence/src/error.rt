@@ -7,8 +7,7 @@ use am_version_order::Moment;
 use std::alloc::AllocError;
 use thiserror::Error;
 
-/// Why a silence is not posted, or not ended: the first of these that applies, in their order. Want of
-/// memory may be answered before [`SilenceError::TooLarge`].
+/// Why a silence is not posted, or not ended: the first of these that applies, in their order.
 #[derive(Clone, Copy, Debug, PartialEq, Eq, Error)]
 pub enum SilenceError {
     #[error("there is no such silence")]

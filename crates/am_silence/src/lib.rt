@@ -9,6 +9,7 @@ mod matcher;
 mod mesh;
 mod plan;
 mod silence;
+mod sizes;
 mod state;
 mod update;
 mod versions;

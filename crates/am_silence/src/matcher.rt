@@ -7,8 +7,8 @@ ghost use Rattle.am_silence.specs.Kinds.{kind_code, is_regexp};
 ghost use Rattle.am_silence.specs.Matchers.{matcher, wants_label};
 
 use am_wire::{
-    Draft, Field, LastNumber, LastText, Message, Schema, Text, WireError, WireType, push_number,
-    push_text, read_message,
+    Draft, Field, LastNumber, LastText, Message, Schema, Text, WireError, WireType, number_size,
+    push_number, push_text, read_message, text_size,
 };
 use std::alloc::{AllocError, Global};
 use std::marker::Model;
@@ -220,6 +220,13 @@ impl Message for Matcher {
     ghost reads = { reads_matcher };
 
     ghost again = { matcher_again };
+
+    #[tactic(auto, unfolding(crate::specs::Matchers::writes_matcher))]
+    fn size(&self) -> u64 {
+        number_size(1, self.kind.number())
+            .saturating_add(text_size(2, self.name.as_str()))
+            .saturating_add(text_size(3, self.pattern.as_str()))
+    }
 
     #[tactic(auto, unfolding(crate::specs::Matchers::writes_matcher))]
     fn put(&self, out: &mut Vec<u8>) -> Result<(), AllocError> {

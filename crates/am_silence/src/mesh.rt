@@ -1,23 +1,26 @@
 //! Silences as instances pass them on.
 
-ghost use Rattle.std.specs.Prelude.{◌≡◌, ◌≢◌, ℕ, ◌<◌, ◌≤◌, List, [], ◌∷◌, ◌++◌, length, OnOk, IfOk, IfErr, false, find, ◌⊎◌};
+ghost use Rattle.std.specs.Prelude.{◌≡◌, ◌≢◌, ℕ, ◌<◌, ◌≤◌, List, [], ◌∷◌, ◌++◌, length, Err, OnOk, IfOk, IfErr, false, find, ◌⊎◌, ◌↔◌};
 ghost use Rattle.am_wire.specs.declared.error.WireError.TheVariants as errors;
 ghost use Rattle.std.specs.Option.{option_copied};
 ghost use Rattle.std.specs.List.{list_any};
 ghost use Rattle.am_silence.specs.Kinds.{is_regexp};
 ghost use Rattle.am_silence.specs.Matchers.{wants_label};
 ghost use Rattle.am_version_order.specs.Moments.{greatest};
+ghost use Rattle.am_wire.specs.Sizes.{counted};
+ghost use Rattle.am_silence.specs.Silences.{writes_silence};
 ghost use Rattle.am_silence.specs.Mesh.{Mesh, IsMesh, writes_mesh_silence, bucket_of};
 ghost use Rattle.am_silence.specs.States.{state_of, is_expired};
 ghost use Rattle.am_silence.specs.MeshTable.{mesh_silence};
 
 use crate::matcher::Matcher;
 use crate::silence::{Silence, SilenceDraft};
+use crate::sizes::version_size;
 use crate::state::{State, state_at};
 use am_version_order::{Moment, Version};
 use am_wire::{
     Draft, Field, MOST_MESSAGE_BYTES, Message, Part, Schema, Text, TimestampDraft, WireError,
-    WireType, append_text, moment_in, push_message, read_message,
+    WireType, append_text, moment_in, push_message, push_sized, read_message,
 };
 use std::alloc::{AllocError, Global};
 use std::marker::Model;
@@ -49,8 +52,8 @@ impl Model for MeshSilence {
 }
 
 impl MeshSilence {
-    /// A version of these parts. It refuses by [`WireError::TooLarge`] where its canonical text has over
-    /// 67,108,864 bytes, and by [`WireError::Memory`].
+    /// A version of these parts. It refuses by [`WireError::TooLarge`], exactly where its canonical text has
+    /// over 67,108,864 bytes, and by [`WireError::Memory`].
     pub fn new(
         alloc: Global,
         silence: Silence,
@@ -59,26 +62,32 @@ impl MeshSilence {
         ensures parts { IfOk result (λ m. m ≡ record { silence = silence; expires_at = expires_at }) }
         ensures value { IfOk result IsMesh }
         ensures within { IfOk result (λ m. length (writes_mesh_silence m) ≤ 67108864) }
-        ensures refused { IfErr result (λ e. (e ≡ errors.Memory) ⊎ ((e ≡ errors.TooLarge) × (67108864 < length (writes_mesh_silence (record { silence = silence; expires_at = expires_at }))))) }
+        ensures too_large { (result ≡ Err errors.TooLarge) ↔
+            (67108864 < length (writes_mesh_silence (record { silence = silence; expires_at = expires_at }))) }
+        ensures refused { IfErr result (λ e. (e ≡ errors.Memory) ⊎ (e ≡ errors.TooLarge)) }
     {
-        let version = MeshSilence::of_parts(alloc, silence, expires_at)?;
-        if version.canonical().len() as u64 > MOST_MESSAGE_BYTES {
+        let size = silence.size();
+        if version_size(size, expires_at) > MOST_MESSAGE_BYTES {
             return Err(WireError::TooLarge);
         }
+        let version = MeshSilence::of_parts(alloc, silence, size, expires_at)?;
         Ok(version)
     }
 
-    // A version of these parts, however long its text is.
+    // A version of these parts, however long its text is; the silence has so many bytes.
     #[tactic(auto, unfolding(crate::specs::Mesh::writes_mesh_silence))]
     fn of_parts(
         alloc: Global,
         silence: Silence,
+        size: u64,
         expires_at: Moment,
     ) -> Result<MeshSilence, AllocError>
+        requires { size ≡ counted (length (writes_silence silence)) }
         ensures { IfOk result (λ m. m ≡ record { silence = silence; expires_at = expires_at }) }
     {
-        let mut canonical = Vec::new(alloc);
-        push_message(&mut canonical, 1, &silence)?;
+        let room = version_size(size, expires_at) as usize;
+        let mut canonical = Vec::with_capacity(alloc, room)?;
+        push_sized(&mut canonical, 1, size, &silence)?;
         push_message(&mut canonical, 2, &expires_at)?;
         let bucket = bucket_text(alloc, silence.matchers.as_slice())?;
         Ok(MeshSilence {
@@ -128,13 +137,14 @@ fn first_wanting(matchers: &[Matcher]) -> Option<&Matcher>
 fn bucket_text(alloc: Global, matchers: &[Matcher]) -> Result<Vec<u8>, AllocError>
     ensures { IfOk result (λ bucket. bucket.items ≡ bucket_of matchers.now) }
 {
-    let mut bucket = Vec::new(alloc);
     if has_regexp(matchers) {
-        return Ok(bucket);
+        return Ok(Vec::new(alloc));
     }
-    if let Some(matcher) = first_wanting(matchers) {
-        matcher.put(&mut bucket)?;
-    }
+    let Some(matcher) = first_wanting(matchers) else {
+        return Ok(Vec::new(alloc));
+    };
+    let mut bucket = Vec::with_capacity(alloc, matcher.size() as usize)?;
+    matcher.put(&mut bucket)?;
     Ok(bucket)
 }
 
@@ -194,7 +204,8 @@ impl<'a> Draft<'a> for MeshSilenceDraft<'a> {
         }
         let silence = self.silence.draft.finish(alloc, self.silence.at)?;
         let expires_at = moment_in(alloc, self.expires_at)?;
-        let version = MeshSilence::of_parts(alloc, silence, expires_at)?;
+        let size = silence.size();
+        let version = MeshSilence::of_parts(alloc, silence, size, expires_at)?;
         Ok(version)
     }
 }
@@ -211,6 +222,10 @@ impl Message for MeshSilence {
     ghost reads = { reads_mesh_silence };
 
     ghost again = { mesh_again };
+
+    fn size(&self) -> u64 {
+        self.canonical().len() as u64
+    }
 
     fn put(&self, out: &mut Vec<u8>) -> Result<(), AllocError> {
         out.extend_from_slice(self.canonical())

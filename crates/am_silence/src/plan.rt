@@ -15,7 +15,7 @@ use crate::mesh::MeshSilence;
 use crate::silence::Silence;
 use crate::state::{State, state_at};
 use crate::update::may_update;
-use crate::versions::{ended_version, new_version, updated_version};
+use crate::versions::{check_ended, ended_version, new_version, updated_version};
 use am_version_order::{Interval, Moment};
 use am_wire::Text;
 use std::alloc::Global;
@@ -56,7 +56,7 @@ pub enum Plan {
 /// The versions that a post at `now` makes, where `prev` is the version of the posted identifier in the
 /// view, `bits` are random, and `id_held` says that the identifier that they give is held, live or not.
 /// Where no identifier is posted, nothing is looked at of `prev`. It refuses by the first
-/// [`SilenceError`] that applies.
+/// [`SilenceError`] that applies; want of memory is the last of them.
 #[tactic(auto, unfolding(crate::specs::Refusals::early_refusal, crate::specs::Refusals::refusal, crate::specs::Plans::planned))]
 pub fn plan_post(
     alloc: Global,
@@ -71,7 +71,7 @@ pub fn plan_post(
     ensures planned { IfOk result (λ plan. plan ≡ planned (option_copied prev.entry) (post_of posted now bits retention)) }
     ensures accepted { OnOk result (refusal (option_copied prev.entry) verdict id_held (post_of posted now bits retention) ≡ None) }
     ensures refused { IfErr result (λ e. e ≢ errors.Memory → refusal (option_copied prev.entry) verdict id_held (post_of posted now bits retention) ≡ Some e) }
-    ensures memory { IfErr result (λ e. e ≡ errors.Memory → early_refusal (option_copied prev.entry) posted verdict id_held now ≡ None) }
+    ensures memory { IfErr result (λ e. e ≡ errors.Memory → refusal (option_copied prev.entry) verdict id_held (post_of posted now bits retention) ≡ None) }
 
     // The silence that is posted again is updated exactly where the rule allows it.
     ensures in_place { IfOk result (λ plan. IsUpdate plan ↔ IsSomeAnd (former (option_copied prev.entry) posted) (λ old. MayUpdate old posted now)) }
@@ -101,7 +101,7 @@ fn plan_over(
     ensures refused { IfErr result (λ e. e ≢ errors.Memory → (fresh_refusal (option_copied former.entry) posted id_held now before size_refusal (versions (plan_over (option_copied former.entry) (post_of posted now bits retention)))) ≡ Some e) }
     ensures in_place { IfOk result (λ plan. IsUpdate plan ↔ IsSomeAnd (option_copied former.entry) (λ old. MayUpdate old posted now)) }
     ensures live { now < posted.ends_at → IfOk result (λ plan. All (λ v. IsLive now (mesh_version v)) (versions plan)) }
-    ensures memory { IfErr result (λ e. e ≡ errors.Memory → fresh_refusal (option_copied former.entry) posted id_held now ≡ None) }
+    ensures memory { IfErr result (λ e. e ≡ errors.Memory → (fresh_refusal (option_copied former.entry) posted id_held now before size_refusal (versions (plan_over (option_copied former.entry) (post_of posted now bits retention)))) ≡ None) }
 {
     match former {
         Some(old) if may_update(old, &posted, now) => {
@@ -129,20 +129,25 @@ fn plan_new(
     ensures planned { IfOk result (λ plan. plan ≡ new_plan (option_copied former.entry) (post_of posted now bits retention)) }
     ensures accepted { OnOk result (size_refusal (versions (new_plan (option_copied former.entry) (post_of posted now bits retention))) ≡ None) }
     ensures refused { IfErr result (λ e. e ≢ errors.Memory → size_refusal (versions (new_plan (option_copied former.entry) (post_of posted now bits retention))) ≡ Some e) }
+    ensures memory { IfErr result (λ e. e ≡ errors.Memory → size_refusal (versions (new_plan (option_copied former.entry) (post_of posted now bits retention))) ≡ None) }
     ensures live { now < posted.ends_at → IfOk result (λ plan. All (λ v. IsLive now (mesh_version v)) (versions plan)) }
 {
-    let new = new_version(alloc, posted, now, bits, retention)?;
     match former {
         Some(old) if state_at(old, now) != State::Expired => {
+            check_ended(old, now, retention)?;
+            let new = new_version(alloc, posted, now, bits, retention)?;
             let old = ended_version(alloc, old, now, retention)?;
             Ok(Plan::Replace { new, old })
         }
-        _ => Ok(Plan::Create(new)),
+        _ => {
+            let new = new_version(alloc, posted, now, bits, retention)?;
+            Ok(Plan::Create(new))
+        }
     }
 }
 
 /// The version by which `prev`, the version of an identifier in the view, ends at `now`. It refuses by
-/// the first [`SilenceError`] that applies.
+/// the first [`SilenceError`] that applies; want of memory is the last of them.
 #[tactic(auto, unfolding(crate::specs::Refusals::early_end_refusal, crate::specs::Refusals::end_refusal, crate::specs::Refusals::size_refusal))]
 pub fn plan_expire(
     alloc: Global,
@@ -153,7 +158,7 @@ pub fn plan_expire(
     ensures ended { IfOk result (λ v. ended_of (option_copied prev.entry) now retention ≡ Some v) }
     ensures accepted { OnOk result (end_refusal (option_copied prev.entry) now retention ≡ None) }
     ensures refused { IfErr result (λ e. e ≢ errors.Memory → end_refusal (option_copied prev.entry) now retention ≡ Some e) }
-    ensures memory { IfErr result (λ e. e ≡ errors.Memory → early_end_refusal (option_copied prev.entry) now ≡ None) }
+    ensures memory { IfErr result (λ e. e ≡ errors.Memory → end_refusal (option_copied prev.entry) now retention ≡ None) }
 
     // The version is live, and greater than what it takes the place of.
     ensures live { IfOk result (λ v. IsLive now (mesh_version v)) }

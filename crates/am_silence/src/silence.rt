@@ -8,6 +8,7 @@ ghost use Rattle.am_silence.specs.Silences.{silence};
 
 use crate::comment::FirstComment;
 use crate::matcher::{Matcher, MatcherDraft, Matchers};
+use crate::sizes::SilenceFields;
 use am_version_order::Moment;
 use am_wire::{
     Draft, Field, LastText, Message, Part, Schema, Text, TimestampDraft, WireError, WireType,
@@ -170,6 +171,10 @@ impl Message for Silence {
     ghost reads = { reads_silence };
 
     ghost again = { silence_again };
+
+    fn size(&self) -> u64 {
+        SilenceFields::of(self).size()
+    }
 
     #[tactic(auto, unfolding(crate::specs::Silences::writes_silence))]
     fn put(&self, out: &mut Vec<u8>) -> Result<(), AllocError> {

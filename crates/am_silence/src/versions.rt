@@ -1,21 +1,23 @@
 //! The versions of silences that posts and ends make.
 
-ghost use Rattle.std.specs.Prelude.{◌≡◌, ◌≢◌, ◌⊎◌, ◌<◌, ◌≤◌, true, false, IfOk, IfErr, OnOk};
+ghost use Rattle.std.specs.Prelude.{◌≡◌, ◌≢◌, ◌⊎◌, ◌<◌, ◌≤◌, ◌↔◌, true, false, Err, IfOk, IfErr, OnOk};
 ghost use Rattle.am_version_order.specs.Moments.{greatest};
 ghost use Rattle.am_version_order.specs.Versions.{IsLive};
 ghost use Rattle.am_silence.specs.declared.error.SilenceError.TheVariants as errors;
 ghost use Rattle.am_silence.specs.Mesh.{mesh_version};
 ghost use Rattle.am_silence.specs.States.{has_expired};
 ghost use Rattle.am_silence.specs.Plans.{post_of, silence_of, version_of, new_version, updated_version, ended_version};
-ghost use Rattle.am_silence.specs.Refusals.{is_too_large};
+ghost use Rattle.am_silence.specs.Fields.{silence_in};
+ghost use Rattle.am_silence.specs.Refusals.{Refuses, ◌when◌, is_too_large};
 
 use crate::error::SilenceError;
 use crate::ids::fresh_id;
 use crate::mesh::MeshSilence;
 use crate::plan::Posted;
 use crate::silence::Silence;
+use crate::sizes::{SilenceFields, version_size};
 use am_version_order::{Interval, Moment};
-use am_wire::{Text, WireError};
+use am_wire::{MOST_MESSAGE_BYTES, Text, WireError};
 use std::alloc::Global;
 
 // The version of a silence, which expires a retention after its end.
@@ -28,7 +30,8 @@ fn version_of(
     ensures within { OnOk result (is_too_large (version_of silence retention) ≡ false) }
     ensures bound { OnOk result (silence.ends_at ≤ greatest) }
     ensures live { silence.ends_at < greatest → IsLive silence.ends_at (mesh_version (version_of silence retention)) }
-    ensures refused { IfErr result (λ e. (e ≡ errors.Memory) ⊎ ((e ≡ errors.TooLarge) × (is_too_large (version_of silence retention) ≡ true))) }
+    ensures too_large { (result ≡ Err errors.TooLarge) ↔ (is_too_large (version_of silence retention) ≡ true) }
+    ensures refused { IfErr result (λ e. (e ≡ errors.Memory) ⊎ (e ≡ errors.TooLarge)) }
 {
     let expires_at = silence.ends_at.capped_add(retention);
     match MeshSilence::new(alloc, silence, expires_at) {
@@ -38,7 +41,38 @@ fn version_of(
     }
 }
 
-// The posted fields under an identifier and from a start on, updated at `now`.
+// The version of a silence of these fields is not too large. To say so takes no memory.
+fn check_size(fields: &SilenceFields<'_>, retention: Interval) -> Result<(), SilenceError>
+    ensures { Refuses result (errors.TooLarge when is_too_large (version_of (silence_in fields.now) retention)) }
+{
+    let expires_at = fields.ends_at.capped_add(retention);
+    if version_size(fields.size(), expires_at) > MOST_MESSAGE_BYTES {
+        return Err(SilenceError::TooLarge);
+    }
+    Ok(())
+}
+
+// The posted fields under an identifier and from a start on, and the moment of their update.
+fn posted_fields<'a>(
+    id: &'a str,
+    starts_at: Moment,
+    posted: &'a Posted,
+    updated_at: Moment,
+) -> SilenceFields<'a>
+    ensures { silence_in result ≡ silence_of id.now starts_at posted.now updated_at }
+{
+    SilenceFields {
+        id,
+        matchers: posted.matchers.as_slice(),
+        starts_at,
+        ends_at: posted.ends_at,
+        updated_at,
+        created_by: posted.created_by.as_str(),
+        comment: posted.comment.as_str(),
+    }
+}
+
+// The same as a silence, updated at `now`.
 fn silence_of(id: Text, starts_at: Moment, posted: Posted, now: Moment) -> Silence
     ensures { result ≡ silence_of id starts_at posted now }
 {
@@ -64,10 +98,16 @@ pub fn new_version(
     ensures made { IfOk result (λ v. v ≡ new_version (post_of posted now bits retention)) }
     ensures within { OnOk result (is_too_large (new_version (post_of posted now bits retention)) ≡ false) }
     ensures bound { OnOk result (posted.ends_at ≤ greatest) }
-    ensures refused { IfErr result (λ e. (e ≡ errors.Memory) ⊎ ((e ≡ errors.TooLarge) × (is_too_large (new_version (post_of posted now bits retention)) ≡ true))) }
+    ensures too_large { (result ≡ Err errors.TooLarge) ↔ (is_too_large (new_version (post_of posted now bits retention)) ≡ true) }
+    ensures refused { IfErr result (λ e. (e ≡ errors.Memory) ⊎ (e ≡ errors.TooLarge)) }
 {
-    let id = Text::copied(alloc, fresh_id(bits).as_str())?;
+    let fresh = fresh_id(bits);
     let starts_at = posted.starts_at.max(now);
+    check_size(
+        &posted_fields(fresh.as_str(), starts_at, &posted, now),
+        retention,
+    )?;
+    let id = Text::copied(alloc, fresh.as_str())?;
     version_of(alloc, silence_of(id, starts_at, posted, now), retention)
 }
 
@@ -82,11 +122,28 @@ pub fn updated_version(
     ensures made { IfOk result (λ v. v ≡ updated_version old.now (post_of posted now 0 retention)) }
     ensures within { OnOk result (is_too_large (updated_version old.now (post_of posted now 0 retention)) ≡ false) }
     ensures bound { OnOk result (posted.ends_at ≤ greatest) }
-    ensures refused { IfErr result (λ e. (e ≡ errors.Memory) ⊎ ((e ≡ errors.TooLarge) × (is_too_large (updated_version old.now (post_of posted now 0 retention)) ≡ true))) }
+    ensures too_large { (result ≡ Err errors.TooLarge) ↔ (is_too_large (updated_version old.now (post_of posted now 0 retention)) ≡ true) }
+    ensures refused { IfErr result (λ e. (e ≡ errors.Memory) ⊎ (e ≡ errors.TooLarge)) }
 {
-    let id = old.id.try_clone(alloc)?;
     let starts_at = posted.starts_at;
+    check_size(
+        &posted_fields(old.id.as_str(), starts_at, &posted, now),
+        retention,
+    )?;
+    let id = old.id.try_clone(alloc)?;
     version_of(alloc, silence_of(id, starts_at, posted, now), retention)
+}
+
+/// The version by which the silence ends is not too large. To say so takes no memory.
+pub fn check_ended(old: &Silence, now: Moment, retention: Interval) -> Result<(), SilenceError>
+    requires { has_expired old.now now ≡ false }
+    ensures { Refuses result (errors.TooLarge when is_too_large (ended_version old.now now retention)) }
+{
+    let mut fields = SilenceFields::of(old);
+    fields.starts_at = old.starts_at.min(now);
+    fields.ends_at = now;
+    fields.updated_at = now;
+    check_size(&fields, retention)
 }
 
 /// The silence, ended at `now`. A pending one also starts at `now`.
@@ -100,8 +157,10 @@ pub fn ended_version(
     ensures made { IfOk result (λ v. v ≡ ended_version old.now now retention) }
     ensures within { OnOk result (is_too_large (ended_version old.now now retention) ≡ false) }
     ensures live { OnOk result (now < greatest → IsLive now (mesh_version (ended_version old.now now retention))) }
-    ensures refused { IfErr result (λ e. (e ≡ errors.Memory) ⊎ ((e ≡ errors.TooLarge) × (is_too_large (ended_version old.now now retention) ≡ true))) }
+    ensures too_large { (result ≡ Err errors.TooLarge) ↔ (is_too_large (ended_version old.now now retention) ≡ true) }
+    ensures refused { IfErr result (λ e. (e ≡ errors.Memory) ⊎ (e ≡ errors.TooLarge)) }
 {
+    check_ended(old, now, retention)?;
     let mut ended = old.try_clone(alloc)?;
     ended.starts_at = old.starts_at.min(now);
     ended.ends_at = now;

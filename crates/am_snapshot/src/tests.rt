@@ -79,6 +79,10 @@ impl Message for Note {
 
     ghost reads = { λ at text. if nat_lt 0 (length text) then Ok text else Err (errors.Truncated at) };
 
+    fn size(&self) -> u64 {
+        self.text.len() as u64
+    }
+
     fn put(&self, out: &mut Vec<u8>) -> Result<(), AllocError> {
         out.extend_from_slice(&self.text)?;
         Ok(())

@@ -1,0 +1,77 @@
+//! How many bytes canonical texts have, before anything of them is made.
+
+ghost use Rattle.std.specs.Prelude.{◌≡◌, length};
+ghost use Rattle.am_wire.specs.Sizes.{counted};
+ghost use Rattle.am_wire.specs.Writing.{put_messages};
+ghost use Rattle.am_silence.specs.Fields.{silence_in};
+ghost use Rattle.am_silence.specs.Matchers.{writes_matcher};
+ghost use Rattle.am_silence.specs.Mesh.{Mesh, writes_mesh_silence};
+ghost use Rattle.am_silence.specs.Silences.{writes_silence};
+
+use crate::matcher::Matcher;
+use crate::silence::Silence;
+use am_version_order::Moment;
+use am_wire::{chunk_size, message_size, text_size};
+
+/// The fields of a silence, whose texts and matchers are another's.
+#[derive(Clone, Copy)]
+pub struct SilenceFields<'a> {
+    pub id: &'a str,
+    pub matchers: &'a [Matcher],
+    pub starts_at: Moment,
+    pub ends_at: Moment,
+    pub updated_at: Moment,
+    pub created_by: &'a str,
+    pub comment: &'a str,
+}
+
+impl<'a> SilenceFields<'a> {
+    /// The fields of a silence.
+    pub fn of(silence: &'a Silence) -> Self
+        ensures { silence_in result ≡ silence.now }
+    {
+        SilenceFields {
+            id: silence.id.as_str(),
+            matchers: silence.matchers.as_slice(),
+            starts_at: silence.starts_at,
+            ends_at: silence.ends_at,
+            updated_at: silence.updated_at,
+            created_by: silence.created_by.as_str(),
+            comment: silence.comment.as_str(),
+        }
+    }
+
+    /// How many bytes the silence has.
+    #[tactic(auto, unfolding(crate::specs::Silences::writes_silence))]
+    pub fn size(&self) -> u64
+        ensures { result ≡ counted (length (writes_silence (silence_in self.now))) }
+    {
+        text_size(1, self.id)
+            .saturating_add(matchers_size(self.matchers))
+            .saturating_add(message_size(3, &self.starts_at))
+            .saturating_add(message_size(4, &self.ends_at))
+            .saturating_add(message_size(5, &self.updated_at))
+            .saturating_add(text_size(8, self.created_by))
+            .saturating_add(text_size(9, self.comment))
+    }
+}
+
+// How many bytes the matchers have, each as a field.
+fn matchers_size(matchers: &[Matcher]) -> u64
+    ensures { result ≡ counted (length (put_messages writes_matcher 2 matchers.now)) }
+{
+    let mut size: u64 = 0;
+    for matcher in matchers {
+        size = size.saturating_add(message_size(2, matcher));
+    }
+    size
+}
+
+/// How many bytes a version has whose silence has so many.
+#[tactic(auto, unfolding(crate::specs::Mesh::writes_mesh_silence))]
+pub fn version_size(silence_size: u64, expires_at: Moment) -> u64
+    ensures { (m : Mesh) → silence_size ≡ counted (length (writes_silence m.silence)) → expires_at ≡ m.expires_at →
+        result ≡ counted (length (writes_mesh_silence m)) }
+{
+    chunk_size(1, silence_size).saturating_add(message_size(2, &expires_at))
+}
