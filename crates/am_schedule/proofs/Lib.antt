@@ -1,5 +1,8 @@
 pub mod Decimals
 pub mod EventRows
+pub mod WrittenWords
+pub mod WrittenLines
+pub mod OneRow
 pub mod Pairs
 pub mod States
 pub mod Names

@@ -1,5 +1,5 @@
 -- The forms of lines: which verb a line has, where it has as many words as that wants.
-use Rattle.std.specs.Prelude.{ℕ, List, Option, Some, None, find, ◌&&◌, codes, if◌then◌else◌}
+use Rattle.std.specs.Prelude.{ℕ, Bool, List, [], ◌∷◌, Option, find, ◌&&◌, codes}
 use Rattle.am_schedule.specs.declared.form.Verb.{Verb}
 use Rattle.am_schedule.specs.declared.form.VersionForm.TheVariants as versions
 use Rattle.am_schedule.specs.declared.form.LineForm.TheVariants as lines
@@ -8,20 +8,30 @@ use Rattle.am_schedule.specs.declared.form.Form.TheVariants.{Cluster, Version, O
 use Rattle.am_schedule.specs.Places.{has_word}
 use Rattle.am_schedule.specs.Rows.{has_count, is_line, event_row, verb_word, all_verbs, silence_row, log_row, stop_row, save_row, lose_row, timely_row, frames_row}
 
+-- whether a line has a verb behind a member's name, and as many words as that wants
+abbrev pub has_verb : Verb → List (List ℕ) → Bool
+has_verb verb words = has_word 3 (verb_word verb) words && has_count 4 (event_row verb) words
+
 -- the verb behind a member's name
 unfoldable pub verb_in : List (List ℕ) → Option Verb
-verb_in words = find (λ verb. has_word 3 (verb_word verb) words && has_count 4 (event_row verb) words) all_verbs
+verb_in words = find (λ verb. has_verb verb words) all_verbs
 
--- The form of a line by its first word. What stands behind `at` is told later, and a second cluster line is
--- wrong whatever it holds.
+-- whether a line is of a form, by its first word and the number of its words
+abbrev pub is_of : Form → List (List ℕ) → Bool
+is_of Cluster words = has_word 0 (codes "cluster") words
+is_of (Version versions.Silence) words = is_line (codes "sil") 2 silence_row words
+is_of (Version versions.Log) words = is_line (codes "nfl") 2 log_row words
+is_of (Other lines.At) words = has_word 0 (codes "at") words
+is_of (Other lines.Stop) words = is_line (codes "stop") 1 stop_row words
+is_of (Other lines.Save) words = is_line (codes "save") 1 save_row words
+is_of (Other lines.Lose) words = is_line (codes "lose") 1 lose_row words
+is_of (Other lines.Timely) words = is_line (codes "timely") 1 timely_row words
+is_of (Other lines.Frames) words = is_line (codes "frames") 1 frames_row words
+
+abbrev pub all_forms : List Form
+all_forms =
+    Cluster ∷ Version versions.Silence ∷ Version versions.Log ∷ Other lines.At ∷ Other lines.Stop ∷ Other lines.Save ∷ Other lines.Lose ∷ Other lines.Timely ∷ Other lines.Frames ∷ []
+
+-- The form of a line. What stands behind `at` is told later, and a second cluster line is wrong whatever it holds.
 unfoldable pub form_in : List (List ℕ) → Option Form
-form_in words =
-    if has_word 0 (codes "cluster") words then Some Cluster else
-    if is_line (codes "sil") 2 silence_row words then Some (Version versions.Silence) else
-    if is_line (codes "nfl") 2 log_row words then Some (Version versions.Log) else
-    if has_word 0 (codes "at") words then Some (Other lines.At) else
-    if is_line (codes "stop") 1 stop_row words then Some (Other lines.Stop) else
-    if is_line (codes "save") 1 save_row words then Some (Other lines.Save) else
-    if is_line (codes "lose") 1 lose_row words then Some (Other lines.Lose) else
-    if is_line (codes "timely") 1 timely_row words then Some (Other lines.Timely) else
-    if is_line (codes "frames") 1 frames_row words then Some (Other lines.Frames) else None
+form_in words = find (λ form. is_of form words) all_forms

@@ -14,4 +14,5 @@ pub mod StepLines
 pub mod Clusters
 pub mod Schedules
 pub mod Readers
+pub mod Written
 pub mod Laws
