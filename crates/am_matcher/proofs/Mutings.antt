@@ -1,5 +1,5 @@
 -- Silences that are judged one after the other.
-use Rattle.std.proofs.Common.{◌≡◌, ℕ, ◌+◌, ◌<◌, Bool, true, false, cond, not, ◌&&◌, List, [], ◌∷◌, ◌++◌, length, take, get_or, map, refl, sym, ap, ap₂, ◌∙◌, true≢false, append-nil, All}
+use Rattle.std.proofs.Common.{◌≡◌, ℕ, ◌+◌, ◌<◌, Bool, true, false, cond, List, [], ◌∷◌, ◌++◌, length, take, get_or, map, refl, sym, ap, ap₂, ◌∙◌, true≢false, append-nil}
 use Rattle.std.specs.Prelude.{filter}
 use Rattle.std.proofs.lemmas.List.{map-append}
 use Rattle.std.proofs.lemmas.List.Elements.{filter_more, filter-append, All-push, All-nil}
@@ -7,7 +7,6 @@ use Rattle.am_silence.specs.Mesh.{Mesh}
 use Rattle.am_matcher.specs.declared.labels.Label.{Label}
 use Rattle.am_matcher.specs.declared.muting.Effect.{Effect}
 use Rattle.am_matcher.specs.declared.muting.Effect.TheVariants.{Idle, Mutes, Passes, Broken}
-use Rattle.am_matcher.specs.Matching.{match_all}
 use Rattle.am_matcher.specs.Mutes.{is_active, IsEffect, if_mutes, if_broken, Judged, IsJudged, is_muting, id_of, AreMuted}
 
 active_more : (now : ℕ) (held : List Mesh) (i : ℕ) (v : Mesh) (b : Bool) → i < length held → v ≡ get_or held i v → is_active now v ≡ b → filter (is_active now) (take (i + 1) held) ≡ filter (is_active now) (take i held) ++ cond b (v ∷ []) []

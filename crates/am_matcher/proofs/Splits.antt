@@ -1,13 +1,11 @@
 -- The parts of a filter, from the left: each is there once.
-use Rattle.std.proofs.Common.{◌≡◌, ℕ, ◌==◌, Bool, true, false, not, ◌&&◌, ◌||◌, cond, List, [], ◌∷◌, ◌++◌, reverse, Option, Some, None, refl, sym, ap, ap₂, ◌∙◌, subst, arith, true≢false, codes, length, drop}
-use Rattle.std.specs.Char.{is_ascii_whitespace, is_ascii_alphanumeric, is_ascii_digit}
+use Rattle.std.proofs.Common.{◌≡◌, ℕ, Bool, true, false, ◌&&◌, List, [], ◌∷◌, ◌++◌, reverse, Some, None, refl, sym, ap, ◌∙◌, subst, arith, true≢false, drop}
 use Rattle.std.specs.List.{list_all}
 use Rattle.std.proofs.lemmas.List.{reverse-reverse}
 use Rattle.std.proofs.lemmas.Bool.Decides.{nat_tests}
-use Rattle.std.proofs.lemmas.Grind.{common_steps}
 use Rattle.am_silence.specs.declared.matcher.MatcherKind.{MatcherKind}
 use Rattle.am_silence.specs.declared.matcher.MatcherKind.TheVariants as kinds
-use Rattle.am_matcher.specs.Filters.{is_blank, is_name_character, begins_name, begins_with, sign_of, sign_at, IsRun, IsName, IsSplit}
+use Rattle.am_matcher.specs.Filters.{is_blank, is_name_character, begins_name, begins_with, sign_of, sign_at, IsRun, IsSplit}
 use Rattle.am_matcher.proofs.Runs.{same_run, cut_of_run, run_of_cut}
 
 -- one after the other

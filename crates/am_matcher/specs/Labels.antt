@@ -1,5 +1,5 @@
 -- Labels by name.
-use Rattle.std.specs.Prelude.{ℕ, Bool, List, [], Option, find, reverse}
+use Rattle.std.specs.Prelude.{ℕ, List, [], Option, find, reverse}
 use Rattle.std.specs.Option.{option_map_or}
 use Rattle.am_matcher.specs.Texts.{is_text}
 use Rattle.am_matcher.specs.declared.labels.Label.{Label}

@@ -1,5 +1,4 @@
-use Rattle.std.proofs.Common.{◌∙◌, ap, rules}
-use Rattle.am_matcher.specs.Filters.{pieces, IsInside}
+use Rattle.std.proofs.Common.{◌∙◌}
 use Rattle.am_matcher.proofs.FilterTexts.{no_filter-split, no_filter-value, filter_of_parts}
 use Rattle.am_matcher.proofs.filter.read_filter.Goals as goal
 

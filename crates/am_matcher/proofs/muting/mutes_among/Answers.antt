@@ -1,6 +1,6 @@
 use Rattle.std.proofs.Common.{◌∙◌, ap, ◌++◌}
 use Rattle.am_matcher.specs.Mutes.{if_mutes, if_broken}
-use Rattle.am_matcher.proofs.Mutings.{muted_none, muted_more}
+use Rattle.am_matcher.proofs.Mutings.{muted_more}
 use Rattle.am_matcher.proofs.muting.mutes_among.Goals as goal
 
 pub loop-version-preserved : goal.loop-version-preserved
