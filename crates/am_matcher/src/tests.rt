@@ -4,68 +4,80 @@ use am_silence::{Matcher, MatcherKind, Matchers, MeshSilence, Silence, Verdict};
 use am_version_order::Moment;
 use am_wire::{Text, WireError};
 use std::alloc::{AllocError, Global};
-use std::process::Abort;
 use std::test::Fail;
 
-// The moment of so many seconds since 1970.
+/// A matcher's kind, name and pattern.
+type Row = (MatcherKind, &'static str, &'static str);
+
+const REGIONS: &str = "(?:eu|us|ap)-(?:north|south|east|west)-[1-9][a-f]?(?:\\.(?:prod|stage|dev)\
+    \\.(?:example|test)\\.(?:com|org|net))?(?::[0-9]{1,5})?(?:/(?:[a-z0-9._~-]|%[0-9a-f]{2})*)*";
+
+/// Patterns, a value that matches each, and one that doesn't. None matches the empty text.
+const PATTERNS: [(&str, &str, &str); 9] = [
+    ("a|b", "b", "ab"),
+    ("[^x]", "y", "x"),
+    ("[a-z_]+[0-9]{2,4}", "node_1234", "node_1"),
+    ("(?i)job-[[:alpha:]]*", "JOB-Api", "job-7"),
+    ("(?s)x.*y", "x\ny", "x\n"),
+    ("\\d{1,3}(\\.\\d{1,3}){3}", "10.0.0.255", "10.0.0"),
+    ("(?:a{2,5}b?)*c", "aabaaac", "abc"),
+    ("\\p{Greek}+", "αβγ", "abc"),
+    (
+        REGIONS,
+        "eu-west-1a.prod.example.com:9090/metrics/%2f",
+        "eu-west-0",
+    ),
+];
+
+/// Patterns that are broken: the last but one only by itself, and the last since it is too big.
+const BROKEN: [&str; 6] = ["(", "(?", "a{2,1}", "[", "a)|(b", "x{999999999}"];
+
+const PATTERN_KINDS: [MatcherKind; 2] = [MatcherKind::Regexp, MatcherKind::NotRegexp];
+
+/// The moment of so many seconds since 1970.
 fn at(seconds: i64) -> Moment {
     Moment::from_parts(seconds, 0).unwrap_or(Moment::LEAST)
 }
 
-fn matcher(
-    alloc: Global,
-    kind: MatcherKind,
-    name: &str,
-    pattern: &str,
-) -> Result<Matcher, AllocError> {
+fn matcher(alloc: Global, row: Row) -> Result<Matcher, AllocError> {
+    let (kind, name, pattern) = row;
+    let name = Text::copied(alloc, name)?;
+    let pattern = Text::copied(alloc, pattern)?;
     Ok(Matcher {
         kind,
-        name: Text::copied(alloc, name)?,
-        pattern: Text::copied(alloc, pattern)?,
+        name,
+        pattern,
     })
 }
 
-fn silence(alloc: Global, id: &str, matchers: Vec<Matcher>) -> Result<Silence, AllocError> {
-    Ok(Silence {
-        id: Text::copied(alloc, id)?,
-        matchers: Matchers::new(matchers),
-        starts_at: at(10),
-        ends_at: at(100),
-        updated_at: at(10),
-        created_by: Text::copied(alloc, "")?,
-        comment: Text::copied(alloc, "")?,
-    })
+fn matchers(alloc: Global, rows: &[Row]) -> Result<Vec<Matcher>, AllocError> {
+    let mut list = Vec::new(alloc);
+    for row in rows {
+        list.push(matcher(alloc, *row)?)?;
+    }
+    Ok(list)
 }
 
-// The silence from 10 s until 100 s, which expires at 200 s.
-fn version(alloc: Global, id: &str, matchers: Vec<Matcher>) -> Result<MeshSilence, WireError> {
-    let silence = silence(alloc, id, matchers)?;
-    MeshSilence::new(alloc, silence, at(200))
-}
+// ---- matchers
 
-fn job(alloc: Global, value: &str) -> Result<Labels, AllocError> {
-    let label = Label {
-        name: Text::copied(alloc, "job")?,
-        value: Text::copied(alloc, value)?,
-    };
-    Ok(Labels::new(vec![in alloc; label]?))
-}
-
-// What a matcher of the kind says of a value.
-fn answer(
-    alloc: Global,
-    kind: MatcherKind,
-    pattern: &str,
-    value: &str,
-) -> Result<bool, BuildError> {
-    let matcher = matcher(alloc, kind, "job", pattern)?;
-    let mut compiled = Compiled::build(alloc, &matcher)?;
+fn asked(alloc: Global, matcher: &Matcher, value: &str) -> Result<bool, BuildError> {
+    let mut compiled = Compiled::build(alloc, matcher)?;
     Ok(compiled.matches(value)?)
 }
 
+/// What a matcher of the kind says of a value.
+fn answer(
+    alloc: Global,
+    kind: MatcherKind,
+    pattern: &'static str,
+    value: &str,
+) -> Result<bool, BuildError> {
+    let matcher = matcher(alloc, (kind, "job", pattern))?;
+    asked(alloc, &matcher, value)
+}
+
 #[test]
-fn a_pattern_matches_from_end_to_end(rt: HostRuntime) -> Result<(), Fail> {
-    let alloc = rt.alloc();
+fn a_pattern_matches_from_end_to_end(rt: HostRuntime) {
     for (pattern, value, want) in [
         ("a|b", "ab", false),
         ("a|b", "b", true),
@@ -76,215 +88,302 @@ fn a_pattern_matches_from_end_to_end(rt: HostRuntime) -> Result<(), Fail> {
         ("x", "x\n", false),
         ("(?i)JOB", "job", true),
     ] {
-        let found = answer(alloc, MatcherKind::Regexp, pattern, value)?;
-        assert_eq!(rt; found, want, "{pattern} {value}");
-        let other = answer(alloc, MatcherKind::NotRegexp, pattern, value)?;
-        assert_eq!(rt; other, !want, "{pattern} {value}");
+        let found = answer(rt.alloc(), MatcherKind::Regexp, pattern, value);
+        assert_eq!(rt; found, Ok(want), "{pattern} {value}");
+        let other = answer(rt.alloc(), MatcherKind::NotRegexp, pattern, value);
+        assert_eq!(rt; other, Ok(!want), "{pattern} {value}");
     }
-    Ok(())
 }
 
 #[test]
-fn a_text_is_compared_whole(rt: HostRuntime) -> Result<(), Fail> {
-    let alloc = rt.alloc();
+fn a_text_is_compared_whole(rt: HostRuntime) {
     for (value, same) in [("x", true), ("", false), ("xx", false)] {
-        let equal = answer(alloc, MatcherKind::Equal, "x", value)?;
-        assert_eq!(rt; equal, same, "{value}");
-        let other = answer(alloc, MatcherKind::NotEqual, "x", value)?;
-        assert_eq!(rt; other, !same, "{value}");
+        let equal = answer(rt.alloc(), MatcherKind::Equal, "x", value);
+        assert_eq!(rt; equal, Ok(same), "{value}");
+        let other = answer(rt.alloc(), MatcherKind::NotEqual, "x", value);
+        assert_eq!(rt; other, Ok(!same), "{value}");
     }
-    Ok(())
 }
 
 #[test]
-fn a_broken_pattern_is_refused(rt: HostRuntime) -> Result<(), Fail> {
-    let alloc = rt.alloc();
-    for pattern in ["(", "(?", "a)|(b", "a{2,1}", "["] {
-        for kind in [MatcherKind::Regexp, MatcherKind::NotRegexp] {
-            let refused = answer(alloc, kind, pattern, "a");
+fn patterns_are_compiled(rt: HostRuntime) {
+    for (pattern, yes, no) in PATTERNS {
+        for (kind, value, want) in [
+            (MatcherKind::Regexp, yes, true),
+            (MatcherKind::Regexp, no, false),
+            (MatcherKind::NotRegexp, yes, false),
+            (MatcherKind::NotRegexp, no, true),
+        ] {
+            let found = answer(rt.alloc(), kind, pattern, value);
+            assert_eq!(rt; found, Ok(want), "{pattern} {value}");
+        }
+    }
+}
+
+#[test]
+fn a_broken_pattern_is_refused(rt: HostRuntime) {
+    for pattern in BROKEN {
+        for kind in PATTERN_KINDS {
+            let refused = answer(rt.alloc(), kind, pattern, "a");
             assert_eq!(rt; refused, Err(BuildError::BadPattern), "{pattern}");
         }
-        let plain = answer(alloc, MatcherKind::Equal, pattern, pattern)?;
-        assert!(rt; plain, "{pattern}");
+        let plain = answer(rt.alloc(), MatcherKind::Equal, pattern, pattern);
+        assert_eq!(rt; plain, Ok(true), "{pattern}");
     }
-    Ok(())
+}
+
+/// Whether a compiled matcher has these parts.
+fn keeps(alloc: Global, matcher: &Matcher, row: Row) -> Result<bool, BuildError> {
+    let compiled = Compiled::build(alloc, matcher)?;
+    let kept = compiled.matcher();
+    Ok(kept.kind == row.0 && kept.name.as_str() == row.1 && kept.pattern.as_str() == row.2)
 }
 
 #[test]
 fn a_compiled_matcher_keeps_its_parts(rt: HostRuntime) -> Result<(), Fail> {
-    let alloc = rt.alloc();
-    let given = matcher(alloc, MatcherKind::Regexp, "job", "x|y")?;
-    let compiled = Compiled::build(alloc, &given)?;
-    let kept = compiled.matcher();
-    let texts = [kept.name.as_str(), kept.pattern.as_str()];
-    assert_eq!(rt; kept.kind, MatcherKind::Regexp);
-    assert_eq!(rt; texts, ["job", "x|y"]);
+    let row = (MatcherKind::Regexp, "job", "x|y");
+    let given = matcher(rt.alloc(), row)?;
+    let kept = keeps(rt.alloc(), &given, row)?;
+    assert!(rt; kept);
     Ok(())
 }
 
+// ---- verdicts
+
+fn verdict_of(alloc: Global, rows: &[Row]) -> Result<Verdict, AllocError> {
+    let list = matchers(alloc, rows)?;
+    verdict(alloc, &list)
+}
+
+/// A broken pattern is told, also where another matcher doesn't match the empty text.
 #[test]
-fn matchers_have_a_verdict(rt: HostRuntime) -> Result<(), Fail> {
-    let alloc = rt.alloc();
-    for (kind, pattern, want) in [
-        (MatcherKind::Regexp, ".*", Verdict::AllEmpty),
-        (MatcherKind::Regexp, "(", Verdict::Bad),
-        (MatcherKind::Equal, "x", Verdict::Fine),
-        (MatcherKind::NotEqual, "x", Verdict::AllEmpty),
+fn matchers_have_a_verdict(rt: HostRuntime) {
+    let all = (MatcherKind::Regexp, "job", ".*");
+    let open = (MatcherKind::Regexp, "job", "(");
+    let x = (MatcherKind::Equal, "job", "x");
+    let not_x = (MatcherKind::NotEqual, "job", "x");
+    let broken_alone = (MatcherKind::NotRegexp, "env", "a)|(b");
+    for (rows, want) in [
+        ([].as_slice(), Verdict::AllEmpty),
+        ([all].as_slice(), Verdict::AllEmpty),
+        ([open].as_slice(), Verdict::Bad),
+        ([x].as_slice(), Verdict::Fine),
+        ([not_x].as_slice(), Verdict::AllEmpty),
+        ([x, broken_alone].as_slice(), Verdict::Bad),
     ] {
-        let one = [matcher(alloc, kind, "job", pattern)?];
-        let judged = verdict(alloc, &one)?;
-        assert_eq!(rt; judged, want, "{pattern}");
+        let judged = verdict_of(rt.alloc(), rows);
+        assert_eq!(rt; judged, Ok(want));
     }
-    let none = verdict(alloc, &[])?;
-    assert_eq!(rt; none, Verdict::AllEmpty);
-    Ok(())
 }
 
-// A broken pattern is told, also where another matcher doesn't match the empty text.
 #[test]
-fn a_broken_pattern_comes_first(rt: HostRuntime) -> Result<(), Fail> {
-    let alloc = rt.alloc();
-    let two = [
-        matcher(alloc, MatcherKind::Equal, "job", "x")?,
-        matcher(alloc, MatcherKind::NotRegexp, "env", "a)|(b")?,
-    ];
-    let judged = verdict(alloc, &two)?;
-    assert_eq!(rt; judged, Verdict::Bad);
-    Ok(())
+fn patterns_have_a_verdict(rt: HostRuntime) {
+    for (pattern, _, _) in PATTERNS {
+        let fine = verdict_of(rt.alloc(), &[(MatcherKind::Regexp, "job", pattern)]);
+        assert_eq!(rt; fine, Ok(Verdict::Fine), "{pattern}");
+        let all_empty = verdict_of(rt.alloc(), &[(MatcherKind::NotRegexp, "job", pattern)]);
+        assert_eq!(rt; all_empty, Ok(Verdict::AllEmpty), "{pattern}");
+    }
+    for pattern in BROKEN {
+        for kind in PATTERN_KINDS {
+            let bad = verdict_of(rt.alloc(), &[(kind, "job", pattern)]);
+            assert_eq!(rt; bad, Ok(Verdict::Bad), "{pattern}");
+        }
+    }
 }
 
-// One matcher.
-fn alone(
-    alloc: Global,
-    kind: MatcherKind,
-    name: &str,
-    pattern: &str,
-) -> Result<Vec<Matcher>, AllocError> {
-    let mut matchers = Vec::new(alloc);
-    matchers.push(matcher(alloc, kind, name, pattern)?)?;
-    Ok(matchers)
+// ---- mutes
+
+fn empty_text(alloc: Global) -> Text {
+    Text::new(String::new(alloc))
 }
 
-// It wants job `x`, and has a broken pattern beside that.
-fn broken(alloc: Global) -> Result<Vec<Matcher>, AllocError> {
-    let mut matchers = alone(alloc, MatcherKind::Equal, "job", "x")?;
-    matchers.push(matcher(alloc, MatcherKind::Regexp, "env", "(")?)?;
-    Ok(matchers)
+/// The silence from 10 s until 100 s.
+fn silence(alloc: Global, id: &str, rows: &[Row]) -> Result<Silence, AllocError> {
+    let id = Text::copied(alloc, id)?;
+    let matchers = Matchers::new(matchers(alloc, rows)?);
+    Ok(Silence {
+        id,
+        matchers,
+        starts_at: at(10),
+        ends_at: at(100),
+        updated_at: at(10),
+        created_by: empty_text(alloc),
+        comment: empty_text(alloc),
+    })
 }
 
+/// Takes that silence, which expires at the moment.
 fn hold(
     alloc: Global,
     held: &mut Held<MeshSilence>,
     id: &str,
-    matchers: Vec<Matcher>,
-) -> Result<(), Fail> {
-    let version = version(alloc, id, matchers)?;
+    rows: &[Row],
+    expires_at: Moment,
+) -> Result<(), WireError> {
+    let silence = silence(alloc, id, rows)?;
+    let version = MeshSilence::new(alloc, silence, expires_at)?;
     held.take(version, at(10))?;
     Ok(())
 }
 
-// p wants job `x`, q is broken, r has no matchers, and s wants `x` or `z`.
-fn held(alloc: Global) -> Result<Held<MeshSilence>, Fail> {
-    let mut held = Held::new(alloc);
-    let wants_x = alone(alloc, MatcherKind::Equal, "job", "x")?;
-    let x_or_z = alone(alloc, MatcherKind::Regexp, "job", "x|z")?;
-    let both = broken(alloc)?;
-    hold(alloc, &mut held, "s", x_or_z)?;
-    hold(alloc, &mut held, "r", Vec::new(alloc))?;
-    hold(alloc, &mut held, "q", both)?;
-    hold(alloc, &mut held, "p", wants_x)?;
-    Ok(held)
-}
-
-// The ids, one after the other.
-fn joined(alloc: Global, ids: &Ids) -> Result<String, AllocError> {
-    let mut text = String::new(alloc);
-    for id in ids.as_slice() {
-        text.push_str(id.as_str())?;
+fn labels_of(alloc: Global, rows: &[(&'static str, &'static str)]) -> Result<Labels, AllocError> {
+    let mut list = Vec::new(alloc);
+    for (name, value) in rows {
+        let name = Text::copied(alloc, name)?;
+        let value = Text::copied(alloc, value)?;
+        list.push(Label { name, value })?;
     }
-    Ok(text)
+    Ok(Labels::new(list))
 }
 
-// The silences that mute an alert of the job at so many seconds, and the broken ones.
-fn muting(
+/// Whether the ids, each of one letter, are those in the text.
+fn are(ids: &Ids, text: &str) -> bool {
+    let ids = ids.as_slice();
+    let text = text.as_bytes();
+    ids.len() == text.len()
+        && ids
+            .iter()
+            .zip(text)
+            .all(|(id, byte)| id.as_str().as_bytes() == [*byte].as_slice())
+}
+
+/// What mutes an alert: the ids that mute it, and the broken ones.
+type Wanted = (&'static str, &'static str);
+
+fn mutes_are(
     alloc: Global,
     held: &Held<MeshSilence>,
-    value: &str,
+    labels: &Labels,
     seconds: i64,
-) -> Result<(String, String), AllocError> {
-    let labels = job(alloc, value)?;
-    let answered = mutes(alloc, held, &labels, at(seconds))?;
-    let ids = joined(alloc, &answered.ids)?;
-    let broken = joined(alloc, &answered.broken)?;
-    Ok((ids, broken))
+    want: Wanted,
+) -> Result<bool, AllocError> {
+    let answered = mutes(alloc, held, labels, at(seconds))?;
+    Ok(are(&answered.ids, want.0) && are(&answered.broken, want.1))
 }
 
+/// Whether an alert with these labels is muted so at so many seconds.
+fn is_muted(
+    alloc: Global,
+    held: &Held<MeshSilence>,
+    rows: &[(&'static str, &'static str)],
+    seconds: i64,
+    want: Wanted,
+) -> Result<bool, AllocError> {
+    let labels = labels_of(alloc, rows)?;
+    mutes_are(alloc, held, &labels, seconds, want)
+}
+
+/// p wants job `x`, q has a broken pattern beside that, r has no matchers, and s wants `x` or `z`.
 #[test]
 fn active_silences_mute_labels(rt: HostRuntime) -> Result<(), Fail> {
-    let alloc = rt.alloc();
-    let held = held(alloc)?;
-    for (value, seconds, ids, broken) in [
-        ("y", 50, "r", "q"),
-        ("x", 50, "prs", "q"),
-        ("z", 10, "rs", "q"),
-        ("x", 9, "", ""),
-        ("x", 100, "", ""),
+    let x = (MatcherKind::Equal, "job", "x");
+    let open = (MatcherKind::Regexp, "env", "(");
+    let x_or_z = (MatcherKind::Regexp, "job", "x|z");
+    let mut held = Held::new(rt.alloc());
+    for (id, rows) in [
+        ("s", [x_or_z].as_slice()),
+        ("r", [].as_slice()),
+        ("q", [x, open].as_slice()),
+        ("p", [x].as_slice()),
     ] {
-        let (muted, told) = muting(alloc, &held, value, seconds)?;
-        assert_eq!(rt; muted.as_str(), ids, "{value} {seconds}");
-        assert_eq!(rt; told.as_str(), broken, "{value} {seconds}");
+        hold(rt.alloc(), &mut held, id, rows, at(200))?;
+    }
+    for (value, seconds, want) in [
+        ("y", 50, ("r", "q")),
+        ("x", 50, ("prs", "q")),
+        ("z", 10, ("rs", "q")),
+        ("x", 9, ("", "")),
+        ("x", 100, ("", "")),
+    ] {
+        let so = is_muted(rt.alloc(), &held, &[("job", value)], seconds, want)?;
+        assert!(rt; so, "{value} {seconds}");
     }
     Ok(())
 }
 
-// NOT_EQUAL `x` matches an absent label.
+/// NOT_EQUAL `x` matches an absent label.
 #[test]
 fn an_absent_label_is_the_empty_text(rt: HostRuntime) -> Result<(), Fail> {
-    let alloc = rt.alloc();
-    let not_x = matcher(alloc, MatcherKind::NotEqual, "job", "x")?;
-    let one = version(alloc, "p", vec![in alloc; not_x]?)?;
-    let Ok(held) = Held::from_versions(alloc, vec![in alloc; one]?) else {
-        return Err("a key is refused".into());
-    };
-    let none = Labels::new(Vec::new(alloc));
-    let answered = mutes(alloc, &held, &none, at(50))?;
-    let ids = joined(alloc, &answered.ids)?;
-    assert_eq!(rt; ids.as_str(), "p");
+    let mut held = Held::new(rt.alloc());
+    let not_x = (MatcherKind::NotEqual, "job", "x");
+    hold(rt.alloc(), &mut held, "p", &[not_x], at(200))?;
+    let so = is_muted(rt.alloc(), &held, &[], 50, ("p", ""))?;
+    assert!(rt; so);
     Ok(())
 }
 
-// A silence that is no longer in view mutes nothing, though it hasn't ended.
+/// A silence that is no longer in view mutes nothing, though it hasn't ended.
 #[test]
 fn only_silences_in_view_mute(rt: HostRuntime) -> Result<(), Fail> {
-    let alloc = rt.alloc();
-    let lasting = silence(alloc, "p", Vec::new(alloc))?;
-    let one = MeshSilence::new(alloc, lasting, at(50))?;
-    let Ok(held) = Held::from_versions(alloc, vec![in alloc; one]?) else {
-        return Err("a key is refused".into());
-    };
-    for (seconds, ids) in [(49, "p"), (50, "")] {
-        let (muted, _) = muting(alloc, &held, "x", seconds)?;
-        assert_eq!(rt; muted.as_str(), ids, "{seconds}");
+    let mut held = Held::new(rt.alloc());
+    hold(rt.alloc(), &mut held, "p", &[], at(50))?;
+    for (seconds, want) in [(49, ("p", "")), (50, ("", ""))] {
+        let so = is_muted(rt.alloc(), &held, &[("job", "x")], seconds, want)?;
+        assert!(rt; so, "{seconds}");
     }
     Ok(())
 }
 
+/// Whether a silence with this matcher alone mutes an alert of the job so.
+fn one_mutes(
+    alloc: Global,
+    row: Row,
+    value: &'static str,
+    want: Wanted,
+) -> Result<bool, WireError> {
+    let mut held = Held::new(alloc);
+    hold(alloc, &mut held, "p", &[row], at(200))?;
+    Ok(is_muted(alloc, &held, &[("job", value)], 50, want)?)
+}
+
 #[test]
-fn labels_and_ids_keep_their_lists(rt: HostRuntime) -> Result<(), Fail> {
-    let alloc = rt.alloc();
-    let labels = job(alloc, "x")?;
+fn silences_with_patterns_mute(rt: HostRuntime) {
+    for (pattern, yes, no) in PATTERNS {
+        for (kind, value, want) in [
+            (MatcherKind::Regexp, yes, ("p", "")),
+            (MatcherKind::Regexp, no, ("", "")),
+            (MatcherKind::NotRegexp, yes, ("", "")),
+            (MatcherKind::NotRegexp, no, ("p", "")),
+        ] {
+            let so = one_mutes(rt.alloc(), (kind, "job", pattern), value, want);
+            assert_eq!(rt; so, Ok(true), "{pattern} {value}");
+        }
+    }
+    for pattern in BROKEN {
+        for kind in PATTERN_KINDS {
+            let so = one_mutes(rt.alloc(), (kind, "job", pattern), "x", ("", "p"));
+            assert_eq!(rt; so, Ok(true), "{pattern}");
+        }
+    }
+}
+
+#[test]
+fn labels_keep_their_list(rt: HostRuntime) -> Result<(), Fail> {
+    let labels = labels_of(rt.alloc(), &[("job", "x")])?;
     assert_eq!(rt; labels.as_slice().len(), 1);
     assert_eq!(rt; labels.into_vec().len(), 1);
-    let id = Text::copied(alloc, "p")?;
-    let ids = Ids::new(vec![in alloc; id]?);
+    Ok(())
+}
+
+#[test]
+fn ids_keep_their_list(rt: HostRuntime) -> Result<(), Fail> {
+    let id = Text::copied(rt.alloc(), "p")?;
+    let ids = Ids::new(vec![in rt.alloc(); id]?);
     assert_eq!(rt; ids.as_slice().len(), 1);
     assert_eq!(rt; ids.into_vec().len(), 1);
     Ok(())
 }
 
+// ---- filters
+
+/// Why a text is refused as a filter.
+fn refusal(alloc: Global, text: &str) -> Option<FilterError> {
+    Filter::parse(alloc, text).err()
+}
+
 #[test]
-fn bad_filters_are_refused(rt: HostRuntime) -> Result<(), Fail> {
-    let alloc = rt.alloc();
+fn bad_filters_are_refused(rt: HostRuntime) {
     for (text, want) in [
         ("1a=x", FilterError::Syntax),
         ("a=\"x", FilterError::Syntax),
@@ -297,20 +396,25 @@ fn bad_filters_are_refused(rt: HostRuntime) -> Result<(), Fail> {
         ("a b=x", FilterError::Syntax),
         ("a!x", FilterError::Syntax),
         ("a=~(", FilterError::BadPattern),
+        ("a!~(", FilterError::BadPattern),
+        ("a!~\"a)|(b\"", FilterError::BadPattern),
+        ("a=~[", FilterError::BadPattern),
+        ("a!~x{999999999}", FilterError::BadPattern),
     ] {
-        let Err(error) = Filter::parse(alloc, text) else {
-            return Err("a bad filter is read".into());
-        };
-        assert_eq!(rt; error, want, "{text}");
+        let refused = refusal(rt.alloc(), text);
+        assert_eq!(rt; refused, Some(want), "{text}");
     }
-    Ok(())
+}
+
+/// Whether a silence passes a filter.
+fn passed(alloc: Global, text: &str, silence: &Silence) -> Result<bool, FilterError> {
+    let mut filter = Filter::parse(alloc, text)?;
+    Ok(filter.passes(silence)?)
 }
 
 #[test]
 fn filters_pass_silences(rt: HostRuntime) -> Result<(), Fail> {
-    let alloc = rt.alloc();
-    let wants_x = matcher(alloc, MatcherKind::Equal, "job", "x")?;
-    let p = silence(alloc, "p", vec![in alloc; wants_x]?)?;
+    let p = silence(rt.alloc(), "p", &[(MatcherKind::Equal, "job", "x")])?;
     for (text, want) in [
         (" job =~ \"x|y\" ", true),
         ("job!=\"\\x\"", true),
@@ -321,63 +425,82 @@ fn filters_pass_silences(rt: HostRuntime) -> Result<(), Fail> {
         ("env=x", false),
         ("\t job\n=\r\x0Cx ", true),
     ] {
-        let mut filter = Filter::parse(alloc, text)?;
-        let passed = filter.passes(&p)?;
-        assert_eq!(rt; passed, want, "{text}");
+        let answer = passed(rt.alloc(), text, &p);
+        assert_eq!(rt; answer, Ok(want), "{text}");
     }
     Ok(())
 }
 
-// Whatever its kind, the last matcher of a name counts.
+/// Whatever its kind, the last matcher of a name counts.
 #[test]
 fn the_last_matcher_of_a_name_counts(rt: HostRuntime) -> Result<(), Fail> {
-    let alloc = rt.alloc();
-    let first = matcher(alloc, MatcherKind::Equal, "job", "x")?;
-    let last = matcher(alloc, MatcherKind::NotRegexp, "job", "a\"\\\nb")?;
-    let p = silence(alloc, "p", vec![in alloc; first, last]?)?;
+    let first = (MatcherKind::Equal, "job", "x");
+    let last = (MatcherKind::NotRegexp, "job", "a\"\\\nb");
+    let p = silence(rt.alloc(), "p", &[first, last])?;
     for (text, want) in [
         ("job=x", false),
         ("job=\"a\\\"\\\\\\nb\"", true),
         ("job=a\\\"\\\\\\nb", true),
         ("job=\"a\\\"\\\\nb\"", false),
     ] {
-        let mut filter = Filter::parse(alloc, text)?;
-        let passed = filter.passes(&p)?;
-        assert_eq!(rt; passed, want, "{text}");
+        let answer = passed(rt.alloc(), text, &p);
+        assert_eq!(rt; answer, Ok(want), "{text}");
     }
     Ok(())
 }
 
-// The answers where there is memory, or want of memory.
-fn answers(rt: &impl Abort, alloc: Global) -> Result<(), AllocError> {
-    let given = [matcher(alloc, MatcherKind::Regexp, "job", "x|[y-z]+")?];
-    let built = Compiled::build(alloc, &given[0]);
-    assert!(rt; !matches!(&built, Err(BuildError::BadPattern)));
-    let Ok(mut compiled) = built else {
-        return Err(AllocError);
-    };
-    let found = compiled.matches("yz")?;
-    assert!(rt; found);
-    let judged = verdict(alloc, &given)?;
-    assert_eq!(rt; judged, Verdict::Fine);
-    let parsed = Filter::parse(alloc, " job =~ \"x|y\"");
-    assert!(rt; !matches!(&parsed, Err(FilterError::Syntax | FilterError::BadPattern)));
-    let Ok(mut filter) = parsed else {
-        return Err(AllocError);
-    };
-    let wants_x = matcher(alloc, MatcherKind::Equal, "job", "x")?;
-    let p = silence(alloc, "p", vec![in alloc; wants_x]?)?;
-    let passed = filter.passes(&p)?;
-    assert!(rt; passed);
+/// Filters with classes, flags and repetitions, and a silence for job `node_1234` that passes them or doesn't.
+#[test]
+fn filters_have_patterns(rt: HostRuntime) -> Result<(), Fail> {
+    let p = silence(rt.alloc(), "p", &[(MatcherKind::Equal, "job", "node_1234")])?;
+    for (text, want) in [
+        ("job=~[a-z_]+[0-9]{2,4}", true),
+        ("job!~[a-z_]+[0-9]{2,4}", false),
+        ("job=~[a-z_]+[0-9]{5,9}", false),
+        ("job!~[a-z_]+[0-9]{5,9}", true),
+        ("job=~\"(?i)NODE_\\d+\"", true),
+        ("job!~\"(?i)NODE_\\d+\"", false),
+        (
+            "job=~\"(?:app|node|store|[^a-z]+|\\\\p{Greek}+)_(?:1|2|3|4|[5-9]{1,2})*\"",
+            true,
+        ),
+        (
+            "job!~\"(?:app|node|store|[^a-z]+|\\\\p{Greek}+)_(?:1|2|3|4|[5-9]{1,2})*\"",
+            false,
+        ),
+    ] {
+        let answer = passed(rt.alloc(), text, &p);
+        assert_eq!(rt; answer, Ok(want), "{text}");
+    }
     Ok(())
 }
 
-// Want of memory is told as such, and the call can be made again.
+// ---- want of memory
+
+/// Whether a filter passes a silence for job `x`.
+fn passes_x(alloc: Global, text: &str) -> Result<bool, FilterError> {
+    let p = silence(alloc, "p", &[(MatcherKind::Equal, "job", "x")])?;
+    passed(alloc, text, &p)
+}
+
+/// Whether the answers are right, or want of memory.
+fn answers(alloc: Global) -> Result<bool, AllocError> {
+    let found = answer(alloc, MatcherKind::Regexp, "x|[y-z]+", "yz");
+    let judged = verdict_of(alloc, &[(MatcherKind::Regexp, "job", "x|[y-z]+")])?;
+    let passed = passes_x(alloc, " job =~ \"x|y\"");
+    match (found, passed) {
+        (Err(BuildError::Memory), _) | (_, Err(FilterError::Memory)) => Err(AllocError),
+        _ => Ok(found == Ok(true) && judged == Verdict::Fine && passed == Ok(true)),
+    }
+}
+
+/// Want of memory is told as such, and the call can be made again.
 #[test]
 fn want_of_memory_is_no_bad_pattern(rt: HostRuntime) {
-    let alloc = rt.alloc();
-    if answers(&rt, alloc).is_err() {
-        let again = answers(&rt, alloc).is_ok();
-        assert!(rt; again);
+    let first = answers(rt.alloc());
+    assert!(rt; first != Ok(false));
+    if first.is_err() {
+        let again = answers(rt.alloc());
+        assert_eq!(rt; again, Ok(true));
     }
 }
