@@ -1,10 +1,11 @@
 -- What spots and searches say of a list's items.
 use Rattle.std.proofs.Common.{◌≡◌, ◌≢◌, ◌⊎◌, ℕ, ◌+◌, ◌-◌, ◌<◌, ◌≤◌, suc, zero, List, [], ◌∷◌, ◌++◌, length, take, drop, get_or, slice_get, Option, Some, inl, inr, refl, sym, ap, ◌∙◌, arith, length-append}
-use Rattle.std.specs.List.{All, AllPairs, HoldsAt}
+use Rattle.std.specs.List.{All, AllPairs, HoldsAt, insert}
 use Rattle.std.specs.declared.cmp.Ordering.{Ordering}
 use Rattle.std.specs.declared.cmp.Ordering.TheVariants.{Less, Equal, Greater}
 use Rattle.std.proofs.lemmas.Bool.{cases_lt}
-use Rattle.std.proofs.lemmas.List.{take-append-drop, drop_more}
+use Rattle.std.proofs.lemmas.List.{take-append-drop, drop_more, take_all, get_or_past, get_or-take, get_or-drop, length-take-le, length-drop}
+use Rattle.std.proofs.lemmas.List.Edits.{get_or-insert_below, get_or-insert_at, get_or-insert_above, length-insert}
 use Rattle.std.proofs.lemmas.List.Elements.{All-append, All-weaker}
 use Rattle.std.proofs.lemmas.Option.{get_or_from_slice_get, slice_get_within}
 use Rattle.am_blocks.specs.declared.spot.Spot.{Spot}
@@ -18,11 +19,50 @@ module _ {T : Type 0} where
   pub place_of_item : (rows : Rows T) (spot : Spot) → IsItem rows spot → place rows spot < length (entries rows)
   place_of_item rows spot item = place_inside rows.blocks spot.block spot.offset (block_inside rows.blocks spot.block spot.offset item.offset) item.offset
 
+  -- a place within the blocks is within the list
+  pub place_within : (rows : Rows T) (spot : Spot) → IsWithin rows spot → place rows spot ≤ length (entries rows)
+  place_within rows spot within =
+      elim (cases_lt spot.block (length rows.blocks)) [
+        | inl inside ↦ let sizes = length_around rows.blocks spot.block inside in let offset = within.offset in omega arith
+        | inr past ↦
+            let whole = ap (λ blocks. length (joined blocks)) (take_all spot.block rows.blocks past) in
+            let none = ap length (get_or_past rows.blocks spot.block [] past) in
+            let offset = within.offset in
+            omega arith
+      ]
+
   -- a place that was read is split off
   pub items_around : (items : List T) (n : ℕ) (item : T) → slice_get items n ≡ Some item → items ≡ take n items ++ item ∷ drop (n + 1) items
   items_around items n item at =
       let inside : n < length items = slice_get_within items n item at in
       sym (take-append-drop n items) ∙ ap (λ xs. take n items ++ xs) (drop_more items n item inside ∙ ap (λ x. x ∷ drop (n + 1) items) (get_or_from_slice_get items n item item at))
+
+  get_insert_above : (items : List T) (n : ℕ) (item d : T) (k : ℕ) → n ≤ length items → n < k → get_or (insert items n item) k d ≡ get_or items (k - 1) d
+  get_insert_above items n item d k within above =
+      let next : k ≡ k - 1 + 1 = omega arith in
+      ap (λ m. get_or (insert items n item) m d) next ∙ get_or-insert_above items n item d (k - 1) (omega arith) within
+
+  -- a relation of each item and each later one stays when an item comes in that has it to those around it
+  pub all_pairs_insert : (R : T → T → Type 0) (items : List T) (n : ℕ) (item : T) → n ≤ length items → AllPairs R items → ((k : ℕ) (d : T) → k < n → R (get_or items k d) item) → ((k : ℕ) (d : T) → n ≤ k → k < length items → R item (get_or items k d)) → AllPairs R (insert items n item)
+  all_pairs_insert R items n item within pairs before behind i j d less inside =
+      let size = length-insert items n item within in
+      elim (cases_lt j n) [
+        | inl low ↦ rw (get_or-insert_below items n item d i (omega arith) within, get_or-insert_below items n item d j low within) (pairs i j d less (omega arith))
+        | inr not_low ↦ elim (cases_lt n j) [
+          | inr at ↦
+              let same : j ≡ n = omega arith in
+              rw (same, get_or-insert_below items n item d i (omega arith) within, get_or-insert_at items n item d within) (before i d (omega arith))
+          | inl high ↦
+              rw (get_insert_above items n item d j within high)
+              (elim (cases_lt i n) [
+                | inl low ↦ rw (get_or-insert_below items n item d i low within) (pairs i (j - 1) d (omega arith) (omega arith))
+                | inr not_low ↦ elim (cases_lt n i) [
+                  | inr at ↦ let same : i ≡ n = omega arith in rw (same, get_or-insert_at items n item d within) (behind (j - 1) d (omega arith) (omega arith))
+                  | inl above ↦ rw (get_insert_above items n item d i within above) (pairs (i - 1) (j - 1) d (omega arith) (omega arith))
+                ]
+              ])
+        ]
+      ]
 
 module _ {T : Type 0} (order : T → Ordering) where
   -- what a search found is equal to what was looked for
@@ -44,6 +84,20 @@ module _ {T : Type 0} (order : T → Ordering) where
       (All-append (λ x. order x ≢ Equal) front back
       (All-weaker (λ x. order x ≡ Less) (λ x. order x ≢ Equal) less_apart front missing.before)
       (All-weaker (λ x. order x ≡ Greater) (λ x. order x ≢ Equal) greater_apart back missing.behind))
+
+  -- what stands before the place of what is missing, and what stands from there on
+  pub missing_before : (rows : Rows T) (spot : Spot) → IsMissing order rows spot → (k : ℕ) (d : T) → k < place rows spot → order (get_or (entries rows) k d) ≡ Less
+  missing_before rows spot missing k d less =
+      let within = place_within rows spot missing.within in
+      let size : length (take (place rows spot) (entries rows)) ≡ place rows spot = length-take-le (place rows spot) (entries rows) within in
+      rw (← get_or-take (place rows spot) (entries rows) k d less) (missing.before k d (omega arith))
+
+  pub missing_behind : (rows : Rows T) (spot : Spot) → IsMissing order rows spot → (k : ℕ) (d : T) → place rows spot ≤ k → k < length (entries rows) → order (get_or (entries rows) k d) ≡ Greater
+  missing_behind rows spot missing k d from inside =
+      let size = length-drop (place rows spot) (entries rows) in
+      let there : place rows spot + (k - place rows spot) ≡ k = omega arith in
+      let found = missing.behind (k - place rows spot) d (omega arith) in
+      ap (λ m. order (get_or (entries rows) m d)) (sym there) ∙ ap order (sym (get_or-drop (place rows spot) (entries rows) (k - place rows spot) d)) ∙ found
 
   -- items rise where of any two in a relation the first is before what is looked for or the second behind it
   pub rising_pairs : (R : T → T → Type 0) → ((x y : T) → R x y → (order x ≡ Less) ⊎ (order y ≡ Greater)) → (items : List T) → AllPairs R items → IsRising order items

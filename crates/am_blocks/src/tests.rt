@@ -1,0 +1,177 @@
+//! Random runs against a plain sorted list.
+
+ghost use Rattle.std.specs.Prelude.{◌<◌};
+ghost use Rattle.std.specs.List.{AllPairs};
+ghost use Rattle.std.specs.Ordering.{nat_cmp};
+ghost use Rattle.am_blocks.specs.Rows.{entries};
+
+use crate::{Blocks, Probe, Walk};
+use std::alloc::{AllocError, Global};
+use std::cmp::Ordering;
+use std::test::Fail;
+
+// A number that is looked for.
+#[derive(Clone, Copy)]
+struct Number(u32);
+
+impl Probe<u32> for Number {
+    ghost order = { λ probe item. nat_cmp item probe.0 };
+
+    fn compare(&self, item: &u32) -> Ordering {
+        item.cmp(&self.0)
+    }
+}
+
+// Puts a number in, where it isn't there.
+fn put(blocks: &mut Blocks<u32>, number: u32) -> Result<(), AllocError>
+    requires { AllPairs (λ x y. x < y) (entries blocks.old) }
+    ensures { AllPairs (λ x y. x < y) (entries blocks.new) }
+{
+    blocks.reserve(1)?;
+    if let Err(spot) = blocks.search(&Number(number)) {
+        blocks.insert(spot, number);
+    }
+    Ok(())
+}
+
+// Takes a number out, where it is there.
+fn take(blocks: &mut Blocks<u32>, number: u32)
+    requires { AllPairs (λ x y. x < y) (entries blocks.old) }
+    ensures { AllPairs (λ x y. x < y) (entries blocks.new) }
+{
+    if let Ok(spot) = blocks.search(&Number(number)) {
+        blocks.remove(spot);
+    }
+}
+
+// A set of numbers in blocks, and the same set as a plain sorted list.
+#[derive(Drop)]
+struct Twins {
+    blocks: Blocks<u32>,
+    plain: Vec<u32>,
+    ghost rising: { AllPairs (λ x y. x < y) (entries blocks) },
+}
+
+impl Twins {
+    fn new(alloc: Global) -> Self {
+        Twins {
+            blocks: Blocks::new(alloc),
+            plain: Vec::new(alloc),
+        }
+    }
+
+    fn put(&mut self, number: u32) -> Result<(), AllocError> {
+        put(&mut self.blocks, number)?;
+        if let Err(place) = self.plain.binary_search(&number) {
+            self.plain.insert(place, number)?;
+        }
+        Ok(())
+    }
+
+    fn take(&mut self, number: u32) {
+        take(&mut self.blocks, number);
+        if let Ok(place) = self.plain.binary_search(&number) {
+            self.plain.remove(place);
+        }
+    }
+
+    // The blocks have the items of the plain list from a number on, by whichever way they are read.
+    fn agree(&self, number: u32) -> bool {
+        match (
+            self.blocks.search(&Number(number)),
+            self.plain.binary_search(&number),
+        ) {
+            (Ok(spot), Ok(place)) => {
+                self.blocks.get(spot) == number
+                    && is_walk_of(self.blocks.walk_from(spot), &self.plain[place..])
+            }
+            (Err(spot), Err(place)) => {
+                is_walk_of(self.blocks.walk_from(spot), &self.plain[place..])
+            }
+            _ => false,
+        }
+    }
+}
+
+// The walk gives these numbers and no other.
+fn is_walk_of(walk: Walk<'_, u32>, numbers: &[u32]) -> bool {
+    let mut walked = 0;
+    for number in walk {
+        if walked >= numbers.len() || numbers[walked] != number {
+            return false;
+        }
+        walked += 1;
+    }
+    walked == numbers.len()
+}
+
+// The next of numbers that look random.
+fn after(random: u32) -> u32 {
+    ((u64::from(random) * 1_664_525 + 1_013_904_223) % 4_294_967_296) as u32
+}
+
+// Puts and takes numbers below the bound, of 16 steps so many puts, and says whether both lists
+// agreed all along.
+fn run(
+    twins: &mut Twins,
+    seed: u32,
+    steps: usize,
+    bound: u32,
+    puts: u32,
+) -> Result<bool, AllocError>
+    requires { 0 < bound }
+{
+    let mut random = seed;
+    let mut agreed = true;
+    for step in 0..steps {
+        random = after(random);
+        let number = random / 65_536 % bound;
+        if random / 16 % 16 < puts {
+            twins.put(number)?;
+        } else {
+            twins.take(number);
+        }
+        if step % 16 == 0 {
+            agreed = agreed && twins.agree(number) && twins.agree(0);
+        }
+    }
+    Ok(agreed)
+}
+
+#[test]
+fn random_runs_agree_with_a_plain_list(rt: HostRuntime) -> Result<(), Fail> {
+    let mut twins = Twins::new(rt.alloc());
+    // It grows to some thousand numbers, stays, and shrinks to few.
+    for (seed, steps, puts) in [(1, 3000, 15), (2, 2000, 8), (3, 6000, 1)] {
+        let agreed = run(&mut twins, seed, steps, 2000, puts)?;
+        assert!(rt; agreed, "after the run of {seed}");
+    }
+    Ok(())
+}
+
+#[test]
+fn rising_and_falling_numbers_keep_their_order(rt: HostRuntime) -> Result<(), Fail> {
+    let mut twins = Twins::new(rt.alloc());
+    for number in 0..500 {
+        twins.put(1000 + number)?;
+        twins.put(1000 - number)?;
+    }
+    let agreed = twins.agree(0);
+    assert!(rt; agreed);
+    let first = twins.blocks.first();
+    assert_eq!(rt; first, Some(501));
+    Ok(())
+}
+
+#[test]
+fn an_empty_list_has_nothing(rt: HostRuntime) -> Result<(), Fail> {
+    let blocks: Blocks<u32> = Blocks::new(rt.alloc());
+    let first = blocks.first();
+    assert_eq!(rt; first, None);
+    let end = blocks.end();
+    let walked = is_walk_of(blocks.walk_from(end), &[]);
+    assert!(rt; walked);
+    let none = is_walk_of(Walk::none(), &[]);
+    assert!(rt; none);
+    Ok(())
+}
