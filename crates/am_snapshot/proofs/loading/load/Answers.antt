@@ -9,14 +9,14 @@ use Rattle.am_snapshot.proofs.RowReads.{reads_none, reads_more, reads_end, reads
 use Rattle.am_snapshot.proofs.Stops.{some_found, none_found, load_reading, load_end, load_repeat}
 use Rattle.am_snapshot.proofs.loading.load.Goals as goal
 
-pub loop-held-init : goal.loop-held-init
-loop-held-init g c =
+pub loop-rows-init : goal.loop-rows-init
+loop-rows-init g c =
     rw c.new-held.ensures ([], [], reads_none g.V.Message.reads _ _ c.new-rows.ensures, tt, IsPermutation-refl [], distinct_none g.V.Version.seen)
 
 pub returns-in_err-version-clause-stopped : goal.returns-in_err-version-clause-stopped
 returns-in_err-version-clause-stopped g c =
     let p = err_from_is_err_and c.from_residual.result c.from_residual.ensures.1 in
-    let (bytes, versions, so_far, _, _, distinct) = c.loop-held.invariant in
+    let (bytes, versions, so_far, _, _, distinct) = c.loop-rows.invariant in
     let (row, read, answer) = c.in_err-version.ensures in
     rw (p.1, p.2) (load_reading g.V.Version.seen g.V.Message.reads _ _ c.in_err-version.field-0.0
     (reads_stop_with g.V.Message.reads _ _ _ _ _ bytes row versions so_far read (λ (all : List g.row.V.Denot). AreDistinct g.V.Version.seen all) distinct _ answer))
@@ -24,30 +24,30 @@ returns-in_err-version-clause-stopped g c =
 pub returns-then-is_some-clause-stopped : goal.returns-then-is_some-clause-stopped
 returns-then-is_some-clause-stopped g c =
     let keys = key_order g.met.V.Key.Ord.total g.met.V.Version.exact_keys in
-    let (bytes, versions, so_far, _, members, distinct) = c.loop-held.invariant in
+    let (bytes, versions, so_far, _, members, distinct) = c.loop-rows.invariant in
     let (row, read, answer) = rw c.in-Some.is at c.in_ok-version.ensures in
     let one = reads_more g.V.Message.reads _ _ _ _ _ bytes row versions so_far read _ answer in
     let found = some_found c.get.result (sym c.is_some.ensures ∙ c.if-is_some.true) in
-    let was = earlier g.V.Version.seen g.V.Key.Ord.cmp keys versions c.loop-held.held _ found.0 members (sym c.get.ensures ∙ found.1) in
+    let was = earlier g.V.Version.seen g.V.Key.Ord.cmp keys versions c.loop-rows.held _ found.0 members (sym c.get.ensures ∙ found.1) in
     load_repeat g.V.Version.seen g.V.Message.reads _ _ _ (bytes ++ row) versions c.in-Some.version found.0 one distinct was.1 (was.0 ∙ c.key.ensures)
 
-pub loop-held-preserved : goal.loop-held-preserved
-loop-held-preserved g c =
+pub loop-rows-preserved : goal.loop-rows-preserved
+loop-rows-preserved g c =
     let keys = key_order g.met.V.Key.Ord.total g.met.V.Version.exact_keys in
-    let (bytes, versions, so_far, map, members, distinct) = c.loop-held.invariant in
+    let (bytes, versions, so_far, map, members, distinct) = c.loop-rows.invariant in
     let (row, read, answer) = rw c.in-Some.is at c.in_ok-version.ensures in
     let put = c.in_ok-take.ensures.taken.put in
-    let none = ap (λ (key : g.row.V-Key.Denot). at g.V.Version.seen g.V.Key.Ord.cmp c.loop-held.held key) (sym c.key.ensures) ∙ sym c.get.ensures ∙ none_found c.get.result (sym c.is_some.ensures ∙ c.if-is_some.false) in (
+    let none = ap (λ (key : g.row.V-Key.Denot). at g.V.Version.seen g.V.Key.Ord.cmp c.loop-rows.held key) (sym c.key.ensures) ∙ sym c.get.ensures ∙ none_found c.get.result (sym c.is_some.ensures ∙ c.if-is_some.false) in (
       bytes ++ row,
       versions ++ c.in-Some.version ∷ [],
       reads_more g.V.Message.reads _ _ _ _ _ bytes row versions so_far read _ answer,
       put.order,
-      members_more g.V.Version.seen g.V.Key.Ord.cmp keys c.loop-held.held c.take.new.self c.in-Some.version map put.order put.joined none versions members,
-      distinct_more g.V.Version.seen g.V.Key.Ord.cmp keys c.loop-held.held c.take.new.self c.in-Some.version map put.order put.joined none versions members distinct,
+      members_more g.V.Version.seen g.V.Key.Ord.cmp keys c.loop-rows.held c.take.new.self c.in-Some.version map put.order put.joined none versions members,
+      distinct_more g.V.Version.seen g.V.Key.Ord.cmp keys c.loop-rows.held c.take.new.self c.in-Some.version map put.order put.joined none versions members distinct,
     )
 
 pub returns-clause-members : goal.returns-clause-members
 returns-clause-members g c =
-    let (bytes, versions, so_far, _, members, distinct) = c.loop-held.invariant in
+    let (bytes, versions, so_far, _, members, distinct) = c.loop-rows.invariant in
     let (row, read, answer) = rw c.in_default.is at c.in_ok-version.ensures in
-    load_end g.V.Version.seen g.V.Message.reads _ (g.R.Read.remaining c.next.new.reader) versions c.loop-held.held (reads_end g.V.Message.reads _ _ _ _ _ bytes row versions so_far read answer).1 distinct members
+    load_end g.V.Version.seen g.V.Message.reads _ (g.R.Read.remaining c.next.new.reader) versions c.loop-rows.held (reads_end g.V.Message.reads _ _ _ _ _ bytes row versions so_far read answer).1 distinct members

@@ -6,13 +6,13 @@ use Rattle.am_snapshot.specs.Loads.{AreDistinct}
 use Rattle.am_snapshot.proofs.RowReads.{ReadsSoFar, offset}
 use Rattle.am_snapshot.proofs.loading.load.Given as goal
 
-abbrev pub invariant-loop-held : goal.invariant-loop-held
-invariant-loop-held g l =
+abbrev pub invariant-loop-rows : goal.invariant-loop-rows
+invariant-loop-rows g l =
     (bytes : List ℕ) × (versions : List g.row.V.Denot)
     × ReadsSoFar g.V.Message.reads (g.R.Read.remaining l.fn.reader) (g.R.Read.remaining l.reader) l.rows bytes versions
     × IsMap g.V.Version.seen g.V.Key.Ord.cmp l.held
     × IsPermutation versions l.held
     × AreDistinct g.V.Version.seen versions
 
-abbrev pub decreases-loop-held : goal.decreases-loop-held
-decreases-loop-held g l = most - offset l.rows
+abbrev pub decreases-loop-rows : goal.decreases-loop-rows
+decreases-loop-rows g l = most - offset l.rows

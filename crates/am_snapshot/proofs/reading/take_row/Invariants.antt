@@ -5,12 +5,12 @@ use Rattle.am_snapshot.proofs.Bests.{IsBestAt}
 use Rattle.am_snapshot.proofs.RowReads.{ReadsSoFar, offset}
 use Rattle.am_snapshot.proofs.reading.take_row.Given as goal
 
-abbrev pub invariant-loop-held : goal.invariant-loop-held
-invariant-loop-held g l =
+abbrev pub invariant-loop-rows : goal.invariant-loop-rows
+invariant-loop-rows g l =
     (bytes : List ℕ) × (versions : List g.row.V.Denot)
     × ReadsSoFar g.V.Message.reads (g.R.Read.remaining l.fn.reader) (g.R.Read.remaining l.reader) l.rows bytes versions
     × IsMap g.V.Version.seen g.V.Key.Ord.cmp l.held
     × ((key : g.row.V-Key.Denot) → IsBestAt g.V.Version.seen versions key (at g.V.Version.seen g.V.Key.Ord.cmp l.held key))
 
-abbrev pub decreases-loop-held : goal.decreases-loop-held
-decreases-loop-held g l = most - offset l.rows
+abbrev pub decreases-loop-rows : goal.decreases-loop-rows
+decreases-loop-rows g l = most - offset l.rows
