@@ -8,5 +8,8 @@ pub mod Writing
 pub mod Timestamps
 pub mod TimestampDrafts
 pub mod Grammar
+pub mod Faults
+pub mod Messages
+pub mod SignedParts
 pub mod Again
 pub mod Reader
