@@ -1,5 +1,5 @@
 -- What is read is what is spelled.
-use Rattle.std.proofs.Common.{◌≡◌, ℕ, zero, suc, ◌+◌, ◌*◌, ◌/◌, ◌%◌, ◌<◌, ◌≤◌, Bool, ltb, true, false, List, [], ◌∷◌, ◌++◌, length, map, take, drop, Result, refl, ap, ◌∙◌, append_assoc, length-append, arith, inl, inr, ◌^◌, Ok, sym}
+use Rattle.std.proofs.Common.{◌≡◌, ℕ, zero, suc, ◌+◌, ◌*◌, ◌/◌, ◌%◌, ◌<◌, ◌≤◌, Bool, ltb, true, false, List, [], ◌∷◌, ◌++◌, length, map, take, drop, Result, refl, ap, ◌∙◌, append_assoc, length-append, arith, inl, inr, ◌^◌, sym}
 use Rattle.std.specs.List.{All, AllPass, flat_map}
 use Rattle.std.proofs.lemmas.Bool.{lt-ltb, le-ltb, cases_lt}
 use Rattle.std.proofs.lemmas.List.{take_at, drop_at}
@@ -20,7 +20,7 @@ use Rattle.am_wire.proofs.Found.{IsTaken, IsNumber, field_found, number_found, r
 done_is : {A : Type 0} (x y : A) (xs ys : List A) → map done (x ∷ xs) ≡ map done (y ∷ ys) → (x ≡ y) × (map done xs ≡ map done ys)
 done_is x y xs ys h = (cc, cc)
 
-lists_are : {A : Type 0} (xs ys : List A) → map done xs ≡ map done ys → xs ≡ ys
+pub lists_are : {A : Type 0} (xs ys : List A) → map done xs ≡ map done ys → xs ≡ ys
 lists_are [] [] h = refl
 lists_are [] (y ∷ ys) h = absurd cc
 lists_are (x ∷ xs) [] h = absurd cc
@@ -44,13 +44,13 @@ module _ (fits : ℕ → WireType → Bool) where
   abbrev Fits : FieldAt → Type 0
   Fits e = field_fits fits e ≡ true
 
-  taken_parts : (es : List FieldAt) (at : ℕ) (bytes : List ℕ) → AreSpelled (IsTaken fits) es at bytes → AreFields es at bytes × AllPass (field_fits fits) es
+  pub taken_parts : (es : List FieldAt) (at : ℕ) (bytes : List ℕ) → AreSpelled (IsTaken fits) es at bytes → AreFields es at bytes × AllPass (field_fits fits) es
   taken_parts [] at bytes h = (h, λ k d lt. absurd (omega arith))
   taken_parts (e ∷ es) at bytes (text, rest, is, one, others) =
       let more = taken_parts es (at + length text) rest others in
       ((text, rest, is, one.0, more.0), All-cons Fits e es one.1 more.1)
 
-  taken_from : (es : List FieldAt) (at : ℕ) (bytes : List ℕ) → AreFields es at bytes → AllPass (field_fits fits) es → AreSpelled (IsTaken fits) es at bytes
+  pub taken_from : (es : List FieldAt) (at : ℕ) (bytes : List ℕ) → AreFields es at bytes → AllPass (field_fits fits) es → AreSpelled (IsTaken fits) es at bytes
   taken_from [] at bytes h fit = h
   taken_from (e ∷ es) at bytes (text, rest, is, one, others) fit =
       (text, rest, is, (one, All-head Fits e es fit), taken_from es (at + length text) rest others (All-tail Fits e es fit))
@@ -69,7 +69,7 @@ pub fields_one_way : (at : ℕ) (bytes : List ℕ) (es others : List FieldAt) �
 fields_one_way at bytes es others first second = lists_are es others (sym (any_fields_read at bytes es first) ∙ any_fields_read at bytes others second)
 
 -- ---- rows
-row_read : (message : List ℕ) (at : ℕ) (text : List ℕ) → IsRow message at text → Reads row_at message at text
+pub row_read : (message : List ℕ) (at : ℕ) (text : List ℕ) → IsRow message at text → Reads row_at message at text
 unfolding row_at
 row_read message at text is =
     let size : List ℕ = is.size in

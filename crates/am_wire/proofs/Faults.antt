@@ -1,5 +1,5 @@
 -- Where no number is spelled at the front.
-use Rattle.std.proofs.Common.{◌≡◌, ℕ, zero, suc, ◌<◌, ◌≤◌, ltb, true, false, List, [], ◌∷◌, length, get_or, take, Result, Ok, Err, refl, sym, arith, inl, inr}
+use Rattle.std.proofs.Common.{◌≡◌, ℕ, zero, suc, ◌<◌, ◌≤◌, ltb, true, false, List, [], ◌∷◌, length, get_or, take, Result, Ok, Err, refl, sym, arith, inl, inr, ◌⊎◌}
 use Rattle.std.specs.List.{All}
 use Rattle.std.proofs.lemmas.Bool.{lt-ltb, le-ltb, cases_lt}
 use Rattle.std.proofs.lemmas.List.Elements.{All-cons, All-head, All-tail}
@@ -87,4 +87,19 @@ long_found at (suc room) (b ∷ bytes) h =
           let t : ltb b 128 ≡ false = le-ltb _ _ le in
           let more = long_found at room bytes (one_more-err b (varint_within at room bytes) (LongVarint at) (rw t at h)) in
           record { enough = omega (arith, more.enough); go_on = All-cons GoesOn b (take room bytes) le more.go_on; much = more.much }
+    ]
+
+-- there is no other fault
+pub fault_is : (at room : ℕ) (bytes : List ℕ) (e : WireError) → varint_within at room bytes ≡ Err e → (e ≡ Truncated at) ⊎ (e ≡ LongVarint at)
+unfolding varint_within
+fault_is at room [] e h = inl (sym (err_is _ _ h))
+fault_is at zero (b ∷ bytes) e h =
+    elim (cases_lt b 2) [
+      | inl lt ↦ let t : ltb b 2 ≡ true = lt-ltb _ _ lt in absurd (never _ _ (rw t at h))
+      | inr le ↦ let t : ltb b 2 ≡ false = le-ltb _ _ le in inr (sym (err_is _ _ (rw t at h)))
+    ]
+fault_is at (suc room) (b ∷ bytes) e h =
+    elim (cases_lt b 128) [
+      | inl lt ↦ let t : ltb b 128 ≡ true = lt-ltb _ _ lt in absurd (never _ _ (rw t at h))
+      | inr le ↦ let t : ltb b 128 ≡ false = le-ltb _ _ le in fault_is at room bytes e (one_more-err b (varint_within at room bytes) e (rw t at h))
     ]

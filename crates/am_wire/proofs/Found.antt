@@ -22,13 +22,13 @@ pub record Finds {A : Type 0} (Says : A → ℕ → List ℕ → Type 0) (x : A)
   pub within : len ≤ length bytes
   pub says : Says x at (take len bytes)
 
-abbrev ok : {A : Type 0} → A → Result A WireError
+abbrev pub ok : {A : Type 0} → A → Result A WireError
 ok x = Ok x
 
-ok_is : {A : Type 0} (x y : A) → ok x ≡ ok y → x ≡ y
+pub ok_is : {A : Type 0} (x y : A) → ok x ≡ ok y → x ≡ y
 ok_is x y e = cc
 
-err_ok : {A : Type 0} (e : WireError) (y : A) → Err e ≡ ok y → ⊥
+pub err_ok : {A : Type 0} (e : WireError) (y : A) → Err e ≡ ok y → ⊥
 err_ok e y h = cc
 
 -- a step of a chain of `?`
@@ -47,11 +47,11 @@ module _ {A : Type 0} (others : ℕ → List (Result A WireError)) where
   never_empty (Ok x) h = absurd cc
   never_empty (Err e) h = absurd cc
 
-  first_ok : (r : Result (A × ℕ) WireError) (x : A) (rest : List (Result A WireError)) → next_piece others r ≡ ok x ∷ rest → (y : A × ℕ) × (r ≡ Ok y) × (y.0 ≡ x)
+  pub first_ok : (r : Result (A × ℕ) WireError) (x : A) (rest : List (Result A WireError)) → next_piece others r ≡ ok x ∷ rest → (y : A × ℕ) × (r ≡ Ok y) × (y.0 ≡ x)
   first_ok (Ok y) x rest h = (y, refl, cc)
   first_ok (Err e) x rest h = absurd cc
 
-cons_rest : {A : Type 0} (x y : A) (xs ys : List A) → x ∷ xs ≡ y ∷ ys → xs ≡ ys
+pub cons_rest : {A : Type 0} (x y : A) (xs ys : List A) → x ∷ xs ≡ y ∷ ys → xs ≡ ys
 cons_rest x y xs ys h = cc
 
 module _ {A : Type 0} (front : ℕ → List ℕ → Result (A × ℕ) WireError) (Says : A → ℕ → List ℕ → Type 0) (finds : (at : ℕ) (bytes : List ℕ) (y : A × ℕ) → front at bytes ≡ Ok y → Finds Says y.0 at y.1 bytes) where
@@ -86,7 +86,7 @@ number_found tag at bytes y h =
     record { filled = omega (arith, filled, length-take-le y.1 bytes s.within); within = s.within; says = says }
 
 -- ---- fields
-tag_number_found : (at n m : ℕ) → tag_number at n ≡ Ok m → (n ≡ m) × (0 < n) × (n < 2 ^ 29)
+pub tag_number_found : (at n m : ℕ) → tag_number at n ≡ Ok m → (n ≡ m) × (0 < n) × (n < 2 ^ 29)
 unfolding tag_number
 tag_number_found at n m h =
     elim (ltb 0 n && ltb n (2 ^ 29)) as (λ b. (ltb 0 n && ltb n (2 ^ 29)) ≡ b → cond b (Ok n) (Err (FieldNumber at)) ≡ Ok m → (n ≡ m) × (0 < n) × (n < 2 ^ 29)) [
@@ -94,7 +94,7 @@ tag_number_found at n m h =
       | false ↦ λ t e. absurd (err_ok (FieldNumber at) m e)
     ] refl h
 
-kind_of_found : (at n : ℕ) (kind : WireType) → kind_of at n ≡ Ok kind → n ≡ wire_code kind
+pub kind_of_found : (at n : ℕ) (kind : WireType) → kind_of at n ≡ Ok kind → n ≡ wire_code kind
 unfolding kind_of
 kind_of_found at n kind h =
     let none : Result WireType WireError = Err (errors.WireType at) in

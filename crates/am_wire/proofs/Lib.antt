@@ -7,6 +7,12 @@ pub mod Spelled
 pub mod Faults
 pub mod Found
 pub mod Exact
+pub mod Until
+pub mod Stops
+pub mod Broken
+pub mod Meanings
+pub mod Insides
+pub mod SignedMoments
 pub mod ReaderLemmas
 pub mod Unpacking
 pub mod Sizes

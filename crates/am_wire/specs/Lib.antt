@@ -9,5 +9,8 @@ pub mod Sizes
 pub mod Timestamps
 pub mod TimestampDrafts
 pub mod Grammar
+pub mod Faults
+pub mod Messages
+pub mod SignedParts
 pub mod Again
 pub mod Reader

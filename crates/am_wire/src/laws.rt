@@ -1,14 +1,20 @@
 //! Laws over the definitions that the readers' contracts cite: what is read is what is spelled, and what is spelled is
 //! read in one way only.
 
-ghost use Rattle.std.specs.Prelude.{◌≡◌, ℕ, List, Bool, ◌+◌, ◌<◌, ◌≤◌, ◌^◌, ◌↔◌, length, take, map, Ok, Err, ◌++◌, All, slice_index};
+ghost use Rattle.std.specs.Prelude.{◌≡◌, ℕ, List, [], ◌∷◌, Bool, true, ◌+◌, ◌<◌, ◌≤◌, ◌^◌, ◌↔◌, ◌⊎◌, length, take, map, Option, Some, None, Ok, Err, ◌++◌, All, IsTrue, slice_index};
 ghost use Rattle.std.specs.List.{AllPass, flat_map};
-ghost use Rattle.am_wire.specs.declared.error.WireError.TheVariants.{Truncated, LongVarint};
+ghost use Rattle.std.specs.Str.{IsUtf8};
+ghost use Rattle.am_wire.specs.declared.error.WireError.{WireError};
+ghost use Rattle.am_wire.specs.declared.error.WireError.TheVariants.{Truncated, LongVarint, NotUtf8};
 ghost use Rattle.am_wire.specs.declared.value.WireType.{WireType};
 ghost use Rattle.am_wire.specs.Varint.{IsVarint, varint_at, shortest};
 ghost use Rattle.am_wire.specs.Fields.{FieldAt, fields_of, rows_of, any};
-ghost use Rattle.am_wire.specs.Grammar.{AreFields, AreRows, ArePacked, field_fits};
-ghost use Rattle.am_wire.specs.Reading.{unpacked};
+ghost use Rattle.am_wire.specs.Grammar.{AreFields, AreRows, ArePacked, IsField, IsRow, field_fits};
+ghost use Rattle.am_wire.specs.Faults.{IsNumberFault, IsFieldFault, IsRowFault, AreFieldsUntil, AreRowsUntil, ArePackedUntil};
+ghost use Rattle.am_wire.specs.Messages.{AreSound, IsMessage, HasFault, FailsTests, bytes_field};
+ghost use Rattle.am_wire.specs.Reading.{Table, fields_in, faults_in, text_fault, part_fault, item_fault, numbers_fault, last_number, read_by, unpacked};
+ghost use Rattle.am_wire.specs.SignedParts.{ArePartsOf, IsTimestampOf};
+ghost use Rattle.am_wire.specs.Timestamps.{is_moment, moment, reads_moment};
 ghost use Rattle.am_wire.specs.Writing.{put_rows};
 
 /// What is read is a spelling, and a spelling is read, whatever follows it. Where there is none at the front,
@@ -46,4 +52,118 @@ pub fn packed_numbers_are_the_grammar()
     ensures read { (tag : ℕ) (bytes numbers : List ℕ) → ArePacked numbers bytes → unpacked tag bytes ≡ map Ok numbers }
     ensures one_way { (bytes numbers others : List ℕ) → ArePacked numbers bytes → ArePacked others bytes → numbers ≡ others }
     ensures written { (numbers : List ℕ) → All (λ n. n < 2 ^ 64) numbers → ArePacked numbers (flat_map shortest numbers) }
+{}
+
+/// Where no number is read, the fault is what the bytes at the front say, and no number is spelled there.
+pub fn varint_faults_are_the_grammar()
+    ensures exact { (at : ℕ) (bytes : List ℕ) (fault : WireError) →
+        (varint_at at bytes ≡ Err fault) ↔ IsNumberFault at bytes fault }
+    ensures no_number { (at n : ℕ) (bytes text rest : List ℕ) (fault : WireError) →
+        IsNumberFault at bytes fault → bytes ≡ text ++ rest → IsVarint text n → ⊥ }
+{}
+
+/// Bytes are read as these fields and then a fault exactly where they spell them, and what follows has that fault at
+/// its front, where no field stands. Any bytes are fields, or fields and then a fault, and that in one way only.
+pub fn field_faults_are_the_grammar()
+    ensures found { (fits : ℕ → WireType → Bool) (at : ℕ) (bytes : List ℕ) (es : List FieldAt) (fault : WireError) →
+        fields_of fits at bytes ≡ map Ok es ++ Err fault ∷ [] → AreFieldsUntil fits es fault at bytes }
+    ensures read { (fits : ℕ → WireType → Bool) (at : ℕ) (bytes : List ℕ) (es : List FieldAt) (fault : WireError) →
+        AreFieldsUntil fits es fault at bytes → fields_of fits at bytes ≡ map Ok es ++ Err fault ∷ [] }
+    ensures one_way { (fits : ℕ → WireType → Bool) (at : ℕ) (bytes : List ℕ) (es others : List FieldAt) (fault other : WireError) →
+        AreFieldsUntil fits es fault at bytes → AreFieldsUntil fits others other at bytes →
+        (es ≡ others) × (fault ≡ other) }
+    ensures apart { (fits : ℕ → WireType → Bool) (at : ℕ) (bytes : List ℕ) (es others : List FieldAt) (fault : WireError) →
+        AreFields es at bytes → AllPass (field_fits fits) es → AreFieldsUntil fits others fault at bytes → ⊥ }
+    ensures always { (fits : ℕ → WireType → Bool) (at : ℕ) (bytes : List ℕ) →
+        (es : List FieldAt) × ((AreFields es at bytes × AllPass (field_fits fits) es)
+        ⊎ ((fault : WireError) × AreFieldsUntil fits es fault at bytes)) }
+    ensures no_field { (fits : ℕ → WireType → Bool) (at : ℕ) (bytes text rest : List ℕ) (e : FieldAt) (fault : WireError) →
+        IsFieldFault fits at bytes fault → bytes ≡ text ++ rest → IsField e at text → field_fits fits e ≡ true → ⊥ }
+{}
+
+/// Bytes are read as these messages and then a fault exactly where they are a row of them, and what follows has that
+/// fault at its front, where no message stands. Any bytes are the one or the other, and that in one way only.
+pub fn row_faults_are_the_grammar()
+    ensures found { (bytes : List ℕ) (messages : List (List ℕ)) (fault : WireError) →
+        rows_of bytes ≡ map Ok messages ++ Err fault ∷ [] → AreRowsUntil messages fault bytes }
+    ensures read { (bytes : List ℕ) (messages : List (List ℕ)) (fault : WireError) →
+        AreRowsUntil messages fault bytes → rows_of bytes ≡ map Ok messages ++ Err fault ∷ [] }
+    ensures one_way { (bytes : List ℕ) (messages others : List (List ℕ)) (fault other : WireError) →
+        AreRowsUntil messages fault bytes → AreRowsUntil others other bytes → (messages ≡ others) × (fault ≡ other) }
+    ensures apart { (bytes : List ℕ) (messages others : List (List ℕ)) (fault : WireError) →
+        AreRows messages bytes → AreRowsUntil others fault bytes → ⊥ }
+    ensures always { (bytes : List ℕ) →
+        (messages : List (List ℕ)) × (AreRows messages bytes ⊎ ((fault : WireError) × AreRowsUntil messages fault bytes)) }
+    ensures no_message { (at : ℕ) (bytes message text rest : List ℕ) (fault : WireError) →
+        IsRowFault at bytes fault → bytes ≡ text ++ rest → IsRow message at text → ⊥ }
+{}
+
+/// Bytes are read as these packed numbers and then a fault exactly where they spell them, and what follows has that
+/// fault at its front. The fault lies at the tag of the field.
+pub fn packed_faults_are_the_grammar()
+    ensures found { (tag : ℕ) (bytes numbers : List ℕ) (fault : WireError) →
+        unpacked tag bytes ≡ map Ok numbers ++ Err fault ∷ [] → ArePackedUntil tag numbers fault bytes }
+    ensures read { (tag : ℕ) (bytes numbers : List ℕ) (fault : WireError) →
+        ArePackedUntil tag numbers fault bytes → unpacked tag bytes ≡ map Ok numbers ++ Err fault ∷ [] }
+    ensures one_way { (tag : ℕ) (bytes numbers others : List ℕ) (fault other : WireError) →
+        ArePackedUntil tag numbers fault bytes → ArePackedUntil tag others other bytes →
+        (numbers ≡ others) × (fault ≡ other) }
+    ensures always { (tag : ℕ) (bytes : List ℕ) →
+        (numbers : List ℕ) × (ArePacked numbers bytes ⊎ ((fault : WireError) × ArePackedUntil tag numbers fault bytes)) }
+{}
+
+/// Inside a message nothing is at fault exactly where its bytes are fields that fit its table, in each of which
+/// nothing is at fault; else the first fault is that of the first such field, or that of bytes where no field stands.
+pub fn parts_are_their_fields()
+    ensures sound { (table : Table) (at : ℕ) (bytes : List ℕ) (es : List FieldAt) →
+        ((faults_in table at bytes ≡ None) × (fields_in table at bytes ≡ es)) ↔ AreSound table es at bytes }
+    ensures fault { (table : Table) (at : ℕ) (bytes : List ℕ) (fault : WireError) →
+        (faults_in table at bytes ≡ Some fault) ↔ HasFault table fault at bytes }
+{}
+
+/// What is at fault inside a field of bytes, whose row says that it holds a text, a message that is held once, one of
+/// many messages, or packed numbers.
+pub fn insides_are_told()
+    ensures text { (n at inside : ℕ) (bytes : List ℕ) →
+        (text_fault (bytes_field n at inside bytes) ≡ None) ↔ IsUtf8 bytes }
+    ensures text_fault { (n at inside : ℕ) (bytes : List ℕ) (fault : WireError) →
+        (text_fault (bytes_field n at inside bytes) ≡ Some fault) ↔ ((fault ≡ NotUtf8 at) × (IsUtf8 bytes → ⊥)) }
+    ensures part { (table : Table) (n at inside : ℕ) (bytes : List ℕ) →
+        (part_fault table (bytes_field n at inside bytes) ≡ None)
+        ↔ ((es : List FieldAt) × AreSound table es inside bytes) }
+    ensures part_fault { (table : Table) (n at inside : ℕ) (bytes : List ℕ) (fault : WireError) →
+        (part_fault table (bytes_field n at inside bytes) ≡ Some fault) ↔ HasFault table fault inside bytes }
+    ensures item { (table : Table) (tests : ℕ → List FieldAt → Option WireError) (n at inside : ℕ) (bytes : List ℕ) →
+        (item_fault table tests (bytes_field n at inside bytes) ≡ None)
+        ↔ ((es : List FieldAt) × AreSound table es inside bytes × (tests at es ≡ None)) }
+    ensures item_fault { (table : Table) (tests : ℕ → List FieldAt → Option WireError) (n at inside : ℕ) (bytes : List ℕ) →
+        (fault : WireError) → (item_fault table tests (bytes_field n at inside bytes) ≡ Some fault)
+        ↔ (HasFault table fault inside bytes ⊎ FailsTests table tests fault at inside bytes) }
+    ensures numbers { (n at inside : ℕ) (bytes : List ℕ) →
+        (numbers_fault (bytes_field n at inside bytes) ≡ None) ↔ ((numbers : List ℕ) × ArePacked numbers bytes) }
+    ensures numbers_fault { (n at inside : ℕ) (bytes : List ℕ) (fault : WireError) →
+        (numbers_fault (bytes_field n at inside bytes) ≡ Some fault)
+        ↔ ((numbers : List ℕ) × ArePackedUntil at numbers fault bytes) }
+{}
+
+/// A message is read as v exactly where its bytes are fields that fit its table, nothing inside them is at fault, its
+/// tests pass, and v is their value. It is refused exactly for the first fault in its bytes, or for a test's.
+pub fn messages_are_their_fields<A>()
+    ensures read { (table : Table) (tests : ℕ → List FieldAt → Option WireError) (value : List FieldAt → A) →
+        (place at : ℕ) (bytes : List ℕ) (v : A) →
+        (read_by table tests value place at bytes ≡ Ok v) ↔ IsMessage table tests value place at bytes v }
+    ensures fault { (table : Table) (tests : ℕ → List FieldAt → Option WireError) (value : List FieldAt → A) →
+        (place at : ℕ) (bytes : List ℕ) (fault : WireError) →
+        (read_by table tests value place at bytes ≡ Err fault)
+        ↔ (HasFault table fault at bytes ⊎ FailsTests table tests fault place at bytes) }
+{}
+
+/// Fields are read as a moment exactly where the last of their seconds, as a signed number of 64 bits in two's
+/// complement, and the last of their nanos, as one of 32 bits, are the parts of that moment.
+pub fn moments_are_signed_parts()
+    ensures tested { (es : List FieldAt) → last_number 1 es < 2 ^ 64 →
+        (IsTrue (is_moment es) ↔ ArePartsOf (last_number 1 es) (last_number 2 es) (moment es)) }
+    ensures only { (es : List FieldAt) (m : ℕ) → last_number 1 es < 2 ^ 64 →
+        ArePartsOf (last_number 1 es) (last_number 2 es) m → moment es ≡ m }
+    ensures read { (at : ℕ) (bytes : List ℕ) (m : ℕ) → (reads_moment at bytes ≡ Ok m) ↔ IsTimestampOf m at bytes }
 {}
