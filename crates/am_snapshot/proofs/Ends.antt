@@ -21,17 +21,17 @@ behind : {A : Type 0} (x y : A) (xs ys : List A) → x ∷ xs ≡ y ∷ ys → x
 behind x y xs ys h = cc
 
 module _ {A : Type 0} (reads : ℕ → List ℕ → Result A WireError) where
-  abbrev from : ℕ → List ℕ → List (Result A WireError)
+  abbrev pub from : ℕ → List ℕ → List (Result A WireError)
   from at bytes = pieces (message_at reads) 0 at bytes
 
   abbrev found : A × ℕ → Result (A × ℕ) WireError
   found x = Ok x
 
   -- the first message, of so many bytes
-  record IsFirst (m : A) (at : ℕ) (bytes : List ℕ) (len : ℕ) : Type 0 where
-    filled : 1 ≤ len
-    within : len ≤ length bytes
-    stays : (rest : List ℕ) → message_at reads at (bytes ++ rest) ≡ Ok (m, len)
+  pub record IsFirst (m : A) (at : ℕ) (bytes : List ℕ) (len : ℕ) : Type 0 where
+    pub filled : 1 ≤ len
+    pub within : len ≤ length bytes
+    pub stays : (rest : List ℕ) → message_at reads at (bytes ++ rest) ≡ Ok (m, len)
 
   same_len : (v m : A) (n len : ℕ) → found (v, n) ≡ found (m, len) → n ≡ len
   same_len v m n len h = let same : (v, n) ≡ (m, len) = cc in ap (λ (x : A × ℕ). x.1) same
@@ -53,12 +53,12 @@ module _ {A : Type 0} (reads : ℕ → List ℕ → Result A WireError) where
   first_by m at bytes len (Err e) is h = absurd cc
 
   -- of bytes that begin with a message: where it ends, and what stands behind it
-  record HasFirst (m : A) (messages : List A) (at : ℕ) (bytes : List ℕ) : Type 0 where
-    len : ℕ
-    first : IsFirst m at bytes len
-    rest : from (at + len) (drop len bytes) ≡ map sound messages
+  pub record HasFirst (m : A) (messages : List A) (at : ℕ) (bytes : List ℕ) : Type 0 where
+    pub len : ℕ
+    pub first : IsFirst m at bytes len
+    pub rest : from (at + len) (drop len bytes) ≡ map sound messages
 
-  has_first : (m : A) (messages : List A) (at : ℕ) (bytes : List ℕ) → from at bytes ≡ map sound (m ∷ messages) → HasFirst m messages at bytes
+  pub has_first : (m : A) (messages : List A) (at : ℕ) (bytes : List ℕ) → from at bytes ≡ map sound (m ∷ messages) → HasFirst m messages at bytes
   unfolding pieces
   has_first m messages at [] h = absurd cc
   has_first m messages at (b ∷ bytes) h =
@@ -71,7 +71,7 @@ module _ {A : Type 0} (reads : ℕ → List ℕ → Result A WireError) where
         rest = behind (sound m) (sound m) _ _ (sym (pieces-first (message_at reads) at all (m, one.0) one.1 first.filled first.within) ∙ h);
       }
 
-  none_there : (at : ℕ) (bytes : List ℕ) → from at bytes ≡ [] → bytes ≡ []
+  pub none_there : (at : ℕ) (bytes : List ℕ) → from at bytes ≡ [] → bytes ≡ []
   unfolding pieces
   none_there at [] h = refl
   none_there at (b ∷ bytes) h = absurd (never_empty (λ skip. pieces (message_at reads) skip (at + 1) bytes) (message_at reads at (b ∷ bytes)) h)

@@ -6,3 +6,4 @@ pub mod RowReads
 pub mod Bests
 pub mod Stops
 pub mod Inserts
+pub mod OneFault

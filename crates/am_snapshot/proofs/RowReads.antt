@@ -74,7 +74,7 @@ module _ {A : Type 0} (reads : ℕ → List ℕ → Result A WireError) where
   message_at-fails : (at : ℕ) (bytes rest : List ℕ) (e : WireError) → row_at at bytes ≡ Err e → e ≢ Truncated at → message_at reads at (bytes ++ rest) ≡ Err e
   message_at-fails at bytes rest e h other = rw (row_at-fails at bytes rest e h other) refl
 
-  message_at-cut : (at : ℕ) (bytes : List ℕ) → IsCut at bytes → message_at reads at bytes ≡ Err (Truncated at)
+  pub message_at-cut : (at : ℕ) (bytes : List ℕ) → IsCut at bytes → message_at reads at bytes ≡ Err (Truncated at)
   message_at-cut at bytes h = rw h refl
 
   from-more : (at : ℕ) (row rest : List ℕ) (v : A) → 0 < length row → ReadsAs reads at row (Ok v) → from at (row ++ rest) ≡ Ok v ∷ from (at + length row) rest
@@ -82,12 +82,12 @@ module _ {A : Type 0} (reads : ℕ → List ℕ → Result A WireError) where
       pieces-first (message_at reads) at (row ++ rest) (v, length row) (message_at-whole at row rest v gives) filled (omega (arith, length-append row rest))
       ∙ ap (λ (r : List ℕ). sound v ∷ from (at + length row) r) (drop-append_seam row rest)
 
-  from-fault : (at : ℕ) (bytes : List ℕ) (e : WireError) → message_at reads at bytes ≡ Err e → 0 < length bytes → from at bytes ≡ Err e ∷ []
+  pub from-fault : (at : ℕ) (bytes : List ℕ) (e : WireError) → message_at reads at bytes ≡ Err e → 0 < length bytes → from at bytes ≡ Err e ∷ []
   unfolding pieces
   from-fault at [] e h filled = absurd (omega (arith, filled))
   from-fault at (b ∷ bytes) e h filled = rw h refl
 
-  from-nil : (at : ℕ) → from at [] ≡ []
+  pub from-nil : (at : ℕ) → from at [] ≡ []
   unfolding pieces
   from-nil at = refl
 

@@ -3,6 +3,7 @@
 
 mod error;
 mod folding;
+pub mod laws;
 mod loading;
 mod outgoing;
 mod reading;
