@@ -14,6 +14,8 @@ use std::marker::Model;
 
 /// A list of small items in order, in blocks of fewer than 128.
 ///
+/// An insertion or a removal moves fewer than 128 items, and blocks where one is cut or goes.
+///
 /// Contracts see it as `Rows`: the items, block by block, and what room there is.
 #[derive(Drop)]
 pub struct Blocks<T: Copy> {
@@ -58,6 +60,8 @@ impl<T: Copy> Blocks<T> {
 
     /// Makes room, so that as many insertions can't fail.
     ///
+    /// So many empty blocks wait then, since each insertion may need one: reserve for few at a time.
+    ///
     /// # Errors
     ///
     /// Want of memory: the items stay as they are.
@@ -75,7 +79,7 @@ impl<T: Copy> Blocks<T> {
         fill(&mut self.spares, additional, self.alloc)
     }
 
-    /// Where an item is that is looked for, or else where it would go.
+    /// Where an item is that is looked for, or else where it would go. It bisects.
     pub fn search<P: Probe<T>>(&self, probe: &P) -> Result<Spot, Spot>
         requires { IsRising (P.order probe.now) (entries self.now) }
         ensures found { IfOk result (IsFound (P.order probe.now) self.now) }

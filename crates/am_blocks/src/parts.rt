@@ -20,7 +20,9 @@ pub fn fill<T: Copy>(
     ensures empty { AreEmpty spares.new.items }
     ensures count { OnOk result (count ≤ vec_len spares.new) }
     ensures kept { vec_len spares.old ≤ vec_len spares.new }
-    ensures had_enough { count ≤ vec_len spares.old → IsOk result × (vec_len spares.new ≡ vec_len spares.old) }
+    // Where there are as many already, nothing is asked for.
+    ensures succeeds { count ≤ vec_len spares.old → IsOk result }
+    ensures had_enough { count ≤ vec_len spares.old → vec_len spares.new ≡ vec_len spares.old }
 {
     if count <= spares.len() {
         return Ok(());
@@ -94,7 +96,8 @@ pub fn put<T: Copy>(blocks: &mut Vec<Block<T>>, spares: &mut Vec<Block<T>>, spot
     }
 }
 
-/// Takes the item at a spot out. A block that has no item then waits with the empty ones where there is room.
+/// Takes the item at a spot out. A block that has no item then waits with the empty ones where there
+/// is room for it.
 pub fn take_out<T: Copy>(blocks: &mut Vec<Block<T>>, spares: &mut Vec<Block<T>>, spot: Spot)
     requires sound { AreSound blocks.old.items }
     requires empty { AreEmpty spares.old.items }
