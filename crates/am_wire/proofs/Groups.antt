@@ -1,5 +1,6 @@
 -- A loop that has read the first groups of a number.
-use Rattle.std.proofs.Common.{◌≡◌, ℕ, suc, ◌+◌, ◌-◌, ◌*◌, ◌%◌, ◌^◌, ◌<◌, ◌≤◌, ◌≢◌, ltb, true, false, List, [], ◌∷◌, length, drop, get_or, Result, Ok, Err, refl, sym, ap, ◌∙◌, arith, drop-cons, add-one}
+use Rattle.std.proofs.Common.{◌≡◌, ℕ, suc, ◌+◌, ◌-◌, ◌*◌, ◌%◌, ◌^◌, ◌<◌, ◌≤◌, ◌≢◌, ltb, true, false, List, [], ◌∷◌, length, drop, get_or, Some, Result, Ok, Err, refl, sym, ap, ◌∙◌, arith, drop-cons, add-one}
+use Rattle.std.specs.Prelude.{slice_get}
 use Rattle.std.proofs.lemmas.Bool.{lt-ltb, le-ltb}
 use Rattle.std.proofs.Math.Nat.{pow-le-pow_right, pow-suc, mul-le-mul_right}
 use Rattle.std.proofs.Math.ListN.{drop_of_length-le}
@@ -20,6 +21,15 @@ pub record HasRead (value scale place at : ℕ) (bytes : List ℕ) : Type 0 wher
 
 abbrev done : ℕ → ℕ → Result (ℕ × ℕ) WireError
 done n len = Ok (n, len)
+
+-- a number of one byte
+pub one_byte : (at b : ℕ) (bytes : List ℕ) → slice_get bytes 0 ≡ Some b → b < 128 → varint_within at 9 bytes ≡ Ok (b, 1)
+unfolding varint_within
+one_byte at b [] is lt = absurd cc
+one_byte at b (x ∷ bytes) is lt =
+    let same : x ≡ b = cc in
+    let t : ltb x 128 ≡ true = lt-ltb _ _ (omega arith) in
+    rw t (ap (λ (n : ℕ). done n 1) same)
 
 pub after-start : (r : Result (ℕ × ℕ) WireError) → after 0 1 0 r ≡ r
 after-start (Ok x) =

@@ -10,7 +10,20 @@ use std::marker::Model;
 const MOST_BYTES: usize = 10;
 
 /// Reads the number at the front, and how many bytes it takes; a fault is put down to the offset `at`.
+#[tactic(auto, using(crate::proofs::Groups::one_byte))]
 pub fn varint_from(bytes: &[u8], at: usize) -> Result<(u64, usize), WireError>
+    ensures value { result ≡ varint_at at bytes.now }
+    ensures within { IfOk result (λ x. (0 < x.1) × (x.1 ≤ length bytes.now) × (x.1 ≤ 10)) }
+{
+    match bytes.first() {
+        Some(byte) if *byte < 128 => Ok((u64::from(*byte), 1)),
+        _ => long_varint_from(bytes, at),
+    }
+}
+
+// The same, byte by byte: most numbers have but one.
+#[inline(never)]
+fn long_varint_from(bytes: &[u8], at: usize) -> Result<(u64, usize), WireError>
     ensures value { result ≡ varint_at at bytes.now }
     ensures within { IfOk result (λ x. (0 < x.1) × (x.1 ≤ length bytes.now) × (x.1 ≤ 10)) }
 {

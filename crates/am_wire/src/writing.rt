@@ -17,10 +17,17 @@ fn push_varint(out: &mut Vec<u8>, value: u64) -> Result<(), AllocError>
 {
     if value < 128 {
         out.push(value as u8)?;
-    } else {
-        out.extend_from_slice(write_varint(value).as_slice())?;
+        return Ok(());
     }
-    Ok(())
+    push_long_varint(out, value)
+}
+
+// The same, byte by byte: most numbers have but one.
+#[inline(never)]
+fn push_long_varint(out: &mut Vec<u8>, value: u64) -> Result<(), AllocError>
+    ensures ok { OnOk result (out.new.items ≡ out.old.items ++ shortest value) }
+{
+    out.extend_from_slice(write_varint(value).as_slice())
 }
 
 /// Writes a number as a field. 0 is left out, since it is what a missing number is read as.

@@ -1,5 +1,5 @@
 use Rattle.am_wire.proofs.Groups.{ends_at_tenth, fails_at_tenth, ends_here, reads_on, ends_short}
-use Rattle.am_wire.proofs.varint.varint_from.Goals as goal
+use Rattle.am_wire.proofs.varint.long_varint_from.Goals as goal
 
 pub returns-then-byte-lt2-clause-value : goal.returns-then-byte-lt2-clause-value
 returns-then-byte-lt2-clause-value c = ends_at_tenth _ _ _ _ _ c.loop-place.invariant _ c.loop-place-test.true c.from-byte.ensures c.if-place-eq-MOST_BYTES.true c.if-byte-lt2.true
