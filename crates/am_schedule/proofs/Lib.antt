@@ -2,6 +2,7 @@ pub mod Decimals
 pub mod EventRows
 pub mod WrittenWords
 pub mod WrittenLines
+pub mod WrittenTexts
 pub mod OneRow
 pub mod Pairs
 pub mod States

@@ -125,7 +125,7 @@ pub cut_place : (p : ℕ → Bool) (part : List ℕ) (c : ℕ) (rest : List ℕ)
 cut_place p [] c rest none here = rw here refl
 cut_place p (x ∷ part) c rest none here = longer (not (p x)) (list_all (λ x. not (p x)) part) _ _ (λ others. cut_place p part c rest others here) none
 
-no_place : (p : ℕ → Bool) (part : List ℕ) → list_all (λ x. not (p x)) part ≡ true → position_or_len p part ≡ length part
+pub no_place : (p : ℕ → Bool) (part : List ℕ) → list_all (λ x. not (p x)) part ≡ true → position_or_len p part ≡ length part
 no_place p [] none = refl
 no_place p (x ∷ part) none = longer (not (p x)) (list_all (λ x. not (p x)) part) _ _ (λ others. no_place p part others) none
 

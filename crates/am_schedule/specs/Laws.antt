@@ -8,8 +8,8 @@ use Rattle.am_schedule.specs.declared.step.VersionLine.{VersionLine}
 use Rattle.am_schedule.specs.declared.step.Line.{Line}
 use Rattle.am_schedule.specs.Labels.{is_label}
 use Rattle.am_schedule.specs.Forms.{is_of, form_in, has_verb, verb_in}
-use Rattle.am_schedule.specs.Written.{written, written_version, IsWritableLine, IsWritableVersion}
-use Rattle.am_schedule.specs.Schedules.{lines_of, said_in, labelled, meaning, AreSound, schedule_of}
+use Rattle.am_schedule.specs.Written.{joined, AreOfText, written, written_version, IsWritableLine, IsWritableVersion}
+use Rattle.am_schedule.specs.Schedules.{lines_of, cluster_of, version_of, said_in, labelled, meaning, AreSound, schedule_of}
 
 -- a line of the text is at fault behind lines that are not: it is told
 abbrev pub FirstIsTold : Type 0
@@ -30,6 +30,13 @@ abbrev pub LineIsRead : Type 0
 LineIsRead =
     (cluster : ClusterLine) (version : List ℕ → Option VersionLine) (labels : List (List ℕ)) (line : Line)
     → IsWritableLine cluster.names version labels line → said_in (Some cluster) version (written labels line) ≡ Ok (Some line)
+
+-- and so is the text of its words, behind lines that define its members and labels
+abbrev pub TextIsRead : Type 0
+TextIsRead =
+    (before : List (List ℕ)) (cluster : ClusterLine) (labels : List (List ℕ)) (line : Line)
+    → cluster_of before ≡ Some cluster → IsWritableLine cluster.names (version_of before) labels line → AreOfText (written labels line)
+    → meaning before (joined (written labels line)) ≡ Ok (Some line)
 
 -- what is written of a version behind a new label gives that label that version
 abbrev pub VersionIsRead : Type 0

@@ -1,7 +1,7 @@
 -- The written form of lines: one way to write each, word by word.
 use Rattle.std.specs.Prelude.{◌≡◌, ℕ, zero, suc, ◌+◌, ◌-◌, ◌*◌, ◌/◌, ◌%◌, ◌^◌, ◌<◌, ◌≤◌, Bool, true, false, not, List, [], ◌∷◌, ◌++◌, length, map, find, Option, Some, None, nat_lt, nat_le, ◌==◌, ◌&&◌, codes, if◌then◌else◌, Ok}
-use Rattle.std.specs.List.{list_all}
-use Rattle.std.specs.Str.{bytes_eq}
+use Rattle.std.specs.List.{list_all, join_with_byte}
+use Rattle.std.specs.Str.{bytes_eq, is_utf8}
 use Rattle.std.specs.Fmt.{decimal}
 use Rattle.am_version_order.specs.Moments.{seconds_before_1970}
 use Rattle.am_schedule.specs.declared.step.VersionLine.{VersionLine}
@@ -109,6 +109,16 @@ written_version label (Silence line) =
     ∷ line.name ∷ line.value ∷ []
 written_version label (Log line) =
     codes "nfl" ∷ label ∷ line.group ∷ line.receiver ∷ word_of whole_moment line.updated ∷ word_of whole_moment line.expires ∷ word_of hashes line.firing ∷ word_of hashes line.resolved ∷ []
+
+-- ---- texts
+
+-- words with one space between them
+abbrev pub joined : List (List ℕ) → List ℕ
+joined words = join_with_byte 32 words
+
+-- words that make a text, in none of which a space stands
+abbrev pub AreOfText : List (List ℕ) → Type 0
+AreOfText words = (is_utf8 (joined words) ≡ true) × (list_all (λ word. list_all (λ byte. not (byte == 32)) word) words ≡ true)
 
 -- ---- what can be written
 
