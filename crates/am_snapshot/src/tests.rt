@@ -8,11 +8,10 @@ ghost use Rattle.am_wire.specs.declared.error.WireError.TheVariants as errors;
 use super::*;
 use am_merge::Held;
 use am_version_order::{Moment, Version};
-use am_wire::{Message, WireError};
+use am_wire::{Message, RowFault, WireError};
 use std::alloc::{AllocError, Global};
 use std::io::{self, Read, Write};
 use std::marker::Model;
-use std::test::Fail;
 
 /// A text, the first byte of which is its key. It is never live, and of two of one key the greater text counts.
 #[derive(Drop)]
@@ -100,7 +99,7 @@ impl Message for Note {
 }
 
 /// A reader over bytes that gives at most `step` of them a call, and fails at a call (0: at none).
-#[derive(Drop)]
+#[derive(Clone, Copy)]
 struct Fitful<'a> {
     left: &'a [u8],
     step: usize,
@@ -187,102 +186,111 @@ fn in_one(alloc: Global) -> Brittle {
     writer
 }
 
-fn holding(alloc: Global, texts: &[&[u8]]) -> Result<Held<Note>, Fail> {
-    let mut held = Held::new(alloc);
-    for text in texts {
-        held.take(Note::decode(alloc, text)?, Moment::LEAST)?;
-    }
-    Ok(held)
-}
-
 /// The rows of `a2` and `b0`.
 const ROWS: [u8; 6] = [2, b'a', b'2', 2, b'b', b'0'];
 
-#[test]
-fn a_snapshot_is_a_row_in_key_order(rt: HostRuntime) -> Result<(), Fail> {
-    let alloc = rt.alloc();
-    let held = holding(alloc, &[b"b0", b"a2"])?;
-    let mut writer = in_one(alloc);
-    assert_eq!(rt; save(alloc, &held, &mut writer), Ok(6));
-    assert_eq!(rt; writer.taken.as_slice(), ROWS.as_slice());
-    assert_eq!(rt; writer.calls, 1, "bytes were not gathered");
-    Ok(())
+/// Loads rows, and saves what they are.
+fn resaved<R: Read>(
+    alloc: Global,
+    reader: &mut R,
+    writer: &mut Brittle,
+) -> Result<u64, SnapshotError> {
+    let held: Held<Note> = load(alloc, reader)?;
+    save(alloc, &held, writer)
 }
 
 #[test]
-fn a_stopped_save_leaves_the_first_bytes(rt: HostRuntime) -> Result<(), Fail> {
-    let alloc = rt.alloc();
-    let held = holding(alloc, &[b"b0", b"a2"])?;
-    for (k, stop) in [
-        (1, Stop::Fails),
-        (2, Stop::Fails),
-        (3, Stop::Fails),
-        (1, Stop::TakesNothing),
-        (2, Stop::TakesNothing),
-        (3, Stop::TakesNothing),
+fn a_row_is_loaded_and_saved_in_key_order(rt: HostRuntime) {
+    for step in [1, 2, 100] {
+        let mut writer = in_one(rt.alloc());
+        let mut reader = one_by_one(&[2, b'b', b'0', 2, b'a', b'2'], 0);
+        reader.step = step;
+        assert!(rt;
+            resaved(rt.alloc(), &mut reader, &mut writer) == Ok(6),
+            "{step}"
+        );
+        assert!(rt; writer.taken.as_slice() == ROWS.as_slice(), "{step}");
+        assert!(rt; writer.calls == 1, "bytes were not gathered");
+    }
+}
+
+/// The answer of the call after it is that of a call which nothing failed before.
+#[test]
+fn a_stopped_save_leaves_the_first_bytes(rt: HostRuntime) {
+    for (k, stop, written) in [
+        (1, Stop::Fails, 0),
+        (2, Stop::Fails, 2),
+        (3, Stop::Fails, 4),
+        (1, Stop::TakesNothing, 0),
+        (2, Stop::TakesNothing, 2),
+        (3, Stop::TakesNothing, 4),
     ] {
-        let written: usize = 2 * (k - 1);
-        let mut writer = two_by_two(alloc, k, stop);
+        let mut writer = two_by_two(rt.alloc(), k, stop);
+        let answer = resaved(rt.alloc(), &mut ROWS.as_slice(), &mut writer);
         let fault = SnapshotError::Write {
             written: written as u64,
         };
-        assert_eq!(rt; save(alloc, &held, &mut writer), Err(fault));
-        assert_eq!(rt; writer.taken.as_slice(), &ROWS[..written]);
-        assert_eq!(rt; writer.calls, k, "tried again");
+        assert!(rt; answer == Err(fault), "{k}");
+        assert!(rt; writer.taken.as_slice() == &ROWS[..written], "{k}");
+        assert!(rt; writer.calls == k, "tried again");
+        let next = resaved(rt.alloc(), &mut ROWS.as_slice(), &mut writer);
+        assert!(rt; next == Ok(6), "{k}");
+        assert!(rt; writer.taken.len() == written + 6, "{k}");
     }
-    Ok(())
 }
 
 #[test]
-fn a_large_part_is_written_by_itself(rt: HostRuntime) -> Result<(), Fail> {
-    let alloc = rt.alloc();
-    let large = vec![in alloc; b'b'; 70_000]?;
-    let held = holding(alloc, &[b"a2", large.as_slice(), b"c4"])?;
-    let mut writer = in_one(alloc);
-    assert_eq!(rt; save(alloc, &held, &mut writer), Ok(70_009));
-    assert_eq!(rt; writer.taken.len(), 70_009);
-    assert_eq!(rt; writer.calls, 3);
-    Ok(())
+fn a_large_part_is_written_by_itself(rt: HostRuntime) {
+    let front: &[u8] = &[2, b'a', b'2', 0xF0, 0xA2, 0x04];
+    let back: &[u8] = &[2, b'c', b'4'];
+    let mut reader = front.chain(io::repeat(b'b').take(70_000)).chain(back);
+    let mut writer = in_one(rt.alloc());
+    assert!(rt;
+        resaved(rt.alloc(), &mut reader, &mut writer) == Ok(70_009),
+        "saved"
+    );
+    assert!(rt; writer.taken.len() == 70_009, "taken");
+    assert!(rt; writer.calls == 3, "calls");
+}
+
+/// Holds one version of so many bytes, and saves it.
+fn large_saved(alloc: Global, size: usize, writer: &mut Brittle) -> Result<u64, SnapshotError> {
+    let text = vec![in alloc; b'a'; size.max(1)]?;
+    let mut held = Held::new(alloc);
+    held.take(Note { text }, Moment::LEAST)?;
+    save(alloc, &held, writer)
 }
 
 #[test]
-fn a_row_over_the_limit_is_not_begun(rt: HostRuntime) -> Result<(), Fail> {
-    let alloc = rt.alloc();
-    for (size, saved, calls) in [
-        (67_108_860usize, Ok(67_108_864), 2),
+fn a_row_over_the_limit_is_not_begun(rt: HostRuntime) {
+    for (size, answer, calls) in [
+        (67_108_860, Ok(67_108_864), 2),
         (67_108_861, Err(SnapshotError::TooLarge), 0),
     ] {
-        let text = vec![in alloc; b'a'; size]?;
-        let held = holding(alloc, &[text.as_slice()])?;
-        let mut writer = in_one(alloc);
-        assert_eq!(rt; save(alloc, &held, &mut writer), saved);
-        assert_eq!(rt; writer.calls, calls);
+        let mut writer = in_one(rt.alloc());
+        assert!(rt;
+            large_saved(rt.alloc(), size, &mut writer) == answer,
+            "{size}"
+        );
+        assert!(rt; writer.calls == calls, "{size}");
     }
-    Ok(())
 }
 
-#[test]
-fn a_row_is_loaded_live_or_not(rt: HostRuntime) -> Result<(), Fail> {
-    let alloc = rt.alloc();
-    for step in [1, 2, 100] {
-        let mut reader = one_by_one(&[2, b'b', b'0', 2, b'a', b'2'], 0);
-        reader.step = step;
-        let held: Held<Note> = load(alloc, &mut reader)?;
-        let mut writer = in_one(alloc);
-        assert_eq!(rt; save(alloc, &held, &mut writer), Ok(6));
-        assert_eq!(rt; writer.taken.as_slice(), ROWS.as_slice());
-    }
-    Ok(())
+fn load_fault<R: Read>(alloc: Global, reader: &mut R) -> Option<SnapshotError> {
+    load::<Note, R>(alloc, reader).err()
 }
 
-fn load_fault(alloc: Global, bytes: &[u8], fails_at: usize) -> Option<SnapshotError> {
-    let mut reader = one_by_one(bytes, fails_at);
-    load::<Note, _>(alloc, &mut reader).err()
+fn row_fault<R: Read>(alloc: Global, reader: &mut R) -> Option<RowFault> {
+    take_row::<Note, R>(alloc, reader, Moment::LEAST).err()
+}
+
+fn folded<R: Read>(alloc: Global, reader: &mut R, writer: &mut Brittle) -> Result<u64, FoldError> {
+    fold::<Note, R, Brittle>(alloc, reader, writer, Moment::LEAST)
 }
 
 #[test]
 fn loading_answers_the_first_fault(rt: HostRuntime) {
-    let alloc = rt.alloc();
+    let wire = SnapshotError::Wire;
     let cases: [(&[u8], SnapshotError); 6] = [
         (&[2, b'a', b'1', 2, b'a', b'2'], SnapshotError::DuplicateKey),
         (
@@ -291,38 +299,93 @@ fn loading_answers_the_first_fault(rt: HostRuntime) {
         ),
         (
             &[2, b'a', b'1', 2, b'a'],
-            SnapshotError::Wire(WireError::Truncated { at: 3 }),
+            wire(WireError::Truncated { at: 3 }),
         ),
-        (
-            &[2, b'a', b'1', 0],
-            SnapshotError::Wire(WireError::Truncated { at: 4 }),
-        ),
-        (
-            &[0x81, 0x80, 0x80, 0x20],
-            SnapshotError::Wire(WireError::TooLarge),
-        ),
+        (&[2, b'a', b'1', 0], wire(WireError::Truncated { at: 4 })),
+        (&[0x81, 0x80, 0x80, 0x20], wire(WireError::TooLarge)),
         (
             &[0x80, 0x80, 0x80, 0x20, 1, 2, 3, 4],
-            SnapshotError::Wire(WireError::Truncated { at: 0 }),
+            wire(WireError::Truncated { at: 0 }),
         ),
     ];
-    for (bytes, fault) in cases {
-        assert_eq!(rt; load_fault(alloc, bytes, 0), Some(fault));
+    for (place, (bytes, fault)) in cases.iter().enumerate() {
+        let answer = load_fault(rt.alloc(), &mut one_by_one(bytes, 0));
+        assert!(rt; answer == Some(*fault), "{place}");
     }
-    for k in 1..8usize {
-        let fault = SnapshotError::Read { at: k - 1 };
-        assert_eq!(rt; load_fault(alloc, &ROWS, k), Some(fault));
-    }
-    assert_eq!(rt; load_fault(alloc, &ROWS, 8), None);
 }
 
-fn folded(alloc: Global, reader: &mut Fitful<'_>, writer: &mut Brittle) -> Result<u64, FoldError> {
-    fold::<Note, _, _>(alloc, reader, writer, Moment::LEAST)
+/// The call after it reads on behind the bytes that came.
+#[test]
+fn a_failed_read_is_told_and_not_tried_again(rt: HostRuntime) {
+    let cut = WireError::Truncated { at: 0 };
+    for (k, next) in [
+        (1, None),
+        (2, Some(cut)),
+        (3, Some(cut)),
+        (4, None),
+        (5, Some(cut)),
+        (6, Some(cut)),
+        (7, None),
+    ] {
+        let mut loading = one_by_one(&ROWS, k);
+        let mut taking = loading;
+        let mut folding = loading;
+        let mut writer = in_one(rt.alloc());
+        let at = k - 1;
+        assert!(rt;
+            load_fault(rt.alloc(), &mut loading) == Some(SnapshotError::Read { at }),
+            "{k}"
+        );
+        assert!(rt;
+            row_fault(rt.alloc(), &mut taking) == Some(RowFault::Read { at }),
+            "{k}"
+        );
+        assert!(rt;
+            folded(rt.alloc(), &mut folding, &mut writer) == Err(FoldError::Read { at }),
+            "{k}"
+        );
+        assert!(rt;
+            [loading.calls, taking.calls, folding.calls] == [k; 3],
+            "tried again"
+        );
+        assert!(rt; writer.calls == 0, "written before all was read");
+        assert!(rt;
+            load_fault(rt.alloc(), &mut loading) == next.map(SnapshotError::Wire),
+            "{k}"
+        );
+        assert!(rt;
+            row_fault(rt.alloc(), &mut taking) == next.map(RowFault::Wire),
+            "{k}"
+        );
+    }
+}
+
+/// A row of 67,108,866 bytes, of which an input has as many as it may have, or one more.
+const TOO_LONG: [u8; 4] = [0xFE, 0xFF, 0xFF, 0x1F];
+
+#[test]
+fn a_byte_past_the_limit_is_too_large(rt: HostRuntime) {
+    let cut = SnapshotError::Wire(WireError::Truncated { at: 0 });
+    for (bytes, fault) in [(67_108_864, cut), (67_108_865, SnapshotError::TooLarge)] {
+        let mut reader = TOO_LONG.as_slice().chain(io::repeat(b'a')).take(bytes);
+        assert!(rt;
+            load_fault(rt.alloc(), &mut reader) == Some(fault),
+            "{bytes}"
+        );
+    }
+}
+
+#[test]
+fn nothing_is_folded_of_an_input_that_is_too_large(rt: HostRuntime) {
+    let mut writer = in_one(rt.alloc());
+    let mut reader = TOO_LONG.as_slice().chain(io::repeat(b'a')).take(67_108_865);
+    let answer = folded(rt.alloc(), &mut reader, &mut writer);
+    assert!(rt; answer == Err(FoldError::TooLarge), "answer");
+    assert!(rt; writer.calls == 0, "written");
 }
 
 #[test]
 fn a_fold_writes_the_best_of_each_key(rt: HostRuntime) {
-    let alloc = rt.alloc();
     let second: &[u8] = &[2, b'a', b'2'];
     let cases: [(&[u8], &[u8]); 4] = [
         (&[], &[]),
@@ -330,44 +393,39 @@ fn a_fold_writes_the_best_of_each_key(rt: HostRuntime) {
         (&[2, b'a', b'1', 2, b'a', b'2', 2, b'a', b'1'], second),
         (&[2, b'b', b'0', 2, b'a', b'1', 2, b'a', b'2'], &ROWS),
     ];
-    for (input, output) in cases {
-        let mut writer = in_one(alloc);
-        let answer = folded(alloc, &mut one_by_one(input, 0), &mut writer);
-        assert_eq!(rt; answer, Ok(output.len() as u64));
-        assert_eq!(rt; writer.taken.as_slice(), output);
+    for (place, (input, output)) in cases.iter().enumerate() {
+        let mut writer = in_one(rt.alloc());
+        let answer = folded(rt.alloc(), &mut one_by_one(input, 0), &mut writer);
+        assert!(rt; answer == Ok(output.len() as u64), "{place}");
+        assert!(rt; writer.taken.as_slice() == *output, "{place}");
     }
 }
 
 #[test]
-fn a_fold_stops_where_a_call_fails(rt: HostRuntime) {
-    let alloc = rt.alloc();
-    for k in 1..8usize {
-        let mut writer = in_one(alloc);
-        let answer = folded(alloc, &mut one_by_one(&ROWS, k), &mut writer);
-        assert_eq!(rt; answer, Err(FoldError::Read { at: k - 1 }));
-        assert_eq!(rt; writer.calls, 0, "written before all was read");
-    }
-    for k in 1..4usize {
-        let written: usize = 2 * (k - 1);
-        let mut writer = two_by_two(alloc, k, Stop::TakesNothing);
-        let answer = folded(alloc, &mut one_by_one(&ROWS, 0), &mut writer);
+fn a_stopped_fold_leaves_the_first_bytes(rt: HostRuntime) {
+    for (k, stop, written) in [
+        (1, Stop::Fails, 0),
+        (2, Stop::Fails, 2),
+        (3, Stop::TakesNothing, 4),
+    ] {
+        let mut writer = two_by_two(rt.alloc(), k, stop);
+        let answer = folded(rt.alloc(), &mut ROWS.as_slice(), &mut writer);
         let fault = FoldError::Write {
             written: written as u64,
         };
-        assert_eq!(rt; answer, Err(fault));
-        assert_eq!(rt; writer.taken.as_slice(), &ROWS[..written]);
+        assert!(rt; answer == Err(fault), "{k}");
+        assert!(rt; writer.taken.as_slice() == &ROWS[..written], "{k}");
+        assert!(rt; writer.calls == k, "tried again");
     }
 }
 
 #[test]
 fn a_cut_row_is_folded_up_to_nothing(rt: HostRuntime) {
-    let alloc = rt.alloc();
-    for n in 1..6usize {
-        let mut writer = in_one(alloc);
-        let answer = folded(alloc, &mut one_by_one(&ROWS[..n], 0), &mut writer);
-        let fault = FoldError::Wire(WireError::Truncated { at: n / 3 * 3 });
-        let want = if n == 3 { Ok(3) } else { Err(fault) };
-        assert_eq!(rt; answer, want);
-        assert_eq!(rt; writer.taken.is_empty(), n != 3);
+    for (n, at) in [(1, 0), (2, 0), (4, 3), (5, 3)] {
+        let mut writer = in_one(rt.alloc());
+        let answer = folded(rt.alloc(), &mut &ROWS[..n], &mut writer);
+        let fault = FoldError::Wire(WireError::Truncated { at });
+        assert!(rt; answer == Err(fault), "{n}");
+        assert!(rt; writer.calls == 0, "{n}");
     }
 }
