@@ -210,8 +210,8 @@ def outcomes_under_limits(words, **how):
     found = []
     for limit in range(1 << 20, 1 << 26, 1 << 16):
         ran = run(words, preexec_fn=lambda: resource.setrlimit(resource.RLIMIT_AS, (limit, limit)), **how)
-        # the program did not start
-        if ran[0] < 0 or ran[0] == 127:
+        # too little for the program to start
+        if not found and (ran[0] < 0 or ran[0] == 127):
             continue
         if ran not in found:
             found.append(ran)
