@@ -1,16 +1,18 @@
 -- What is read of bytes that have a fault, and of any bytes.
-use Rattle.std.proofs.Common.{◌≡◌, ℕ, Bool, true, List, ◌++◌, Result, sym, ap, ◌∙◌, inl, inr, ◌⊎◌}
+use Rattle.std.proofs.Common.{◌≡◌, ℕ, ◌≤◌, Bool, true, List, [], length, take, drop, take-append-drop, length-take-le, ◌++◌, Result, Ok, Err, refl, sym, ap, subst, append-nil, ◌∙◌, inl, inr, ◌⊎◌}
 use Rattle.std.specs.List.{AllPass}
+use Rattle.std.proofs.Math.Seq.{take-length}
 use Rattle.am_wire.specs.declared.error.WireError.{WireError}
+use Rattle.am_wire.specs.declared.error.WireError.TheVariants.{Truncated}
 use Rattle.am_wire.specs.declared.value.WireType.{WireType}
 use Rattle.am_wire.specs.Varint.{IsVarint, varint_at}
 use Rattle.am_wire.specs.Fields.{FieldAt, fields_of, field_at, row_at, rows_of}
 use Rattle.am_wire.specs.Grammar.{IsField, AreFields, IsRow, AreRows, ArePacked, field_fits}
-use Rattle.am_wire.specs.Faults.{IsNumberFault, IsFieldFault, AreFieldsUntil, IsRowFault, AreRowsUntil, ArePackedUntil}
+use Rattle.am_wire.specs.Faults.{EndsInNumber, EndsInMessage, IsNumberFault, IsFieldFault, AreFieldsUntil, IsRowFault, AreRowsUntil, ArePackedUntil}
 use Rattle.am_wire.specs.Reading.{unpacked}
 use Rattle.am_wire.specs.Again.Varints.{varint_read, varint_filled}
 use Rattle.am_wire.specs.Again.Fields.{field_read}
-use Rattle.am_wire.proofs.Found.{IsTaken, IsNumber, field_found, number_found, row_found, err_ok}
+use Rattle.am_wire.proofs.Found.{IsTaken, IsNumber, field_found, number_found, row_found, ok, err_ok}
 use Rattle.am_wire.proofs.Exact.{taken_parts, taken_from, fields_found, fields_read, row_read, rows_found, rows_read, numbers_found}
 use Rattle.am_wire.proofs.Stops.{number_fault_found, number_fails, field_fault_found, field_fails, row_fault_found, row_fails}
 use Rattle.am_wire.proofs.Until.{until, until_found, until_read, until_is, whole_or_until, pieces_end}
@@ -49,6 +51,16 @@ module _ (fits : ℕ → WireType → Bool) (at : ℕ) (bytes : List ℕ) where
         | inr faulty ↦ (end.0, inr (faulty.0, fields_until_found end.0 faulty.0 faulty.1))
       ]
 
+  -- one field at the front
+  pub field_front_found : (e : FieldAt) (len : ℕ) → field_at fits at bytes ≡ Ok (e, len) → (len ≤ length bytes) × IsField e at (take len bytes) × (field_fits fits e ≡ true)
+  field_front_found e len h = let f = field_found fits at bytes (e, len) h in (f.within, f.says.0, f.says.1)
+
+  pub field_front_read : (e : FieldAt) (len : ℕ) → (len ≤ length bytes) × IsField e at (take len bytes) × (field_fits fits e ≡ true) → field_at fits at bytes ≡ Ok (e, len)
+  field_front_read e len (within, is, fit) =
+      let size : length (take len bytes) ≡ len = length-take-le len bytes within in
+      let whole : List ℕ → Result (FieldAt × ℕ) WireError = field_at fits at in
+      ap whole (sym (take-append-drop len bytes)) ∙ (field_read fits e at (take len bytes) is fit).reads (drop len bytes) ∙ ap (λ (n : ℕ). ok (e, n)) size
+
   pub no_field : (fault : WireError) → IsFieldFault fits at bytes fault → (e : FieldAt) (text rest : List ℕ) → bytes ≡ text ++ rest → IsField e at text → field_fits fits e ≡ true → ⊥
   no_field fault stops e text rest is spelled fit =
       err_ok {A = FieldAt × ℕ} fault _ (sym (field_fails fits at bytes fault stops) ∙ ap (field_at fits at) is ∙ (field_read fits e at text spelled fit).reads rest)
@@ -76,6 +88,31 @@ module _ (bytes : List ℕ) where
         | inl whole ↦ (end.0, inl (rows_found bytes end.0 whole))
         | inr faulty ↦ (end.0, inr (faulty.0, rows_until_found end.0 faulty.0 faulty.1))
       ]
+
+  -- one message at the front
+  pub row_front_found : (at : ℕ) (message : List ℕ) (len : ℕ) → row_at at bytes ≡ Ok (message, len) → (len ≤ length bytes) × IsRow message at (take len bytes)
+  row_front_found at message len h = let f = row_found at bytes (message, len) h in (f.within, f.says)
+
+  pub row_front_read : (at : ℕ) (message : List ℕ) (len : ℕ) → (len ≤ length bytes) × IsRow message at (take len bytes) → row_at at bytes ≡ Ok (message, len)
+  row_front_read at message len (within, is) =
+      let size : length (take len bytes) ≡ len = length-take-le len bytes within in
+      let whole : List ℕ → Result (List ℕ × ℕ) WireError = row_at at in
+      ap whole (sym (take-append-drop len bytes)) ∙ (row_read message at (take len bytes) is).reads (drop len bytes) ∙ ap (λ (n : ℕ). ok (message, n)) size
+
+  -- a row that is whole, and one that is not
+  pub whole_row_found : (at : ℕ) (message : List ℕ) → row_at at bytes ≡ Ok (message, length bytes) → IsRow message at bytes
+  whole_row_found at message h = subst (λ (text : List ℕ). IsRow message at text) (take-length bytes) (row_front_found at message (length bytes) h).1
+
+  pub whole_row_read : (at : ℕ) (message : List ℕ) → IsRow message at bytes → row_at at bytes ≡ Ok (message, length bytes)
+  whole_row_read at message is =
+      let whole : List ℕ → Result (List ℕ × ℕ) WireError = row_at at in
+      ap whole (sym (append-nil bytes)) ∙ (row_read message at bytes is).reads []
+
+  pub cut_row_found : (at : ℕ) → row_at at bytes ≡ Err (Truncated at) → EndsInNumber bytes ⊎ EndsInMessage bytes
+  cut_row_found at h = (row_fault_found at bytes (Truncated at) h).1
+
+  pub cut_row_read : (at : ℕ) → EndsInNumber bytes ⊎ EndsInMessage bytes → row_at at bytes ≡ Err (Truncated at)
+  cut_row_read at ends = row_fails at bytes (Truncated at) (refl, ends)
 
   pub no_message : (at : ℕ) (fault : WireError) → IsRowFault at bytes fault → (message text rest : List ℕ) → bytes ≡ text ++ rest → IsRow message at text → ⊥
   no_message at fault stops message text rest is spelled =

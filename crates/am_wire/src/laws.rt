@@ -1,5 +1,5 @@
 //! Laws over the definitions that the readers' contracts cite: what is read is what is spelled, and what is spelled is
-//! read in one way only.
+//! read in one way only; and a fault is what the bytes behind the last sound thing say.
 
 ghost use Rattle.std.specs.Prelude.{◌≡◌, ℕ, List, [], ◌∷◌, Bool, true, ◌+◌, ◌<◌, ◌≤◌, ◌^◌, ◌↔◌, ◌⊎◌, length, take, map, Option, Some, None, Ok, Err, ◌++◌, All, IsTrue, slice_index};
 ghost use Rattle.std.specs.List.{AllPass, flat_map};
@@ -8,10 +8,11 @@ ghost use Rattle.am_wire.specs.declared.error.WireError.{WireError};
 ghost use Rattle.am_wire.specs.declared.error.WireError.TheVariants.{Truncated, LongVarint, NotUtf8};
 ghost use Rattle.am_wire.specs.declared.value.WireType.{WireType};
 ghost use Rattle.am_wire.specs.Varint.{IsVarint, varint_at, shortest};
-ghost use Rattle.am_wire.specs.Fields.{FieldAt, fields_of, rows_of, any};
+ghost use Rattle.am_wire.specs.Fields.{FieldAt, field_at, fields_of, row_at, rows_of, any};
 ghost use Rattle.am_wire.specs.Grammar.{AreFields, AreRows, ArePacked, IsField, IsRow, field_fits};
-ghost use Rattle.am_wire.specs.Faults.{IsNumberFault, IsFieldFault, IsRowFault, AreFieldsUntil, AreRowsUntil, ArePackedUntil};
+ghost use Rattle.am_wire.specs.Faults.{EndsInNumber, EndsInMessage, IsNumberFault, IsFieldFault, IsRowFault, AreFieldsUntil, AreRowsUntil, ArePackedUntil};
 ghost use Rattle.am_wire.specs.Messages.{AreSound, IsMessage, HasFault, FailsTests, bytes_field};
+ghost use Rattle.am_wire.specs.Reader as reader;
 ghost use Rattle.am_wire.specs.Reading.{Table, fields_in, faults_in, text_fault, part_fault, item_fault, numbers_fault, last_number, read_by, unpacked};
 ghost use Rattle.am_wire.specs.SignedParts.{ArePartsOf, IsTimestampOf};
 ghost use Rattle.am_wire.specs.Timestamps.{is_moment, moment, reads_moment};
@@ -65,6 +66,11 @@ pub fn varint_faults_are_the_grammar()
 /// Bytes are read as these fields and then a fault exactly where they spell them, and what follows has that fault at
 /// its front, where no field stands. Any bytes are fields, or fields and then a fault, and that in one way only.
 pub fn field_faults_are_the_grammar()
+    ensures front { (fits : ℕ → WireType → Bool) (at len : ℕ) (bytes : List ℕ) (e : FieldAt) →
+        (field_at fits at bytes ≡ Ok (e, len))
+        ↔ ((len ≤ length bytes) × IsField e at (take len bytes) × (field_fits fits e ≡ true)) }
+    ensures stop { (fits : ℕ → WireType → Bool) (at : ℕ) (bytes : List ℕ) (fault : WireError) →
+        (field_at fits at bytes ≡ Err fault) ↔ IsFieldFault fits at bytes fault }
     ensures found { (fits : ℕ → WireType → Bool) (at : ℕ) (bytes : List ℕ) (es : List FieldAt) (fault : WireError) →
         fields_of fits at bytes ≡ map Ok es ++ Err fault ∷ [] → AreFieldsUntil fits es fault at bytes }
     ensures read { (fits : ℕ → WireType → Bool) (at : ℕ) (bytes : List ℕ) (es : List FieldAt) (fault : WireError) →
@@ -84,6 +90,10 @@ pub fn field_faults_are_the_grammar()
 /// Bytes are read as these messages and then a fault exactly where they are a row of them, and what follows has that
 /// fault at its front, where no message stands. Any bytes are the one or the other, and that in one way only.
 pub fn row_faults_are_the_grammar()
+    ensures front { (at len : ℕ) (bytes message : List ℕ) →
+        (row_at at bytes ≡ Ok (message, len)) ↔ ((len ≤ length bytes) × IsRow message at (take len bytes)) }
+    ensures stop { (at : ℕ) (bytes : List ℕ) (fault : WireError) →
+        (row_at at bytes ≡ Err fault) ↔ IsRowFault at bytes fault }
     ensures found { (bytes : List ℕ) (messages : List (List ℕ)) (fault : WireError) →
         rows_of bytes ≡ map Ok messages ++ Err fault ∷ [] → AreRowsUntil messages fault bytes }
     ensures read { (bytes : List ℕ) (messages : List (List ℕ)) (fault : WireError) →
@@ -96,6 +106,12 @@ pub fn row_faults_are_the_grammar()
         (messages : List (List ℕ)) × (AreRows messages bytes ⊎ ((fault : WireError) × AreRowsUntil messages fault bytes)) }
     ensures no_message { (at : ℕ) (bytes message text rest : List ℕ) (fault : WireError) →
         IsRowFault at bytes fault → bytes ≡ text ++ rest → IsRow message at text → ⊥ }
+{}
+
+/// Where a reader of rows says that bytes are one row, or begin one, they are and do so in the words of the grammar.
+pub fn readers_rows_are_the_grammar()
+    ensures row { (at : ℕ) (bytes message : List ℕ) → reader.IsRow at bytes message ↔ IsRow message at bytes }
+    ensures cut { (at : ℕ) (bytes : List ℕ) → reader.IsCut at bytes ↔ (EndsInNumber bytes ⊎ EndsInMessage bytes) }
 {}
 
 /// Bytes are read as these packed numbers and then a fault exactly where they spell them, and what follows has that
