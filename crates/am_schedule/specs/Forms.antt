@@ -30,7 +30,8 @@ is_of (Other lines.Frames) words = is_line (codes "frames") 1 frames_row words
 
 abbrev pub all_forms : List Form
 all_forms =
-    Cluster ∷ Version versions.Silence ∷ Version versions.Log ∷ Other lines.At ∷ Other lines.Stop ∷ Other lines.Save ∷ Other lines.Lose ∷ Other lines.Timely ∷ Other lines.Frames ∷ []
+    Cluster ∷ Version versions.Silence ∷ Version versions.Log ∷ Other lines.At ∷ Other lines.Stop
+    ∷ Other lines.Save ∷ Other lines.Lose ∷ Other lines.Timely ∷ Other lines.Frames ∷ []
 
 -- The form of a line. What stands behind `at` is told later, and a second cluster line is wrong whatever it holds.
 unfoldable pub form_in : List (List ℕ) → Option Form

@@ -32,4 +32,5 @@ of_one_state (silence ∷ silences) (line ∷ lines) = Err Words
 
 -- the versions of labels, each of which `version` has to know
 unfoldable pub versions_in : (List ℕ → Option VersionLine) → List (List ℕ) → Result Versions FaultKind
-versions_in version labels = or_fault Name (values version labels) >>= λ found. of_one_state (filter_map silence_of found) (filter_map log_of found)
+versions_in version labels =
+    or_fault Name (values version labels) >>= λ found. of_one_state (filter_map silence_of found) (filter_map log_of found)

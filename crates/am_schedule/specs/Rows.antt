@@ -69,9 +69,11 @@ rest_by version nothing makes words = Ok makes
 rest_by version labels makes words = versions_in version words >>= λ versions. Ok (makes versions)
 rest_by version pairs makes words = pairs_in words >>= λ pairs. Ok (makes pairs)
 
-abbrev pub read_by : {R : Type 0} → List (List ℕ) → (List ℕ → Option VersionLine) → ℕ → (slots : List Slot) → (rest : Rest) → Makes slots rest R → List (List ℕ) → Result R FaultKind
+abbrev pub read_by : {R : Type 0} → List (List ℕ) → (List ℕ → Option VersionLine) → ℕ
+    → (slots : List Slot) → (rest : Rest) → Makes slots rest R → List (List ℕ) → Result R FaultKind
 read_by names version place [] rest makes words = rest_by version rest makes (drop place words)
-read_by names version place (slot ∷ slots) rest makes words = value_at names slot (word_at place words) >>= λ value. read_by names version (place + 1) slots rest (makes value) words
+read_by names version place (slot ∷ slots) rest makes words =
+    value_at names slot (word_at place words) >>= λ value. read_by names version (place + 1) slots rest (makes value) words
 
 -- what the words of a line make by a row whose places begin at a word; `names` are the members and `version` knows
 -- the labels
@@ -137,7 +139,8 @@ verb_word verbs.Pull = codes "pull"
 verb_word verbs.Start = codes "start"
 
 abbrev pub all_verbs : List Verb
-all_verbs = verbs.From ∷ verbs.Post ∷ verbs.Expire ∷ verbs.Notified ∷ verbs.Decide ∷ verbs.Mutes ∷ verbs.Show ∷ verbs.Tick ∷ verbs.Pull ∷ verbs.Start ∷ []
+all_verbs =
+    verbs.From ∷ verbs.Post ∷ verbs.Expire ∷ verbs.Notified ∷ verbs.Decide ∷ verbs.Mutes ∷ verbs.Show ∷ verbs.Tick ∷ verbs.Pull ∷ verbs.Start ∷ []
 
 -- stop NAME
 abbrev pub stop_row : Row Line

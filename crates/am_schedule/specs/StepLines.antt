@@ -40,7 +40,11 @@ member_line_in names version words = do
 
 -- at T deliver N
 unfoldable pub deliver_in : List (List ℕ) → Result Line FaultKind
-deliver_in words = if length words == 4 then (value_at [] moment (word_at 1 words) >>= λ at. value_at [] number (word_at 3 words) >>= λ frame. Ok (kinds.Step (actions.Deliver at frame))) else Err faults.Words
+deliver_in words =
+    if length words == 4
+    then (value_at [] moment (word_at 1 words) >>= λ at. value_at [] number (word_at 3 words) >>= λ frame.
+    Ok (kinds.Step (actions.Deliver at frame)))
+    else Err faults.Words
 
 -- at T settle
 unfoldable pub settle_in : List (List ℕ) → Result Line FaultKind

@@ -75,13 +75,16 @@ pair_word pair = pair.name ++ 61 ∷ pair.value
 
 -- GROUP RECEIVER FIRING RESOLVED REPEAT ..
 abbrev pub group_words : GroupLine → List (List ℕ) → List (List ℕ)
-group_words group behind = group.group ∷ group.receiver ∷ word_of hashes group.firing ∷ word_of hashes group.resolved ∷ word_of interval group.repeat ∷ behind
+group_words group behind =
+    group.group ∷ group.receiver ∷ word_of hashes group.firing ∷ word_of hashes group.resolved
+    ∷ word_of interval group.repeat ∷ behind
 
 -- an event from its verb on; a `from` names its versions by the labels
 abbrev pub event_words : List (List ℕ) → Event → List (List ℕ)
 event_words labels (events.From peer versions) = codes "from" ∷ peer ∷ labels
 event_words labels (events.Post post) =
-    codes "post" ∷ word_of identifier post.id ∷ word_of bits post.bits ∷ word_of whole_moment post.starts ∷ word_of whole_moment post.ends ∷ post.name ∷ post.value ∷ []
+    codes "post" ∷ word_of identifier post.id ∷ word_of bits post.bits
+    ∷ word_of whole_moment post.starts ∷ word_of whole_moment post.ends ∷ post.name ∷ post.value ∷ []
 event_words labels (events.Expire id) = codes "expire" ∷ id ∷ []
 event_words labels (events.Notified group) = codes "notified" ∷ group_words group []
 event_words labels (events.Decide group wanted) = codes "decide" ∷ group_words group (word_of yes_or_no wanted ∷ [])
@@ -105,10 +108,12 @@ written labels kinds.Frames = codes "frames" ∷ []
 -- a line that gives a version a label
 abbrev pub written_version : List ℕ → VersionLine → List (List ℕ)
 written_version label (Silence line) =
-    codes "sil" ∷ label ∷ line.id ∷ word_of whole_moment line.updated ∷ word_of whole_moment line.starts ∷ word_of whole_moment line.ends ∷ word_of whole_moment line.expires
+    codes "sil" ∷ label ∷ line.id ∷ word_of whole_moment line.updated ∷ word_of whole_moment line.starts
+    ∷ word_of whole_moment line.ends ∷ word_of whole_moment line.expires
     ∷ line.name ∷ line.value ∷ []
 written_version label (Log line) =
-    codes "nfl" ∷ label ∷ line.group ∷ line.receiver ∷ word_of whole_moment line.updated ∷ word_of whole_moment line.expires ∷ word_of hashes line.firing ∷ word_of hashes line.resolved ∷ []
+    codes "nfl" ∷ label ∷ line.group ∷ line.receiver ∷ word_of whole_moment line.updated ∷ word_of whole_moment line.expires
+    ∷ word_of hashes line.firing ∷ word_of hashes line.resolved ∷ []
 
 -- ---- texts
 
@@ -156,14 +161,16 @@ ArePairs pairs = (0 < length pairs) × (list_all is_writable_pair pairs ≡ true
 
 abbrev pub IsGroup : GroupLine → Type 0
 IsGroup group =
-    IsWritable [] text group.group × IsWritable [] text group.receiver × IsWritable [] hashes group.firing × IsWritable [] hashes group.resolved × IsWritable [] interval group.repeat
+    IsWritable [] text group.group × IsWritable [] text group.receiver × IsWritable [] hashes group.firing
+    × IsWritable [] hashes group.resolved × IsWritable [] interval group.repeat
 
 -- an event that can be written where `names` are the members and `version` knows the labels
 abbrev pub IsWritableEvent : List (List ℕ) → (List ℕ → Option VersionLine) → List (List ℕ) → Event → Type 0
-IsWritableEvent names version labels (events.From peer versions) = IsMember names peer × (0 < length labels) × (versions_in version labels ≡ Ok versions)
+IsWritableEvent names version labels (events.From peer versions) =
+    IsMember names peer × (0 < length labels) × (versions_in version labels ≡ Ok versions)
 IsWritableEvent names version labels (events.Post post) =
-    IsWritable names identifier post.id × IsWritable names bits post.bits × IsWritable names whole_moment post.starts × IsWritable names whole_moment post.ends
-    × IsWritable names text post.name × IsWritable names text post.value
+    IsWritable names identifier post.id × IsWritable names bits post.bits × IsWritable names whole_moment post.starts
+    × IsWritable names whole_moment post.ends × IsWritable names text post.name × IsWritable names text post.value
 IsWritableEvent names version labels (events.Expire id) = IsWritable names text id
 IsWritableEvent names version labels (events.Notified group) = IsGroup group
 IsWritableEvent names version labels (events.Decide group wanted) = IsGroup group
@@ -174,7 +181,8 @@ IsWritableEvent names version labels (events.Pull peer) = IsMember names peer
 IsWritableEvent names version labels events.Start = Unit {0}
 
 abbrev pub IsWritableLine : List (List ℕ) → (List ℕ → Option VersionLine) → List (List ℕ) → Line → Type 0
-IsWritableLine names version labels (kinds.Step (actions.Event at name event)) = IsWritable names moment at × IsMember names name × IsWritableEvent names version labels event
+IsWritableLine names version labels (kinds.Step (actions.Event at name event)) =
+    IsWritable names moment at × IsMember names name × IsWritableEvent names version labels event
 IsWritableLine names version labels (kinds.Step (actions.Stop name)) = IsMember names name
 IsWritableLine names version labels (kinds.Step (actions.Save name)) = IsMember names name
 IsWritableLine names version labels (kinds.Step (actions.Deliver at frame)) = IsWritable names moment at × IsWritable names number frame
@@ -185,8 +193,8 @@ IsWritableLine names version labels kinds.Frames = Unit {0}
 
 abbrev pub IsWritableVersion : VersionLine → Type 0
 IsWritableVersion (Silence line) =
-    IsWritable [] text line.id × IsWritable [] whole_moment line.updated × IsWritable [] whole_moment line.starts × IsWritable [] whole_moment line.ends
-    × IsWritable [] whole_moment line.expires × IsWritable [] text line.name × IsWritable [] text line.value
+    IsWritable [] text line.id × IsWritable [] whole_moment line.updated × IsWritable [] whole_moment line.starts
+    × IsWritable [] whole_moment line.ends × IsWritable [] whole_moment line.expires × IsWritable [] text line.name × IsWritable [] text line.value
 IsWritableVersion (Log line) =
-    IsWritable [] text line.group × IsWritable [] text line.receiver × IsWritable [] whole_moment line.updated × IsWritable [] whole_moment line.expires
-    × IsWritable [] hashes line.firing × IsWritable [] hashes line.resolved
+    IsWritable [] text line.group × IsWritable [] text line.receiver × IsWritable [] whole_moment line.updated
+    × IsWritable [] whole_moment line.expires × IsWritable [] hashes line.firing × IsWritable [] hashes line.resolved
