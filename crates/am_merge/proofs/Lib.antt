@@ -1,7 +1,10 @@
 pub mod Keys
-pub mod Searches
 pub mod Puts
 pub mod Joins
 pub mod Merges
 pub mod Twins
 pub mod Sweeps
+pub mod Indexes
+pub mod Shelves
+pub mod Steps
+pub mod Firsts
