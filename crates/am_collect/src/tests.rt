@@ -1,5 +1,5 @@
 ghost use Rattle.std.specs.Prelude.{◌≡◌};
-ghost use Rattle.std.proofs.Common.{sym};
+ghost use Rattle.std.proofs.Common.{refl, sym};
 ghost use Rattle.std.specs.declared.cmp.Ordering.TheVariants.{Equal};
 ghost use Rattle.std.specs.Cmp.{ranked};
 
@@ -26,10 +26,16 @@ impl Version for Note {
 
     ghost bucket_of = { λ _. [] };
 
+    ghost head_of = { λ _. 0 };
+
     ghost is_value = { λ _. Unit {0} };
 
     fn key(&self) -> &u8 {
         &self.id
+    }
+
+    fn head(_key: &u8) -> u64 {
+        0
     }
 
     fn try_key(&self, _alloc: Global) -> Result<u8, AllocError> {
@@ -61,6 +67,8 @@ impl Version for Note {
     }
 
     ghost exact_keys = { λ x y tie. ranked x y Equal (sym tie) };
+
+    ghost heads = { λ x y. refl };
 
     ghost exact = { λ v w _ _ same i. record { id = (same i).key; updated = (same i).updated; expires = (same i).expires } };
 }

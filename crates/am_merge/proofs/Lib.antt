@@ -1,5 +1,4 @@
 pub mod Keys
-pub mod Searches
 pub mod Puts
 pub mod Joins
 pub mod Merges
@@ -7,3 +6,7 @@ pub mod Twins
 pub mod Sweeps
 pub mod Exists
 pub mod Values
+pub mod Indexes
+pub mod Shelves
+pub mod Steps
+pub mod Firsts

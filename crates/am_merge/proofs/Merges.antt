@@ -1,5 +1,5 @@
 -- A merge, one version further.
-use Rattle.std.proofs.Common.{◌≡◌, ℕ, ◌<◌, ◌+◌, suc, cond, List, [], ◌∷◌, ◌++◌, length, take, drop, get_or, Some, sym, ap, ◌∙◌, subst, append-nil, count_by}
+use Rattle.std.proofs.Common.{◌≡◌, ℕ, ◌<◌, ◌+◌, zero, arith, suc, cond, List, [], ◌∷◌, ◌++◌, length, take, drop, get_or, Some, sym, ap, ◌∙◌, subst, append-nil, count_by}
 use Rattle.std.proofs.lemmas.List.{take_more}
 use Rattle.std.proofs.lemmas.List.Sums.{sum_by_more}
 use Rattle.std.specs.declared.cmp.Ordering.{Ordering}
@@ -44,3 +44,10 @@ module _ {K X : Type 0} (seen : X → Version K) (cmp : K → K → Ordering) (k
       sum_by_more (λ x. cond (replaces seen cmp old x) 1 0) other i v within
       ∙ ap (λ x. count_by (replaces seen cmp old) (take i other) + cond (replaces seen cmp old x) 1 0) (sym is)
       ∙ ap (λ b. count_by (replaces seen cmp old) (take i other) + cond b 1 0) (sym replaces_old)
+
+-- what stands at the place from which on a list is known
+pub at_rest : {X : Type 0} (xs : List X) (i : ℕ) (v : X) (rest : List X) → drop i xs ≡ v ∷ rest → (i < length xs) × ((v ≡ get_or xs i v) × (drop (suc i) xs ≡ rest))
+at_rest [] zero v rest is = cc
+at_rest [] (suc i) v rest is = cc
+at_rest (x ∷ xs) zero v rest is = let first : x ≡ v = cc in let later : xs ≡ rest = cc in (omega arith, (sym first, later))
+at_rest (x ∷ xs) (suc i) v rest is = let further = at_rest xs i v rest is in let low = further.0 in (omega arith, further.1)

@@ -10,9 +10,8 @@ use Rattle.std.specs.Ordering.{eq_by_cmp}
 use Rattle.am_version_order.specs.Versions.{Version, is_below}
 use Rattle.am_version_order.proofs.Ranks.{below_itself}
 use Rattle.am_merge.specs.Maps.{greater_of, IsMap, at, IsJoin, replaces, is_above}
-use Rattle.am_merge.specs.Places.{IsPlaceOf, IsGapFor, IsPlaceFor}
+use Rattle.am_merge.specs.Places.{IsPlaceOf, IsGapFor}
 use Rattle.am_merge.specs.Takings.{IsPut}
-use Rattle.am_merge.specs.declared.entries.Place.TheVariants.{Over, Between, Nowhere}
 use Rattle.am_merge.proofs.Keys.{IsKeyOrder, IsBetween, IsMap-insert, IsMap-without, at-between, at-gap, at-itself, same_key}
 
 -- a list cut at one of its elements
@@ -78,20 +77,18 @@ module _ {K X : Type 0} (seen : X → Version K) where
           (replaced_is ∙ less)
           (λ same. let never : is_below (seen w) (seen w) ≡ true = subst (λ u. is_below (seen w) (seen u) ≡ true) (same_as_held same) less in let itself = below_itself (seen w) in cc)
 
-      pub place_over : is_below (seen w) (seen v) ≡ true → IsPlaceFor seen cmp map v (Over i)
-      place_over less = record { within = within; put = put_over less; answer = sym (replaced_is ∙ less) }
+      pub place_over : is_below (seen w) (seen v) ≡ true → IsPut seen cmp map v (set map i v) × (replaces seen cmp map v ≡ true)
+      place_over less = (put_over less, replaced_is ∙ less)
 
-      pub place_nowhere : is_below (seen w) (seen v) ≡ false → IsPlaceFor seen cmp map v Nowhere
-      place_nowhere not_less =
-          record {
-            within = tt;
-            put = put_nothing map v is_map
-                (λ k. at_cut k
-                ∙ over_none (eq_by_cmp cmp (seen v).key k) v w (at seen cmp (take i map ++ drop (suc i) map) k) not_less
-                ∙ ap (λ o. greater_of seen o (at seen cmp (v ∷ []) k)) (sym (at_cut k)))
-                (replaced_is ∙ not_less);
-            answer = sym (replaced_is ∙ not_less);
-          }
+      pub place_nowhere : is_below (seen w) (seen v) ≡ false → IsPut seen cmp map v map × (replaces seen cmp map v ≡ false)
+      place_nowhere not_less = (
+        put_nothing map v is_map
+            (λ k. at_cut k
+            ∙ over_none (eq_by_cmp cmp (seen v).key k) v w (at seen cmp (take i map ++ drop (suc i) map) k) not_less
+            ∙ ap (λ o. greater_of seen o (at seen cmp (v ∷ []) k)) (sym (at_cut k)))
+            (replaced_is ∙ not_less),
+        replaced_is ∙ not_less,
+      )
 
     -- a key is between the two parts of a map that its gap makes
     between_parts : (map : List X) (k : K) (i : ℕ) → IsGapFor seen cmp map k i → IsBetween seen cmp k (take i map) (drop i map)
@@ -129,5 +126,5 @@ module _ {K X : Type 0} (seen : X → Version K) where
           replaced_gap
           (λ same. let longer = length-insert map i v gap.in_range in let as_long = ap length same in absurd (omega arith))
 
-      pub place_between : IsPlaceFor seen cmp map v (Between i)
-      place_between = record { within = gap.in_range; put = put_between; answer = sym replaced_gap }
+      pub place_between : IsPut seen cmp map v (insert map i v) × (replaces seen cmp map v ≡ true)
+      place_between = (put_between, replaced_gap)

@@ -1,4 +1,7 @@
+pub mod Entries
+pub mod Indexes
 pub mod Maps
 pub mod Places
+pub mod Shelves
 pub mod Takings
 pub mod Views

@@ -1,6 +1,6 @@
 -- Maps from keys to versions, as the list of their versions in the order of the keys.
 -- X is the type of versions, and `seen` is what the merge sees of one.
-use Rattle.std.specs.Prelude.{◌≡◌, ℕ, List, [], ◌∷◌, Bool, true, Option, Some, None, if◌then◌else◌, find, filter, IsPermutation}
+use Rattle.std.specs.Prelude.{◌≡◌, ℕ, List, [], ◌∷◌, Bool, true, Option, Some, None, if◌then◌else◌, find, filter, All, Contains, IsPermutation, ◌≤◌}
 use Rattle.std.specs.List.{AllByRecursion}
 use Rattle.std.specs.declared.cmp.Ordering.{Ordering}
 use Rattle.std.specs.declared.cmp.Ordering.TheVariants.{Less}
@@ -27,6 +27,13 @@ module _ {K X : Type 0} (seen : X → Version K) where
   -- the versions of a map that are live
   abbrev pub swept : ℕ → List X → List X
   swept now map = filter (λ v. is_live now (seen v)) map
+
+  -- the moment is the least expiry of the versions
+  pub record IsLeastExpiry (map : List X) (moment : ℕ) : Type 0 where
+    pub version : X
+    pub held : Contains map version
+    pub own : (seen version).expires ≡ moment
+    pub least : All (λ v. moment ≤ (seen v).expires) map
 
   -- two of the versions have one key
   pub record HasTwice (versions : List X) : Type 0 where

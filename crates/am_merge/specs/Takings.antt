@@ -1,11 +1,15 @@
 -- What taking a version does to a map, and what it answers.
 -- X is the type of versions, and `seen` is what the merge sees of one.
-use Rattle.std.specs.Prelude.{◌≡◌, ◌≢◌, ℕ, List, [], ◌∷◌, false, IsTrue, ◌↔◌, if◌then◌else◌}
+use Rattle.std.specs.Prelude.{◌≡◌, ◌≢◌, ℕ, List, [], ◌∷◌, Bool, false, IsTrue, ◌↔◌, if◌then◌else◌}
 use Rattle.std.specs.declared.cmp.Ordering.{Ordering}
 use Rattle.am_version_order.specs.Versions.{Version, is_live}
 use Rattle.am_merge.specs.Maps.{IsMap, IsJoin, replaces}
 use Rattle.am_merge.specs.declared.held.Taken.{Taken}
 use Rattle.am_merge.specs.declared.held.Taken.TheVariants.{Changed, Kept, Expired}
+
+-- `Expired` where the version isn't live, else `Changed` where it comes to be held, else `Kept`
+abbrev pub taken_by : Bool → Bool → Taken
+taken_by live changed = if live then (if changed then Changed else Kept) else Expired
 
 module _ {K X : Type 0} (seen : X → Version K) (cmp : K → K → Ordering) where
   -- new is the join of the map and v, and another map exactly where v replaces what the map has
@@ -15,9 +19,9 @@ module _ {K X : Type 0} (seen : X → Version K) (cmp : K → K → Ordering) wh
     pub changed : IsTrue (replaces seen cmp map v) ↔ (new ≢ map)
     pub kept : replaces seen cmp map v ≡ false → new ≡ map
 
-  -- `Expired` where v isn't live, else `Changed` where it comes to be held, else `Kept`
+  -- what taking v does
   abbrev pub taken_as : ℕ → List X → X → Taken
-  taken_as now map v = if is_live now (seen v) then (if replaces seen cmp map v then Changed else Kept) else Expired
+  taken_as now map v = taken_by (is_live now (seen v)) (replaces seen cmp map v)
 
   -- taking v at now leaves new of the map, whether v is live or not, and answers so
   pub record IsTaking (now : ℕ) (map : List X) (v : X) (new : List X) (taken : Taken) : Type 0 where

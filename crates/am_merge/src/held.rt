@@ -1,17 +1,15 @@
 //! A map from keys to the greatest version of each.
 
-ghost use Rattle.std.specs.Prelude.{◌≡◌, ◌==◌, ◌+◌, ◌<◌, ◌↔◌, [], length, take, count_by, IfOk, IfErr, OnOk, OnErr, IsPermutation};
+ghost use Rattle.std.specs.Prelude.{◌≡◌, ◌==◌, ◌+◌, ◌<◌, ◌↔◌, [], true, false, length, take, count_by, is_none, MatchOption, IfOk, IfErr, OnOk, OnErr, Ok, IsPermutation};
 ghost use Rattle.std.specs.Option.{option_copied};
-ghost use Rattle.std.specs.Slice.Iter.{iter_rest};
-ghost use Rattle.am_merge.specs.Maps.{IsMap, IsJoin, HasTwice, at, if_live, replaces, swept};
+ghost use Rattle.am_merge.specs.Maps.{IsMap, IsJoin, IsLeastExpiry, HasTwice, at, if_live, replaces, swept};
 
-use crate::entries::{
-    copy_all, merge_into, order_by_key, place_of, sweep_versions, take_into, take_pair_into,
-};
+use crate::changes::{copy_shelf, drop_expired, merge_in, order_by_key, put, put_new, shelve, taken_as};
+use crate::iter::{Iter, walk_shelf};
+use crate::shelf::{Shelf, empty_shelf, find, reserve, version_at};
 use am_version_order::{Moment, Version};
 use std::alloc::{AllocError, Global};
 use std::marker::Model;
-use std::slice::Iter;
 
 /// What taking a version did.
 #[derive(Clone, Copy, Debug, PartialEq, Eq)]
@@ -44,31 +42,31 @@ pub enum FromVersionsError {
 /// Contracts see it as the list of its versions in the order of their keys.
 #[derive(Drop)]
 pub struct Held<V: Version> {
-    versions: Vec<V>,
+    shelf: Shelf<V>,
     alloc: Global,
 }
 
 impl<V: Version> Model for Held<V> {
     ghost use Rattle.std.specs.Prelude.{List};
-    ghost use Rattle.am_merge.specs.Maps.{IsMap};
+    ghost use Rattle.am_merge.specs.Shelves.{versions, IsShelf};
 
     ghost Value = { List V };
 
-    ghost view = { λ held. held.versions.items };
+    ghost view = { λ held. versions held.shelf };
 
-    ghost invariant = { λ held. IsMap V.seen V.Key.cmp held.versions.items };
+    ghost invariant = { λ held. IsShelf V.seen V.head_of V.Key.cmp held.shelf };
 }
 
 impl<V: Version> Held<V> {
     ghost use Rattle.std.specs.declared.alloc.Global.{Global};
-    ghost use Rattle.am_merge.specs.Takings.{IsTaking, AreTakings};
+    ghost use Rattle.am_merge.specs.Takings.{IsPut, IsTaking, AreTakings};
 
     /// The empty map. It takes no memory.
     pub fn new(alloc: Global) -> Self
         ensures { result ≡ [] }
     {
         Held {
-            versions: Vec::new(alloc),
+            shelf: empty_shelf(alloc),
             alloc,
         }
     }
@@ -80,10 +78,12 @@ impl<V: Version> Held<V> {
         ensures twice { (result ≡ Err FromVersionsError.DuplicateKey)
             ↔ HasTwice V.seen versions.items }
     {
-        if order_by_key(&mut versions) {
-            Ok(Held { versions, alloc })
-        } else {
-            Err(FromVersionsError::DuplicateKey)
+        if !order_by_key(&mut versions) {
+            return Err(FromVersionsError::DuplicateKey);
+        }
+        match shelve(alloc, versions) {
+            Ok(shelf) => Ok(Held { shelf, alloc }),
+            Err(_) => Err(FromVersionsError::Memory),
         }
     }
 
@@ -92,8 +92,8 @@ impl<V: Version> Held<V> {
         ensures { IfOk result (λ copy. copy ≡ self.now) }
     {
         let alloc = self.alloc;
-        let versions = copy_all(&self.versions, alloc)?;
-        Ok(Held { versions, alloc })
+        let shelf = copy_shelf(&self.shelf, alloc)?;
+        Ok(Held { shelf, alloc })
     }
 
     /// The allocator that the map was made with. It takes no memory.
@@ -108,32 +108,42 @@ impl<V: Version> Held<V> {
     pub fn len(&self) -> usize
         ensures { result ≡ length self.now }
     {
-        self.versions.len()
+        self.shelf.table.len()
     }
 
     /// Whether the map has no key.
     pub fn is_empty(&self) -> bool
         ensures { result ≡ (length self.now == 0) }
     {
-        self.versions.is_empty()
+        self.shelf.table.is_empty()
     }
 
     /// The version of a key, live or not.
     pub fn get(&self, key: &V::Key) -> Option<&V>
         ensures { option_copied result ≡ at V.seen V.Key.cmp self.now key.now }
     {
-        match place_of(&self.versions, key) {
-            Ok(place) => Some(&self.versions[place]),
+        match find(&self.shelf, key) {
+            Ok(spot) => Some(version_at(&self.shelf, spot)),
             Err(_) => None,
         }
     }
 
     /// The versions in the order of their keys.
     pub fn iter(&self) -> Iter<'_, V>
-        ensures items { iter_rest result ≡ self.now }
+        ensures items { result ≡ self.now }
         ensures order { IsMap V.seen V.Key.cmp self.now }
     {
-        self.versions.iter()
+        walk_shelf(&self.shelf)
+    }
+
+    /// The least expiry of the versions, or `None` where there is none. It takes no memory.
+    pub fn next_expiry(&self) -> Option<Moment>
+        ensures { MatchOption result (self.now ≡ []) (IsLeastExpiry V.seen self.now) }
+    {
+        match self.shelf.expiries.first() {
+            Some(first) => Some(first.expires),
+            None => None,
+        }
     }
 
     /// Takes a version: it is held where it is greater than the one that its key has, live or not.
@@ -141,7 +151,27 @@ impl<V: Version> Held<V> {
         ensures taken { IfOk result (IsTaking V.seen V.Key.cmp now self.old version self.new) }
         ensures err { OnErr result (self.new ≡ self.old) }
     {
-        take_into(&mut self.versions, version, now)
+        let is_live = now < version.expires();
+        let changed = put(&mut self.shelf, version)?;
+        Ok(taken_as(is_live, changed))
+    }
+
+    /// Takes the first version of its key, and says whether it is that. Where the key has one already
+    /// nothing changes.
+    pub fn insert_new(&mut self, version: V) -> Result<bool, AllocError>
+        ensures answer { IfOk result (λ new.
+            new ≡ is_none (at V.seen V.Key.cmp self.old (V.seen version).key)) }
+        ensures put { result ≡ Ok true → IsPut V.seen V.Key.cmp self.old version self.new }
+        ensures held { result ≡ Ok false → self.new ≡ self.old }
+        ensures err { OnErr result (self.new ≡ self.old) }
+    {
+        match find(&self.shelf, version.key()) {
+            Ok(_) => Ok(false),
+            Err(spot) => {
+                put_new(&mut self.shelf, spot, version)?;
+                Ok(true)
+            }
+        }
     }
 
     /// Takes two versions in order, or for want of memory neither.
@@ -154,7 +184,15 @@ impl<V: Version> Held<V> {
         ensures taken { IfOk result (AreTakings V.seen V.Key.cmp now self.old first second self.new) }
         ensures err { OnErr result (self.new ≡ self.old) }
     {
-        take_pair_into(&mut self.versions, first, second, now)
+        let is_first_live = now < first.expires();
+        let is_second_live = now < second.expires();
+        reserve(&mut self.shelf, 2)?;
+        let is_first_new = put(&mut self.shelf, first)?;
+        let is_second_new = put(&mut self.shelf, second)?;
+        Ok((
+            taken_as(is_first_live, is_first_new),
+            taken_as(is_second_live, is_second_new),
+        ))
     }
 
     /// Takes each version of another map in the order of the keys, whether it is live or not, and
@@ -172,7 +210,7 @@ impl<V: Version> Held<V> {
         ensures stopped { IfErr result (λ e.
             IsJoin V.seen V.Key.cmp self.old (take e.taken other.now) self.new) }
     {
-        merge_into(&mut self.versions, &other.versions, self.alloc)
+        merge_in(&mut self.shelf, &other.shelf, self.alloc)
     }
 
     /// Drops each version that isn't live, and says how many went. It takes no memory.
@@ -182,6 +220,6 @@ impl<V: Version> Held<V> {
             at V.seen V.Key.cmp self.new key ≡ if_live V.seen now (at V.seen V.Key.cmp self.old key) }
         ensures went { result + length self.new ≡ length self.old }
     {
-        sweep_versions(&mut self.versions, now)
+        drop_expired(&mut self.shelf, now)
     }
 }

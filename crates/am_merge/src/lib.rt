@@ -1,11 +1,15 @@
 //! The greatest version of each key.
 #![tactic(auto)]
 
-mod entries;
+mod changes;
+mod entry;
 mod held;
+mod iter;
 pub mod laws;
+mod shelf;
 
 pub use held::{FromVersionsError, Held, MergeError, Taken};
+pub use iter::Iter;
 
 #[cfg(test)]
 mod tests;

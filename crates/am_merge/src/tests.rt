@@ -1,5 +1,5 @@
 ghost use Rattle.std.specs.Prelude.{◌≡◌};
-ghost use Rattle.std.proofs.Common.{sym};
+ghost use Rattle.std.proofs.Common.{refl, sym};
 ghost use Rattle.std.specs.declared.cmp.Ordering.TheVariants.{Equal};
 ghost use Rattle.std.specs.Cmp.{ranked};
 
@@ -36,10 +36,16 @@ impl Version for Note {
 
     ghost bucket_of = { λ _. [] };
 
+    ghost head_of = { λ _. 0 };
+
     ghost is_value = { λ _. Unit {0} };
 
     fn key(&self) -> &u8 {
         &self.id
+    }
+
+    fn head(_key: &u8) -> u64 {
+        0
     }
 
     fn try_key(&self, _alloc: Global) -> Result<u8, AllocError> {
@@ -72,6 +78,8 @@ impl Version for Note {
     }
 
     ghost exact_keys = { λ x y tie. ranked x y Equal (sym tie) };
+
+    ghost heads = { λ x y. refl };
 
     ghost exact = { λ v w _ _ same. same };
 }
@@ -209,5 +217,98 @@ fn a_copy_holds_the_same_in_key_order(rt: HostRuntime) -> Result<(), Fail> {
         ids.push(*copied.key())?;
     }
     assert_eq!(rt; ids.as_slice(), b"ab".as_slice());
+    Ok(())
+}
+
+const KEYS: usize = 24;
+
+// The update moment and the expiry of each key's version, in seconds; zeros where there is none.
+type Plain = [(i64, i64); KEYS];
+
+fn moment(seconds: i64) -> Moment {
+    Moment::from_parts(seconds, 0).unwrap_or(Moment::LEAST)
+}
+
+fn take_plain(plain: &mut Plain, id: u8, updated: i64, expires: i64) {
+    let held = &mut plain[id as usize % KEYS];
+    if held.0 < updated || (held.0 == updated && held.1 < expires) {
+        *held = (updated, expires);
+    }
+}
+
+fn sweep_plain(plain: &mut Plain, now: i64) {
+    for held in plain.iter_mut() {
+        if held.1 <= now {
+            *held = (0, 0);
+        }
+    }
+}
+
+fn is_same(held: &Held<Note>, plain: &Plain) -> bool {
+    let mut keys: usize = 0;
+    let mut first = None;
+    for (updated, expires) in *plain {
+        if updated > 0 {
+            keys = keys.saturating_add(1);
+            first = match first {
+                Some(least) if least <= expires => first,
+                _ => Some(expires),
+            };
+        }
+    }
+    for version in held.iter() {
+        let (updated, expires) = plain[version.id as usize % KEYS];
+        if version.updated != moment(updated) || version.expires != moment(expires) {
+            return false;
+        }
+    }
+    keys == held.len() && held.next_expiry() == first.map(moment)
+}
+
+// A key, an update moment and an expiry.
+fn drawn(seed: u64) -> (u8, i64, i64) {
+    (
+        (seed >> 33 & 0xff) as u8 % 24,
+        (seed >> 42 & 0xf) as i64 + 1,
+        (seed >> 50 & 0xf) as i64 + 1,
+    )
+}
+
+fn take_drawn(held: &mut Held<Note>, plain: &mut Plain, seed: u64) -> Result<(), Fail> {
+    let (id, updated, expires) = drawn(seed);
+    take_plain(plain, id, updated, expires);
+    held.take(
+        make_note(held.allocator(), id, updated, expires, END_AT_100)?,
+        Moment::LEAST,
+    )?;
+    Ok(())
+}
+
+fn run_drawn(held: &mut Held<Note>, plain: &mut Plain, seed: u64) -> Result<(), Fail> {
+    let seconds = (seed >> 30 & 0x7) as i64;
+    match seed >> 58 {
+        0..4 => {
+            sweep_plain(plain, seconds);
+            held.sweep(moment(seconds));
+        }
+        4..6 => *held = held.try_clone()?,
+        _ => take_drawn(held, plain, seed)?,
+    }
+    Ok(())
+}
+
+#[test]
+fn random_runs_are_those_of_a_plain_map(rt: HostRuntime) -> Result<(), Fail> {
+    let mut held = Held::new(rt.alloc());
+    let mut plain = [(0, 0); KEYS];
+    let mut seed: u64 = 1;
+    for _ in 0..500 {
+        seed = seed
+            .wrapping_mul(6_364_136_223_846_793_005)
+            .wrapping_add(1_442_695_040_888_963_407);
+        run_drawn(&mut held, &mut plain, seed)?;
+        let same = is_same(&held, &plain);
+        assert!(rt; same);
+    }
     Ok(())
 }

@@ -8,7 +8,7 @@ ghost use Rattle.am_nflog.specs.Mesh.{Mesh, writes_mesh_entry};
 ghost use Rattle.am_nflog.specs.MeshTable.{mesh_entry};
 
 use crate::entry::{Entry, EntryDraft, LogKey};
-use am_version_order::{Moment, Version};
+use am_version_order::{Moment, Version, head_of_text};
 use am_wire::{
     Draft, Field, MOST_MESSAGE_BYTES, Message, Part, Schema, TimestampDraft, WireError, WireType,
     append_text, chunk_size, message_size, moment_in, push_message, push_sized, read_message,
@@ -196,6 +196,8 @@ impl Message for MeshEntry {
 }
 
 impl Version for MeshEntry {
+    ghost use Rattle.am_version_order.specs.Heads.{head_of_text};
+    ghost use Rattle.am_version_order.proofs.Weights.{text_heads_then};
     ghost use Rattle.std.specs.Prelude.{[]};
     ghost use Rattle.am_nflog.specs.Mesh.{IsMesh, mesh_version};
     ghost use Rattle.am_nflog.specs.Keys.{exact_keys};
@@ -208,10 +210,16 @@ impl Version for MeshEntry {
     // entries are looked up by their keys alone
     ghost bucket_of = { λ m. [] };
 
+    ghost head_of = { λ key. head_of_text key.group_key };
+
     ghost is_value = { IsMesh };
 
     fn key(&self) -> &LogKey {
         &self.entry.key
+    }
+
+    fn head(key: &LogKey) -> u64 {
+        head_of_text(key.group_key.as_slice())
     }
 
     fn try_key(&self, alloc: Global) -> Result<LogKey, AllocError> {
@@ -243,6 +251,8 @@ impl Version for MeshEntry {
     }
 
     ghost exact_keys = { exact_keys };
+
+    ghost heads = { λ x y. text_heads_then x.group_key y.group_key _ };
 
     ghost exact = { mesh_exact };
 }

@@ -17,7 +17,7 @@ use crate::matcher::Matcher;
 use crate::silence::{Silence, SilenceDraft};
 use crate::sizes::version_size;
 use crate::state::{State, state_at};
-use am_version_order::{Moment, Version};
+use am_version_order::{Moment, Version, head_of_text};
 use am_wire::{
     Draft, Field, MOST_MESSAGE_BYTES, Message, Part, Schema, Text, TimestampDraft, WireError,
     WireType, append_text, moment_in, push_message, push_sized, read_message,
@@ -242,6 +242,8 @@ impl Message for MeshSilence {
 }
 
 impl Version for MeshSilence {
+    ghost use Rattle.am_version_order.specs.Heads.{head_of_text};
+    ghost use Rattle.am_version_order.proofs.Weights.{text_heads};
     ghost use Rattle.std.proofs.lemmas.Map.Lookups.{exact_bytes};
     ghost use Rattle.am_silence.specs.Mesh.{IsMesh, mesh_version};
     ghost use Rattle.am_silence.specs.Again.{mesh_exact};
@@ -252,10 +254,16 @@ impl Version for MeshSilence {
 
     ghost bucket_of = { λ m. bucket_of m.silence.matchers };
 
+    ghost head_of = { head_of_text };
+
     ghost is_value = { IsMesh };
 
     fn key(&self) -> &Text {
         &self.silence.id
+    }
+
+    fn head(id: &Text) -> u64 {
+        head_of_text(id.as_str().as_bytes())
     }
 
     fn try_key(&self, alloc: Global) -> Result<Text, AllocError> {
@@ -288,6 +296,8 @@ impl Version for MeshSilence {
     }
 
     ghost exact_keys = { exact_bytes };
+
+    ghost heads = { text_heads };
 
     ghost exact = { mesh_exact };
 }

@@ -1,5 +1,5 @@
 ghost use Rattle.std.specs.Prelude.{◌≡◌, ◌<◌, ℕ, List, [], length, slice_index, Some, Ok, Err, nat_lt, if◌then◌else◌};
-ghost use Rattle.std.proofs.Common.{ap, sym, rules};
+ghost use Rattle.std.proofs.Common.{ap, refl, sym, rules};
 ghost use Rattle.std.specs.declared.cmp.Ordering.TheVariants.{Equal};
 ghost use Rattle.std.specs.Cmp.{ranked};
 ghost use Rattle.am_version_order.specs.Versions.{Version};
@@ -34,10 +34,16 @@ impl Version for Note {
 
     ghost bucket_of = { λ _. [] };
 
+    ghost head_of = { λ _. 0 };
+
     ghost is_value = { λ _. Unit {0} };
 
     fn key(&self) -> &u8 {
         &self.text[0]
+    }
+
+    fn head(_key: &u8) -> u64 {
+        0
     }
 
     fn try_key(&self, _alloc: Global) -> Result<u8, AllocError> {
@@ -67,6 +73,8 @@ impl Version for Note {
     }
 
     ghost exact_keys = { λ x y tie. ranked x y Equal (sym tie) };
+
+    ghost heads = { λ x y. refl };
 
     ghost exact = { λ v w _ _ same. ap (λ (s : Version ℕ). s.content) same };
 }

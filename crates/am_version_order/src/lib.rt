@@ -1,10 +1,12 @@
 //! Moments, and the order in which the versions of one key replace each other.
 #![tactic(auto)]
 
+mod heads;
 pub mod laws;
 mod moment;
 mod version;
 
+pub use heads::head_of_text;
 pub use moment::{Interval, Moment};
 pub use version::Version;
 

@@ -2,6 +2,7 @@
 
 ghost use Rattle.std.specs.Prelude.{◌≡◌, ℕ, List, IfOk};
 ghost use Rattle.std.specs.declared.cmp.Ordering.TheVariants.{Equal};
+ghost use Rattle.std.specs.Ordering.{nat_cmp, ordering_then};
 ghost use Rattle.am_version_order.specs.Versions.{Version, rank_cmp};
 
 use crate::moment::Moment;
@@ -19,11 +20,19 @@ pub trait Version: Drop {
     /// The bytes under which the version is looked up; empty where it is looked at each time.
     ghost bucket_of: { Self → List ℕ };
 
+    /// A number that goes by the order of the keys.
+    ghost head_of: { Self.Key → ℕ };
+
     /// Holds of the values of the type.
     ghost is_value: { Self → Type 0 };
 
     fn key(&self) -> &Self::Key
         ensures { result.now ≡ (seen self.now).key };
+
+    /// A number that goes by the order of the keys, so that most comparisons of two keys end at their
+    /// numbers; 0 at each key where there is none that serves.
+    fn head(key: &Self::Key) -> u64
+        ensures { result ≡ head_of key.now };
 
     /// A copy of the key, or want of memory.
     fn try_key(&self, alloc: Global) -> Result<Self::Key, AllocError>
@@ -66,6 +75,10 @@ pub trait Version: Drop {
 
     /// Keys that compare as equal are one key.
     ghost exact_keys: { (x y : Self.Key) → Self.Key.cmp x y ≡ Equal → x ≡ y };
+
+    /// Keys whose numbers differ are ordered as the numbers are.
+    ghost heads: { (x y : Self.Key) →
+        ordering_then (nat_cmp (head_of x) (head_of y)) (Self.Key.cmp x y) ≡ Self.Key.cmp x y };
 
     /// Versions that the merge can't tell apart are one version.
     ghost exact: { (v w : Self) → is_value v → is_value w → seen v ≡ seen w → v ≡ w };

@@ -1,4 +1,6 @@
 use Rattle.std.proofs.Common.{sym}
+use Rattle.am_blocks.specs.Spots.{place}
+use Rattle.am_merge.specs.Shelves.{versions}
 use Rattle.am_merge.proofs.Keys.{key_order}
 use Rattle.am_merge.proofs.Puts.{at_found, at_absent}
 use Rattle.am_merge.proofs.held.Held.get.Goals as goal
@@ -6,9 +8,9 @@ use Rattle.am_merge.proofs.held.Held.get.Goals as goal
 pub returns-in-Ok : goal.returns-in-Ok
 returns-in-Ok g c =
     rw (← c.self.view_is)
-    (sym (at_found g.V.Version.seen g.V.Key.Ord.cmp (key_order g.met.V.Key.Ord.total g.met.V.Version.exact_keys) c.self.inside.versions.items c.args.key.now c.in-Ok.place c.index.result.now c.self.invariant (rw c.deref.ensures.value at c.in-Ok.ensures.found) c.index.ensures))
+    (sym (at_found g.V.Version.seen g.V.Key.Ord.cmp (key_order g.met.V.Key.Ord.total g.met.V.Version.exact_keys) (versions c.self.inside.shelf) c.args.key.now (place c.self.inside.shelf.keys c.in-Ok.spot) c.version_at.result.now c.self.invariant.keys.order c.in-Ok.ensures.found.place c.version_at.ensures))
 
 pub returns-in-Err : goal.returns-in-Err
 returns-in-Err g c =
     rw (← c.self.view_is)
-    (sym (at_absent g.V.Version.seen g.V.Key.Ord.cmp (key_order g.met.V.Key.Ord.total g.met.V.Version.exact_keys) c.self.inside.versions.items c.args.key.now c.in-Err.field-0 (rw c.deref.ensures.value at c.in-Err.ensures.absent)))
+    (sym (at_absent g.V.Version.seen g.V.Key.Ord.cmp (key_order g.met.V.Key.Ord.total g.met.V.Version.exact_keys) (versions c.self.inside.shelf) c.args.key.now (place c.self.inside.shelf.keys c.in-Err.field-0) c.in-Err.ensures.absent.gap))

@@ -1,0 +1,204 @@
+-- A shelf when a version is put in, replaced or taken out.
+use Rattle.std.proofs.Common.{◌≡◌, ◌≢◌, ℕ, ◌<◌, ◌≤◌, ◌+◌, zero, suc, Bool, true, false, append_assoc, List, [], ◌∷◌, ◌++◌, length, take, drop, get_or, set, Option, Some, None, refl, sym, ap, ◌∙◌, subst, arith}
+use Rattle.std.specs.Prelude.{insert, slice_index_or, count_by, is_some, Result, Ok, Err, OnOk}
+use Rattle.std.specs.List.{slice_get}
+use Rattle.std.proofs.lemmas.Option.{get_or_from_slice_get}
+use Rattle.std.specs.List.{HoldsAt, remove}
+use Rattle.std.proofs.lemmas.List.{set_split, take_all, drop_all}
+use Rattle.std.proofs.lemmas.List.Elements.{All-from_recursion, All-nil}
+use Rattle.std.specs.List.{All}
+use Rattle.std.specs.declared.cmp.Ordering.TheVariants.{Less}
+use Rattle.std.specs.Ordering.{is_lt}
+use Rattle.std.proofs.lemmas.List.Edits.{length-insert, length-remove}
+use Rattle.std.specs.declared.cmp.Ordering.{Ordering}
+use Rattle.slab.specs.Slab.{Slab, get, slab_len, HasRoomFor, Updates}
+use Rattle.am_blocks.specs.declared.spot.Spot.{Spot}
+use Rattle.am_blocks.specs.Rows.{Rows, joined, entries, HasRoom}
+use Rattle.am_blocks.specs.Spots.{IsItem, IsWithin, place, place_in, block_at}
+use Rattle.am_version_order.specs.Versions.{Version, is_below, rank_cmp}
+use Rattle.am_merge.specs.Maps.{IsMap, replaces}
+use Rattle.am_merge.specs.Takings.{IsPut}
+use Rattle.am_merge.specs.Places.{IsPlaceOf, IsGapFor}
+use Rattle.am_merge.specs.Indexes.{Changes, filed}
+use Rattle.am_merge.specs.Entries.{versions_of, key_slot, expiry_slot, key_entry, with_slots, by_time, time_cmp}
+use Rattle.am_merge.specs.Shelves.{versions, IsExpiryIndex, IsKeyIndex, IsShelf, IsKeySpot, IsGapSpot, IsWithout, HasRooms}
+use Rattle.am_merge.specs.declared.entry.KeyEntry.{KeyEntry}
+use Rattle.am_merge.specs.declared.entry.ExpiryEntry.{ExpiryEntry}
+use Rattle.am_merge.specs.declared.shelf.Shelf.{Shelf}
+use Rattle.am_merge.proofs.Keys.{IsKeyOrder, IsMap-without, both_parts}
+use Rattle.am_merge.proofs.Puts.{cut_at, place_over, place_nowhere}
+use Rattle.am_merge.proofs.Shelves.{item_within, spot_within, changes_of, changes_after, expiry_taken, expiry_put, key_put, versions_put, key_taken, versions_taken, version_here, versions_swapped, key_swapped, key_names, versions_length}
+
+module _ {K X : Type 0} (seen : X → Version K) where
+  pub taken_out : (old new : Slab X) (rows after : Rows ExpiryEntry) (slot : ℕ) (v : X) (spot : Spot) → get old slot ≡ Some v → Updates old new slot None → IsExpiryIndex seen (get old) (entries rows) → IsItem rows spot → HoldsAt (λ e. expiry_slot e ≡ slot) (entries rows) (place rows spot) → entries after ≡ remove (entries rows) (place rows spot) → IsExpiryIndex seen (get new) (entries after)
+  taken_out old new rows after slot v spot there updates is item own left =
+      subst (IsExpiryIndex seen (get new)) (sym left) (expiry_taken seen (get old) (get new) (entries rows) slot v (place rows spot) there (changes_of old new slot None updates) is (item_within rows spot item) own)
+
+  pub put_in : (old new : Slab X) (rows after : Rows ExpiryEntry) (slot given expires : ℕ) (v : X) (spot : Spot) → get old slot ≡ None → Updates old new given (Some v) → given ≡ slot → expires ≡ (seen v).expires → IsExpiryIndex seen (get old) (entries rows) → IsGapFor (by_time seen) time_cmp (filed expiry_slot (with_slots (get old)) (entries rows)) (expires, slot) (place rows spot) → entries after ≡ insert (entries rows) (place rows spot) (record { expires = expires; slot = slot }) → IsExpiryIndex seen (get new) (entries after)
+  put_in old new rows after slot given expires v spot vacant updates same moment is gap left =
+      let known : entries after ≡ insert (entries rows) (place rows spot) (record { expires = (seen v).expires; slot = slot }) = left ∙ ap (λ t. insert (entries rows) (place rows spot) (record { expires = t; slot = slot })) moment in
+      subst (IsExpiryIndex seen (get new)) (sym known)
+      (expiry_put seen (get old) (get new) (entries rows) slot v (place rows spot) vacant
+      (changes_of old new slot (Some v) (subst (λ s. Updates old new s (Some v)) same updates)) is
+      (subst (λ t. IsGapFor (by_time seen) time_cmp (filed expiry_slot (with_slots (get old)) (entries rows)) (t, slot) (place rows spot)) moment gap))
+
+  module _ (head_of : K → ℕ) (cmp : K → K → Ordering) (keys : IsKeyOrder cmp) where
+    abbrev Whole : Shelf X → Type 0
+    Whole shelf = IsShelf seen head_of cmp shelf
+
+    module _ (old mid : Shelf X) (after : Rows KeyEntry) (slot head : ℕ) (v : X) (spot : Spot) (is : Whole old) (gap : IsGapSpot seen cmp old (seen v).key spot) (vacant : get old.table slot ≡ None) (updates : Updates old.table mid.table slot (Some v)) (same : mid.keys ≡ old.keys) (head_is : head ≡ head_of (seen v).key) (put : entries after ≡ insert (entries mid.keys) (place mid.keys spot) (record { head = head; slot = slot })) where
+      known : entries after ≡ insert (entries old.keys) (place old.keys spot) (key_entry seen head_of slot v)
+      known = put ∙ (λ i. insert (entries (same i)) (place (same i) spot) (record { head = head_is i; slot = slot }))
+
+      changes : Changes (get old.table) (get mid.table) slot (Some v)
+      changes = changes_of old.table mid.table slot (Some v) updates
+
+      pub added_versions : versions_of (get mid.table) (entries after) ≡ insert (versions old) (place old.keys spot) v
+      added_versions = ap (versions_of (get mid.table)) known ∙ versions_put seen head_of cmp keys (get old.table) (get mid.table) (entries old.keys) slot v is.keys (place old.keys spot) vacant changes
+
+      pub added : IsExpiryIndex seen (get mid.table) (entries mid.expiries) → slab_len mid.table ≡ slab_len old.table + 1 → Whole (record mid { keys = after })
+      added expiries long =
+          record {
+            keys = subst (IsKeyIndex seen head_of cmp (get mid.table)) (sym known) (key_put seen head_of cmp keys (get old.table) (get mid.table) (entries old.keys) slot v is.keys (place old.keys spot) vacant changes gap.gap);
+            expiries = expiries;
+            count = let longer = length-insert (entries old.keys) (place old.keys spot) (key_entry seen head_of slot v) (spot_within old.keys spot gap.within) in let count = is.count in let now = ap length known in omega arith;
+          }
+
+    module _ (old mid new : Shelf X) (e : KeyEntry) (slot : ℕ) (w v : X) (spot : Spot) (is : Whole old) (at : IsKeySpot seen cmp old (seen v).key spot) (got : slice_get (entries old.keys) (place old.keys spot) ≡ Some e) (slot_is : slot ≡ e.slot) (there : get old.table slot ≡ Some w) (out : Updates old.table mid.table slot None) (back : Updates mid.table new.table slot (Some v)) (same_mid : mid.keys ≡ old.keys) (same_new : new.keys ≡ mid.keys) where
+      within : place old.keys spot < length (entries old.keys)
+      within = item_within old.keys spot at.item
+
+      own : HoldsAt (λ x. key_slot x ≡ slot) (entries old.keys) (place old.keys spot)
+      own d = ap key_slot (get_or_from_slice_get (entries old.keys) (place old.keys spot) e d got) ∙ sym slot_is
+
+      swap : Changes (get old.table) (get new.table) slot (Some v)
+      swap = changes_after (get old.table) (get mid.table) (get new.table) slot None (Some v) (changes_of old.table mid.table slot None out) (changes_of mid.table new.table slot (Some v) back)
+
+      same_key : (seen v).key ≡ (seen w).key
+      same_key = sym (ap (λ x. (seen x).key) (sym (version_here seen head_of cmp keys (get old.table) (get new.table) (entries old.keys) slot w is.keys (place old.keys spot) there within own)) ∙ at.place.here w)
+
+      rows_same : entries new.keys ≡ entries old.keys
+      rows_same = ap entries (same_new ∙ same_mid)
+
+      pub replaced_versions : versions new ≡ set (versions old) (place old.keys spot) v
+      replaced_versions =
+          ap (versions_of (get new.table)) rows_same
+          ∙ versions_swapped seen head_of cmp keys (get old.table) (get new.table) (entries old.keys) slot w is.keys (place old.keys spot) there within own v swap same_key
+          ∙ sym (set_split (versions old) (place old.keys spot) v (let long = versions_length seen head_of cmp keys (get old.table) (entries old.keys) is.keys in let low = within in omega arith))
+
+      pub replaced : IsExpiryIndex seen (get new.table) (entries new.expiries) → slab_len mid.table + 1 ≡ slab_len old.table → slab_len new.table ≡ slab_len mid.table + 1 → Whole new
+      replaced expiries less more =
+          record {
+            keys = subst (IsKeyIndex seen head_of cmp (get new.table)) (sym rows_same) (key_swapped seen head_of cmp keys (get old.table) (get new.table) (entries old.keys) slot w is.keys (place old.keys spot) there within own v swap same_key);
+            expiries = expiries;
+            count = let count = is.count in let now = ap length rows_same in omega arith;
+          }
+
+    module _ (old mid : Shelf X) (after : Rows KeyEntry) (slot : ℕ) (w : X) (spot : Spot) (is : Whole old) (item : IsItem old.keys spot) (own : HoldsAt (λ e. key_slot e ≡ slot) (entries old.keys) (place old.keys spot)) (there : get old.table slot ≡ Some w) (out : Updates old.table mid.table slot None) (same : mid.keys ≡ old.keys) (left : entries after ≡ remove (entries mid.keys) (place mid.keys spot)) where
+      known_left : entries after ≡ remove (entries old.keys) (place old.keys spot)
+      known_left = left ∙ (λ i. remove (entries (same i)) (place (same i) spot))
+
+      inside : place old.keys spot < length (entries old.keys)
+      inside = item_within old.keys spot item
+
+      gone : Changes (get old.table) (get mid.table) slot None
+      gone = changes_of old.table mid.table slot None out
+
+      pub dropped_versions : IsWithout w (versions old) (versions_of (get mid.table) (entries after))
+      dropped_versions =
+          record {
+            front = take (place old.keys spot) (versions old);
+            back = drop (suc (place old.keys spot)) (versions old);
+            before = cut_at (versions old) (place old.keys spot) w (let long = versions_length seen head_of cmp keys (get old.table) (entries old.keys) is.keys in let low = inside in omega arith) (sym (version_here seen head_of cmp keys (get old.table) (get mid.table) (entries old.keys) slot w is.keys (place old.keys spot) there inside own));
+            after = ap (versions_of (get mid.table)) known_left ∙ versions_taken seen head_of cmp keys (get old.table) (get mid.table) (entries old.keys) slot w is.keys (place old.keys spot) there inside own gone;
+          }
+
+      pub dropped : IsExpiryIndex seen (get mid.table) (entries mid.expiries) → slab_len mid.table + 1 ≡ slab_len old.table → Whole (record mid { keys = after })
+      dropped expiries less =
+          record {
+            keys = subst (IsKeyIndex seen head_of cmp (get mid.table)) (sym known_left) (key_taken seen head_of cmp keys (get old.table) (get mid.table) (entries old.keys) slot w is.keys (place old.keys spot) there inside own gone);
+            expiries = expiries;
+            count = let shorter = length-remove (entries old.keys) (place old.keys spot) inside in let count = is.count in let now = ap length known_left in omega arith;
+          }
+
+    -- a shelf with the same slots and the same blocks
+    pub moved : (old new : Shelf X) → new.table.slots ≡ old.table.slots → new.keys.blocks ≡ old.keys.blocks → new.expiries.blocks ≡ old.expiries.blocks → Whole old → Whole new
+    moved old new slots key_blocks expiry_blocks is =
+        record {
+          keys = subst (λ t. IsKeyIndex seen head_of cmp t (entries new.keys)) table_is (subst (IsKeyIndex seen head_of cmp (get old.table)) (ap joined (sym key_blocks)) is.keys);
+          expiries = subst (λ t. IsExpiryIndex seen t (entries new.expiries)) table_is (subst (IsExpiryIndex seen (get old.table)) (ap joined (sym expiry_blocks)) is.expiries);
+          count = ap (count_by is_some) slots ∙ is.count ∙ ap (λ bs. length (joined bs)) (sym key_blocks);
+        }
+      where
+        table_is : get old.table ≡ get new.table
+        table_is = λ i key. slice_index_or (sym slots i) key None
+
+    pub moved_spot : (old new : Shelf X) (key : K) (spot : Spot) → new.table.slots ≡ old.table.slots → new.keys.blocks ≡ old.keys.blocks → IsKeySpot seen cmp old key spot → IsKeySpot seen cmp new key spot
+    moved_spot old new key spot slots blocks at =
+        record {
+          item = record { offset = subst (λ bs. spot.offset < length (block_at bs spot)) (sym blocks) at.item.offset };
+          place = subst (λ t. IsPlaceOf seen cmp (versions_of t (entries new.keys)) key (place new.keys spot)) (λ i k. slice_index_or (sym slots i) k None)
+              (subst (λ bs. IsPlaceOf seen cmp (versions_of (get old.table) (joined bs)) key (place_in bs spot)) (sym blocks) at.place);
+        }
+
+    pub moved_gap : (old new : Shelf X) (key : K) (spot : Spot) → new.table.slots ≡ old.table.slots → new.keys.blocks ≡ old.keys.blocks → IsGapSpot seen cmp old key spot → IsGapSpot seen cmp new key spot
+    moved_gap old new key spot slots blocks at =
+        record {
+          within = record {
+            block = subst (λ bs. spot.block ≤ length bs) (sym blocks) at.within.block;
+            offset = subst (λ bs. spot.offset ≤ length (block_at bs spot)) (sym blocks) at.within.offset;
+          };
+          gap = subst (λ t. IsGapFor seen cmp (versions_of t (entries new.keys)) key (place new.keys spot)) (λ i k. slice_index_or (sym slots i) k None)
+              (subst (λ bs. IsGapFor seen cmp (versions_of (get old.table) (joined bs)) key (place_in bs spot)) (sym blocks) at.gap);
+        }
+
+-- room for more is room for less
+pub less_room : {T : Type 0} (rows : Rows T) (n : ℕ) → HasRoom rows (n + 1) → HasRoom rows n
+less_room rows n room = let spares = room.spares in let places = room.places in record { spares = omega arith; places = omega arith }
+
+pub count_is : {K X : Type 0} (seen : X → Version K) (head_of : K → ℕ) (cmp : K → K → Ordering) (keys : IsKeyOrder cmp) (shelf : Shelf X) → IsShelf seen head_of cmp shelf → slab_len shelf.table ≡ length (versions shelf)
+count_is seen head_of cmp keys shelf is = is.count ∙ sym (versions_length seen head_of cmp keys (get shelf.table) (entries shelf.keys) is.keys)
+
+module _ {K X : Type 0} (seen : X → Version K) (cmp : K → K → Ordering) (keys : IsKeyOrder cmp) where
+  -- whether a version is greater than the one of its key
+  pub judged : (map : List X) (i : ℕ) (v w : X) → IsMap seen cmp map → i < length map → w ≡ get_or map i w → (seen w).key ≡ (seen v).key → (r : Bool) → r ≡ is_lt (rank_cmp (seen w) (seen v)) → (r ≡ replaces seen cmp map v) × ((r ≡ false → IsPut seen cmp map v map) × (r ≡ true → IsPut seen cmp map v (set map i v)))
+  unfolding is_below
+  judged map i v w is_map within is key true e =
+      let over = place_over seen cmp keys map i v w is_map within is key (sym e) in
+      (sym over.1, ((λ no. absurd cc), λ _. over.0))
+  judged map i v w is_map within is key false e =
+      let stays = place_nowhere seen cmp keys map i v w is_map within is key (sym e) in
+      (sym stays.1, ((λ _. stays.0), λ yes. absurd cc))
+
+  -- the gap behind all
+  pub end_gap : (xs : List X) (v : X) (i : ℕ) → i ≡ length xs → IsMap seen cmp (xs ++ v ∷ []) → IsGapFor seen cmp xs (seen v).key i
+  end_gap xs v i end order =
+      let low = (IsMap-without seen cmp keys v xs [] order).1.below in
+      record {
+        in_range = omega arith;
+        below = subst (All (λ w. cmp (seen w).key (seen v).key ≡ Less)) (sym (take_all i xs (omega arith))) (All-from_recursion (λ w. cmp (seen w).key (seen v).key ≡ Less) xs low);
+        above = subst (All (λ w. cmp (seen v).key (seen w).key ≡ Less)) (sym (drop_all i xs (omega arith))) (All-nil (λ w. cmp (seen v).key (seen w).key ≡ Less));
+      }
+
+  -- a list in order is so up to each of its elements
+  pub order_front : (front : List X) (v : X) (back whole : List X) → front ++ v ∷ back ≡ whole → IsMap seen cmp whole → IsMap seen cmp (front ++ v ∷ [])
+  order_front front v back whole is order =
+      let joined : (front ++ v ∷ []) ++ back ≡ whole = append_assoc front (v ∷ []) back ∙ is in
+      front_of (front ++ v ∷ []) back (subst (IsMap seen cmp) (sym joined) order)
+    where
+      front_of : (xs ys : List X) → IsMap seen cmp (xs ++ ys) → IsMap seen cmp xs
+      front_of [] ys order = tt
+      front_of (x ∷ xs) ys order = ((both_parts (λ w. cmp (seen x).key (seen w).key ≡ Less) xs ys order.0).0, front_of xs ys order.1)
+
+pub end_insert : {X : Type 0} (xs : List X) (v : X) (i : ℕ) → i ≡ length xs → insert xs i v ≡ xs ++ v ∷ []
+end_insert xs v i end = let past : length xs ≤ i = omega arith in λ k. take_all i xs past k ++ v ∷ drop_all i xs past k
+
+pub on_ok : {A E : Type 0} {P Q : Type 0} → (P → Q) → (r : Result A E) → OnOk r P → OnOk r Q
+on_ok f (Ok a) holds = f holds
+on_ok f (Err e) holds = tt
+
+-- the element at a place
+pub element : {X : Type 0} (xs : List X) (i : ℕ) → i < length xs → (x : X) × (x ≡ get_or xs i x)
+element [] i within = absurd (omega arith)
+element (x ∷ xs) zero within = (x, refl)
+element (x ∷ xs) (suc i) within = element xs i (omega arith)

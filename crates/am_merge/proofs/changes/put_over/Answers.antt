@@ -1,0 +1,14 @@
+use Rattle.std.proofs.Common.{◌+◌, set, sym, ◌∙◌, subst}
+use Rattle.am_blocks.specs.Spots.{place_in}
+use Rattle.am_merge.specs.Shelves.{versions}
+use Rattle.am_merge.specs.Takings.{IsPut}
+use Rattle.am_merge.proofs.changes.put_over.Goals as goal
+
+pub returns-clause-put : goal.returns-clause-put
+returns-clause-put g c =
+    subst (IsPut g.V.Version.seen g.V.Key.Ord.cmp (versions c.args.shelf.now) c.args.version)
+    (sym (c.replace.ensures.replaced ∙ (λ i. set (c.reserve.ensures.versions i) (place_in (c.reserve.ensures.same.keys i) c.args.spot) c.args.version)))
+    c.requires.over
+
+pub returns-clause-room : goal.returns-clause-room
+returns-clause-room g c = λ n had. c.replace.ensures.room n (c.reserve.ensures.kept (n + 1) had)

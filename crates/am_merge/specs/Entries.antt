@@ -1,0 +1,59 @@
+-- The entries of the indexes, and where one stands to what is looked for.
+use Rattle.std.specs.Prelude.{ℕ, List, Option, Some, None, IsSome, All}
+use Rattle.std.specs.Option.{option_map}
+use Rattle.std.specs.declared.cmp.Ordering.{Ordering}
+use Rattle.std.specs.declared.cmp.Ordering.TheVariants.{Less}
+use Rattle.std.specs.Ordering.{nat_cmp, ordering_then}
+use Rattle.am_version_order.specs.Versions.{Version}
+use Rattle.am_merge.specs.Indexes.{filed}
+use Rattle.am_merge.specs.declared.entry.KeyEntry.{KeyEntry}
+use Rattle.am_merge.specs.declared.entry.ExpiryEntry.{ExpiryEntry}
+
+abbrev pub key_slot : KeyEntry → ℕ
+key_slot e = e.slot
+
+abbrev pub expiry_slot : ExpiryEntry → ℕ
+expiry_slot e = e.slot
+
+-- the versions of a table in the order of an index
+abbrev pub versions_of : {X : Type 0} → (ℕ → Option X) → List KeyEntry → List X
+versions_of table keys = filed key_slot table keys
+
+-- the table has something in the slot of each entry
+abbrev pub AreThere : {X : Type 0} → (ℕ → Option X) → List KeyEntry → Type 0
+AreThere table keys = All (λ e. IsSome (table e.slot)) keys
+
+-- moments in their order, and those that are the same by the slots
+abbrev pub time_cmp : (ℕ × ℕ) → (ℕ × ℕ) → Ordering
+time_cmp one other = ordering_then (nat_cmp one.0 other.0) (nat_cmp one.1 other.1)
+
+-- where an entry stands to an expiry and a slot
+abbrev pub expiry_order : ℕ → ℕ → ExpiryEntry → Ordering
+expiry_order expires slot e = time_cmp (e.expires, e.slot) (expires, slot)
+
+-- a table that says with what it has in a slot which slot that is
+abbrev pub with_slots : {X : Type 0} → (ℕ → Option X) → ℕ → Option (ℕ × X)
+with_slots table slot = option_map (λ v. (slot, v)) (table slot)
+
+module _ {K X : Type 0} (seen : X → Version K) where
+  -- the entry of what is in a slot, by its expiry
+  abbrev pub expiry_entry : ℕ → (ℕ × X) → ExpiryEntry
+  expiry_entry slot there = record { expires = (seen there.1).expires; slot = slot }
+
+  -- what is in a slot, under its expiry and the slot
+  abbrev pub by_time : (ℕ × X) → Version (ℕ × ℕ)
+  by_time there = record { key = ((seen there.1).expires, there.0); updated = 0; expires = (seen there.1).expires; content = (seen there.1).content }
+
+  -- the entry of what is in a slot, by its key
+  abbrev pub key_entry : (K → ℕ) → ℕ → X → KeyEntry
+  key_entry head_of slot v = record { head = head_of (seen v).key; slot = slot }
+
+  module _ (cmp : K → K → Ordering) where
+    -- how the key of what is in a slot compares to another; nothing is before all keys
+    abbrev pub tie_of : Option X → K → Ordering
+    tie_of None key = Less
+    tie_of (Some v) key = cmp (seen v).key key
+
+    -- where an entry stands to a key and its number: by the numbers, and those that are the same by the keys
+    abbrev pub key_order : (ℕ → Option X) → ℕ → K → KeyEntry → Ordering
+    key_order table head key e = ordering_then (nat_cmp e.head head) (tie_of (table e.slot) key)

@@ -1,0 +1,79 @@
+-- A table of versions under slots, with an index by key and one by expiry.
+-- X is the type of versions, and `seen` is what the merge sees of one.
+use Rattle.std.specs.Prelude.{◌≡◌, ℕ, ◌+◌, ◌<◌, ◌≤◌, List, ◌∷◌, ◌++◌, length, Option, Some, false}
+use Rattle.std.specs.declared.cmp.Ordering.{Ordering}
+use Rattle.slab.specs.Slab.{Slab, get, slab_len, HasRoomFor}
+use Rattle.am_blocks.specs.declared.spot.Spot.{Spot}
+use Rattle.am_blocks.specs.Rows.{Rows, entries, HasRoom}
+use Rattle.am_blocks.specs.Spots.{IsItem, IsWithin, place}
+use Rattle.am_version_order.specs.Versions.{Version, is_live}
+use Rattle.am_merge.specs.Maps.{IsMap}
+use Rattle.am_merge.specs.Places.{IsPlaceOf, IsGapFor}
+use Rattle.am_merge.specs.Indexes.{IsIndex, filed}
+use Rattle.am_merge.specs.Entries.{versions_of, key_slot, expiry_slot, key_entry, expiry_entry, with_slots, by_time, time_cmp}
+use Rattle.am_merge.specs.declared.entry.KeyEntry.{KeyEntry}
+use Rattle.am_merge.specs.declared.entry.ExpiryEntry.{ExpiryEntry}
+use Rattle.am_merge.specs.declared.shelf.Shelf.{Shelf}
+
+-- the versions of a shelf in the order of their keys
+abbrev pub versions : {X : Type 0} → Shelf X → List X
+versions shelf = versions_of (get shelf.table) (entries shelf.keys)
+
+-- so many versions can be put in without memory
+pub record HasRooms {X : Type 0} (shelf : Shelf X) (n : ℕ) : Type 0 where
+  pub table : HasRoomFor shelf.table n
+  pub keys : HasRoom shelf.keys n
+  pub expiries : HasRoom shelf.expiries n
+
+-- new has what old has, under the same slots and in the same places
+pub record IsSame {X : Type 0} (old new : Shelf X) : Type 0 where
+  pub slots : new.table.slots ≡ old.table.slots
+  pub vacant : new.table.vacant_key ≡ old.table.vacant_key
+  pub keys : new.keys.blocks ≡ old.keys.blocks
+  pub expiries : new.expiries.blocks ≡ old.expiries.blocks
+
+-- new is old without one of its elements
+pub record IsWithout {X : Type 0} (v : X) (old new : List X) : Type 0 where
+  pub front : List X
+  pub back : List X
+  pub before : old ≡ front ++ v ∷ back
+  pub after : new ≡ front ++ back
+
+-- a slot has something
+abbrev pub HasSlot : {X : Type 0} → Slab X → ℕ → Type 0
+HasSlot {X} table slot = (v : X) × (get table slot ≡ Some v)
+
+module _ {K X : Type 0} (seen : X → Version K) where
+  -- the entries are those of the table's versions, by expiry
+  pub record IsExpiryIndex (table : ℕ → Option X) (es : List ExpiryEntry) : Type 0 where
+    pub index : IsIndex expiry_slot (expiry_entry seen) (with_slots table) es
+    pub order : IsMap (by_time seen) time_cmp (filed expiry_slot (with_slots table) es)
+
+  -- what is in a slot isn't live
+  pub record IsExpiredAt (now : ℕ) (table : Slab X) (slot : ℕ) : Type 0 where
+    pub version : X
+    pub there : get table slot ≡ Some version
+    pub expired : is_live now (seen version) ≡ false
+
+  module _ (head_of : K → ℕ) (cmp : K → K → Ordering) where
+    -- the entries are those of the table's versions, by key
+    pub record IsKeyIndex (table : ℕ → Option X) (es : List KeyEntry) : Type 0 where
+      pub index : IsIndex key_slot (key_entry seen head_of) table es
+      pub order : IsMap seen cmp (versions_of table es)
+
+    -- both indexes are those of the table
+    pub record IsShelf (shelf : Shelf X) : Type 0 where
+      pub keys : IsKeyIndex (get shelf.table) (entries shelf.keys)
+      pub expiries : IsExpiryIndex (get shelf.table) (entries shelf.expiries)
+      pub count : slab_len shelf.table ≡ length (entries shelf.keys)
+
+  module _ (cmp : K → K → Ordering) where
+    -- at the spot is the entry of the key's version
+    pub record IsKeySpot (shelf : Shelf X) (key : K) (spot : Spot) : Type 0 where
+      pub item : IsItem shelf.keys spot
+      pub place : IsPlaceOf seen cmp (versions shelf) key (place shelf.keys spot)
+
+    -- no version has the key, and the entry of one that has it would go to the spot
+    pub record IsGapSpot (shelf : Shelf X) (key : K) (spot : Spot) : Type 0 where
+      pub within : IsWithin shelf.keys spot
+      pub gap : IsGapFor seen cmp (versions shelf) key (place shelf.keys spot)
