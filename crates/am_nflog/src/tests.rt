@@ -149,6 +149,15 @@ fn the_first_fault_is_told(rt: HostRuntime) {
             [0x0A, 0x02, 0x20, 0x00, 0x08, 0x00].as_slice(),
             WireError::WrongType { at: 4 },
         ),
+        // a length passes the end of what it stands in: the input, or the entry alone
+        (
+            [0x0A, 0x05, 0x00, 0x00].as_slice(),
+            WireError::Truncated { at: 0 },
+        ),
+        (
+            [0x0A, 0x02, 0x0A, 0x02, 0x12, 0x00].as_slice(),
+            WireError::Truncated { at: 2 },
+        ),
     ];
     for (bytes, fault) in faults {
         assert_eq!(rt;
@@ -156,6 +165,41 @@ fn the_first_fault_is_told(rt: HostRuntime) {
             Some(fault),
             "{bytes:?}"
         );
+    }
+}
+
+/// What is missing and moments out of range wait for the end of the message, and come in the order of the numbers.
+#[test]
+fn tests_on_values_wait(rt: HostRuntime) {
+    let timestamp = WireError::Timestamp { at: 4 };
+    for (bytes, fault) in [
+        // nanoseconds of a whole second, and then a wrong type
+        (
+            [
+                0x0A, 0x0A, 0x12, 0x00, 0x2A, 0x06, 0x10, 0x80, 0x94, 0xEB, 0xDC, 0x03,
+            ]
+            .as_slice(),
+            timestamp,
+        ),
+        (
+            [
+                0x0A, 0x0A, 0x12, 0x00, 0x2A, 0x06, 0x10, 0x80, 0x94, 0xEB, 0xDC, 0x03, 0x10, 0x01,
+            ]
+            .as_slice(),
+            WireError::WrongType { at: 12 },
+        ),
+        // no receiver, or no entry, before such a moment
+        (
+            [0x0A, 0x08, 0x2A, 0x06, 0x10, 0x80, 0x94, 0xEB, 0xDC, 0x03].as_slice(),
+            WireError::MissingMessage { field: 2 },
+        ),
+        (
+            [0x12, 0x06, 0x10, 0x80, 0x94, 0xEB, 0xDC, 0x03].as_slice(),
+            WireError::MissingMessage { field: 1 },
+        ),
+    ] {
+        let refused = MeshEntry::decode(rt.alloc(), bytes).err();
+        assert_eq!(rt; refused, Some(fault), "{bytes:?}");
     }
 }
 
