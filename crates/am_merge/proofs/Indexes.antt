@@ -194,9 +194,9 @@ module _ {E Y : Type 0} (slot_of : E → ℕ) (entry : ℕ → Y → E) (slot_en
           elim (Contains-append_cases (take i es) (e ∷ drop (suc i) es) (entry s y) kept) [
             | inl front ↦ absurd (apart-never s (take i es) (entry s y) low own front)
             | inr rest ↦ elim (Contains-cases e (entry s y) (drop (suc i) es) rest) [
-                | inl is ↦ ap slot_of is ∙ own
-                | inr back ↦ absurd (apart-never s (drop (suc i) es) (entry s y) high own back)
-              ]
+              | inl is ↦ ap slot_of is ∙ own
+              | inr back ↦ absurd (apart-never s (drop (suc i) es) (entry s y) high own back)
+            ]
           ]
         where
           apart-never : (t : ℕ) (xs : List E) (x : E) → Apart t xs → slot_of x ≡ t → Contains xs x → ⊥
@@ -228,9 +228,9 @@ module _ {E Y : Type 0} (slot_of : E → ℕ) (entry : ℕ → Y → E) (slot_en
                 elim (Contains-append_cases (take i es) (e ∷ drop (suc i) es) (entry t z) (subst (λ xs. Contains xs (entry t z)) cut before)) [
                   | inl front ↦ Contains-append_left (take i es) (drop (suc i) es) (entry t z) front
                   | inr rest ↦ elim (Contains-cases e (entry t z) (drop (suc i) es) rest) [
-                      | inl is ↦ absurd (differs (sym (slot_entry t z) ∙ ap slot_of (sym is) ∙ own))
-                      | inr back ↦ Contains-append_right (take i es) (drop (suc i) es) (entry t z) back
-                    ]
+                    | inl is ↦ absurd (differs (sym (slot_entry t z) ∙ ap slot_of (sym is) ∙ own))
+                    | inr back ↦ Contains-append_right (take i es) (drop (suc i) es) (entry t z) back
+                  ]
                 ]
           ]
 

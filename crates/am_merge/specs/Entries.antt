@@ -42,7 +42,8 @@ module _ {K X : Type 0} (seen : X → Version K) where
 
   -- what is in a slot, under its expiry and the slot
   abbrev pub by_time : (ℕ × X) → Version (ℕ × ℕ)
-  by_time there = record { key = ((seen there.1).expires, there.0); updated = 0; expires = (seen there.1).expires; content = (seen there.1).content }
+  by_time there =
+      record { key = ((seen there.1).expires, there.0); updated = 0; expires = (seen there.1).expires; content = (seen there.1).content }
 
   -- the entry of what is in a slot, by its key
   abbrev pub key_entry : (K → ℕ) → ℕ → X → KeyEntry

@@ -4,7 +4,9 @@ ghost use Rattle.std.specs.Prelude.{◌≡◌, ◌==◌, ◌+◌, ◌<◌, ◌�
 ghost use Rattle.std.specs.Option.{option_copied};
 ghost use Rattle.am_merge.specs.Maps.{IsMap, IsJoin, IsLeastExpiry, HasTwice, at, if_live, replaces, swept};
 
-use crate::changes::{copy_shelf, drop_expired, merge_in, order_by_key, put, put_new, shelve, taken_as};
+use crate::changes::{
+    copy_shelf, drop_expired, merge_in, order_by_key, put, put_new, shelve, taken_as,
+};
 use crate::iter::{Iter, walk_shelf};
 use crate::shelf::{Shelf, empty_shelf, find, reserve, version_at};
 use am_version_order::{Moment, Version};

@@ -312,3 +312,29 @@ fn random_runs_are_those_of_a_plain_map(rt: HostRuntime) -> Result<(), Fail> {
     }
     Ok(())
 }
+
+#[test]
+fn a_greater_version_moves_the_expiry(rt: HostRuntime) -> Result<(), Fail> {
+    let alloc = rt.alloc();
+    for (expires, now, left) in [(400, 200, 1), (150, 150, 0)] {
+        let mut held = holding(alloc, first(alloc)?)?;
+        let greater = make_note(alloc, b'a', 20, expires, END_AT_100)?;
+        held.take(greater, at(11, 0)?)?;
+        assert_eq!(rt; held.next_expiry(), Some(moment(expires)));
+        held.sweep(moment(now));
+        assert_eq!(rt; held.len(), left);
+    }
+    Ok(())
+}
+
+#[test]
+fn a_new_key_is_put_in_once(rt: HostRuntime) -> Result<(), Fail> {
+    let alloc = rt.alloc();
+    let mut held = holding(alloc, first(alloc)?)?;
+    let is_new = held.insert_new(second(alloc)?)?;
+    assert!(rt; !is_new);
+    let is_new = held.insert_new(make_note(alloc, b'b', 10, 200, END_AT_100)?)?;
+    assert!(rt; is_new);
+    assert_eq!(rt; held.len(), 2);
+    Ok(())
+}
