@@ -4,13 +4,12 @@ ghost use Rattle.std.specs.declared.cmp.Ordering.TheVariants.{Equal};
 ghost use Rattle.std.specs.Cmp.{ranked};
 
 use super::*;
-use am_merge::{Held, Taken};
+use am_merge::{Held, MergeError, Taken};
 use am_version_order::{Moment, Version};
 use std::alloc::{AllocError, Global};
-use std::test::Fail;
 
 // What a letter stands for, without content.
-#[derive(Drop)]
+#[derive(Clone, Copy)]
 struct Note {
     id: u8,
     updated: Moment,
@@ -73,132 +72,148 @@ impl Version for Note {
     ghost exact = { λ v w _ _ same i. record { id = (same i).key; updated = (same i).updated; expires = (same i).expires } };
 }
 
-fn at(seconds: i64) -> Result<Moment, Fail> {
-    Ok(Moment::from_parts(seconds, 0).ok_or("out of range")?)
+fn at(seconds: i64) -> Moment {
+    Moment::from_parts(seconds, 0).unwrap_or(Moment::LEAST)
 }
 
-fn make_note(id: u8, updated: i64, expires: i64) -> Result<Note, Fail> {
-    Ok(Note {
+fn make_note(id: u8, updated: i64, expires: i64) -> Note {
+    Note {
         id,
-        updated: at(updated)?,
-        expires: at(expires)?,
-    })
+        updated: at(updated),
+        expires: at(expires),
+    }
 }
 
 // The first silence of the examples, and the same updated at 20 s.
-fn first() -> Result<Note, Fail> {
+fn first() -> Note {
     make_note(b'a', 10, 200)
 }
 
-fn second() -> Result<Note, Fail> {
+fn second() -> Note {
     make_note(b'a', 20, 200)
 }
 
-fn starting(alloc: Global, version: Note, now: Moment) -> Result<Keeper<Note>, Fail> {
-    Ok(Keeper::start(alloc, Vec::from_array(alloc, [version])?, now)?)
+fn last_live() -> Moment {
+    Moment::from_parts(199, 999_999_999).unwrap_or(Moment::LEAST)
 }
 
-fn last_live() -> Result<Moment, Fail> {
-    Ok(Moment::from_parts(199, 999_999_999).ok_or("out of range")?)
+/// A map of one version; empty where there is no memory.
+fn holding(alloc: Global, version: Note) -> Held<Note> {
+    let mut held = Held::new(alloc);
+    let _ = held.take(version, Moment::LEAST);
+    held
 }
 
-#[test]
-fn a_collection_drops_what_is_not_live(rt: HostRuntime) -> Result<(), Fail> {
-    let alloc = rt.alloc();
-    let mut keeper = starting(alloc, first()?, at(10)?)?;
-    assert_eq!(rt; keeper.collect(last_live()?)?, 0);
-    assert_eq!(rt; keeper.held().len(), 1);
-    assert_eq!(rt; keeper.step(Step::Collect, at(200)?)?, Stepped::Swept(1));
-    assert!(rt; keeper.held().is_empty());
-    Ok(())
+fn starting(alloc: Global, versions: &[Note], now: Moment) -> Result<Keeper<Note>, KeeperError> {
+    Keeper::start(alloc, Vec::from_slice(alloc, versions)?, now)
 }
 
-#[test]
-fn a_version_is_taken_whether_it_is_live_or_not(rt: HostRuntime) -> Result<(), Fail> {
-    let alloc = rt.alloc();
-    let mut late = Keeper::of(Held::new(alloc), at(10)?);
-    let expired = late.step(Step::Take(first()?), at(200)?)?;
-    assert_eq!(rt; expired, Stepped::Took(Taken::Expired));
-    assert_eq!(rt; late.held().len(), 1);
-    assert!(rt; late.view(&b'a', at(200)?).is_none());
-    assert_eq!(rt; late.collect(at(200)?)?, 1);
-    assert!(rt; late.held().is_empty());
+fn updated(held: &Held<Note>, key: u8) -> Option<Moment> {
+    held.get(&key).map(Version::updated)
+}
 
-    let mut early = Keeper::of(Held::new(alloc), at(10)?);
-    let changed = early.step(Step::Take(first()?), last_live()?)?;
-    assert_eq!(rt; changed, Stepped::Took(Taken::Changed));
-    assert!(rt; early.view(&b'a', last_live()?).is_some());
-    Ok(())
+fn in_view(keeper: &Keeper<Note>, key: u8, now: Moment) -> Option<Moment> {
+    keeper.view(&key, now).map(Version::updated)
 }
 
 #[test]
-fn what_a_merge_took_is_held_until_collected(rt: HostRuntime) -> Result<(), Fail> {
-    let alloc = rt.alloc();
-    for seconds in [11, 200] {
-        let mut held = Held::new(alloc);
-        held.take(first()?, at(10)?)?;
-        let mut other = Held::new(alloc);
-        other.take(second()?, at(20)?)?;
-        assert_eq!(rt; held.merge(&other, at(seconds)?), Ok(1));
-        let mut keeper = Keeper::of(held, at(seconds)?);
-        let winner = keeper.held().get(&b'a').ok_or("nothing held")?;
-        assert_eq!(rt; winner.updated(), at(20)?);
-        assert_eq!(rt; keeper.collect(at(200)?)?, 1);
-        assert!(rt; keeper.held().is_empty());
-    }
-    Ok(())
-}
-
-#[test]
-fn a_start_has_a_key_once(rt: HostRuntime) -> Result<(), Fail> {
-    let alloc = rt.alloc();
-    let twice = Vec::from_array(alloc, [first()?, second()?])?;
-    let Err(refusal) = Keeper::start(alloc, twice, at(10)?) else {
-        return Err("a key is held twice".into());
-    };
-    assert_eq!(rt; refusal, KeeperError::DuplicateKey);
-    let keeper = starting(alloc, first()?, at(10)?)?;
-    let winner = keeper.held().get(&b'a').ok_or("nothing held")?;
-    assert_eq!(rt; winner.updated(), at(10)?);
-    Ok(())
-}
-
-#[test]
-fn a_run_stops_at_its_first_refusal(rt: HostRuntime) -> Result<(), Fail> {
-    let alloc = rt.alloc();
-    let mut keeper = starting(alloc, first()?, at(10)?)?;
-    let steps = [(Step::Take(second()?), at(20)?), (Step::Collect, at(15)?)];
-    let last = at(20)?;
-    assert_eq!(rt;
-        keeper.run(&steps),
-        Err((1, KeeperError::MomentBack { last }))
+fn a_collection_drops_what_is_not_live(rt: HostRuntime) {
+    let mut keeper = Keeper::of(holding(rt.alloc(), first()), at(10));
+    assert!(rt; keeper.collect(last_live()) == Ok(0), "before the expiry");
+    assert!(rt; keeper.held().len() == 1, "held");
+    assert!(rt;
+        keeper.step(Step::Collect, at(200)) == Ok(Stepped::Swept(1)),
+        "at the expiry"
     );
-    let winner = keeper.held().get(&b'a').ok_or("nothing held")?;
-    assert_eq!(rt; winner.updated(), at(20)?);
-    Ok(())
+    assert!(rt; keeper.held().is_empty(), "not held");
 }
 
 #[test]
-fn a_view_is_the_greatest_where_it_is_live(rt: HostRuntime) -> Result<(), Fail> {
-    let alloc = rt.alloc();
-    let mut keeper = Keeper::of(Held::new(alloc), Moment::LEAST);
-    let steps = [
-        (Step::Take(make_note(b'k', 3, 100)?), at(7)?),
-        (Step::Take(make_note(b'k', 6, 10)?), at(7)?),
-    ];
-    assert_eq!(rt; keeper.run(&steps), Ok(()));
-    let shown = keeper.view(&b'k', at(9)?).ok_or("nothing shown")?;
-    assert_eq!(rt; shown.updated(), at(6)?);
-    assert!(rt; keeper.view(&b'k', at(12)?).is_none());
-    Ok(())
+fn a_late_version_is_held_until_collected(rt: HostRuntime) {
+    let mut keeper = Keeper::of(Held::new(rt.alloc()), at(10));
+    let expired = keeper.step(Step::Take(first()), at(200));
+    assert!(rt; expired == Ok(Stepped::Took(Taken::Expired)), "taken");
+    assert!(rt; keeper.held().len() == 1, "held");
+    assert!(rt; in_view(&keeper, b'a', at(200)) == None, "not in view");
+    assert!(rt; keeper.collect(at(200)) == Ok(1), "collected");
+    assert!(rt; keeper.held().is_empty(), "not held");
 }
 
 #[test]
-fn a_pair_is_taken_in_order(rt: HostRuntime) -> Result<(), Fail> {
-    let alloc = rt.alloc();
-    let mut keeper = starting(alloc, second()?, at(20)?)?;
-    let new = make_note(b'b', 20, 200)?;
-    let taken = keeper.take_pair(new, first()?, at(30)?)?;
-    assert_eq!(rt; taken, (Taken::Changed, Taken::Kept));
-    Ok(())
+fn a_live_version_is_in_view(rt: HostRuntime) {
+    let mut keeper = Keeper::of(Held::new(rt.alloc()), at(10));
+    let changed = keeper.step(Step::Take(first()), last_live());
+    assert!(rt; changed == Ok(Stepped::Took(Taken::Changed)), "taken");
+    assert!(rt;
+        in_view(&keeper, b'a', last_live()) == Some(at(10)),
+        "in view"
+    );
+}
+
+/// Merges a map with the second version into one with the first.
+fn merged(alloc: Global, held: &mut Held<Note>, now: Moment) -> Result<usize, MergeError> {
+    let other = holding(alloc, second());
+    held.merge(&other, now)
+}
+
+#[test]
+fn what_a_merge_took_is_held_until_collected(rt: HostRuntime) {
+    for seconds in [11, 200] {
+        let mut held = holding(rt.alloc(), first());
+        assert!(rt;
+            merged(rt.alloc(), &mut held, at(seconds)) == Ok(1),
+            "{seconds}"
+        );
+        let mut keeper = Keeper::of(held, at(seconds));
+        assert!(rt; updated(keeper.held(), b'a') == Some(at(20)), "{seconds}");
+        assert!(rt; keeper.collect(at(200)) == Ok(1), "{seconds}");
+        assert!(rt; keeper.held().is_empty(), "{seconds}");
+    }
+}
+
+#[test]
+fn a_start_has_a_key_once(rt: HostRuntime) {
+    let twice = starting(rt.alloc(), &[first(), second()], at(10)).err();
+    assert!(rt; twice == Some(KeeperError::DuplicateKey), "twice");
+    let once = starting(rt.alloc(), &[first()], at(10));
+    let winner = once.ok().and_then(|keeper| updated(keeper.held(), b'a'));
+    assert!(rt; winner == Some(at(10)), "once");
+}
+
+/// Runs two steps, of which the first takes a version.
+fn ran(
+    keeper: &mut Keeper<Note>,
+    version: Note,
+    now: Moment,
+    last: Step<Note>,
+    later: Moment,
+) -> Result<(), (usize, KeeperError)> {
+    keeper.run(&[(Step::Take(version), now), (last, later)])
+}
+
+#[test]
+fn a_run_stops_at_its_first_refusal(rt: HostRuntime) {
+    let mut keeper = Keeper::of(holding(rt.alloc(), first()), at(10));
+    let stop = ran(&mut keeper, second(), at(20), Step::Collect, at(15));
+    let last = at(20);
+    assert!(rt; stop == Err((1, KeeperError::MomentBack { last })), "stop");
+    assert!(rt; updated(keeper.held(), b'a') == Some(at(20)), "held");
+}
+
+#[test]
+fn a_view_is_the_greatest_where_it_is_live(rt: HostRuntime) {
+    let mut keeper = Keeper::of(Held::new(rt.alloc()), Moment::LEAST);
+    let lesser = make_note(b'k', 3, 100);
+    let greater = make_note(b'k', 6, 10);
+    let done = ran(&mut keeper, lesser, at(7), Step::Take(greater), at(7));
+    assert!(rt; done == Ok(()), "done");
+    assert!(rt; in_view(&keeper, b'k', at(9)) == Some(at(6)), "live");
+    assert!(rt; in_view(&keeper, b'k', at(12)) == None, "not live");
+}
+
+#[test]
+fn a_pair_is_taken_in_order(rt: HostRuntime) {
+    let mut keeper = Keeper::of(holding(rt.alloc(), second()), at(20));
+    let taken = keeper.take_pair(make_note(b'b', 20, 200), first(), at(30));
+    assert!(rt; taken == Ok((Taken::Changed, Taken::Kept)), "taken");
 }
