@@ -1,6 +1,6 @@
 -- The items of blocks, around one of the blocks.
-use Rattle.std.proofs.Common.{◌≡◌, ℕ, ◌+◌, ◌-◌, ◌<◌, ◌≤◌, suc, zero, List, [], ◌∷◌, ◌++◌, length, take, drop, get_or, set, refl, sym, ap, ◌∙◌, arith, append_assoc, length-append, length-set, add-one, Option, Some, inl, inr}
-use Rattle.std.specs.List.{All, insert, remove}
+use Rattle.std.proofs.Common.{◌≡◌, ℕ, ◌+◌, ◌-◌, ◌<◌, ◌≤◌, suc, zero, List, [], ◌∷◌, ◌++◌, length, take, drop, get_or, set, refl, sym, ap, ◌∙◌, arith, append_assoc, length-append, length-set, add-one, Some, inl, inr}
+use Rattle.std.specs.List.{insert, remove}
 use Rattle.std.proofs.lemmas.List.{take-append-drop, set_split, take-set, drop-set-lt, get_or-set_same, length-take-le, length-drop, take_at, drop_at, get_or_append_left, get_or_past, get_or_read, nil_from_length, take_more_set, take_rest}
 use Rattle.std.proofs.lemmas.List.Concat.{flat_map-append, get_or-flat_map}
 use Rattle.std.proofs.lemmas.List.Edits.{insert-append_left, insert-append_right, remove-append_left, remove-append_right}
@@ -8,7 +8,7 @@ use Rattle.std.proofs.lemmas.List.Elements.{All-append, All-cons, All-take, All-
 use Rattle.std.specs.List.{slice_get}
 use Rattle.std.proofs.lemmas.Bool.{cases_lt}
 use Rattle.std.proofs.lemmas.Option.{slice_get_read}
-use Rattle.am_blocks.specs.Rows.{joined, AreSound, AreEmpty}
+use Rattle.am_blocks.specs.Rows.{joined, AreSound}
 use Rattle.am_blocks.specs.Cuts.{cut_at}
 
 less_again : (m n : ℕ) → m + n - m ≡ n

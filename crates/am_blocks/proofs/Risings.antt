@@ -1,5 +1,5 @@
 -- What a search concludes from the order of the items.
-use Rattle.std.proofs.Common.{◌≡◌, ◌≢◌, ◌⊎◌, ℕ, ◌+◌, ◌-◌, ◌<◌, ◌≤◌, suc, zero, List, [], ◌∷◌, ◌++◌, length, take, drop, get_or, inl, inr, sym, ap, ◌∙◌, arith, length-append, Result, Ok, Err, IfOk, IfErr}
+use Rattle.std.proofs.Common.{◌≡◌, ◌≢◌, ◌⊎◌, ℕ, ◌+◌, ◌<◌, ◌≤◌, suc, zero, List, [], ◌++◌, length, take, drop, get_or, inl, inr, ap, arith, length-append, Result, Ok, Err, IfOk, IfErr}
 use Rattle.std.specs.List.{All, AllWithin, HoldsAt}
 use Rattle.std.specs.List.Sorted.{IsNonDecreasingBy, IsSearchInRange, IsBinarySearchResult}
 use Rattle.std.specs.Ordering.{ordering_index}
@@ -7,7 +7,7 @@ use Rattle.std.specs.declared.cmp.Ordering.{Ordering}
 use Rattle.std.specs.declared.cmp.Ordering.TheVariants.{Less, Equal, Greater}
 use Rattle.std.proofs.lemmas.Bool.{cases_lt}
 use Rattle.std.proofs.lemmas.List.{get_or_append_left, get_or-append-add, get_or-take, get_or-drop, length-take-le, length-drop}
-use Rattle.std.proofs.lemmas.List.Elements.{All-append, All-nil, All-drop}
+use Rattle.std.proofs.lemmas.List.Elements.{All-append, All-drop}
 use Rattle.am_blocks.specs.Rows.{joined, AreSound}
 use Rattle.am_blocks.specs.Searches.{IsRising}
 use Rattle.am_blocks.proofs.Joins.{joined_around, take_place, drop_place, first_of, item_at}

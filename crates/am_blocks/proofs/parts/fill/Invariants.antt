@@ -1,4 +1,4 @@
-use Rattle.std.proofs.Common.{◌≡◌, ◌≤◌, vec_len}
+use Rattle.std.proofs.Common.{◌≡◌, vec_len}
 use Rattle.am_blocks.specs.Rows.{AreEmpty}
 use Rattle.am_blocks.proofs.parts.fill.Given as goal
 

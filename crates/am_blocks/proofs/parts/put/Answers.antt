@@ -1,4 +1,4 @@
-use Rattle.std.proofs.Common.{◌≡◌, ◌<◌, ◌∙◌, sym, ap, length, set, arith, length-set}
+use Rattle.std.proofs.Common.{◌<◌, ◌∙◌, sym, ap, length, set, arith, length-set}
 use Rattle.am_blocks.specs.Rows.{joined}
 use Rattle.am_blocks.proofs.Joins.{inserted, joined_cut, sound_cut}
 use Rattle.am_blocks.proofs.parts.put.Goals as goal

@@ -1,5 +1,4 @@
 use Rattle.std.proofs.Common.{rules}
-use Rattle.std.specs.declared.cmp.Ordering.TheVariants.{Less, Equal, Greater}
 use Rattle.std.proofs.lemmas.Fn.{always_returns_same}
 use Rattle.am_blocks.proofs.Risings.{searched}
 use Rattle.am_blocks.proofs.searches.search_block.Goals as goal

@@ -1,4 +1,4 @@
-use Rattle.std.proofs.Common.{◌≡◌, ◌<◌, ℕ, sym}
+use Rattle.std.proofs.Common.{◌<◌, ℕ, sym}
 use Rattle.std.specs.List.{AllPairs, insert}
 use Rattle.std.specs.Ordering.{nat_cmp}
 use Rattle.std.specs.Cmp.{ranked}
