@@ -82,5 +82,7 @@ pub fn fold<V: Version + Message, R: Read, W: Write>(
     ensures stopped { IfErr result (StopsFold V.seen V.Key.cmp V.reads (R.remaining reader.old) (R.remaining reader.new) W.contents writer.old writer.new) }
 {
     let held: Held<V> = take_row(alloc, reader, now)?;
-    Ok(write_row(alloc, held.iter().as_slice(), writer)?)
+    // A walk tells that the keys are in order.
+    let _walk = held.iter();
+    Ok(write_row(alloc, &held, writer)?)
 }

@@ -7,6 +7,7 @@ ghost use Rattle.am_snapshot.specs.Writing.{Passes, TakesPart};
 ghost use Rattle.am_snapshot.specs.Rows.{Writes};
 
 use crate::outgoing::{Outgoing, Stopped};
+use am_merge::Held;
 use am_version_order::Version;
 use am_wire::write_varint;
 use std::alloc::Global;
@@ -36,11 +37,11 @@ impl From<Stopped> for WriteFault {
 }
 
 /// How many bytes the row has, where they aren't too many.
-fn row_length<V: Version>(versions: &[V]) -> Option<u64>
-    ensures { SomeIff result (length (row_text V.seen versions.now) ≤ most) (length (row_text V.seen versions.now)) }
+fn row_length<V: Version>(held: &Held<V>) -> Option<u64>
+    ensures { SomeIff result (length (row_text V.seen held.now) ≤ most) (length (row_text V.seen held.now)) }
 {
     let mut total: u64 = 0;
-    for version in versions.iter() {
+    for version in held.iter() {
         let length = version.canonical().len() as u64;
         let prefix = write_varint(length).as_slice().len() as u64;
         total = total.saturating_add(prefix).saturating_add(length);
@@ -61,24 +62,38 @@ fn put_delimited<W: Write>(out: &mut Outgoing, writer: &mut W, bytes: &[u8]) -> 
     out.put(writer, bytes)
 }
 
-/// Writes the versions as a row, by calls of `write`, and answers how many bytes it has. A failed write is
+/// Sends the held versions on their way, each behind its length.
+fn put_versions<V: Version, W: Write>(
+    out: &mut Outgoing,
+    writer: &mut W,
+    held: &Held<V>,
+) -> Result<(), Stopped>
+    requires { out.old.written + vec_len out.old.gathered + length (row_text V.seen held.now) < 2 ^ 64 }
+    ensures passed { OnOk result (Passes (W.contents writer.old) (W.contents writer.new) out.old.gathered.items (row_text V.seen held.now) out.new.gathered.items out.old.written out.new.written) }
+    ensures stopped { IfErr result (λ e. TakesPart (W.contents writer.old) (W.contents writer.new) (out.old.gathered.items ++ row_text V.seen held.now) out.old.written e.written) }
+{
+    for version in held.iter() {
+        put_delimited(out, writer, version.canonical())?;
+    }
+    Ok(())
+}
+
+/// Writes the held versions as a row, by calls of `write`, and answers how many bytes it has. A failed write is
 /// not tried again.
 pub fn write_row<V: Version, W: Write>(
     alloc: Global,
-    versions: &[V],
+    held: &Held<V>,
     writer: &mut W,
 ) -> Result<u64, WriteFault>
-    ensures { Writes W.contents writer.old writer.new (row_text V.seen versions.now) result }
+    ensures { Writes W.contents writer.old writer.new (row_text V.seen held.now) result }
 {
-    let Some(length) = row_length(versions) else {
+    let Some(length) = row_length(held) else {
         return Err(WriteFault::TooLarge);
     };
     let Ok(mut out) = Outgoing::new(alloc) else {
         return Err(WriteFault::Memory);
     };
-    for version in versions {
-        put_delimited(&mut out, writer, version.canonical())?;
-    }
+    put_versions(&mut out, writer, held)?;
     out.flush(writer)?;
     Ok(length)
 }

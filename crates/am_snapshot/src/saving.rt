@@ -45,5 +45,5 @@ pub fn save<V: Version, W: Write>(
     ensures stopped { IfErr result (StopsSaving W.contents writer.old writer.new (row_text V.seen held.now)) }
     ensures too_large { (result ≡ Err SnapshotError.TooLarge) ↔ (most < length (row_text V.seen held.now)) }
 {
-    Ok(write_row(alloc, held.iter().as_slice(), writer)?)
+    Ok(write_row(alloc, held, writer)?)
 }

@@ -1,6 +1,5 @@
-use Rattle.std.proofs.Common.{List, ap, ◌∙◌}
+use Rattle.std.proofs.Common.{refl}
 use Rattle.std.proofs.lemmas.Result.{err_from_is_err_and}
-use Rattle.am_snapshot.specs.Texts.{row_text}
 use Rattle.am_snapshot.proofs.Stops.{fold_reading, fold_writing, fold_within, is_fold}
 use Rattle.am_snapshot.proofs.folding.fold.Goals as goal
 
@@ -12,7 +11,6 @@ returns-in_err-held-clause-stopped g c =
 pub returns-in_err-write_row-clause-stopped : goal.returns-in_err-write_row-clause-stopped
 returns-in_err-write_row-clause-stopped g c =
     let p = err_from_is_err_and c.from_residual-in_err-write_row.result c.from_residual-in_err-write_row.ensures.1 in
-    let text = ap (λ (versions : List g.row.V.Denot). row_text g.V.Version.seen versions) (c.as_slice.ensures.value ∙ c.iter.ensures.items) in
-    let fold = is_fold g.V.Version.seen g.V.Key.Ord.cmp g.V.Message.reads (g.R.Read.remaining c.args.reader.now) (g.R.Read.remaining c.take_row.new.reader) c.in_ok-held.held _ text c.iter.ensures.order c.in_ok-held.ensures.best in
+    let fold = is_fold g.V.Version.seen g.V.Key.Ord.cmp g.V.Message.reads (g.R.Read.remaining c.args.reader.now) (g.R.Read.remaining c.take_row.new.reader) c.in_ok-held.held _ refl c.iter-walk.ensures.order c.in_ok-held.ensures.best in
     let within = fold_within g.V.Version.seen g.V.Key.Ord.cmp g.V.Message.reads (g.R.Read.remaining c.args.reader.now) (g.R.Read.remaining c.take_row.new.reader) _ fold c.in_ok-held.ensures.size in
     rw (p.1, p.2) (fold_writing g.V.Version.seen g.V.Key.Ord.cmp g.V.Message.reads _ _ g.W.Write.contents _ _ _ c.in_err-write_row.field-0.0 within c.in_err-write_row.ensures)
