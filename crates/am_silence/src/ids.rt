@@ -45,23 +45,3 @@ pub fn fresh_id(bits: u128) -> IdText
     bytes.copy_from_slice(text.as_bytes());
     IdText { bytes }
 }
-
-#[cfg(test)]
-mod tests {
-    use super::*;
-
-    #[test]
-    fn fresh_identifiers_have_version_and_variant(rt: HostRuntime) {
-        let rows = [
-            (0, "00000000-0000-4000-8000-000000000000"),
-            (
-                0x0011_2233_4455_6677_8899_aabb_ccdd_eeff,
-                "00112233-4455-4677-8899-aabbccddeeff",
-            ),
-            (u128::MAX, "ffffffff-ffff-4fff-bfff-ffffffffffff"),
-        ];
-        for (bits, want) in rows {
-            assert_eq!(rt; fresh_id(bits).as_str(), want);
-        }
-    }
-}

@@ -21,6 +21,3 @@ pub use mesh::{MeshSilence, MeshSilenceDraft};
 pub use plan::{Plan, Posted, Verdict, plan_expire, plan_post};
 pub use silence::{Silence, SilenceDraft};
 pub use state::{State, state_at};
-
-#[cfg(test)]
-mod tests;

@@ -174,6 +174,3 @@ pub fn plan_expire(
     check_older(old, now)?;
     ended_version(alloc, old, now, retention)
 }
-
-#[cfg(test)]
-mod tests;

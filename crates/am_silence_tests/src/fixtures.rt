@@ -1,0 +1,67 @@
+//! Silences of which the tests speak.
+
+use am_silence::{Matcher, MatcherKind, Matchers, MeshSilence, Silence};
+use am_version_order::Moment;
+use am_wire::{Text, WireError};
+use std::alloc::{AllocError, Global};
+
+/// Kind, name and pattern of a matcher.
+pub type MatcherRow = (MatcherKind, &'static str, &'static str);
+
+/// EQUAL job `x`.
+pub const JOB_IS_X: [MatcherRow; 1] = [(MatcherKind::Equal, "job", "x")];
+
+/// The moment of so many milliseconds since 1970.
+pub fn at(millis: u64) -> Moment {
+    let seconds = (millis / 1_000) as i64;
+    let nanos = (millis % 1_000) as u32 * 1_000_000;
+    Moment::from_parts(seconds, nanos).unwrap_or(Moment::LEAST)
+}
+
+fn matcher(alloc: Global, (kind, name, pattern): MatcherRow) -> Result<Matcher, AllocError> {
+    let name = Text::copied(alloc, name)?;
+    Ok(Matcher {
+        kind,
+        name,
+        pattern: Text::copied(alloc, pattern)?,
+    })
+}
+
+/// The matchers of these rows.
+pub fn matchers(alloc: Global, rows: &[MatcherRow]) -> Result<Matchers, AllocError> {
+    let mut matchers = Vec::new(alloc);
+    for &row in rows {
+        matchers.push(matcher(alloc, row)?)?;
+    }
+    Ok(Matchers::new(matchers))
+}
+
+/// The silence `a` of these matchers, with its start, its end and its update moment.
+pub fn silence(
+    alloc: Global,
+    rows: &[MatcherRow],
+    moments: [u64; 3],
+) -> Result<Silence, AllocError> {
+    let [starts_at, ends_at, updated_at] = moments;
+    let matchers = matchers(alloc, rows)?;
+    Ok(Silence {
+        id: Text::copied(alloc, "a")?,
+        matchers,
+        starts_at: at(starts_at),
+        ends_at: at(ends_at),
+        updated_at: at(updated_at),
+        created_by: Text::new(String::new(alloc)),
+        comment: Text::new(String::new(alloc)),
+    })
+}
+
+/// A version of that silence.
+pub fn version(
+    alloc: Global,
+    rows: &[MatcherRow],
+    moments: [u64; 3],
+    expires_at: u64,
+) -> Result<MeshSilence, WireError> {
+    let silence = silence(alloc, rows, moments)?;
+    MeshSilence::new(alloc, silence, at(expires_at))
+}

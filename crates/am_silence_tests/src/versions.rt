@@ -1,0 +1,319 @@
+//! How silences are written, read, compared and copied.
+
+use crate::fixtures::{JOB_IS_X, MatcherRow, at, version};
+use am_silence::{Matcher, MatcherKind, Matchers, MeshSilence, fresh_id};
+use am_version_order::{Moment, Version};
+use am_wire::{Message, WireError};
+use std::alloc::{AllocError, Global};
+use std::cmp::Ordering;
+use std::test::Fail;
+
+/// Id `a`, EQUAL job `x`, start 10 s, end 100 s, update 10 s, expiry 200 s.
+const FIRST: [u8; 32] = [
+    0x0A, 0x19, 0x0A, 0x01, 0x61, 0x12, 0x08, 0x12, 0x03, 0x6A, 0x6F, 0x62, 0x1A, 0x01, 0x78, 0x1A,
+    0x02, 0x08, 0x0A, 0x22, 0x02, 0x08, 0x64, 0x2A, 0x02, 0x08, 0x0A, 0x12, 0x03, 0x08, 0xC8, 0x01,
+];
+
+/// The same with one old comment, author `o`, text `hi`.
+const WITH_OLD_COMMENT: [u8; 43] = [
+    0x0A, 0x24, 0x0A, 0x01, 0x61, 0x12, 0x08, 0x12, 0x03, 0x6A, 0x6F, 0x62, 0x1A, 0x01, 0x78, 0x1A,
+    0x02, 0x08, 0x0A, 0x22, 0x02, 0x08, 0x64, 0x2A, 0x02, 0x08, 0x0A, 0x3A, 0x09, 0x0A, 0x01, 0x6F,
+    0x12, 0x02, 0x68, 0x69, 0x1A, 0x00, 0x12, 0x03, 0x08, 0xC8, 0x01,
+];
+
+/// The same in the new form.
+const WITH_COMMENT: [u8; 39] = [
+    0x0A, 0x20, 0x0A, 0x01, 0x61, 0x12, 0x08, 0x12, 0x03, 0x6A, 0x6F, 0x62, 0x1A, 0x01, 0x78, 0x1A,
+    0x02, 0x08, 0x0A, 0x22, 0x02, 0x08, 0x64, 0x2A, 0x02, 0x08, 0x0A, 0x42, 0x01, 0x6F, 0x4A, 0x02,
+    0x68, 0x69, 0x12, 0x03, 0x08, 0xC8, 0x01,
+];
+
+/// The canonical text of the matcher: EQUAL job `x`.
+const JOB_IS_X_TEXT: [u8; 8] = [0x12, 0x03, 0x6A, 0x6F, 0x62, 0x1A, 0x01, 0x78];
+
+// The message, encoded twice into one vector, is these bytes twice.
+fn is_written_as<M: Message>(alloc: Global, message: &M, text: &[u8]) -> Result<bool, WireError> {
+    let mut bytes = Vec::new(alloc);
+    message.encode(&mut bytes)?;
+    message.encode(&mut bytes)?;
+    let (first, second) = bytes.split_at(bytes.len() / 2);
+    Ok(first == text && second == text)
+}
+
+#[test]
+fn parts_are_written(rt: HostRuntime) -> Result<(), Fail> {
+    let alloc = rt.alloc();
+    let made = version(alloc, &JOB_IS_X, [10_000, 100_000, 10_000], 200_000)?;
+    let is_first = is_written_as(alloc, &made, &FIRST)?;
+    assert!(rt; is_first);
+    Ok(())
+}
+
+// Update moment and expiry, the expiry of the message, start and end of the silence, and its update moment.
+fn moments_of(version: &MeshSilence) -> [Moment; 6] {
+    let silence = version.silence();
+    [
+        version.updated(),
+        version.expires(),
+        version.expires_at(),
+        silence.starts_at,
+        silence.ends_at,
+        silence.updated_at,
+    ]
+}
+
+// The key, the canonical bytes and the bucket are these.
+fn has_texts(version: &MeshSilence, key: &str, canonical: &[u8], bucket: &[u8]) -> bool {
+    version.key().as_str() == key && version.canonical() == canonical && version.bucket() == bucket
+}
+
+// Id, author and comment are these.
+fn has_words(version: &MeshSilence, id: &str, author: &str, comment: &str) -> bool {
+    let silence = version.silence();
+    silence.id.as_str() == id
+        && silence.created_by.as_str() == author
+        && silence.comment.as_str() == comment
+}
+
+// These are the matchers.
+fn are_matchers(matchers: &[Matcher], rows: &[MatcherRow]) -> bool {
+    let is_row = |(matcher, row): (&Matcher, &MatcherRow)| {
+        matcher.kind == row.0 && matcher.name.as_str() == row.1 && matcher.pattern.as_str() == row.2
+    };
+    matchers.len() == rows.len() && matchers.iter().zip(rows).all(is_row)
+}
+
+fn is_first(version: &MeshSilence) -> bool {
+    let (ten, end, expiry) = (at(10_000), at(100_000), at(200_000));
+    has_texts(version, "a", &FIRST, &JOB_IS_X_TEXT)
+        && moments_of(version) == [ten, expiry, expiry, ten, end, ten]
+        && are_matchers(version.silence().matchers.as_slice(), &JOB_IS_X)
+}
+
+#[test]
+fn parts_are_read(rt: HostRuntime) -> Result<(), Fail> {
+    let read = MeshSilence::decode(rt.alloc(), &FIRST)?;
+    assert!(rt; is_first(&read));
+    Ok(())
+}
+
+fn copied_key_is(alloc: Global, version: &MeshSilence, key: &str) -> Result<bool, AllocError> {
+    let copy = version.try_key(alloc)?;
+    Ok(copy.as_str() == key)
+}
+
+fn compared_with_copy(alloc: Global, version: &MeshSilence) -> Result<Ordering, AllocError> {
+    let copy = version.try_clone(alloc)?;
+    Ok(copy.compare(version))
+}
+
+// The copies of the key and of the version are what they are copied from.
+fn copies_are_equal(alloc: Global, version: &MeshSilence, key: &str) -> Result<bool, AllocError> {
+    let is_key = copied_key_is(alloc, version, key)?;
+    let order = compared_with_copy(alloc, version)?;
+    Ok(is_key && order == Ordering::Equal)
+}
+
+#[test]
+fn copies_equal_their_source(rt: HostRuntime) -> Result<(), Fail> {
+    let read = MeshSilence::decode(rt.alloc(), &FIRST)?;
+    let are_equal = copies_are_equal(rt.alloc(), &read, "a")?;
+    assert!(rt; are_equal);
+    Ok(())
+}
+
+/// A silence that is given twice, first its id, then its comment; and a number that the message doesn't know.
+const GIVEN_TWICE: [u8; 18] = [
+    0x0A, 0x03, 0x0A, 0x01, 0x61, 0x0A, 0x04, 0x4A, 0x02, 0x68, 0x69, 0x78, 0x01, 0x12, 0x03, 0x08,
+    0xC8, 0x01,
+];
+
+// The payloads are joined, and what is missing is empty or the first moment.
+fn is_joined(version: &MeshSilence) -> bool {
+    let (least, expiry) = (Moment::LEAST, at(200_000));
+    has_words(version, "a", "", "hi")
+        && moments_of(version) == [least, expiry, expiry, least, least, least]
+        && version.silence().matchers.as_slice().is_empty()
+        && version.canonical().len() == 53
+        && version.bucket().is_empty()
+}
+
+#[test]
+fn payloads_are_joined(rt: HostRuntime) -> Result<(), Fail> {
+    let read = MeshSilence::decode(rt.alloc(), &GIVEN_TWICE)?;
+    assert!(rt; is_joined(&read));
+    Ok(())
+}
+
+// The silence has the comment `hi` by `o`, in the new form.
+fn has_comment(alloc: Global, bytes: &[u8]) -> Result<bool, WireError> {
+    let read = MeshSilence::decode(alloc, bytes)?;
+    Ok(has_texts(&read, "a", &WITH_COMMENT, &JOB_IS_X_TEXT) && has_words(&read, "a", "o", "hi"))
+}
+
+#[test]
+fn an_old_comment_is_moved(rt: HostRuntime) -> Result<(), Fail> {
+    for bytes in [WITH_OLD_COMMENT.as_slice(), WITH_COMMENT.as_slice()] {
+        let is_moved = has_comment(rt.alloc(), bytes)?;
+        assert!(rt; is_moved);
+    }
+    Ok(())
+}
+
+/// End, update moment and expiry of a version.
+type VersionRow = [u64; 3];
+
+fn version_of_row(alloc: Global, row: VersionRow) -> Result<MeshSilence, WireError> {
+    let [ends_at, updated_at, expires_at] = row;
+    version(alloc, &[], [10_000, ends_at, updated_at], expires_at)
+}
+
+fn compared_with(
+    alloc: Global,
+    first: &MeshSilence,
+    second: VersionRow,
+) -> Result<Ordering, WireError> {
+    let second = version_of_row(alloc, second)?;
+    Ok(first.compare(&second))
+}
+
+fn order_of(alloc: Global, first: VersionRow, second: VersionRow) -> Result<Ordering, WireError> {
+    let first = version_of_row(alloc, first)?;
+    compared_with(alloc, &first, second)
+}
+
+// Each of these is greater than the one before: by its text, by expiry, by update moment.
+#[test]
+fn the_greater_version_wins(rt: HostRuntime) -> Result<(), Fail> {
+    let rising = [
+        [100_000, 10_000, 200_000],
+        [101_000, 10_000, 200_000],
+        [100_000, 10_000, 300_000],
+        [100_000, 20_000, 200_000],
+    ];
+    for (i, &first) in rising.iter().enumerate() {
+        for (k, &second) in rising.iter().enumerate() {
+            let order = order_of(rt.alloc(), first, second)?;
+            assert_eq!(rt; order, i.cmp(&k), "{i} {k}");
+        }
+    }
+    Ok(())
+}
+
+fn bucket_is(alloc: Global, rows: &[MatcherRow], bucket: &[u8]) -> Result<bool, WireError> {
+    let version = version(alloc, rows, [10_000, 100_000, 10_000], 200_000)?;
+    Ok(version.bucket() == bucket)
+}
+
+const WANTED_LAST: [MatcherRow; 3] = [
+    (MatcherKind::NotEqual, "job", "y"),
+    (MatcherKind::Equal, "env", ""),
+    (MatcherKind::Equal, "job", "x"),
+];
+
+const BESIDE_REGEXP: [MatcherRow; 2] = [
+    (MatcherKind::Equal, "job", "x"),
+    (MatcherKind::Regexp, "env", "("),
+];
+
+const BESIDE_NOT_REGEXP: [MatcherRow; 2] = [
+    (MatcherKind::Equal, "job", "x"),
+    (MatcherKind::NotRegexp, "env", "("),
+];
+
+// It is the first matcher that wants a label; with a regular expression there is none.
+#[test]
+fn buckets_are_matchers_that_want_a_label(rt: HostRuntime) -> Result<(), Fail> {
+    let rows = [
+        (WANTED_LAST.as_slice(), JOB_IS_X_TEXT.as_slice()),
+        (&BESIDE_REGEXP, &[]),
+        (&BESIDE_NOT_REGEXP, &[]),
+    ];
+    for (i, (matchers, bucket)) in rows.into_iter().enumerate() {
+        let is_bucket = bucket_is(rt.alloc(), matchers, bucket)?;
+        assert!(rt; is_bucket, "row {i}");
+    }
+    Ok(())
+}
+
+#[test]
+fn the_first_fault_is_told(rt: HostRuntime) {
+    let alloc = rt.alloc();
+    let mut longer = FIRST;
+    longer[1] = 0x1A;
+    let faults = [
+        ([0x00, 0x00].as_slice(), WireError::FieldNumber { at: 0 }),
+        (&[0x0B, 0x00], WireError::WireType { at: 0 }),
+        (&[0x08, 0x00], WireError::WrongType { at: 0 }),
+        (&[], WireError::MissingMessage { field: 1 }),
+        // a second past the last one
+        (&SECOND_PAST_THE_LAST, WireError::Timestamp { at: 2 }),
+        // a number that is cut off by the end of its message, though the input goes on
+        (&NUMBER_CUT_OFF, WireError::Truncated { at: 4 }),
+        // a bad start waits for the end of the whole, so the wrong type of field 2 comes first
+        (&BAD_START, WireError::WrongType { at: 6 }),
+        // a matcher's type is told at the matcher's end, an unknown one at its last tag
+        (&UNKNOWN_KIND, WireError::MatcherType { at: 6 }),
+        // a text that a later one overrides is at fault all the same
+        (&TEXT_OVERRIDDEN, WireError::NotUtf8 { at: 2 }),
+        (&longer, WireError::Truncated { at: 27 }),
+    ];
+    for (bytes, fault) in faults {
+        let found = MeshSilence::decode(alloc, bytes).err();
+        assert_eq!(rt; found, Some(fault), "{bytes:?}");
+    }
+}
+
+const SECOND_PAST_THE_LAST: [u8; 11] = [
+    0x0A, 0x00, 0x12, 0x07, 0x08, 0x80, 0x83, 0xD1, 0xFF, 0xAF, 0x07,
+];
+
+const NUMBER_CUT_OFF: [u8; 10] = [0x0A, 0x06, 0x1A, 0x04, 0x10, 0xFF, 0xFF, 0xFF, 0x10, 0x01];
+
+const BAD_START: [u8; 8] = [0x0A, 0x04, 0x1A, 0x02, 0x10, 0x7F, 0x10, 0x01];
+
+const UNKNOWN_KIND: [u8; 8] = [0x0A, 0x06, 0x12, 0x04, 0x08, 0x00, 0x08, 0x04];
+
+const TEXT_OVERRIDDEN: [u8; 8] = [0x0A, 0x06, 0x0A, 0x01, 0xFF, 0x0A, 0x01, 0x61];
+
+#[test]
+fn a_matcher_is_written_as_it_is_read(rt: HostRuntime) -> Result<(), Fail> {
+    let job = Matcher::decode(rt.alloc(), &JOB_IS_X_TEXT)?;
+    let is_same = is_written_as(rt.alloc(), &job, &JOB_IS_X_TEXT)?;
+    assert!(rt; is_same);
+    assert!(rt; job.wants_label() && !job.kind.is_regexp());
+    Ok(())
+}
+
+fn copied(alloc: Global, matchers: &Matchers) -> Result<Vec<Matcher>, AllocError> {
+    let copy = matchers.try_clone(alloc)?;
+    Ok(copy.into_vec())
+}
+
+fn copies_are(alloc: Global, matchers: &Matchers, rows: &[MatcherRow]) -> Result<bool, AllocError> {
+    let copies = copied(alloc, matchers)?;
+    Ok(are_matchers(&copies, rows))
+}
+
+#[test]
+fn matchers_are_given_back(rt: HostRuntime) -> Result<(), Fail> {
+    let matchers = crate::fixtures::matchers(rt.alloc(), &JOB_IS_X)?;
+    let are_same = copies_are(rt.alloc(), &matchers, &JOB_IS_X)?;
+    assert!(rt; are_same);
+    Ok(())
+}
+
+#[test]
+fn fresh_identifiers_have_version_and_variant(rt: HostRuntime) {
+    let rows = [
+        (0, "00000000-0000-4000-8000-000000000000"),
+        (
+            0x0011_2233_4455_6677_8899_aabb_ccdd_eeff,
+            "00112233-4455-4677-8899-aabbccddeeff",
+        ),
+        (u128::MAX, "ffffffff-ffff-4fff-bfff-ffffffffffff"),
+    ];
+    for (bits, want) in rows {
+        assert_eq!(rt; fresh_id(bits).as_str(), want);
+    }
+}
