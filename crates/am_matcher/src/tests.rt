@@ -4,6 +4,7 @@ use am_silence::{Matcher, MatcherKind, Matchers, MeshSilence, Silence, Verdict};
 use am_version_order::Moment;
 use am_wire::{Text, WireError};
 use std::alloc::{AllocError, Global};
+use std::process::Abort;
 use std::test::Fail;
 
 /// A matcher's kind, name and pattern.
@@ -31,8 +32,6 @@ const PATTERNS: [(&str, &str, &str); 9] = [
 
 /// Patterns that are broken: the last but one only by itself, and the last since it is too big.
 const BROKEN: [&str; 6] = ["(", "(?", "a{2,1}", "[", "a)|(b", "x{999999999}"];
-
-const PATTERN_KINDS: [MatcherKind; 2] = [MatcherKind::Regexp, MatcherKind::NotRegexp];
 
 /// The moment of so many seconds since 1970.
 fn at(seconds: i64) -> Moment {
@@ -76,6 +75,19 @@ fn answer(
     asked(alloc, &matcher, value)
 }
 
+/// A matcher of the kind says this of a value.
+fn says(
+    rt: &impl Abort,
+    alloc: Global,
+    kind: MatcherKind,
+    pattern: &'static str,
+    value: &str,
+    want: Result<bool, BuildError>,
+) {
+    let found = answer(alloc, kind, pattern, value);
+    assert_eq!(rt; found, want, "{pattern} {value}");
+}
+
 #[test]
 fn a_pattern_matches_from_end_to_end(rt: HostRuntime) {
     for (pattern, value, want) in [
@@ -88,47 +100,78 @@ fn a_pattern_matches_from_end_to_end(rt: HostRuntime) {
         ("x", "x\n", false),
         ("(?i)JOB", "job", true),
     ] {
-        let found = answer(rt.alloc(), MatcherKind::Regexp, pattern, value);
-        assert_eq!(rt; found, Ok(want), "{pattern} {value}");
-        let other = answer(rt.alloc(), MatcherKind::NotRegexp, pattern, value);
-        assert_eq!(rt; other, Ok(!want), "{pattern} {value}");
+        says(
+            &rt,
+            rt.alloc(),
+            MatcherKind::Regexp,
+            pattern,
+            value,
+            Ok(want),
+        );
+        says(
+            &rt,
+            rt.alloc(),
+            MatcherKind::NotRegexp,
+            pattern,
+            value,
+            Ok(!want),
+        );
     }
 }
 
 #[test]
 fn a_text_is_compared_whole(rt: HostRuntime) {
     for (value, same) in [("x", true), ("", false), ("xx", false)] {
-        let equal = answer(rt.alloc(), MatcherKind::Equal, "x", value);
-        assert_eq!(rt; equal, Ok(same), "{value}");
-        let other = answer(rt.alloc(), MatcherKind::NotEqual, "x", value);
-        assert_eq!(rt; other, Ok(!same), "{value}");
+        says(&rt, rt.alloc(), MatcherKind::Equal, "x", value, Ok(same));
+        says(
+            &rt,
+            rt.alloc(),
+            MatcherKind::NotEqual,
+            "x",
+            value,
+            Ok(!same),
+        );
     }
 }
 
 #[test]
 fn patterns_are_compiled(rt: HostRuntime) {
     for (pattern, yes, no) in PATTERNS {
-        for (kind, value, want) in [
-            (MatcherKind::Regexp, yes, true),
-            (MatcherKind::Regexp, no, false),
-            (MatcherKind::NotRegexp, yes, false),
-            (MatcherKind::NotRegexp, no, true),
-        ] {
-            let found = answer(rt.alloc(), kind, pattern, value);
-            assert_eq!(rt; found, Ok(want), "{pattern} {value}");
-        }
+        says(&rt, rt.alloc(), MatcherKind::Regexp, pattern, yes, Ok(true));
+        says(&rt, rt.alloc(), MatcherKind::Regexp, pattern, no, Ok(false));
+        says(
+            &rt,
+            rt.alloc(),
+            MatcherKind::NotRegexp,
+            pattern,
+            yes,
+            Ok(false),
+        );
+        says(
+            &rt,
+            rt.alloc(),
+            MatcherKind::NotRegexp,
+            pattern,
+            no,
+            Ok(true),
+        );
     }
 }
 
 #[test]
 fn a_broken_pattern_is_refused(rt: HostRuntime) {
+    let bad = Err(BuildError::BadPattern);
     for pattern in BROKEN {
-        for kind in PATTERN_KINDS {
-            let refused = answer(rt.alloc(), kind, pattern, "a");
-            assert_eq!(rt; refused, Err(BuildError::BadPattern), "{pattern}");
-        }
-        let plain = answer(rt.alloc(), MatcherKind::Equal, pattern, pattern);
-        assert_eq!(rt; plain, Ok(true), "{pattern}");
+        says(&rt, rt.alloc(), MatcherKind::Regexp, pattern, "a", bad);
+        says(&rt, rt.alloc(), MatcherKind::NotRegexp, pattern, "a", bad);
+        says(
+            &rt,
+            rt.alloc(),
+            MatcherKind::Equal,
+            pattern,
+            pattern,
+            Ok(true),
+        );
     }
 }
 
@@ -155,40 +198,46 @@ fn verdict_of(alloc: Global, rows: &[Row]) -> Result<Verdict, AllocError> {
     verdict(alloc, &list)
 }
 
+/// The matchers have this verdict.
+fn judges(rt: &impl Abort, alloc: Global, rows: &[Row], want: Verdict) {
+    let found = verdict_of(alloc, rows);
+    assert_eq!(rt; found, Ok(want));
+}
+
 /// A broken pattern is told, also where another matcher doesn't match the empty text.
 #[test]
 fn matchers_have_a_verdict(rt: HostRuntime) {
-    let all = (MatcherKind::Regexp, "job", ".*");
-    let open = (MatcherKind::Regexp, "job", "(");
     let x = (MatcherKind::Equal, "job", "x");
-    let not_x = (MatcherKind::NotEqual, "job", "x");
     let broken_alone = (MatcherKind::NotRegexp, "env", "a)|(b");
-    for (rows, want) in [
-        ([].as_slice(), Verdict::AllEmpty),
-        ([all].as_slice(), Verdict::AllEmpty),
-        ([open].as_slice(), Verdict::Bad),
-        ([x].as_slice(), Verdict::Fine),
-        ([not_x].as_slice(), Verdict::AllEmpty),
-        ([x, broken_alone].as_slice(), Verdict::Bad),
+    judges(&rt, rt.alloc(), &[], Verdict::AllEmpty);
+    judges(&rt, rt.alloc(), &[x, broken_alone], Verdict::Bad);
+    for (kind, pattern, want) in [
+        (MatcherKind::Regexp, ".*", Verdict::AllEmpty),
+        (MatcherKind::Regexp, "(", Verdict::Bad),
+        (MatcherKind::Equal, "x", Verdict::Fine),
+        (MatcherKind::NotEqual, "x", Verdict::AllEmpty),
     ] {
-        let judged = verdict_of(rt.alloc(), rows);
-        assert_eq!(rt; judged, Ok(want));
+        judges(&rt, rt.alloc(), &[(kind, "job", pattern)], want);
     }
 }
 
 #[test]
 fn patterns_have_a_verdict(rt: HostRuntime) {
     for (pattern, _, _) in PATTERNS {
-        let fine = verdict_of(rt.alloc(), &[(MatcherKind::Regexp, "job", pattern)]);
-        assert_eq!(rt; fine, Ok(Verdict::Fine), "{pattern}");
-        let all_empty = verdict_of(rt.alloc(), &[(MatcherKind::NotRegexp, "job", pattern)]);
-        assert_eq!(rt; all_empty, Ok(Verdict::AllEmpty), "{pattern}");
+        let regexp = (MatcherKind::Regexp, "job", pattern);
+        let not_regexp = (MatcherKind::NotRegexp, "job", pattern);
+        judges(&rt, rt.alloc(), &[regexp], Verdict::Fine);
+        judges(&rt, rt.alloc(), &[not_regexp], Verdict::AllEmpty);
     }
+}
+
+#[test]
+fn broken_patterns_have_a_verdict(rt: HostRuntime) {
     for pattern in BROKEN {
-        for kind in PATTERN_KINDS {
-            let bad = verdict_of(rt.alloc(), &[(kind, "job", pattern)]);
-            assert_eq!(rt; bad, Ok(Verdict::Bad), "{pattern}");
-        }
+        let regexp = (MatcherKind::Regexp, "job", pattern);
+        let not_regexp = (MatcherKind::NotRegexp, "job", pattern);
+        judges(&rt, rt.alloc(), &[regexp], Verdict::Bad);
+        judges(&rt, rt.alloc(), &[not_regexp], Verdict::Bad);
     }
 }
 
@@ -262,7 +311,6 @@ fn mutes_are(
     Ok(are(&answered.ids, want.0) && are(&answered.broken, want.1))
 }
 
-/// Whether an alert with these labels is muted so at so many seconds.
 fn is_muted(
     alloc: Global,
     held: &Held<MeshSilence>,
@@ -274,21 +322,34 @@ fn is_muted(
     mutes_are(alloc, held, &labels, seconds, want)
 }
 
+/// An alert with these labels is muted so at so many seconds.
+fn mutes_so(
+    rt: &impl Abort,
+    alloc: Global,
+    held: &Held<MeshSilence>,
+    rows: &[(&'static str, &'static str)],
+    seconds: i64,
+    want: Wanted,
+) {
+    let so = is_muted(alloc, held, rows, seconds, want);
+    assert_eq!(rt; so, Ok(true), "{seconds}");
+}
+
 /// p wants job `x`, q has a broken pattern beside that, r has no matchers, and s wants `x` or `z`.
-#[test]
-fn active_silences_mute_labels(rt: HostRuntime) -> Result<(), Fail> {
+fn hold_four(alloc: Global, held: &mut Held<MeshSilence>) -> Result<(), WireError> {
     let x = (MatcherKind::Equal, "job", "x");
     let open = (MatcherKind::Regexp, "env", "(");
     let x_or_z = (MatcherKind::Regexp, "job", "x|z");
+    hold(alloc, held, "s", &[x_or_z], at(200))?;
+    hold(alloc, held, "r", &[], at(200))?;
+    hold(alloc, held, "q", &[x, open], at(200))?;
+    hold(alloc, held, "p", &[x], at(200))
+}
+
+#[test]
+fn active_silences_mute_labels(rt: HostRuntime) -> Result<(), Fail> {
     let mut held = Held::new(rt.alloc());
-    for (id, rows) in [
-        ("s", [x_or_z].as_slice()),
-        ("r", [].as_slice()),
-        ("q", [x, open].as_slice()),
-        ("p", [x].as_slice()),
-    ] {
-        hold(rt.alloc(), &mut held, id, rows, at(200))?;
-    }
+    hold_four(rt.alloc(), &mut held)?;
     for (value, seconds, want) in [
         ("y", 50, ("r", "q")),
         ("x", 50, ("prs", "q")),
@@ -296,8 +357,7 @@ fn active_silences_mute_labels(rt: HostRuntime) -> Result<(), Fail> {
         ("x", 9, ("", "")),
         ("x", 100, ("", "")),
     ] {
-        let so = is_muted(rt.alloc(), &held, &[("job", value)], seconds, want)?;
-        assert!(rt; so, "{value} {seconds}");
+        mutes_so(&rt, rt.alloc(), &held, &[("job", value)], seconds, want);
     }
     Ok(())
 }
@@ -308,8 +368,7 @@ fn an_absent_label_is_the_empty_text(rt: HostRuntime) -> Result<(), Fail> {
     let mut held = Held::new(rt.alloc());
     let not_x = (MatcherKind::NotEqual, "job", "x");
     hold(rt.alloc(), &mut held, "p", &[not_x], at(200))?;
-    let so = is_muted(rt.alloc(), &held, &[], 50, ("p", ""))?;
-    assert!(rt; so);
+    mutes_so(&rt, rt.alloc(), &held, &[], 50, ("p", ""));
     Ok(())
 }
 
@@ -318,15 +377,12 @@ fn an_absent_label_is_the_empty_text(rt: HostRuntime) -> Result<(), Fail> {
 fn only_silences_in_view_mute(rt: HostRuntime) -> Result<(), Fail> {
     let mut held = Held::new(rt.alloc());
     hold(rt.alloc(), &mut held, "p", &[], at(50))?;
-    for (seconds, want) in [(49, ("p", "")), (50, ("", ""))] {
-        let so = is_muted(rt.alloc(), &held, &[("job", "x")], seconds, want)?;
-        assert!(rt; so, "{seconds}");
-    }
+    mutes_so(&rt, rt.alloc(), &held, &[("job", "x")], 49, ("p", ""));
+    mutes_so(&rt, rt.alloc(), &held, &[("job", "x")], 50, ("", ""));
     Ok(())
 }
 
-/// Whether a silence with this matcher alone mutes an alert of the job so.
-fn one_mutes(
+fn is_muted_by_one(
     alloc: Global,
     row: Row,
     value: &'static str,
@@ -337,24 +393,69 @@ fn one_mutes(
     Ok(is_muted(alloc, &held, &[("job", value)], 50, want)?)
 }
 
+/// A silence with this matcher alone mutes an alert of the job so.
+fn one_mutes(
+    rt: &impl Abort,
+    alloc: Global,
+    kind: MatcherKind,
+    pattern: &'static str,
+    value: &'static str,
+    want: Wanted,
+) {
+    let so = is_muted_by_one(alloc, (kind, "job", pattern), value, want);
+    assert_eq!(rt; so, Ok(true), "{pattern} {value}");
+}
+
 #[test]
 fn silences_with_patterns_mute(rt: HostRuntime) {
     for (pattern, yes, no) in PATTERNS {
-        for (kind, value, want) in [
-            (MatcherKind::Regexp, yes, ("p", "")),
-            (MatcherKind::Regexp, no, ("", "")),
-            (MatcherKind::NotRegexp, yes, ("", "")),
-            (MatcherKind::NotRegexp, no, ("p", "")),
-        ] {
-            let so = one_mutes(rt.alloc(), (kind, "job", pattern), value, want);
-            assert_eq!(rt; so, Ok(true), "{pattern} {value}");
-        }
+        one_mutes(
+            &rt,
+            rt.alloc(),
+            MatcherKind::Regexp,
+            pattern,
+            yes,
+            ("p", ""),
+        );
+        one_mutes(&rt, rt.alloc(), MatcherKind::Regexp, pattern, no, ("", ""));
+        one_mutes(
+            &rt,
+            rt.alloc(),
+            MatcherKind::NotRegexp,
+            pattern,
+            yes,
+            ("", ""),
+        );
+        one_mutes(
+            &rt,
+            rt.alloc(),
+            MatcherKind::NotRegexp,
+            pattern,
+            no,
+            ("p", ""),
+        );
     }
+}
+
+#[test]
+fn silences_with_broken_patterns_are_told(rt: HostRuntime) {
     for pattern in BROKEN {
-        for kind in PATTERN_KINDS {
-            let so = one_mutes(rt.alloc(), (kind, "job", pattern), "x", ("", "p"));
-            assert_eq!(rt; so, Ok(true), "{pattern}");
-        }
+        one_mutes(
+            &rt,
+            rt.alloc(),
+            MatcherKind::Regexp,
+            pattern,
+            "x",
+            ("", "p"),
+        );
+        one_mutes(
+            &rt,
+            rt.alloc(),
+            MatcherKind::NotRegexp,
+            pattern,
+            "x",
+            ("", "p"),
+        );
     }
 }
 
@@ -412,6 +513,12 @@ fn passed(alloc: Global, text: &str, silence: &Silence) -> Result<bool, FilterEr
     Ok(filter.passes(silence)?)
 }
 
+/// The silence passes the filter, or doesn't.
+fn passes(rt: &impl Abort, alloc: Global, text: &str, silence: &Silence, want: bool) {
+    let found = passed(alloc, text, silence);
+    assert_eq!(rt; found, Ok(want), "{text}");
+}
+
 #[test]
 fn filters_pass_silences(rt: HostRuntime) -> Result<(), Fail> {
     let p = silence(rt.alloc(), "p", &[(MatcherKind::Equal, "job", "x")])?;
@@ -425,8 +532,7 @@ fn filters_pass_silences(rt: HostRuntime) -> Result<(), Fail> {
         ("env=x", false),
         ("\t job\n=\r\x0Cx ", true),
     ] {
-        let answer = passed(rt.alloc(), text, &p);
-        assert_eq!(rt; answer, Ok(want), "{text}");
+        passes(&rt, rt.alloc(), text, &p, want);
     }
     Ok(())
 }
@@ -443,8 +549,7 @@ fn the_last_matcher_of_a_name_counts(rt: HostRuntime) -> Result<(), Fail> {
         ("job=a\\\"\\\\\\nb", true),
         ("job=\"a\\\"\\\\nb\"", false),
     ] {
-        let answer = passed(rt.alloc(), text, &p);
-        assert_eq!(rt; answer, Ok(want), "{text}");
+        passes(&rt, rt.alloc(), text, &p, want);
     }
     Ok(())
 }
@@ -469,8 +574,7 @@ fn filters_have_patterns(rt: HostRuntime) -> Result<(), Fail> {
             false,
         ),
     ] {
-        let answer = passed(rt.alloc(), text, &p);
-        assert_eq!(rt; answer, Ok(want), "{text}");
+        passes(&rt, rt.alloc(), text, &p, want);
     }
     Ok(())
 }
