@@ -74,18 +74,18 @@ fn put_id(
     Ok(())
 }
 
-/// Which of these silences mute an alert, and which are broken.
+/// Which of the held silences mute an alert, and which are broken.
 fn mutes_among(
     alloc: Global,
-    versions: &[MeshSilence],
+    held: &Held<MeshSilence>,
     labels: &[Label],
     now: Moment,
 ) -> Result<Mutes, AllocError>
-    ensures { IfOk result (λ m. AreMuted labels.now now versions.now m.ids m.broken) }
+    ensures { IfOk result (λ m. AreMuted labels.now now held.now m.ids m.broken) }
 {
     let mut ids = Vec::new(alloc);
     let mut broken = Vec::new(alloc);
-    for version in versions {
+    for version in held.iter() {
         let effect = effect_of(alloc, version, labels, now)?;
         put_id(alloc, version.key(), effect, &mut ids, &mut broken)?;
     }
@@ -108,5 +108,5 @@ pub fn mutes(
 ) -> Result<Mutes, AllocError>
     ensures { IfOk result (λ m. AreMuted labels.now now held.now m.ids m.broken) }
 {
-    mutes_among(alloc, held.iter().as_slice(), labels.as_slice(), now)
+    mutes_among(alloc, held, labels.as_slice(), now)
 }

@@ -51,3 +51,9 @@ returns-clause-members g c =
     let (bytes, versions, so_far, _, members, distinct) = c.loop-rows.invariant in
     let (row, read, answer) = rw c.in_default.is at c.in_ok-version.ensures in
     load_end g.V.Version.seen g.V.Message.reads _ (g.R.Read.remaining c.next.new.reader) versions c.loop-rows.held (reads_end g.V.Message.reads _ _ _ _ _ bytes row versions so_far read answer).1 distinct members
+
+pub returns-clause-size : goal.returns-clause-size
+returns-clause-size g c =
+    let (bytes, versions, so_far, _, _, _) = c.loop-rows.invariant in
+    let (row, read, answer) = rw c.in_default.is at c.in_ok-version.ensures in
+    (reads_end g.V.Message.reads _ _ _ _ _ bytes row versions so_far read answer).2
