@@ -195,63 +195,105 @@ fn unknown_and_repeated_names_are_told(rt: HostRuntime) -> Result<(), Fail> {
     Ok(())
 }
 
-/// A word of so many bytes.
-fn long(alloc: Global, byte: &str, count: usize) -> Result<String, AllocError> {
-    let mut word = String::new(alloc);
-    for _ in 0..count {
-        word.push_str(byte)?;
+/// What is wrong with a text where a word is drawn out: it begins so, goes on with so many of a text, and ends so.
+fn fault_of_long(
+    alloc: Global,
+    begin: &str,
+    more: (&str, usize),
+    end: &str,
+) -> Result<Option<(u64, FaultKind)>, AllocError> {
+    let mut text = String::from_str(alloc, begin)?;
+    for _ in 0..more.1 {
+        text.push_str(more.0)?;
     }
-    Ok(word)
+    text.push_str(end)?;
+    Ok(fault_of(alloc, text.as_bytes()))
 }
 
 #[test]
 fn long_words_are_told(rt: HostRuntime) -> Result<(), Fail> {
-    let alloc = rt.alloc();
-    let text = long(alloc, "x", 1024)?;
-    let zeros = long(alloc, "0", 1024)?;
-    let fitting = [
-        format!(in alloc; "at 1 a expire {text}")?,
-        format!(in alloc; "at {zeros} a show")?,
-        format!(in alloc; "# {text}{text}")?,
+    let rows = [
+        ("cluster 1 1 a b\nat 1 a expire ", ("x", 1024), "", None),
+        ("cluster 1 1 a b\nat ", ("0", 1024), " a show", None),
+        ("cluster 1 1 a b\n# ", ("x", 2048), "", None),
+        (
+            "cluster 1 1 a b\nat 1 a expire ",
+            ("x", 1025),
+            "",
+            Some((2, FaultKind::Name)),
+        ),
+        (
+            "cluster 1 1 a b\nat 1 ",
+            ("0", 1025),
+            " show",
+            Some((2, FaultKind::Name)),
+        ),
+        (
+            "cluster 1 1 a b\nat ",
+            ("0", 1025),
+            " a show",
+            Some((2, FaultKind::Name)),
+        ),
+        (
+            "cluster 1 1 a b\nlose ",
+            ("0", 1025),
+            "",
+            Some((2, FaultKind::Name)),
+        ),
+        (
+            "cluster 1 1 a b\nsil ",
+            ("x", 1025),
+            " y 1 1 1 1 j v",
+            Some((2, FaultKind::Name)),
+        ),
+        (
+            "cluster 1 1 a b\nat 1 a mutes ",
+            ("x", 1024),
+            "=",
+            Some((2, FaultKind::Name)),
+        ),
+        (
+            "cluster 1 1 a b\nat ",
+            ("x", 1025),
+            " a show",
+            Some((2, FaultKind::Number)),
+        ),
+        (
+            "cluster 1 1 a b\nat 1 a ",
+            ("x", 1025),
+            "",
+            Some((2, FaultKind::Words)),
+        ),
     ];
-    for line in &fitting {
-        is_read(&rt, alloc, line.as_str())?;
+    for (begin, more, end, fault) in rows {
+        let told = fault_of_long(rt.alloc(), begin, more, end)?;
+        assert_eq!(rt; told, fault, "{begin}");
     }
-    let names = [
-        format!(in alloc; "at 1 a expire {text}x")?,
-        format!(in alloc; "at 1 {zeros}0 show")?,
-        format!(in alloc; "at {zeros}0 a show")?,
-        format!(in alloc; "lose {zeros}0")?,
-        format!(in alloc; "sil {text}x y 1 1 1 1 j v")?,
-        format!(in alloc; "at 1 a mutes {text}=")?,
-    ];
-    for line in &names {
-        is_at_fault(&rt, alloc, line.as_str(), FaultKind::Name)?;
-    }
-    let number = format!(in alloc; "at {text}x a show")?;
-    is_at_fault(&rt, alloc, number.as_str(), FaultKind::Number)?;
-    let verb = format!(in alloc; "at 1 a {text}x")?;
-    is_at_fault(&rt, alloc, verb.as_str(), FaultKind::Words)?;
     Ok(())
 }
 
 #[test]
 fn a_name_has_at_most_255_bytes(rt: HostRuntime) -> Result<(), Fail> {
-    let alloc = rt.alloc();
-    let name = long(alloc, "n", 255)?;
-    let most = format!(in alloc; "cluster 1 1 {name}\nat 1 {name} show\n")?;
-    assert_eq!(rt; fault_of(alloc, most.as_bytes()), None);
-    let more = format!(in alloc; "cluster 1 1 {name}n\n")?;
-    assert_eq!(rt;
-        fault_of(alloc, more.as_bytes()),
-        Some((1, FaultKind::Cluster))
-    );
-    let zeros = long(alloc, "0", 1024)?;
-    let number = format!(in alloc; "cluster {zeros}1 1 a\n")?;
-    assert_eq!(rt;
-        fault_of(alloc, number.as_bytes()),
-        Some((1, FaultKind::Cluster))
-    );
+    let rows = [
+        ("cluster 1 1 ", ("n", 255), "", None),
+        (
+            "cluster 1 1 ",
+            ("n", 256),
+            "",
+            Some((1, FaultKind::Cluster)),
+        ),
+        ("cluster ", ("0", 1023), "1 1 a", None),
+        (
+            "cluster ",
+            ("0", 1024),
+            "1 1 a",
+            Some((1, FaultKind::Cluster)),
+        ),
+    ];
+    for (begin, more, end, fault) in rows {
+        let told = fault_of_long(rt.alloc(), begin, more, end)?;
+        assert_eq!(rt; told, fault, "{begin}");
+    }
     Ok(())
 }
 
