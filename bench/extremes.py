@@ -22,17 +22,18 @@ def whole(payload):
     return rows.varint(len(payload)) + payload
 
 
-def inside(payload, size):
-    """A message that holds one message, cut so that the row of it has so many bytes at most."""
-    return whole(rows.field(1, payload[:size - 24]) + rows.field(2, b""))
+def silence(matchers):
+    """A version of a silence with these matchers; its moments are all the beginning of 1970."""
+    body = rows.field(1, b"id") + matchers + rows.field(3, b"") + rows.field(4, b"") + rows.field(5, b"")
+    return whole(rows.field(1, body) + rows.field(2, b""))
 
 
 def matchers(size):
-    return inside(rows.field(1, b"id") + b"\x12\x00" * (size // 2), size // 2 * 2)
+    return silence(b"\x12\x00" * ((size - 32) // 2))
 
 
 def hashes(size):
-    key = rows.field(1, b"key") + rows.field(2, b"")
+    key = rows.field(1, b"key") + rows.field(2, b"") + rows.field(5, b"")
     return whole(rows.field(1, key + rows.field(6, b"\x01" * (size - 64))) + rows.field(2, b""))
 
 
