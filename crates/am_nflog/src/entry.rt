@@ -179,6 +179,9 @@ impl<'a> Draft<'a> for EntryDraft<'a> {
         let receiver = self.receiver.draft.finish(alloc, self.receiver.at)?;
         let group_key = Bytes::copied(alloc, self.group_key.bytes)?;
         let group_hash = Bytes::copied(alloc, self.group_hash.bytes)?;
+        let (mut firing, mut resolved) = (self.firing_alerts, self.resolved_alerts);
+        firing.shrink_to_fit();
+        resolved.shrink_to_fit();
         Ok(Entry {
             key: LogKey {
                 group_key,
@@ -187,8 +190,8 @@ impl<'a> Draft<'a> for EntryDraft<'a> {
             group_hash,
             resolved: self.resolved.value != 0,
             timestamp,
-            firing_alerts: Hashes::new(self.firing_alerts),
-            resolved_alerts: Hashes::new(self.resolved_alerts),
+            firing_alerts: Hashes::new(firing),
+            resolved_alerts: Hashes::new(resolved),
         })
     }
 }

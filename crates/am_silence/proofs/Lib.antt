@@ -1,3 +1,4 @@
+pub mod Buckets
 pub mod FirstComments
 pub mod Judging
 pub mod SameMatchers

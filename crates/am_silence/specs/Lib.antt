@@ -3,6 +3,7 @@ pub mod Matchers
 pub mod Comments
 pub mod Silences
 pub mod Mesh
+pub mod Places
 pub mod Fields
 pub mod MeshTable
 pub mod Drafts

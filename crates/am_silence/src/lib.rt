@@ -1,6 +1,7 @@
 //! Silences: how they are read, written and compared, and what posting and ending one makes.
 #![tactic(auto)]
 
+mod bucket;
 mod checks;
 mod comment;
 mod error;

@@ -13,7 +13,7 @@ ghost use Rattle.am_silence.specs.Mesh.{Mesh, IsMesh, writes_mesh_silence, bucke
 ghost use Rattle.am_silence.specs.States.{state_of, is_expired};
 ghost use Rattle.am_silence.specs.MeshTable.{mesh_silence};
 
-use crate::matcher::Matcher;
+use crate::bucket::{Place, bucket_place};
 use crate::silence::{Silence, SilenceDraft};
 use crate::sizes::version_size;
 use crate::state::{State, state_at};
@@ -27,18 +27,20 @@ use std::marker::Model;
 
 /// A version of a silence: the silence, and the moment from which on it may be forgotten.
 ///
-/// Its canonical text is kept beside its parts, so that comparing takes no memory.
+/// Its canonical text is kept beside its parts, so that comparing takes no memory, and of its bucket the
+/// place in that text.
 #[derive(Drop)]
 pub struct MeshSilence {
     silence: Silence,
     expires_at: Moment,
     canonical: Vec<u8>,
-    bucket: Vec<u8>,
+    bucket: Place,
 }
 
 impl Model for MeshSilence {
     ghost use Rattle.std.specs.Prelude.{◌≡◌};
     ghost use Rattle.am_silence.specs.Mesh.{Mesh, IsMesh, writes_mesh_silence, bucket_of};
+    ghost use Rattle.am_silence.specs.Places.{StandsAt};
 
     ghost Value = { Mesh };
 
@@ -46,7 +48,7 @@ impl Model for MeshSilence {
 
     ghost invariant = { λ m. record {
       canonical : m.canonical.items ≡ writes_mesh_silence (record { silence = m.silence; expires_at = m.expires_at });
-      bucket : m.bucket.items ≡ bucket_of m.silence.matchers;
+      bucket : StandsAt (bucket_of m.silence.matchers) m.bucket m.canonical.items;
       value : IsMesh (record { silence = m.silence; expires_at = m.expires_at });
     } };
 }
@@ -74,7 +76,8 @@ impl MeshSilence {
         Ok(version)
     }
 
-    // A version of these parts, however long its text is; the silence has so many bytes.
+    // A version of these parts, whose silence has so many bytes. A text of 2^32 bytes or more is answered as one
+    // that memory is not enough for.
     #[tactic(auto, unfolding(crate::specs::Mesh::writes_mesh_silence))]
     fn of_parts(
         alloc: Global,
@@ -85,11 +88,13 @@ impl MeshSilence {
         requires { size ≡ counted (length (writes_silence silence)) }
         ensures { IfOk result (λ m. m ≡ record { silence = silence; expires_at = expires_at }) }
     {
-        let room = version_size(size, expires_at) as usize;
-        let mut canonical = Vec::with_capacity(alloc, room)?;
+        let Ok(room) = u32::try_from(version_size(size, expires_at)) else {
+            return Err(AllocError);
+        };
+        let mut canonical = Vec::with_capacity(alloc, room as usize)?;
         push_sized(&mut canonical, 1, size, &silence)?;
         push_message(&mut canonical, 2, &expires_at)?;
-        let bucket = bucket_text(alloc, silence.matchers.as_slice())?;
+        let bucket = bucket_place(&silence, size);
         Ok(MeshSilence {
             silence,
             expires_at,
@@ -117,35 +122,6 @@ impl MeshSilence {
     {
         self.expires_at
     }
-}
-
-// A regular expression decides about the silence.
-fn has_regexp(matchers: &[Matcher]) -> bool
-    ensures { result ≡ list_any (λ m. is_regexp m.kind) matchers.now }
-{
-    matchers.iter().any(|matcher| matcher.kind.is_regexp())
-}
-
-// The first matcher that wants a label.
-fn first_wanting(matchers: &[Matcher]) -> Option<&Matcher>
-    ensures { option_copied result ≡ find wants_label matchers.now }
-{
-    matchers.iter().find(|matcher| matcher.wants_label())
-}
-
-// The canonical text of the matcher under which a silence is looked up, or nothing.
-fn bucket_text(alloc: Global, matchers: &[Matcher]) -> Result<Vec<u8>, AllocError>
-    ensures { IfOk result (λ bucket. bucket.items ≡ bucket_of matchers.now) }
-{
-    if has_regexp(matchers) {
-        return Ok(Vec::new(alloc));
-    }
-    let Some(matcher) = first_wanting(matchers) else {
-        return Ok(Vec::new(alloc));
-    };
-    let mut bucket = Vec::with_capacity(alloc, matcher.size() as usize)?;
-    matcher.put(&mut bucket)?;
-    Ok(bucket)
 }
 
 /// A silence that is passed on as it is read.
@@ -283,7 +259,7 @@ impl Version for MeshSilence {
     }
 
     fn bucket(&self) -> &[u8] {
-        self.bucket.as_slice()
+        self.bucket.part_of(self.canonical.as_slice())
     }
 
     fn try_clone(&self, alloc: Global) -> Result<MeshSilence, AllocError> {
@@ -291,7 +267,7 @@ impl Version for MeshSilence {
             silence: self.silence.try_clone(alloc)?,
             expires_at: self.expires_at,
             canonical: self.canonical.clone()?,
-            bucket: self.bucket.clone()?,
+            bucket: self.bucket,
         })
     }
 

@@ -137,9 +137,11 @@ impl<'a> Draft<'a> for SilenceDraft<'a> {
         let id = Text::copied(alloc, self.id.text)?;
         let created_by = Text::copied(alloc, created_by)?;
         let comment = Text::copied(alloc, comment)?;
+        let mut matchers = self.matchers;
+        matchers.shrink_to_fit();
         Ok(Silence {
             id,
-            matchers: Matchers::new(self.matchers),
+            matchers: Matchers::new(matchers),
             starts_at,
             ends_at,
             updated_at,

@@ -56,8 +56,8 @@ impl<'a> SilenceFields<'a> {
     }
 }
 
-// How many bytes the matchers have, each as a field.
-fn matchers_size(matchers: &[Matcher]) -> u64
+/// How many bytes the matchers have, each as a field.
+pub fn matchers_size(matchers: &[Matcher]) -> u64
     ensures { result ≡ counted (length (put_messages writes_matcher 2 matchers.now)) }
 {
     let mut size: u64 = 0;

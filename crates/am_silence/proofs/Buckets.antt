@@ -1,0 +1,140 @@
+-- Where the bucket of a silence stands in its canonical text.
+use Rattle.std.proofs.Common.{◌≡◌, ℕ, ◌+◌, ◌-◌, ◌<◌, ◌≤◌, ◌^◌, min, Bool, true, false, cond, nat_lt, List, [], ◌∷◌, ◌++◌, length, length-append, take, drop, Option, Some, None, refl, sym, ap, ◌∙◌, arith}
+use Rattle.std.specs.Prelude.{MatchOption, slice_get}
+use Rattle.std.specs.List.{find, position, position_or_len}
+use Rattle.std.proofs.lemmas.Bool.Decides.{nat_tests}
+use Rattle.std.proofs.lemmas.Option.{slice_get_past, get_or_from_slice_get}
+use Rattle.std.proofs.lemmas.List.{append-nil, append_assoc, take-append-drop, take_more, flat_map_more}
+use Rattle.std.proofs.lemmas.List.Folds.{find_at}
+use Rattle.std.proofs.lemmas.Grind.{flat_map-append}
+use Rattle.std.proofs.Math.Seq.{drop-append_seam, take-append_seam}
+use Rattle.am_wire.specs.Varint.{shortest}
+use Rattle.am_wire.specs.Writing.{tag, put_chunk, put_text, put_messages}
+use Rattle.am_wire.specs.Sizes.{counted}
+use Rattle.am_wire.specs.Timestamps.{writes_moment}
+use Rattle.am_silence.specs.declared.bucket.Place.{Place}
+use Rattle.am_silence.specs.declared.matcher.Matcher.{Matcher}
+use Rattle.am_silence.specs.declared.silence.Silence.{Silence}
+use Rattle.am_silence.specs.Matchers.{writes_matcher}
+use Rattle.am_silence.specs.Silences.{writes_silence}
+use Rattle.am_silence.specs.Mesh.{Mesh, writes_mesh_silence}
+use Rattle.am_silence.specs.Places.{StandsAt}
+
+-- ---- the first that passes, and its index
+pub found_at : {X : Type 0} (p : X → Bool) (xs : List X) (at : Option ℕ) → at ≡ position p xs
+    → MatchOption at (find p xs ≡ None) (λ i. (i < length xs) × (find p xs ≡ slice_get xs i))
+found_at {X} p xs at is = rw is (by_test (nat_lt n (length xs)) refl)
+  where
+    n : ℕ
+    n = position_or_len p xs
+
+    by_test : (b : Bool) → nat_lt n (length xs) ≡ b → MatchOption (cond b (Some n) None) (find p xs ≡ None) (λ i. (i < length xs) × (find p xs ≡ slice_get xs i))
+    by_test true h = (grind (arith, nat_tests), find_at p xs)
+    by_test false h = find_at p xs ∙ slice_get_past xs n (grind (arith, nat_tests))
+
+-- ---- a part of a text that ends behind so many bytes of it
+pub record Ends (end : ℕ) (part text : List ℕ) : Type 0 where
+  pub front : List ℕ
+  pub back : List ℕ
+  pub is : text ≡ front ++ (part ++ back)
+  pub at : length front + length part ≡ end
+
+ends_whole : (part : List ℕ) → Ends (length part) part part
+ends_whole part = record { front = []; back = []; is = sym (append-nil part); at = omega arith }
+
+ends_behind : (before : List ℕ) {end : ℕ} {part text : List ℕ} → Ends end part text → Ends (length before + end) part (before ++ text)
+ends_behind before h = record {
+  front = before ++ h.front;
+  back = h.back;
+  is = ap (λ (x : List ℕ). before ++ x) h.is ∙ sym (append_assoc before h.front _);
+  at = omega (arith, h.at, length-append before h.front);
+}
+
+ends_before : {end : ℕ} {part text : List ℕ} → Ends end part text → (more : List ℕ) → Ends end part (text ++ more)
+ends_before {end} {part} h more = record {
+  front = h.front;
+  back = h.back ++ more;
+  is = ap (λ (x : List ℕ). x ++ more) h.is ∙ append_assoc h.front (part ++ h.back) more ∙ ap (λ (x : List ℕ). h.front ++ x) (append_assoc part h.back more);
+  at = h.at;
+}
+
+-- the same where the end and the text are written in another way
+ends_as : {end last : ℕ} {part text whole : List ℕ} → end ≡ last → text ≡ whole → Ends end part text → Ends last part whole
+ends_as end text h = record { front = h.front; back = h.back; is = sym text ∙ h.is; at = h.at ∙ end }
+
+whole_length : {end : ℕ} {part text : List ℕ} (h : Ends end part text) → length text ≡ end + length h.back
+whole_length {end} {part} h = omega (arith, ap length h.is, length-append h.front (part ++ h.back), length-append part h.back, h.at)
+
+pub ends_stands : {end : ℕ} {part text : List ℕ} (place : Place) → Ends end part text → place.start ≡ end - length part → place.len ≡ length part → StandsAt part place text
+ends_stands {end} {part} {text} place h start len =
+    let begins : place.start ≡ length h.front = omega (arith, start, h.at) in
+    let rest : drop place.start text ≡ part ++ h.back = rw (begins, h.is) (drop-append_seam h.front (part ++ h.back)) in
+    let long : (place.start + place.len) - place.start ≡ length part = omega (arith, len) in
+    record {
+      within = omega (arith, begins, len, whole_length h, h.at);
+      is = rw (long, rest) (take-append_seam part h.back);
+    }
+
+-- ---- a matcher in its silence
+module _ (s : Silence) (i : ℕ) (m : Matcher) (lt : i < length s.matchers) (is : slice_get s.matchers i ≡ Some m) where
+  messages_end : Ends (length (put_messages writes_matcher 2 (take (i + 1) s.matchers))) (writes_matcher m) (put_messages writes_matcher 2 s.matchers)
+  messages_end =
+      let ms = s.matchers in
+      let first : take (i + 1) ms ≡ take i ms ++ m ∷ [] = take_more ms i m lt ∙ ap (λ (x : Matcher). take i ms ++ x ∷ []) (get_or_from_slice_get ms i m m is) in
+      let field = put_chunk 2 (writes_matcher m) in
+      let up_to : put_messages writes_matcher 2 (take i ms) ++ field ≡ put_messages writes_matcher 2 (take (i + 1) ms) =
+      flat_map_more (λ (x : Matcher). put_chunk 2 (writes_matcher x)) [] (take i ms) m ∙ ap (λ (x : List Matcher). put_messages writes_matcher 2 x) (sym first) in
+      let all : put_messages writes_matcher 2 (take (i + 1) ms) ++ put_messages writes_matcher 2 (drop (i + 1) ms) ≡ put_messages writes_matcher 2 ms =
+      sym (flat_map-append (λ (x : Matcher). put_chunk 2 (writes_matcher x)) (take (i + 1) ms) (drop (i + 1) ms)) ∙ ap (λ (x : List Matcher). put_messages writes_matcher 2 x) (take-append-drop (i + 1) ms) in
+      let own = ends_behind (put_messages writes_matcher 2 (take i ms)) (ends_behind (tag 2 2) (ends_behind (shortest (length (writes_matcher m))) (ends_whole (writes_matcher m)))) in
+      let own_length : length (put_messages writes_matcher 2 (take (i + 1) ms)) ≡ length (put_messages writes_matcher 2 (take i ms)) + (length (tag 2 2) + (length (shortest (length (writes_matcher m))) + length (writes_matcher m))) =
+      ap length (sym up_to) ∙ length-append (put_messages writes_matcher 2 (take i ms)) field
+      ∙ ap (λ (n : ℕ). length (put_messages writes_matcher 2 (take i ms)) + n) (length-append (tag 2 2) (shortest (length (writes_matcher m)) ++ writes_matcher m) ∙ ap (λ (n : ℕ). length (tag 2 2) + n) (length-append (shortest (length (writes_matcher m))) (writes_matcher m))) in
+      ends_as (sym own_length) all (ends_before (ends_as refl up_to own) (put_messages writes_matcher 2 (drop (i + 1) ms)))
+
+  -- how many bytes of the version's text the matcher ends behind
+  abbrev pub matcher_end : ℕ
+  matcher_end = (length (put_chunk 1 (writes_silence s)) - length (writes_silence s)) + (length (put_text 1 s.id) + length (put_messages writes_matcher 2 (take (i + 1) s.matchers)))
+
+  silence_end : Ends (length (put_text 1 s.id) + length (put_messages writes_matcher 2 (take (i + 1) s.matchers))) (writes_matcher m) (writes_silence s)
+  unfolding writes_silence
+  silence_end =
+      ends_before (ends_before (ends_before (ends_before (ends_before (ends_behind (put_text 1 s.id) messages_end) (put_chunk 3 (writes_moment s.starts_at))) (put_chunk 4 (writes_moment s.ends_at)))
+      (put_chunk 5 (writes_moment s.updated_at))) (put_text 8 s.created_by)) (put_text 9 s.comment)
+
+  pub version_end : (v : Mesh) → v.silence ≡ s → Ends matcher_end (writes_matcher m) (writes_mesh_silence v)
+  unfolding writes_mesh_silence
+  version_end v same =
+      let text = writes_silence s in
+      let inner = ends_behind (tag 1 2) (ends_behind (shortest (length text)) silence_end) in
+      let front : length (put_chunk 1 text) ≡ length (tag 1 2) + (length (shortest (length text)) + length text) =
+      length-append (tag 1 2) (shortest (length text) ++ text) ∙ ap (λ (n : ℕ). length (tag 1 2) + n) (length-append (shortest (length text)) text) in
+      let at : length (tag 1 2) + (length (shortest (length text)) + (length (put_text 1 s.id) + length (put_messages writes_matcher 2 (take (i + 1) s.matchers)))) ≡ matcher_end = omega (arith, front) in
+      rw same (ends_as at refl (ends_before inner (put_chunk 2 (writes_moment v.expires_at))))
+
+  pub matcher_end-within : matcher_end ≤ length (put_chunk 1 (writes_silence s))
+  matcher_end-within =
+      let text = writes_silence s in
+      let front : length (put_chunk 1 text) ≡ length (tag 1 2) + (length (shortest (length text)) + length text) =
+      length-append (tag 1 2) (shortest (length text) ++ text) ∙ ap (λ (n : ℕ). length (tag 1 2) + n) (length-append (shortest (length text)) text) in
+      omega (arith, front, whole_length silence_end)
+
+  pub matcher-within_end : length (writes_matcher m) ≤ matcher_end
+  matcher-within_end = omega (arith, silence_end.at)
+
+  -- the end, counted part by part
+  pub end_counted : (size chunk front id text before end : ℕ) → size ≡ length (writes_silence s) → length (put_chunk 1 (writes_silence s)) < 2 ^ 32
+      → chunk ≡ counted (length (put_chunk 1 (writes_silence s))) → front ≡ chunk - size → id ≡ counted (length (put_text 1 s.id)) → text ≡ min (front + id) (2 ^ 64 - 1)
+      → before ≡ counted (length (put_messages writes_matcher 2 (take (i + 1) s.matchers))) → end ≡ min (text + before) (2 ^ 64 - 1) → end ≡ matcher_end
+  end_counted size chunk front id text before end h1 h2 h3 h4 h5 h6 h7 h8 = omega (arith, h1, h2, h3, h4, h5, h6, h7, h8, matcher_end-within)
+
+-- ---- a version of under 2^32 bytes
+pub small_chunk : (m : Mesh) → length (writes_mesh_silence m) < 2 ^ 32 → length (put_chunk 1 (writes_silence m.silence)) < 2 ^ 32
+unfolding writes_mesh_silence
+small_chunk m h = omega (arith, h, length-append (put_chunk 1 (writes_silence m.silence)) (put_chunk 2 (writes_moment m.expires_at)))
+
+pub small_inside : (text : List ℕ) → length (put_chunk 1 text) < 2 ^ 32 → length text < 2 ^ 32
+small_inside text h = omega (arith, h, length-append (tag 1 2) (shortest (length text) ++ text), length-append (shortest (length text)) text)
+
+pub small_silence : (m : Mesh) → length (writes_mesh_silence m) < 2 ^ 32 → length (writes_silence m.silence) < 2 ^ 32
+small_silence m h = small_inside (writes_silence m.silence) (small_chunk m h)

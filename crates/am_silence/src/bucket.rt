@@ -1,0 +1,79 @@
+//! Where the bucket of a silence stands in its canonical text.
+
+ghost use Rattle.std.specs.Prelude.{◌≡◌, ◌+◌, ◌<◌, ◌≤◌, ◌^◌, length, slice_get, MatchOption};
+ghost use Rattle.std.specs.List.{list_any, position};
+ghost use Rattle.am_wire.specs.Writing.{put_chunk};
+ghost use Rattle.am_silence.specs.Kinds.{is_regexp};
+ghost use Rattle.am_silence.specs.Matchers.{wants_label};
+ghost use Rattle.am_silence.specs.Silences.{writes_silence};
+ghost use Rattle.am_silence.specs.Mesh.{Mesh, writes_mesh_silence, bucket_matcher_of, bucket_of};
+ghost use Rattle.am_silence.specs.Places.{part_at, StandsAt};
+
+use crate::matcher::Matcher;
+use crate::silence::Silence;
+use crate::sizes::matchers_size;
+use am_wire::{Message, chunk_size, text_size};
+
+/// Where a part of a text stands that has fewer than 2^32 bytes.
+#[derive(Clone, Copy)]
+pub struct Place {
+    start: u32,
+    len: u32,
+}
+
+impl Place {
+    /// The part that stands here.
+    pub fn part_of(self, text: &[u8]) -> &[u8]
+        requires { self.start + self.len ≤ length text.now }
+        ensures { result.now ≡ part_at self text.now }
+    {
+        &text[self.start as usize..][..self.len as usize]
+    }
+}
+
+/// Where the bucket stands in the canonical text of a version whose silence has so many bytes.
+pub fn bucket_place(silence: &Silence, size: u64) -> Place
+    requires size { size ≡ length (writes_silence silence.now) }
+    requires small { length (put_chunk 1 (writes_silence silence.now)) < 2 ^ 32 }
+    ensures { (m : Mesh) → m.silence ≡ silence.now →
+        StandsAt (bucket_of silence.now.matchers) result (writes_mesh_silence m) }
+{
+    let matchers = silence.matchers.as_slice();
+    let Some(index) = bucket_index(matchers) else {
+        return Place { start: 0, len: 0 };
+    };
+    let len = matchers[index].size();
+    let end = chunk_size(1, size)
+        .saturating_sub(size)
+        .saturating_add(text_size(1, silence.id.as_str()))
+        .saturating_add(matchers_size(&matchers[..=index]));
+    Place {
+        start: end.saturating_sub(len) as u32,
+        len: len as u32,
+    }
+}
+
+// Which matcher a silence is looked up by: the first that wants a label, unless one is a regular expression.
+fn bucket_index(matchers: &[Matcher]) -> Option<usize>
+    ensures { MatchOption result (bucket_matcher_of matchers.now ≡ None)
+        (λ i. (i < length matchers.now) × (bucket_matcher_of matchers.now ≡ slice_get matchers.now i)) }
+{
+    if has_regexp(matchers) {
+        return None;
+    }
+    first_wanting(matchers)
+}
+
+// The first matcher that wants a label.
+fn first_wanting(matchers: &[Matcher]) -> Option<usize>
+    ensures { result ≡ position wants_label matchers.now }
+{
+    matchers.iter().position(|matcher| matcher.wants_label())
+}
+
+// A regular expression decides about the silence.
+fn has_regexp(matchers: &[Matcher]) -> bool
+    ensures { result ≡ list_any (λ m. is_regexp m.kind) matchers.now }
+{
+    matchers.iter().any(|matcher| matcher.kind.is_regexp())
+}
