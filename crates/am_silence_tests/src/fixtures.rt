@@ -1,7 +1,7 @@
 //! Silences of which the tests speak.
 
 use am_silence::{Matcher, MatcherKind, Matchers, MeshSilence, Silence};
-use am_version_order::Moment;
+use am_version_order::{Interval, Moment};
 use am_wire::{Text, WireError};
 use std::alloc::{AllocError, Global};
 
@@ -16,6 +16,11 @@ pub fn at(millis: u64) -> Moment {
     let seconds = (millis / 1_000) as i64;
     let nanos = (millis % 1_000) as u32 * 1_000_000;
     Moment::from_parts(seconds, nanos).unwrap_or(Moment::LEAST)
+}
+
+/// How long the tests keep versions of silences that have ended.
+pub fn retention() -> Interval {
+    Interval::from_nanos(100_000_000_000).unwrap()
 }
 
 fn matcher(alloc: Global, (kind, name, pattern): MatcherRow) -> Result<Matcher, AllocError> {

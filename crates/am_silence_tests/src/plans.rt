@@ -1,6 +1,6 @@
 //! What posts and ends of silences make.
 
-use crate::fixtures::{JOB_IS_X, at, matchers, version};
+use crate::fixtures::{JOB_IS_X, at, matchers, retention, version};
 use am_silence::SilenceError::{
     AllMatchEmpty, BadPattern, EmptyName, EndInPast, EndNotAfterStart, IdInUse, NoMatcher, NotFound,
 };
@@ -8,7 +8,7 @@ use am_silence::{
     MatcherKind, Matchers, MeshSilence, Plan, Posted, Silence, SilenceError, State, Verdict,
     plan_expire, plan_post, state_at,
 };
-use am_version_order::{Interval, Moment, Version};
+use am_version_order::{Moment, Version};
 use am_wire::{Message, WireError};
 use std::alloc::{AllocError, Global};
 use std::cmp::Ordering;
@@ -82,10 +82,6 @@ fn fresh_id_held(starts_at: u64, ends_at: u64) -> PostRow {
 // The same without an identifier.
 fn anew(starts_at: u64, ends_at: u64) -> PostRow {
     post(false, starts_at, ends_at, false)
-}
-
-fn retention() -> Interval {
-    Interval::from_nanos(100_000_000_000).unwrap()
 }
 
 fn held(alloc: Global, moments: Held) -> Result<MeshSilence, WireError> {

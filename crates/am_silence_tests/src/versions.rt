@@ -246,6 +246,8 @@ fn the_first_fault_is_told(rt: HostRuntime) {
         (&[0x0B, 0x00], WireError::WireType { at: 0 }),
         (&[0x08, 0x00], WireError::WrongType { at: 0 }),
         (&[], WireError::MissingMessage { field: 1 }),
+        // a version without its silence, before an expiry that is none
+        (&NO_SILENCE, WireError::MissingMessage { field: 1 }),
         // a second past the last one
         (&SECOND_PAST_THE_LAST, WireError::Timestamp { at: 2 }),
         // a number that is cut off by the end of its message, though the input goes on
@@ -263,6 +265,8 @@ fn the_first_fault_is_told(rt: HostRuntime) {
         assert_eq!(rt; found, Some(fault), "{bytes:?}");
     }
 }
+
+const NO_SILENCE: [u8; 8] = [0x12, 0x06, 0x10, 0x80, 0x94, 0xEB, 0xDC, 0x03];
 
 const SECOND_PAST_THE_LAST: [u8; 11] = [
     0x0A, 0x00, 0x12, 0x07, 0x08, 0x80, 0x83, 0xD1, 0xFF, 0xAF, 0x07,

@@ -1,0 +1,186 @@
+//! Versions of the greatest length, and those that are too large.
+
+use crate::fixtures::{JOB_IS_X, at, retention, silence, version};
+use am_silence::{
+    MeshSilence, Plan, Posted, Silence, SilenceError, Verdict, plan_expire, plan_post,
+};
+use am_version_order::{Moment, Version};
+use am_wire::{Text, WireError};
+use std::alloc::{AllocError, Global};
+use std::test::Fail;
+
+/// The greatest length of a canonical text.
+const MOST: usize = 67_108_864;
+
+/// Start, end and update moment of an active silence.
+const ACTIVE: [u64; 3] = [10_000, 100_000, 10_000];
+
+// A text of so many bytes.
+fn text_of(alloc: Global, len: usize) -> Result<Text, AllocError> {
+    let mut string = String::with_capacity(alloc, len)?;
+    for _ in 0..len {
+        string.push('x')?;
+    }
+    Ok(Text::new(string))
+}
+
+// The silence `a` with a comment of so many bytes.
+fn commented(alloc: Global, moments: [u64; 3], len: usize) -> Result<Silence, AllocError> {
+    let mut commented = silence(alloc, &JOB_IS_X, moments)?;
+    commented.comment = text_of(alloc, len)?;
+    Ok(commented)
+}
+
+// The version of an active silence with such a comment.
+fn held(alloc: Global, len: usize) -> Result<MeshSilence, WireError> {
+    let silence = commented(alloc, ACTIVE, len)?;
+    MeshSilence::new(alloc, silence, at(200_000))
+}
+
+fn length_held(alloc: Global, len: usize) -> Result<usize, WireError> {
+    let version = held(alloc, len)?;
+    Ok(version.canonical().len())
+}
+
+// Beside its comment the version has 40 bytes.
+#[test]
+fn a_version_over_the_greatest_length_is_too_large(rt: HostRuntime) {
+    let rows = [
+        (MOST - 40, Ok(MOST)),
+        (MOST - 39, Err(WireError::TooLarge)),
+        (MOST, Err(WireError::TooLarge)),
+    ];
+    for (len, want) in rows {
+        let made = length_held(rt.alloc(), len);
+        assert!(rt; made == want, "{len}");
+    }
+}
+
+// What is posted under the identifier of a silence: its matchers, its moments and its words.
+fn posted_as(silence: Silence) -> Posted {
+    Posted {
+        id: Some(silence.id),
+        matchers: silence.matchers,
+        starts_at: silence.starts_at,
+        ends_at: silence.ends_at,
+        created_by: silence.created_by,
+        comment: silence.comment,
+    }
+}
+
+// The plan of a post under the identifier `a`, with its start and the length of its comment.
+fn planned(
+    alloc: Global,
+    prev: &MeshSilence,
+    starts_at: u64,
+    len: usize,
+    now: Moment,
+) -> Result<Plan, SilenceError> {
+    let silence = commented(alloc, [starts_at, 200_000, 0], len)?;
+    let posted = posted_as(silence);
+    plan_post(
+        alloc,
+        Some(prev),
+        posted,
+        Verdict::Fine,
+        now,
+        0,
+        false,
+        retention(),
+    )
+}
+
+/// What of a plan is asked for.
+#[derive(Clone, Copy)]
+enum Part {
+    Updated,
+    New,
+    Old,
+}
+
+// The length of a version of the plan, or 0 where it has none such.
+fn length_of(plan: &Plan, part: Part) -> usize {
+    match (plan, part) {
+        (Plan::Update(version), Part::Updated) => version.canonical().len(),
+        (Plan::Replace { new, .. }, Part::New) => new.canonical().len(),
+        (Plan::Replace { old, .. }, Part::Old) => old.canonical().len(),
+        _ => 0,
+    }
+}
+
+fn length_posted(
+    alloc: Global,
+    prev: &MeshSilence,
+    starts_at: u64,
+    len: usize,
+    part: Part,
+) -> Result<usize, SilenceError> {
+    let plan = planned(alloc, prev, starts_at, len, at(20_000))?;
+    Ok(length_of(&plan, part))
+}
+
+// Beside its comment the new version has 76 bytes, and the updated one 41.
+#[test]
+fn a_new_version_alone_may_be_too_large(rt: HostRuntime) -> Result<(), Fail> {
+    let rows = [
+        (11_000, MOST - 76, Part::New, Ok(MOST)),
+        (11_000, MOST - 75, Part::New, Err(SilenceError::TooLarge)),
+        (10_000, MOST - 41, Part::Updated, Ok(MOST)),
+        (
+            10_000,
+            MOST - 40,
+            Part::Updated,
+            Err(SilenceError::TooLarge),
+        ),
+    ];
+    let prev = version(rt.alloc(), &JOB_IS_X, ACTIVE, 200_000)?;
+    for (i, (starts_at, len, part, want)) in rows.into_iter().enumerate() {
+        let made = length_posted(rt.alloc(), &prev, starts_at, len, part);
+        assert!(rt; made == want, "row {i}");
+    }
+    Ok(())
+}
+
+/// The lengths of comments of an active silence, when it is ended, and how long the version is then. Beside
+/// its comment that has 39 bytes, and where its three moments have nanoseconds 45, so that a silence which is
+/// held may be too large to be ended.
+const ENDED: [(usize, u32, Result<usize, SilenceError>); 3] = [
+    (MOST - 40, 0, Ok(MOST - 1)),
+    (MOST - 45, 1, Ok(MOST)),
+    (MOST - 44, 1, Err(SilenceError::TooLarge)),
+];
+
+// So many nanoseconds after 20 s.
+fn after_twenty(nanos: u32) -> Moment {
+    Moment::from_parts(20, nanos).unwrap_or(Moment::LEAST)
+}
+
+fn length_replaced(alloc: Global, prev: &MeshSilence, now: Moment) -> Result<usize, SilenceError> {
+    let plan = planned(alloc, prev, 11_000, 0, now)?;
+    Ok(length_of(&plan, Part::Old))
+}
+
+#[test]
+fn the_version_that_ends_the_old_silence_may_be_too_large(rt: HostRuntime) -> Result<(), Fail> {
+    for (len, nanos, want) in ENDED {
+        let prev = held(rt.alloc(), len)?;
+        let made = length_replaced(rt.alloc(), &prev, after_twenty(nanos));
+        assert!(rt; made == want, "{len}");
+    }
+    Ok(())
+}
+
+fn length_expired(alloc: Global, prev: &MeshSilence, now: Moment) -> Result<usize, SilenceError> {
+    let ended = plan_expire(alloc, Some(prev), now, retention())?;
+    Ok(ended.canonical().len())
+}
+
+#[test]
+fn a_silence_may_be_too_large_to_be_ended(rt: HostRuntime) -> Result<(), Fail> {
+    for (len, nanos, want) in ENDED {
+        let prev = held(rt.alloc(), len)?;
+        let made = length_expired(rt.alloc(), &prev, after_twenty(nanos));
+        assert!(rt; made == want, "{len}");
+    }
+    Ok(())
+}
