@@ -5,7 +5,7 @@ use Rattle.am_wire.specs.declared.error.WireError.{WireError}
 use Rattle.am_wire.specs.Fields.{row_at, next_piece, pieces, ◌>>=◌}
 use Rattle.am_wire.specs.Again.Pieces.{pieces-first}
 use Rattle.am_wire.proofs.Found.{row_found}
-use Rattle.am_snapshot.specs.Inputs.{sound, message_at, AreMessages}
+use Rattle.am_wire.specs.Inputs.{sound, message_at, AreMessages}
 use Rattle.am_snapshot.proofs.Whole.{row_at-whole}
 
 module _ {A : Type 0} (others : ℕ → List (Result A WireError)) where

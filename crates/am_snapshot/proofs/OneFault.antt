@@ -4,8 +4,8 @@ use Rattle.std.proofs.lemmas.List.{drop-append-le}
 use Rattle.am_wire.specs.declared.error.WireError.{WireError}
 use Rattle.am_wire.specs.declared.error.WireError.TheVariants.{Truncated}
 use Rattle.am_wire.specs.Again.Pieces.{pieces-first}
-use Rattle.am_snapshot.specs.Texts.{most}
-use Rattle.am_snapshot.specs.Inputs.{sound, message_at, messages_of, HasFault, IsCutAfter, IsTooLargeAfter}
+use Rattle.am_wire.specs.Reader.{most}
+use Rattle.am_wire.specs.Inputs.{sound, message_at, messages_of, HasFaultAfter, IsCutAfter, IsTooLargeAfter}
 use Rattle.am_snapshot.proofs.Ends.{from, has_first, none_there}
 use Rattle.am_snapshot.proofs.RowReads.{from-fault, from-nil, message_at-cut}
 
@@ -62,15 +62,15 @@ module _ {A : Type 0} (reads : ℕ → List ℕ → Result A WireError) where
   cut_by ms ns e at (b ∷ begun) cut h =
       (same_fault ms ns e (Truncated at) (h ∙ ap (λ (l : List (Result A WireError)). map sound ns ++ l) (from-fault reads at (b ∷ begun) (Truncated at) cut (omega arith)))).0
 
-  cut_alike : (bytes : List ℕ) (ms ns : List A) (e : WireError) → HasFault reads bytes ms e → IsCutAfter reads bytes ns → ms ≡ ns
+  cut_alike : (bytes : List ℕ) (ms ns : List A) (e : WireError) → HasFaultAfter reads bytes ms e → IsCutAfter reads bytes ns → ms ≡ ns
   cut_alike bytes ms ns e fault cut =
       cut_by ms ns e (length cut.whole) cut.begun (message_at-cut reads (length cut.whole) cut.begun cut.cut)
       (sym fault ∙ ap (λ (l : List ℕ). messages_of reads l) cut.parts ∙ reads_on ns 0 cut.whole cut.begun cut.before
       ∙ ap (λ (n : ℕ). map sound ns ++ from reads n cut.begun) (omega arith))
 
-  pub faults_alike : (input : List ℕ) (ms ns : List A) (e d : WireError) → HasFault reads input ms e → HasFault reads input ns d → (ms ≡ ns) × (e ≡ d)
+  pub faults_alike : (input : List ℕ) (ms ns : List A) (e d : WireError) → HasFaultAfter reads input ms e → HasFaultAfter reads input ns d → (ms ≡ ns) × (e ≡ d)
   faults_alike input ms ns e d one other = same_fault ms ns e d (sym one ∙ other)
 
-  pub none_too_large : (input : List ℕ) (ms ns : List A) (e : WireError) → HasFault reads (take most input) ms e → ¬ IsTooLargeAfter reads input ms → ¬ IsTooLargeAfter reads input ns
+  pub none_too_large : (input : List ℕ) (ms ns : List A) (e : WireError) → HasFaultAfter reads (take most input) ms e → ¬ IsTooLargeAfter reads input ms → ¬ IsTooLargeAfter reads input ns
   none_too_large input ms ns e fault apart large =
       apart (subst (λ (messages : List A). IsTooLargeAfter reads input messages) (sym (cut_alike (take most input) ms ns e fault large.cut)) large)

@@ -13,9 +13,8 @@ use Rattle.am_wire.specs.declared.reader.Standing.TheVariants.{Before, Over, Ref
 use Rattle.am_wire.specs.Varint.{varint_within}
 use Rattle.am_wire.specs.Fields.{row_at, pieces}
 use Rattle.am_wire.specs.Again.Pieces.{pieces-first}
-use Rattle.am_wire.specs.Reader.{IsCut, ReadsAs, HasBadLength, EndsInRow, Answers, all_but_last}
-use Rattle.am_snapshot.specs.Texts.{most}
-use Rattle.am_snapshot.specs.Inputs.{sound, message_at, messages_of, AreMessages, HasFault, IsTooLargeAfter, StopsAfter}
+use Rattle.am_wire.specs.Reader.{IsCut, ReadsAs, HasBadLength, EndsInRow, Answers, all_but_last, most}
+use Rattle.am_wire.specs.Inputs.{sound, message_at, messages_of, AreMessages, HasFaultAfter, IsTooLargeAfter, StopsAfter}
 use Rattle.am_snapshot.proofs.Whole.{row_at-whole, row_at-fails}
 use Rattle.am_snapshot.proofs.Ends.{ends_once}
 
@@ -122,7 +121,7 @@ module _ {A : Type 0} (reads : ℕ → List ℕ → Result A WireError) where
       ∙ ap (λ (x : List (Result A WireError)). map sound messages ++ x) (from-nil (length bytes))
       ∙ append-nil (map sound messages)
 
-  HasRead-fault : (bytes last : List ℕ) (messages : List A) (e : WireError) → HasRead bytes messages → message_at reads (length bytes) last ≡ Err e → 0 < length last → HasFault reads (bytes ++ last) messages e
+  HasRead-fault : (bytes last : List ℕ) (messages : List A) (e : WireError) → HasRead bytes messages → message_at reads (length bytes) last ≡ Err e → 0 < length last → HasFaultAfter reads (bytes ++ last) messages e
   HasRead-fault bytes last messages e so_far h filled =
       so_far.reads_on last ∙ ap (λ (x : List (Result A WireError)). map sound messages ++ x) (from-fault (length bytes) last e h filled)
 
@@ -141,7 +140,7 @@ module _ {A : Type 0} (reads : ℕ → List ℕ → Result A WireError) where
   -- the fault is there whatever follows; where the input ended, as long as nothing does
   faults : (bytes row : List ℕ) (messages : List A) (e : WireError) (left : List ℕ) → HasRead bytes messages
       → (HasBadLength (length bytes) row e ⊎ EndsInRow (length bytes) row (Some left) e) ⊎ ReadsAs reads (length bytes) row (Err e)
-      → (rest : List ℕ) → (left ≡ [] → rest ≡ []) → HasFault reads ((bytes ++ row) ++ rest) messages e
+      → (rest : List ℕ) → (left ≡ [] → rest ≡ []) → HasFaultAfter reads ((bytes ++ row) ++ rest) messages e
   faults bytes row messages e left so_far (inl (inl bad)) rest ends =
       ap (λ (x : List ℕ). messages_of reads x) (append_assoc bytes row rest)
       ∙ HasRead-fault bytes (row ++ rest) messages e so_far (message_at-fails (length bytes) row rest e bad.0 bad.1) (filled_more row rest (bad_filled (length bytes) row e bad.0 bad.1))

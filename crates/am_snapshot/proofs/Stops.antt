@@ -1,19 +1,18 @@
 -- The faults of reading and of writing a row, as those of a call that does both.
-use Rattle.std.proofs.Common.{◌≡◌, ◌≤◌, ℕ, List, [], ◌∷◌, ◌++◌, length, map, true, false, Option, Some, None, IfSome, Result, Err, inl, inr, refl, ap, ◌∙◌, append_assoc}
-use Rattle.std.specs.Prelude.{Contains, IsPermutation, is_some}
-use Rattle.std.specs.Option.{option_copied}
+use Rattle.std.proofs.Common.{◌≡◌, ◌≤◌, ℕ, List, [], ◌∷◌, ◌++◌, length, map, Bool, true, false, Option, Some, None, IfSome, Result, Err, inl, inr, refl, ap, ◌∙◌, append_assoc}
+use Rattle.std.specs.Prelude.{Contains, IsPermutation, is_none}
 use Rattle.std.proofs.lemmas.List.{map-append}
-use denote.Ref.{Bor}
 use Rattle.std.specs.declared.cmp.Ordering.{Ordering}
 use Rattle.am_version_order.specs.Versions.{Version}
 use Rattle.am_wire.specs.declared.error.WireError.{WireError}
 use Rattle.am_wire.specs.declared.reader.RowFault.{RowFault}
 use Rattle.am_wire.specs.declared.reader.RowFault.TheVariants as reading
 use Rattle.am_merge.specs.Maps.{IsMap}
-use Rattle.am_snapshot.specs.Texts.{row_text, most}
+use Rattle.am_wire.specs.Reader.{most}
+use Rattle.am_snapshot.specs.Texts.{row_text}
 use Rattle.am_wire.specs.declared.reader.Standing.{Standing}
 use Rattle.am_wire.specs.Fields.{pieces}
-use Rattle.am_snapshot.specs.Inputs.{sound, message_at, messages_of, AreMessages, StopsAfter}
+use Rattle.am_wire.specs.Inputs.{sound, message_at, messages_of, AreMessages, StopsAfter}
 use Rattle.am_snapshot.specs.Loads.{AreDistinct, RepeatsKey, StopsLoad, load_fault}
 use Rattle.am_snapshot.specs.Best.{HoldsBest}
 use Rattle.am_snapshot.specs.Rows.{Writes}
@@ -50,14 +49,14 @@ module _ {K X : Type 0} (seen : X → Version K) (cmp : K → K → Ordering) (r
   fold_writing contents old new row writing.TooLarge fold wrote = (wrote.1, some_then _ _ (λ input one. inr (row, one, wrote.0)) start fold)
   fold_writing contents old new row writing.Memory fold wrote = wrote.1
 
--- what a look-up found, and where it found nothing
-pub some_found : {X : Type 0} (o : Option (Bor X)) → is_some o ≡ true → (w : X) × (option_copied o ≡ Some w)
-some_found None e = absurd cc
-some_found (Some b) e = (b.now, refl)
+-- whether nothing was found, and what was
+pub some_found : {X : Type 0} (o : Option X) (none : Bool) → none ≡ is_none o → none ≡ false → (w : X) × (o ≡ Some w)
+some_found None none is found = absurd cc
+some_found (Some w) none is found = (w, refl)
 
-pub none_found : {X : Type 0} (o : Option (Bor X)) → is_some o ≡ false → option_copied o ≡ None
-none_found None e = refl
-none_found (Some b) e = absurd cc
+pub none_found : {X : Type 0} (o : Option X) (none : Bool) → none ≡ is_none o → none ≡ true → o ≡ None
+none_found None none is lost = refl
+none_found (Some w) none is lost = absurd cc
 
 module _ {K X : Type 0} (seen : X → Version K) (reads : ℕ → List ℕ → Result X WireError) (start left : Option (List ℕ)) where
   pub load_reading : (fault : RowFault) → IfSome start (λ input. (versions : List X) × StopsAfter reads input versions left fault × AreDistinct seen versions)

@@ -2,7 +2,6 @@ pub mod Texts
 pub mod Writing
 pub mod Rows
 pub mod Saving
-pub mod Inputs
 pub mod Best
 pub mod Folds
 pub mod Loads

@@ -1,17 +1,9 @@
 -- Versions as text.
-use Rattle.std.specs.Prelude.{ℕ, List, ◌++◌, length}
+use Rattle.std.specs.Prelude.{ℕ, List}
 use Rattle.std.specs.List.{flat_map}
 use Rattle.am_version_order.specs.Versions.{Version}
-use Rattle.am_wire.specs.Varint.{shortest}
-
--- bytes behind their length
-abbrev pub delimited : List ℕ → List ℕ
-delimited bytes = shortest (length bytes) ++ bytes
+use Rattle.am_wire.specs.Writing.{delimited}
 
 -- the canonical row of versions, in their order; `seen` is what the merge sees of one
 abbrev pub row_text : {K X : Type 0} → (X → Version K) → List X → List ℕ
 row_text seen versions = flat_map (λ v. delimited (seen v).content) versions
-
--- the most bytes of a snapshot
-abbrev pub most : ℕ
-most = 67108864

@@ -2,7 +2,7 @@
 
 ghost use Rattle.std.specs.Prelude.{◌≡◌, ◌≤◌, ℕ, List, length, IfOk, OnOk, IfErr, IfSome};
 ghost use Rattle.std.specs.Io.KnownBytes.{Appends};
-ghost use Rattle.am_snapshot.specs.Texts.{most};
+ghost use Rattle.am_wire.specs.Reader.{most};
 ghost use Rattle.am_snapshot.specs.Folds.{IsFold, StopsFold};
 
 use crate::reading::take_row;
@@ -82,7 +82,5 @@ pub fn fold<V: Version + Message, R: Read, W: Write>(
     ensures stopped { IfErr result (StopsFold V.seen V.Key.cmp V.reads (R.remaining reader.old) (R.remaining reader.new) W.contents writer.old writer.new) }
 {
     let held: Held<V> = take_row(alloc, reader, now)?;
-    // A walk tells that the keys are in order.
-    let _walk = held.iter();
     Ok(write_row(alloc, &held, writer)?)
 }

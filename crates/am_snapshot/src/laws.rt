@@ -3,7 +3,7 @@
 ghost use Rattle.std.specs.Prelude.{◌≡◌, ℕ, List, Option};
 ghost use Rattle.am_wire.specs.declared.error.WireError.{WireError};
 ghost use Rattle.am_wire.specs.declared.reader.RowFault.TheVariants.{Wire, TooLarge};
-ghost use Rattle.am_snapshot.specs.Inputs.{AreMessages, StopsAfter};
+ghost use Rattle.am_wire.specs.Inputs.{AreMessages, StopsAfter};
 
 use am_wire::Message;
 

@@ -15,6 +15,3 @@ pub use folding::{FoldError, fold};
 pub use loading::load;
 pub use reading::take_row;
 pub use saving::save;
-
-#[cfg(test)]
-mod tests;

@@ -3,14 +3,14 @@
 ghost use Rattle.std.specs.Prelude.{◌≡◌, List, ◌≤◌, length, IfOk, IfErr, OnOk, IfSome, IsPermutation};
 ghost use Rattle.std.specs.Io.KnownBytes.{IsAtEnd};
 ghost use Rattle.am_merge.specs.Maps.{IsMap};
-ghost use Rattle.am_snapshot.specs.Texts.{most};
-ghost use Rattle.am_snapshot.specs.Inputs.{AreMessages};
+ghost use Rattle.am_wire.specs.Reader.{most};
+ghost use Rattle.am_wire.specs.Inputs.{AreMessages};
 ghost use Rattle.am_snapshot.specs.Loads.{AreDistinct, StopsLoad};
 ghost use Rattle.am_snapshot.specs.declared.error.SnapshotError.TheVariants as errors;
 
 use crate::error::SnapshotError;
 use am_merge::Held;
-use am_version_order::{Moment, Version};
+use am_version_order::Version;
 use am_wire::{Message, RowFault, RowReader};
 use std::alloc::{AllocError, Global};
 use std::io::Read;
@@ -62,10 +62,10 @@ pub fn load<V: Version + Message, R: Read>(
     let mut held = Held::new(alloc);
     let mut rows: RowReader<V> = RowReader::new(alloc);
     while let Some(version) = rows.next(reader)? {
-        if held.get(version.key()).is_some() {
+        let is_new = held.insert_new(version)?;
+        if !is_new {
             return Err(SnapshotError::DuplicateKey);
         }
-        held.take(version, Moment::LEAST)?;
     }
     Ok(held)
 }

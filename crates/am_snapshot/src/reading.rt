@@ -2,8 +2,9 @@
 
 ghost use Rattle.std.specs.Prelude.{ℕ, List, ◌≤◌, length, IfOk, IfErr, OnOk, IfSome};
 ghost use Rattle.std.specs.Io.KnownBytes.{IsAtEnd};
-ghost use Rattle.am_snapshot.specs.Texts.{most};
-ghost use Rattle.am_snapshot.specs.Inputs.{AreMessages, StopsAfter};
+ghost use Rattle.am_merge.specs.Maps.{IsMap};
+ghost use Rattle.am_wire.specs.Reader.{most};
+ghost use Rattle.am_wire.specs.Inputs.{AreMessages, StopsAfter};
 ghost use Rattle.am_snapshot.specs.Best.{HoldsBest};
 
 use am_merge::Held;
@@ -20,6 +21,7 @@ pub fn take_row<V: Version + Message, R: Read>(
     reader: &mut R,
     now: Moment,
 ) -> Result<Held<V>, RowFault>
+    ensures order { IfOk result (IsMap V.seen V.Key.cmp) }
     ensures best { IfOk result (λ held. IfSome (R.remaining reader.old) (λ input.
         (versions : List V) × AreMessages V.reads input versions × HoldsBest V.seen versions held)) }
     ensures size { OnOk result (IfSome (R.remaining reader.old) (λ input. length input ≤ most)) }

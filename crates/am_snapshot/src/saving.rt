@@ -2,7 +2,8 @@
 
 ghost use Rattle.std.specs.Prelude.{◌≡◌, ◌<◌, ◌↔◌, length, IfOk, IfErr, OnOk};
 ghost use Rattle.std.specs.Io.KnownBytes.{Appends};
-ghost use Rattle.am_snapshot.specs.Texts.{row_text, most};
+ghost use Rattle.am_wire.specs.Reader.{most};
+ghost use Rattle.am_snapshot.specs.Texts.{row_text};
 ghost use Rattle.am_snapshot.specs.Saving.{StopsSaving};
 
 use crate::error::SnapshotError;

@@ -1,5 +1,11 @@
-//! Worked rows of silences that are saved, loaded and folded. There is nothing here but tests.
+//! Worked rows that are saved, loaded and folded: of silences, and of short texts. There is nothing here but tests.
 #![tactic(auto)]
 
 #[cfg(test)]
-mod tests;
+mod notes;
+#[cfg(test)]
+mod rows;
+#[cfg(test)]
+mod silences;
+#[cfg(test)]
+mod streams;

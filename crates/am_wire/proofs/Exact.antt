@@ -10,7 +10,7 @@ use Rattle.am_wire.specs.Varint.{IsVarint, IsChain, total, varint_at, groups, sh
 use Rattle.am_wire.specs.Fields.{FieldAt, fields_of, field_at, row_at, rows_of, any}
 use Rattle.am_wire.specs.Grammar.{AreSpelled, AreFields, IsRow, AreRows, ArePacked, field_fits}
 use Rattle.am_wire.specs.Reading.{unpacked}
-use Rattle.am_wire.specs.Writing.{put_row, put_rows}
+use Rattle.am_wire.specs.Writing.{delimited, put_rows}
 use Rattle.am_wire.specs.Again.Varints.{varint_read, varint_filled, shortest_spells}
 use Rattle.am_wire.specs.Again.Pieces.{done, Reads, pieces-spelled}
 use Rattle.am_wire.specs.Again.Fields.{field_read}
@@ -103,8 +103,8 @@ pub rows_written : (messages : List (List ℕ)) (at : ℕ) → All IsSmall messa
 rows_written [] at small = refl
 rows_written (m ∷ messages) at small =
     let low = All-head IsSmall m messages small in
-    let row : IsRow m at (put_row m) = record { size = shortest (length m); size_is = shortest_spells (length m) (omega arith); text_is = refl; not_large = low } in
-    (put_row m, put_rows messages, refl, row, rows_written messages (at + length (put_row m)) (All-tail IsSmall m messages small))
+    let row : IsRow m at (delimited m) = record { size = shortest (length m); size_is = shortest_spells (length m) (omega arith); text_is = refl; not_large = low } in
+    (delimited m, put_rows messages, refl, row, rows_written messages (at + length (delimited m)) (All-tail IsSmall m messages small))
 
 -- ---- packed numbers
 module _ (tag : ℕ) (bytes numbers : List ℕ) where

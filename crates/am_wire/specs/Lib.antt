@@ -14,3 +14,4 @@ pub mod Messages
 pub mod SignedParts
 pub mod Again
 pub mod Reader
+pub mod Inputs

@@ -22,12 +22,13 @@ put_text n bytes = if length bytes == 0 then [] else put_chunk n bytes
 abbrev pub put_messages : {A : Type 0} → (A → List ℕ) → ℕ → List A → List ℕ
 put_messages writes n messages = flat_map (λ m. put_chunk n (writes m)) messages
 
--- messages, each behind its length
-abbrev pub put_row : List ℕ → List ℕ
-put_row message = shortest (length message) ++ message
+-- bytes behind their length
+abbrev pub delimited : List ℕ → List ℕ
+delimited bytes = shortest (length bytes) ++ bytes
 
+-- messages, each behind its length
 abbrev pub put_rows : List (List ℕ) → List ℕ
-put_rows messages = flat_map put_row messages
+put_rows messages = flat_map delimited messages
 
 -- numbers packed in one field, where there are any
 abbrev pub put_numbers : ℕ → List ℕ → List ℕ

@@ -15,9 +15,9 @@ pub const MOST_MESSAGE_BYTES: u64 = 67_108_864;
 
 /// The message at the front of the bytes, and its length with that of its length.
 #[tactic(auto, unfolding(crate::specs::Fields::row_at))]
-fn row_from(bytes: &[u8], at: usize) -> Result<(&[u8], usize), WireError>
+pub fn row_from(bytes: &[u8], at: usize) -> Result<(&[u8], usize), WireError>
     ensures value { first_row_seen result ≡ row_at at bytes.now }
-    ensures within { IfOk result (λ x. (0 < x.1) × (x.1 ≤ length bytes.now)) }
+    ensures within { IfOk result (λ x. (0 < x.1) × (x.1 ≤ length bytes.now) × (length x.0.now ≤ x.1)) }
 {
     let (size, len) = varint_from(bytes, at)?;
     if size > MOST_MESSAGE_BYTES {

@@ -1,4 +1,5 @@
-use Rattle.std.proofs.Common.{◌++◌, ◌∷◌, [], ◌∙◌, sym, ap, List}
+use Rattle.std.proofs.Common.{◌++◌, ◌∷◌, [], Bool, ap, List, Result, Ok}
+use Rattle.std.specs.declared.alloc.AllocError.{AllocError}
 use Rattle.std.proofs.lemmas.Result.{err_from_is_err_and}
 use Rattle.std.proofs.lemmas.List.Sorted.{IsPermutation-refl}
 use Rattle.am_merge.specs.Maps.{at}
@@ -8,6 +9,9 @@ use Rattle.am_snapshot.proofs.Inserts.{distinct_none, members_more, distinct_mor
 use Rattle.am_snapshot.proofs.RowReads.{reads_none, reads_more, reads_end, reads_stop_with}
 use Rattle.am_snapshot.proofs.Stops.{some_found, none_found, load_reading, load_end, load_repeat}
 use Rattle.am_snapshot.proofs.loading.load.Goals as goal
+
+abbrev answered : Bool → Result Bool AllocError
+answered b = Ok b
 
 pub loop-rows-init : goal.loop-rows-init
 loop-rows-init g c =
@@ -21,29 +25,30 @@ returns-in_err-version-clause-stopped g c =
     rw (p.1, p.2) (load_reading g.V.Version.seen g.V.Message.reads _ _ c.in_err-version.field-0.0
     (reads_stop_with g.V.Message.reads _ _ _ _ _ bytes row versions so_far read (λ (all : List g.row.V.Denot). AreDistinct g.V.Version.seen all) distinct _ answer))
 
-pub returns-then-is_some-clause-stopped : goal.returns-then-is_some-clause-stopped
-returns-then-is_some-clause-stopped g c =
+pub returns-then-not-is_new-clause-stopped : goal.returns-then-not-is_new-clause-stopped
+returns-then-not-is_new-clause-stopped g c =
     let keys = key_order g.met.V.Key.Ord.total g.met.V.Version.exact_keys in
     let (bytes, versions, so_far, _, members, distinct) = c.loop-rows.invariant in
     let (row, read, answer) = rw c.in-Some.is at c.in_ok-version.ensures in
     let one = reads_more g.V.Message.reads _ _ _ _ _ bytes row versions so_far read _ answer in
-    let found = some_found c.get.result (sym c.is_some.ensures ∙ c.if-is_some.true) in
-    let was = earlier g.V.Version.seen g.V.Key.Ord.cmp keys versions c.loop-rows.held _ found.0 members (sym c.get.ensures ∙ found.1) in
-    load_repeat g.V.Version.seen g.V.Message.reads _ _ _ (bytes ++ row) versions c.in-Some.version found.0 one distinct was.1 (was.0 ∙ c.key.ensures)
+    let found = some_found (at g.V.Version.seen g.V.Key.Ord.cmp c.loop-rows.held (g.V.Version.seen c.in-Some.version).key) c.in_ok-is_new.is_new c.in_ok-is_new.ensures.answer c.if-not-is_new.true in
+    let was = earlier g.V.Version.seen g.V.Key.Ord.cmp keys versions c.loop-rows.held _ found.0 members found.1 in
+    load_repeat g.V.Version.seen g.V.Message.reads _ _ _ (bytes ++ row) versions c.in-Some.version found.0 one distinct was.1 was.0
 
 pub loop-rows-preserved : goal.loop-rows-preserved
 loop-rows-preserved g c =
     let keys = key_order g.met.V.Key.Ord.total g.met.V.Version.exact_keys in
     let (bytes, versions, so_far, map, members, distinct) = c.loop-rows.invariant in
     let (row, read, answer) = rw c.in-Some.is at c.in_ok-version.ensures in
-    let put = c.in_ok-take.ensures.taken.put in
-    let none = ap (λ (key : g.row.V-Key.Denot). at g.V.Version.seen g.V.Key.Ord.cmp c.loop-rows.held key) (sym c.key.ensures) ∙ sym c.get.ensures ∙ none_found c.get.result (sym c.is_some.ensures ∙ c.if-is_some.false) in (
+    let new = c.if-not-is_new.false in
+    let put = c.in_ok-is_new.ensures.put (ap (λ (b : Bool). answered b) new) in
+    let none = none_found (at g.V.Version.seen g.V.Key.Ord.cmp c.loop-rows.held (g.V.Version.seen c.in-Some.version).key) c.in_ok-is_new.is_new c.in_ok-is_new.ensures.answer new in (
       bytes ++ row,
       versions ++ c.in-Some.version ∷ [],
       reads_more g.V.Message.reads _ _ _ _ _ bytes row versions so_far read _ answer,
       put.order,
-      members_more g.V.Version.seen g.V.Key.Ord.cmp keys c.loop-rows.held c.take.new.self c.in-Some.version map put.order put.joined none versions members,
-      distinct_more g.V.Version.seen g.V.Key.Ord.cmp keys c.loop-rows.held c.take.new.self c.in-Some.version map put.order put.joined none versions members distinct,
+      members_more g.V.Version.seen g.V.Key.Ord.cmp keys c.loop-rows.held c.insert_new.new.self c.in-Some.version map put.order put.joined none versions members,
+      distinct_more g.V.Version.seen g.V.Key.Ord.cmp keys c.loop-rows.held c.insert_new.new.self c.in-Some.version map put.order put.joined none versions members distinct,
     )
 
 pub returns-clause-members : goal.returns-clause-members

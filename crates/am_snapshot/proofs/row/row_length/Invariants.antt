@@ -1,5 +1,6 @@
 use Rattle.std.proofs.Common.{◌≡◌, ◌≤◌, ◌+◌, length}
-use Rattle.am_snapshot.specs.Texts.{row_text, most}
+use Rattle.am_wire.specs.Reader.{most}
+use Rattle.am_snapshot.specs.Texts.{row_text}
 use Rattle.am_snapshot.proofs.row.row_length.Given as goal
 
 abbrev pub invariant-loop-version : goal.invariant-loop-version

@@ -1,198 +1,13 @@
-ghost use Rattle.std.specs.Prelude.{◌≡◌, ◌<◌, ℕ, List, [], length, slice_index, Some, Ok, Err, nat_lt, if◌then◌else◌};
-ghost use Rattle.std.proofs.Common.{ap, refl, sym, rules};
-ghost use Rattle.std.specs.declared.cmp.Ordering.TheVariants.{Equal};
-ghost use Rattle.std.specs.Cmp.{ranked};
-ghost use Rattle.am_version_order.specs.Versions.{Version};
-ghost use Rattle.am_wire.specs.declared.error.WireError.TheVariants as errors;
+//! Rows of notes that are saved, loaded, taken and folded.
 
-use super::*;
+use crate::notes::Note;
+use crate::streams::{Brittle, Stop, in_one, one_by_one, two_by_two};
 use am_merge::Held;
-use am_version_order::{Moment, Version};
-use am_wire::{Message, RowFault, WireError};
-use std::alloc::{AllocError, Global};
-use std::io::{self, Read, Write};
-use std::marker::Model;
-
-/// A text, the first byte of which is its key. It is never live, and of two of one key the greater text counts.
-#[derive(Drop)]
-struct Note {
-    text: Vec<u8>,
-}
-
-impl Model for Note {
-    ghost Value = { List ℕ };
-
-    ghost view = { λ note. note.text.items };
-
-    ghost invariant = { λ note. 0 < length note.text.items };
-}
-
-impl Version for Note {
-    type Key = u8;
-
-    ghost seen = { λ note. record { key = slice_index note 0; updated = 0; expires = 0; content = note } };
-
-    ghost bucket_of = { λ _. [] };
-
-    ghost head_of = { λ _. 0 };
-
-    ghost is_value = { λ _. Unit {0} };
-
-    fn key(&self) -> &u8 {
-        &self.text[0]
-    }
-
-    fn head(_key: &u8) -> u64 {
-        0
-    }
-
-    fn try_key(&self, _alloc: Global) -> Result<u8, AllocError> {
-        Ok(self.text[0])
-    }
-
-    fn updated(&self) -> Moment {
-        Moment::LEAST
-    }
-
-    fn expires(&self) -> Moment {
-        Moment::LEAST
-    }
-
-    fn canonical(&self) -> &[u8] {
-        &self.text
-    }
-
-    fn bucket(&self) -> &[u8] {
-        &[]
-    }
-
-    fn try_clone(&self, _alloc: Global) -> Result<Self, AllocError> {
-        Ok(Note {
-            text: self.text.clone()?,
-        })
-    }
-
-    ghost exact_keys = { λ x y tie. ranked x y Equal (sym tie) };
-
-    ghost heads = { λ x y. refl };
-
-    ghost exact = { λ v w _ _ same. ap (λ (s : Version ℕ). s.content) same };
-}
-
-impl Message for Note {
-    ghost is_value = { λ note. 0 < length note };
-
-    ghost writes = { λ note. note };
-
-    ghost reads = { λ at text. if nat_lt 0 (length text) then Ok text else Err (errors.Truncated at) };
-
-    fn size(&self) -> u64 {
-        self.text.len() as u64
-    }
-
-    fn put(&self, out: &mut Vec<u8>) -> Result<(), AllocError> {
-        out.extend_from_slice(&self.text)?;
-        Ok(())
-    }
-
-    fn decode_at(alloc: Global, bytes: &[u8], at: usize) -> Result<Self, WireError> {
-        if bytes.is_empty() {
-            return Err(WireError::Truncated { at });
-        }
-        let text = Vec::from_slice(alloc, bytes)?;
-        Ok(Note { text })
-    }
-
-    ghost again = { λ note at value _. Prim.search rules };
-}
-
-/// A reader over bytes that gives at most `step` of them a call, and fails at a call (0: at none).
-#[derive(Clone, Copy)]
-struct Fitful<'a> {
-    left: &'a [u8],
-    step: usize,
-    calls: usize,
-    fails_at: usize,
-}
-
-impl Read for Fitful<'_> {
-    ghost remaining = { λ r. Some r.left.now };
-
-    fn read(&mut self, buf: &mut [u8]) -> io::Result<usize> {
-        self.calls = self.calls.saturating_add(1);
-        if self.calls == self.fails_at {
-            return Err(io::Error::from(io::ErrorKind::ConnectionReset));
-        }
-        let n = self.step.max(1).min(buf.len()).min(self.left.len());
-        buf[..n].copy_from_slice(&self.left[..n]);
-        self.left = &self.left[n..];
-        Ok(n)
-    }
-}
-
-fn one_by_one(left: &[u8], fails_at: usize) -> Fitful<'_> {
-    Fitful {
-        left,
-        step: 1,
-        calls: 0,
-        fails_at,
-    }
-}
-
-/// What a writer does at the call at which it stops.
-#[derive(Clone, Copy, PartialEq, Eq)]
-enum Stop {
-    Fails,
-    TakesNothing,
-}
-
-/// A writer over memory that takes at most `step` bytes a call, and stops at a call (0: at none).
-#[derive(Drop)]
-struct Brittle {
-    taken: Vec<u8>,
-    step: usize,
-    calls: usize,
-    stops_at: usize,
-    stop: Stop,
-}
-
-impl Write for Brittle {
-    ghost contents = { λ w. Some w.taken.items };
-
-    fn write(&mut self, buf: &[u8]) -> io::Result<usize> {
-        self.calls = self.calls.saturating_add(1);
-        if self.calls == self.stops_at {
-            return match self.stop {
-                Stop::Fails => Err(io::Error::from(io::ErrorKind::BrokenPipe)),
-                Stop::TakesNothing => Ok(0),
-            };
-        }
-        let n = self.step.min(buf.len());
-        self.taken.extend_from_slice(&buf[..n])?;
-        Ok(n)
-    }
-
-    fn flush(&mut self) -> io::Result<()> {
-        Ok(())
-    }
-}
-
-fn two_by_two(alloc: Global, stops_at: usize, stop: Stop) -> Brittle {
-    Brittle {
-        taken: Vec::new(alloc),
-        step: 2,
-        calls: 0,
-        stops_at,
-        stop,
-    }
-}
-
-/// Takes all that it is given.
-fn in_one(alloc: Global) -> Brittle {
-    let mut writer = two_by_two(alloc, 0, Stop::Fails);
-    writer.step = usize::MAX;
-    writer
-}
+use am_snapshot::{FoldError, SnapshotError, fold, load, save, take_row};
+use am_version_order::Moment;
+use am_wire::{Messages, RowFault, WireError};
+use std::alloc::Global;
+use std::io::{self, Read};
 
 /// The rows of `a2` and `b0`.
 const ROWS: [u8; 6] = [2, b'a', b'2', 2, b'b', b'0'];
@@ -213,10 +28,8 @@ fn a_row_is_loaded_and_saved_in_key_order(rt: HostRuntime) {
         let mut writer = in_one(rt.alloc());
         let mut reader = one_by_one(&[2, b'b', b'0', 2, b'a', b'2'], 0);
         reader.step = step;
-        assert!(rt;
-            resaved(rt.alloc(), &mut reader, &mut writer) == Ok(6),
-            "{step}"
-        );
+        let answer = resaved(rt.alloc(), &mut reader, &mut writer);
+        assert!(rt; answer == Ok(6), "{step}");
         assert!(rt; writer.taken.as_slice() == ROWS.as_slice(), "{step}");
         assert!(rt; writer.calls == 1, "bytes were not gathered");
     }
@@ -253,10 +66,8 @@ fn a_large_part_is_written_by_itself(rt: HostRuntime) {
     let back: &[u8] = &[2, b'c', b'4'];
     let mut reader = front.chain(io::repeat(b'b').take(70_000)).chain(back);
     let mut writer = in_one(rt.alloc());
-    assert!(rt;
-        resaved(rt.alloc(), &mut reader, &mut writer) == Ok(70_009),
-        "saved"
-    );
+    let answer = resaved(rt.alloc(), &mut reader, &mut writer);
+    assert!(rt; answer == Ok(70_009), "saved");
     assert!(rt; writer.taken.len() == 70_009, "taken");
     assert!(rt; writer.calls == 3, "calls");
 }
@@ -276,10 +87,8 @@ fn a_row_over_the_limit_is_not_begun(rt: HostRuntime) {
         (67_108_861, Err(SnapshotError::TooLarge), 0),
     ] {
         let mut writer = in_one(rt.alloc());
-        assert!(rt;
-            large_saved(rt.alloc(), size, &mut writer) == answer,
-            "{size}"
-        );
+        let saved = large_saved(rt.alloc(), size, &mut writer);
+        assert!(rt; saved == answer, "{size}");
         assert!(rt; writer.calls == calls, "{size}");
     }
 }
@@ -340,31 +149,21 @@ fn a_failed_read_is_told_and_not_tried_again(rt: HostRuntime) {
         let mut folding = loading;
         let mut writer = in_one(rt.alloc());
         let at = k - 1;
-        assert!(rt;
-            load_fault(rt.alloc(), &mut loading) == Some(SnapshotError::Read { at }),
-            "{k}"
-        );
-        assert!(rt;
-            row_fault(rt.alloc(), &mut taking) == Some(RowFault::Read { at }),
-            "{k}"
-        );
-        assert!(rt;
-            folded(rt.alloc(), &mut folding, &mut writer) == Err(FoldError::Read { at }),
-            "{k}"
-        );
+        let loaded = load_fault(rt.alloc(), &mut loading);
+        assert!(rt; loaded == Some(SnapshotError::Read { at }), "{k}");
+        let refused = row_fault(rt.alloc(), &mut taking);
+        assert!(rt; refused == Some(RowFault::Read { at }), "{k}");
+        let answer = folded(rt.alloc(), &mut folding, &mut writer);
+        assert!(rt; answer == Err(FoldError::Read { at }), "{k}");
         assert!(rt;
             [loading.calls, taking.calls, folding.calls] == [k; 3],
             "tried again"
         );
         assert!(rt; writer.calls == 0, "written before all was read");
-        assert!(rt;
-            load_fault(rt.alloc(), &mut loading) == next.map(SnapshotError::Wire),
-            "{k}"
-        );
-        assert!(rt;
-            row_fault(rt.alloc(), &mut taking) == next.map(RowFault::Wire),
-            "{k}"
-        );
+        let loaded = load_fault(rt.alloc(), &mut loading);
+        assert!(rt; loaded == next.map(SnapshotError::Wire), "{k}");
+        let refused = row_fault(rt.alloc(), &mut taking);
+        assert!(rt; refused == next.map(RowFault::Wire), "{k}");
     }
 }
 
@@ -376,10 +175,8 @@ fn a_byte_past_the_limit_is_too_large(rt: HostRuntime) {
     let cut = SnapshotError::Wire(WireError::Truncated { at: 0 });
     for (bytes, fault) in [(67_108_864, cut), (67_108_865, SnapshotError::TooLarge)] {
         let mut reader = TOO_LONG.as_slice().chain(io::repeat(b'a')).take(bytes);
-        assert!(rt;
-            load_fault(rt.alloc(), &mut reader) == Some(fault),
-            "{bytes}"
-        );
+        let answer = load_fault(rt.alloc(), &mut reader);
+        assert!(rt; answer == Some(fault), "{bytes}");
     }
 }
 
@@ -435,5 +232,37 @@ fn a_cut_row_is_folded_up_to_nothing(rt: HostRuntime) {
         let fault = FoldError::Wire(WireError::Truncated { at });
         assert!(rt; answer == Err(fault), "{n}");
         assert!(rt; writer.calls == 0, "{n}");
+    }
+}
+
+/// How many messages come before the fault, or all of them.
+fn read_up_to_a_fault(alloc: Global, bytes: &[u8]) -> (usize, Option<WireError>) {
+    let mut count = 0;
+    for message in Messages::<Note>::new(alloc, bytes) {
+        if let Err(fault) = message {
+            return (count, Some(fault));
+        }
+        count += 1;
+    }
+    (count, None)
+}
+
+#[test]
+fn messages_are_read_up_to_a_fault(rt: HostRuntime) {
+    let cut = |at| Some(WireError::Truncated { at });
+    let cases: [(&[u8], (usize, Option<WireError>)); 6] = [
+        (&[], (0, None)),
+        (&ROWS, (2, None)),
+        (&[2, b'a', b'2', 0, 2, b'b', b'0'], (1, cut(4))),
+        (&[2, b'a', b'2', 2, b'b'], (1, cut(3))),
+        (
+            &[2, b'a', b'2', 0x81, 0x80, 0x80, 0x20, b'b'],
+            (1, Some(WireError::TooLarge)),
+        ),
+        (&[0x80], (0, cut(0))),
+    ];
+    for (place, (bytes, wanted)) in cases.iter().enumerate() {
+        let answer = read_up_to_a_fault(rt.alloc(), bytes);
+        assert!(rt; answer == *wanted, "{place}");
     }
 }

@@ -1,10 +1,13 @@
-ghost use Rattle.std.specs.Prelude.{None, ◌∷◌, []};
+//! Rows of silences that are saved, loaded and folded.
 
+ghost use Rattle.std.specs.Prelude.{None};
+
+use crate::streams::Broken;
 use am_merge::{Held, Taken};
 use am_silence::MeshSilence;
 use am_snapshot::{FoldError, SnapshotError, fold, load, save};
 use am_version_order::Moment;
-use am_wire::Message;
+use am_wire::{Message, WireError};
 use std::alloc::Global;
 use std::io::{self, Read, Write};
 
@@ -50,21 +53,11 @@ const IN_ONE_PAYLOAD: [u8; 54] = [
     0x69, 0x12, 0x03, 0x08, 0xC8, 0x01,
 ];
 
-/// Each read of it fails.
-#[derive(Clone, Copy)]
-struct Broken;
-
-impl Read for Broken {
-    ghost remaining = { λ _. None };
-
-    fn read(&mut self, _buf: &mut [u8]) -> io::Result<usize> {
-        Err(io::Error::from(io::ErrorKind::ConnectionReset))
-    }
-}
-
 /// A writer that takes so many bytes, and then fails.
 #[derive(Clone, Copy)]
 struct Short {
+    taken: [u8; 33],
+    len: usize,
     room: usize,
 }
 
@@ -72,12 +65,14 @@ impl Write for Short {
     ghost contents = { λ _. None };
 
     fn write(&mut self, buf: &[u8]) -> io::Result<usize> {
-        if self.room == 0 {
+        let end = self.room.min(self.taken.len());
+        if self.len >= end {
             return Err(io::Error::from(io::ErrorKind::BrokenPipe));
         }
-        let taken = self.room.min(buf.len());
-        self.room -= taken;
-        Ok(taken)
+        let n = buf.len().min(end - self.len);
+        self.taken[self.len..self.len + n].copy_from_slice(&buf[..n]);
+        self.len += n;
+        Ok(n)
     }
 
     fn flush(&mut self) -> io::Result<()> {
@@ -117,6 +112,41 @@ fn nothing_is_folded_where_a_read_fails(rt: HostRuntime) {
     assert!(rt; output.is_empty(), "written");
 }
 
+/// A length that passes the end of its message; and no silence, but an expiry a second past the greatest.
+const FAULTY: [(&[u8], WireError); 2] = [
+    (
+        &[0x04, 0x0A, 0x05, 0x00, 0x00],
+        WireError::Truncated { at: 1 },
+    ),
+    (
+        &[0x09, 0x12, 0x07, 0x08, 0x80, 0x83, 0xD1, 0xFF, 0xAF, 0x07],
+        WireError::MissingMessage { field: 1 },
+    ),
+];
+
+#[test]
+fn a_faulty_version_is_told(rt: HostRuntime) {
+    for (place, (input, fault)) in FAULTY.iter().enumerate() {
+        let mut output = Vec::new(rt.alloc());
+        let mut reader = *input;
+        let answer = folded(rt.alloc(), &mut reader, &mut output);
+        assert!(rt; answer == Err(FoldError::Wire(*fault)), "{place}");
+        assert!(rt; output.is_empty(), "{place}");
+    }
+}
+
+#[test]
+fn nothing_is_folded_of_rows_that_are_cut(rt: HostRuntime) {
+    let fault = FoldError::Wire(WireError::Truncated { at: 33 });
+    for more in 1..33 {
+        let mut output = Vec::new(rt.alloc());
+        let mut reader = SECOND.as_slice().chain(&FIRST[..more]);
+        let answer = folded(rt.alloc(), &mut reader, &mut output);
+        assert!(rt; answer == Err(fault), "{more}");
+        assert!(rt; output.is_empty(), "{more}");
+    }
+}
+
 fn load_fault<R: Read>(alloc: Global, reader: &mut R) -> Option<SnapshotError> {
     load::<MeshSilence, R>(alloc, reader).err()
 }
@@ -125,7 +155,7 @@ fn load_fault<R: Read>(alloc: Global, reader: &mut R) -> Option<SnapshotError> {
 fn loading_answers_the_first_fault(rt: HostRuntime) {
     let twice = load_fault(rt.alloc(), &mut FIRST.as_slice().chain(SECOND.as_slice()));
     assert!(rt; twice == Some(SnapshotError::DuplicateKey), "twice");
-    let failed = load_fault(rt.alloc(), &mut (&FIRST[..10]).chain(Broken));
+    let failed = load_fault(rt.alloc(), &mut (&SECOND[..10]).chain(Broken));
     assert!(rt; failed == Some(SnapshotError::Read { at: 10 }), "failed");
 }
 
@@ -139,8 +169,15 @@ fn resaved<W: Write>(alloc: Global, row: &[u8], writer: &mut W) -> Result<u64, S
 fn a_failed_write_is_told(rt: HostRuntime) {
     let fault = SnapshotError::Write { written: 7 };
     for row in [FIRST, SECOND] {
-        let answer = resaved(rt.alloc(), &row, &mut Short { room: 7 });
+        let mut writer = Short {
+            taken: [0; 33],
+            len: 0,
+            room: 7,
+        };
+        let answer = resaved(rt.alloc(), &row, &mut writer);
         assert!(rt; answer == Err(fault), "answer");
+        assert!(rt; writer.len == 7, "taken");
+        assert!(rt; writer.taken[..7] == row[..7], "taken");
     }
 }
 

@@ -1,12 +1,12 @@
 -- The messages of an input, and the fault that ends its reading.
 -- `reads` is what reading a message gives, at the offset where it begins.
-use Rattle.std.specs.Prelude.{◌≡◌, ℕ, ◌+◌, ◌-◌, ◌<◌, ◌≤◌, List, [], ◌∷◌, ◌++◌, length, take, drop, map, Option, Some, Result, Ok, Err, ⊤}
+use Rattle.std.specs.Prelude.{◌≡◌, ◌≢◌, ℕ, ◌+◌, ◌-◌, ◌<◌, ◌≤◌, List, [], ◌∷◌, ◌++◌, length, take, drop, map, Option, Some, None, Result, Ok, Err, ⊤}
 use Rattle.am_wire.specs.declared.error.WireError.{WireError}
+use Rattle.am_wire.specs.declared.error.WireError.TheVariants as errors
 use Rattle.am_wire.specs.declared.reader.RowFault.{RowFault}
 use Rattle.am_wire.specs.declared.reader.RowFault.TheVariants.{Read, Wire, TooLarge, Ended, Memory}
 use Rattle.am_wire.specs.Fields.{row_at, pieces, ◌>>=◌}
-use Rattle.am_wire.specs.Reader.{IsCut}
-use Rattle.am_snapshot.specs.Texts.{most}
+use Rattle.am_wire.specs.Reader.{most, IsCut}
 
 -- a message that was read
 abbrev pub sound : {A : Type 0} → A → Result A WireError
@@ -20,17 +20,21 @@ module _ {A : Type 0} (reads : ℕ → List ℕ → Result A WireError) where
     message ← reads (at + (row.1 - length row.0)) row.0
     Ok (message, row.1)
 
-  -- the messages of an input in order, up to the first fault, which comes last
+  -- the messages of bytes that begin at the offset `at`, in order, up to the first fault, which comes last
+  abbrev pub messages_from : ℕ → List ℕ → List (Result A WireError)
+  messages_from at bytes = pieces message_at 0 at bytes
+
+  -- the messages of an input
   abbrev pub messages_of : List ℕ → List (Result A WireError)
-  messages_of input = pieces message_at 0 0 input
+  messages_of input = messages_from 0 input
 
   -- the input is a row of these messages, and nothing in it is at fault
   abbrev pub AreMessages : List ℕ → List A → Type 0
   AreMessages input messages = messages_of input ≡ map sound messages
 
   -- the first fault of the input comes after these messages
-  abbrev pub HasFault : List ℕ → List A → WireError → Type 0
-  HasFault input messages e = messages_of input ≡ map sound messages ++ Err e ∷ []
+  abbrev pub HasFaultAfter : List ℕ → List A → WireError → Type 0
+  HasFaultAfter input messages e = messages_of input ≡ map sound messages ++ Err e ∷ []
 
   -- the bytes are a row of these messages, and then what begins one more and is not whole
   pub record IsCutAfter (bytes : List ℕ) (messages : List A) : Type 0 where
@@ -49,8 +53,15 @@ module _ {A : Type 0} (reads : ℕ → List ℕ → Result A WireError) where
   -- what may be read of it, where it is more than that an input which is too large is cut there; or a read failed
   -- when just so many bytes had come, of which none is at fault; or the input is too large.
   abbrev pub StopsAfter : List ℕ → List A → Option (List ℕ) → RowFault → Type 0
-  StopsAfter input messages left (Wire e) = HasFault input messages e × HasFault (take most input) messages e × ¬ IsTooLargeAfter input messages
+  StopsAfter input messages left (Wire e) = HasFaultAfter input messages e × HasFaultAfter (take most input) messages e × ¬ IsTooLargeAfter input messages
   StopsAfter input messages left (Read k) = IsCutAfter (take k input) messages × (k ≤ most) × (k ≤ length input) × (left ≡ Some (drop k input))
   StopsAfter input messages left TooLarge = IsTooLargeAfter input messages
   StopsAfter input messages left Memory = ⊤
   StopsAfter input messages left Ended = ⊥
+
+-- A call gave the first of what was to come, a message or the fault, behind which nothing comes; or nothing, where
+-- nothing was. Want of memory is no fault of the bytes, and nothing comes behind it either.
+abbrev pub GivesNext : {A : Type 0} → List (Result A WireError) → Option (Result A WireError) → List (Result A WireError) → Type 0
+GivesNext coming None left = (coming ≡ []) × (left ≡ [])
+GivesNext coming (Some (Ok message)) left = coming ≡ Ok message ∷ left
+GivesNext coming (Some (Err e)) left = (0 < length coming) × (left ≡ []) × (e ≢ errors.Memory → coming ≡ Err e ∷ [])
