@@ -18,6 +18,3 @@ pub use judged::verdict;
 pub use labels::{Label, Labels};
 pub use muted::{Ids, Mutes};
 pub use muting::mutes;
-
-#[cfg(test)]
-mod tests;

@@ -1,7 +1,7 @@
 -- The first entry by expiry is that of a version with the least expiry, and sweeping drops one after the other.
-use Rattle.std.proofs.Common.{◌≡◌, ℕ, ◌<◌, ◌≤◌, ◌+◌, suc, zero, Bool, true, false, cond, List, [], ◌∷◌, ◌++◌, get_or, Option, Some, None, refl, sym, ap, ◌∙◌, subst, arith, Contains, nat_lt, length-append}
-use Rattle.std.specs.Prelude.{filter, IfNone, length}
-use Rattle.std.specs.List.{All, AllByRecursion, slice_get}
+use Rattle.std.proofs.Common.{◌≡◌, ℕ, ◌<◌, ◌≤◌, ◌+◌, Bool, true, false, cond, List, [], ◌∷◌, ◌++◌, Option, Some, None, refl, sym, ap, ◌∙◌, subst, arith, Contains, length-append}
+use Rattle.std.specs.Prelude.{IfNone, length}
+use Rattle.std.specs.List.{AllByRecursion, slice_get}
 use Rattle.std.proofs.lemmas.Bool.Decides.{nat_tests}
 use Rattle.std.proofs.lemmas.List.Elements.{All-contains, All-from_recursion, filter-append}
 use Rattle.std.specs.declared.cmp.Ordering.{Ordering}
@@ -10,7 +10,7 @@ use Rattle.std.specs.Ordering.{nat_cmp, ordering_then}
 use Rattle.std.proofs.lemmas.Cmp.{ranked}
 use Rattle.am_version_order.specs.Versions.{Version, is_live}
 use Rattle.am_merge.specs.Maps.{IsMap, IsLeastExpiry, swept}
-use Rattle.am_merge.specs.Indexes.{filed, Names, IsIndex}
+use Rattle.am_merge.specs.Indexes.{filed, Names}
 use Rattle.am_merge.specs.Entries.{versions_of, key_slot, expiry_slot, key_entry, expiry_entry, with_slots, by_time, time_cmp}
 use Rattle.am_merge.specs.Shelves.{IsExpiryIndex, IsKeyIndex, IsWithout}
 use Rattle.am_merge.specs.declared.entry.KeyEntry.{KeyEntry}

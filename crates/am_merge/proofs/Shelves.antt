@@ -1,8 +1,8 @@
 -- The indexes of a shelf when a version is put in, replaced or taken out, and what searches over them find.
-use Rattle.std.proofs.Common.{◌≡◌, ◌≢◌, ℕ, ◌<◌, ◌≤◌, ◌+◌, suc, Bool, true, false, cond, List, [], ◌∷◌, ◌++◌, length, take, drop, get_or, Option, Some, None, refl, sym, ap, ◌∙◌, subst, arith, nat_lt, Contains}
+use Rattle.std.proofs.Common.{◌≡◌, ℕ, ◌<◌, ◌≤◌, suc, Bool, true, false, List, [], ◌∷◌, ◌++◌, length, take, drop, get_or, Option, Some, None, refl, sym, ap, ◌∙◌, subst, arith, nat_lt}
 use Rattle.std.specs.Prelude.{insert, Result, Ok, Err, IfOk, IfErr}
 use Rattle.std.specs.Option.{option_map}
-use Rattle.std.specs.List.{All, AllPairs, HoldsAt, remove, AllByRecursion}
+use Rattle.std.specs.List.{HoldsAt, remove}
 use Rattle.std.proofs.lemmas.Bool.Decides.{nat_tests}
 use Rattle.std.proofs.lemmas.List.{get_or_default, take_all, get_or_past}
 use Rattle.std.specs.declared.cmp.Ordering.{Ordering}
@@ -12,14 +12,14 @@ use Rattle.std.specs.Cmp.{IsTotalOrder}
 use Rattle.std.proofs.lemmas.Cmp.{nat_cmp_total, on_total, then_total, ranked}
 use Rattle.slab.specs.Slab.{Slab, get, Updates}
 use Rattle.am_blocks.specs.declared.spot.Spot.{Spot}
-use Rattle.am_blocks.specs.Rows.{Rows, joined, entries, HasRoom}
+use Rattle.am_blocks.specs.Rows.{Rows, joined, entries}
 use Rattle.am_blocks.specs.Spots.{IsItem, IsWithin, place}
 use Rattle.am_blocks.specs.Searches.{IsRising, IsFound, IsMissing}
 use Rattle.am_blocks.proofs.Joins.{length_around, place_inside, block_inside}
 use Rattle.am_version_order.specs.Versions.{Version}
 use Rattle.am_merge.specs.Maps.{IsMap}
 use Rattle.am_merge.specs.Places.{IsPlaceOf, IsGapFor}
-use Rattle.am_merge.specs.Indexes.{Changes, filed, Names, IsIndex}
+use Rattle.am_merge.specs.Indexes.{Changes, filed, Names}
 use Rattle.am_merge.specs.Entries.{versions_of, key_slot, expiry_slot, key_entry, expiry_entry, with_slots, by_time, time_cmp, key_order, expiry_order, tie_of}
 use Rattle.am_merge.specs.Shelves.{IsExpiryIndex, IsKeyIndex}
 use Rattle.am_merge.specs.declared.entry.KeyEntry.{KeyEntry}

@@ -1,5 +1,5 @@
 -- A shelf when a version is put in, replaced or taken out.
-use Rattle.std.proofs.Common.{◌≡◌, ◌≢◌, ℕ, ◌<◌, ◌≤◌, ◌+◌, zero, suc, Bool, true, false, append_assoc, List, [], ◌∷◌, ◌++◌, length, take, drop, get_or, set, Option, Some, None, refl, sym, ap, ◌∙◌, subst, arith}
+use Rattle.std.proofs.Common.{◌≡◌, ℕ, ◌<◌, ◌≤◌, ◌+◌, zero, suc, Bool, true, false, append_assoc, List, [], ◌∷◌, ◌++◌, length, take, drop, get_or, set, Some, None, refl, sym, ap, ◌∙◌, subst, arith}
 use Rattle.std.specs.Prelude.{insert, slice_index_or, count_by, is_some, Result, Ok, Err, OnOk}
 use Rattle.std.specs.List.{slice_get}
 use Rattle.std.proofs.lemmas.Option.{get_or_from_slice_get}
@@ -11,23 +11,23 @@ use Rattle.std.specs.declared.cmp.Ordering.TheVariants.{Less}
 use Rattle.std.specs.Ordering.{is_lt}
 use Rattle.std.proofs.lemmas.List.Edits.{length-insert, length-remove}
 use Rattle.std.specs.declared.cmp.Ordering.{Ordering}
-use Rattle.slab.specs.Slab.{Slab, get, slab_len, HasRoomFor, Updates}
+use Rattle.slab.specs.Slab.{Slab, get, slab_len, Updates}
 use Rattle.am_blocks.specs.declared.spot.Spot.{Spot}
 use Rattle.am_blocks.specs.Rows.{Rows, joined, entries, HasRoom}
-use Rattle.am_blocks.specs.Spots.{IsItem, IsWithin, place, place_in, block_at}
+use Rattle.am_blocks.specs.Spots.{IsItem, place, place_in, block_at}
 use Rattle.am_version_order.specs.Versions.{Version, is_below, rank_cmp}
 use Rattle.am_merge.specs.Maps.{IsMap, replaces}
 use Rattle.am_merge.specs.Takings.{IsPut}
 use Rattle.am_merge.specs.Places.{IsPlaceOf, IsGapFor}
 use Rattle.am_merge.specs.Indexes.{Changes, filed}
 use Rattle.am_merge.specs.Entries.{versions_of, key_slot, expiry_slot, key_entry, with_slots, by_time, time_cmp}
-use Rattle.am_merge.specs.Shelves.{versions, IsExpiryIndex, IsKeyIndex, IsShelf, IsKeySpot, IsGapSpot, IsWithout, HasRooms}
+use Rattle.am_merge.specs.Shelves.{versions, IsExpiryIndex, IsKeyIndex, IsShelf, IsKeySpot, IsGapSpot, IsWithout}
 use Rattle.am_merge.specs.declared.entry.KeyEntry.{KeyEntry}
 use Rattle.am_merge.specs.declared.entry.ExpiryEntry.{ExpiryEntry}
 use Rattle.am_merge.specs.declared.shelf.Shelf.{Shelf}
 use Rattle.am_merge.proofs.Keys.{IsKeyOrder, IsMap-without, both_parts}
 use Rattle.am_merge.proofs.Puts.{cut_at, place_over, place_nowhere}
-use Rattle.am_merge.proofs.Shelves.{item_within, spot_within, changes_of, changes_after, expiry_taken, expiry_put, key_put, versions_put, key_taken, versions_taken, version_here, versions_swapped, key_swapped, key_names, versions_length}
+use Rattle.am_merge.proofs.Shelves.{item_within, spot_within, changes_of, changes_after, expiry_taken, expiry_put, key_put, versions_put, key_taken, versions_taken, version_here, versions_swapped, key_swapped, versions_length}
 
 module _ {K X : Type 0} (seen : X → Version K) where
   pub taken_out : (old new : Slab X) (rows after : Rows ExpiryEntry) (slot : ℕ) (v : X) (spot : Spot) → get old slot ≡ Some v → Updates old new slot None → IsExpiryIndex seen (get old) (entries rows) → IsItem rows spot → HoldsAt (λ e. expiry_slot e ≡ slot) (entries rows) (place rows spot) → entries after ≡ remove (entries rows) (place rows spot) → IsExpiryIndex seen (get new) (entries after)

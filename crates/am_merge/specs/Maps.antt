@@ -1,11 +1,15 @@
 -- Maps from keys to versions, as the list of their versions in the order of the keys.
 -- X is the type of versions, and `seen` is what the merge sees of one.
-use Rattle.std.specs.Prelude.{◌≡◌, ℕ, List, [], ◌∷◌, Bool, true, Option, Some, None, if◌then◌else◌, find, filter, All, Contains, IsPermutation, ◌≤◌}
+use Rattle.std.specs.Prelude.{◌≡◌, ℕ, List, [], ◌∷◌, Bool, true, Option, Some, None, if◌then◌else◌, find, filter, All, Contains, IsPermutation, ◌≤◌, bytes_eq}
 use Rattle.std.specs.List.{AllByRecursion}
 use Rattle.std.specs.declared.cmp.Ordering.{Ordering}
 use Rattle.std.specs.declared.cmp.Ordering.TheVariants.{Less}
 use Rattle.std.specs.Ordering.{eq_by_cmp}
 use Rattle.am_version_order.specs.Versions.{Version, is_below, is_live, IsLive}
+
+-- the versions of a map whose bucket is these bytes
+abbrev pub in_bucket : {X : Type 0} → (X → List ℕ) → List ℕ → List X → List X
+in_bucket bucket_of bucket versions = filter (λ v. bytes_eq (bucket_of v) bucket) versions
 
 module _ {K X : Type 0} (seen : X → Version K) where
   -- the greater of two versions of one key, or the only one; of two that tie, the first

@@ -1,10 +1,10 @@
 -- A table of versions under slots, with an index by key and one by expiry.
 -- X is the type of versions, and `seen` is what the merge sees of one.
-use Rattle.std.specs.Prelude.{◌≡◌, ℕ, ◌+◌, ◌<◌, ◌≤◌, List, ◌∷◌, ◌++◌, length, Option, Some, false}
+use Rattle.std.specs.Prelude.{◌≡◌, ℕ, List, ◌∷◌, ◌++◌, length, Option, Some, false}
 use Rattle.std.specs.declared.cmp.Ordering.{Ordering}
 use Rattle.slab.specs.Slab.{Slab, get, slab_len, HasRoomFor}
 use Rattle.am_blocks.specs.declared.spot.Spot.{Spot}
-use Rattle.am_blocks.specs.Rows.{Rows, entries, HasRoom}
+use Rattle.am_blocks.specs.Rows.{entries, HasRoom}
 use Rattle.am_blocks.specs.Spots.{IsItem, IsWithin, place}
 use Rattle.am_version_order.specs.Versions.{Version, is_live}
 use Rattle.am_merge.specs.Maps.{IsMap}

@@ -2,12 +2,12 @@
 
 ghost use Rattle.std.specs.Prelude.{◌≡◌, ◌==◌, ◌+◌, ◌<◌, ◌↔◌, [], true, false, length, take, count_by, is_none, MatchOption, IfOk, IfErr, OnOk, OnErr, Ok, IsPermutation};
 ghost use Rattle.std.specs.Option.{option_copied};
-ghost use Rattle.am_merge.specs.Maps.{IsMap, IsJoin, IsLeastExpiry, HasTwice, at, if_live, replaces, swept};
+ghost use Rattle.am_merge.specs.Maps.{IsMap, IsJoin, IsLeastExpiry, HasTwice, at, if_live, in_bucket, replaces, swept};
 
 use crate::changes::{
     copy_shelf, drop_expired, merge_in, order_by_key, put, put_new, shelve, taken_as,
 };
-use crate::iter::{Iter, walk_shelf};
+use crate::iter::{InBucket, Iter, walk_bucket, walk_shelf};
 use crate::shelf::{Shelf, empty_shelf, find, reserve, version_at};
 use am_version_order::{Moment, Version};
 use std::alloc::{AllocError, Global};
@@ -136,6 +136,13 @@ impl<V: Version> Held<V> {
         ensures order { IsMap V.seen V.Key.cmp self.now }
     {
         walk_shelf(&self.shelf)
+    }
+
+    /// The versions of a bucket, in the order of their keys. It takes no memory.
+    pub fn in_bucket<'a>(&'a self, bucket: &'a [u8]) -> InBucket<'a, V>
+        ensures { result ≡ in_bucket V.bucket_of bucket.now self.now }
+    {
+        walk_bucket(&self.shelf, bucket)
     }
 
     /// The least expiry of the versions, or `None` where there is none. It takes no memory.

@@ -2,6 +2,7 @@
 
 ghost use Rattle.std.specs.Prelude.{◌≡◌};
 ghost use Rattle.std.specs.Iterator.{YieldsFirstRef, item_count};
+ghost use Rattle.am_merge.specs.Maps.{in_bucket};
 ghost use Rattle.am_merge.specs.Shelves.{versions, IsShelf};
 
 use crate::entry::KeyEntry;
@@ -53,5 +54,51 @@ pub fn walk_shelf<V: Version>(shelf: &Shelf<V>) -> Iter<'_, V>
     Iter {
         table: &shelf.table,
         walk: shelf.keys.walk(),
+    }
+}
+
+/// The versions of a bucket that are left of a walk, in the order of their keys.
+///
+/// Contracts see it as the list of those versions.
+#[derive(Drop)]
+pub struct InBucket<'a, V: Version> {
+    versions: Iter<'a, V>,
+    bucket: &'a [u8],
+}
+
+impl<'a, V: Version> Model for InBucket<'a, V> {
+    ghost use Rattle.std.specs.Prelude.{List};
+    ghost use Rattle.am_merge.specs.Maps.{in_bucket};
+
+    ghost Value = { List V };
+
+    ghost view = { λ walk. in_bucket V.bucket_of walk.bucket.now walk.versions };
+}
+
+impl<'a, V: Version> Iterator for InBucket<'a, V> {
+    type Item = &'a V;
+
+    ghost next_gives = { YieldsFirstRef (λ rest. rest) };
+
+    ghost remaining = { item_count (λ rest. rest) };
+
+    fn next(&mut self) -> Option<&'a V> {
+        while let Some(version) = self.versions.next() {
+            if version.bucket() == self.bucket {
+                return Some(version);
+            }
+        }
+        None
+    }
+}
+
+/// The versions of a shelf whose bucket is this one.
+pub fn walk_bucket<'a, V: Version>(shelf: &'a Shelf<V>, bucket: &'a [u8]) -> InBucket<'a, V>
+    requires { IsShelf V.seen V.head_of V.Key.cmp shelf.now }
+    ensures { result ≡ in_bucket V.bucket_of bucket.now (versions shelf.now) }
+{
+    InBucket {
+        versions: walk_shelf(shelf),
+        bucket,
     }
 }

@@ -9,7 +9,7 @@ pub mod laws;
 mod shelf;
 
 pub use held::{FromVersionsError, Held, MergeError, Taken};
-pub use iter::Iter;
+pub use iter::{InBucket, Iter};
 
 #[cfg(test)]
 mod tests;

@@ -1,4 +1,4 @@
-use Rattle.std.proofs.Common.{◌≡◌, length, ◌∙◌, arith}
+use Rattle.std.proofs.Common.{◌∙◌, arith}
 use Rattle.am_merge.specs.Shelves.{versions}
 use Rattle.am_merge.proofs.Keys.{key_order}
 use Rattle.am_merge.proofs.Firsts.{swept_without, without_length}

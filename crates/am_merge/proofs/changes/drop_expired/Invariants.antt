@@ -1,4 +1,4 @@
-use Rattle.std.proofs.Common.{◌≡◌, ◌≤◌, length, ℕ}
+use Rattle.std.proofs.Common.{◌≡◌, ◌≤◌, length}
 use Rattle.am_merge.specs.Maps.{swept}
 use Rattle.am_merge.specs.Shelves.{versions, IsShelf}
 use Rattle.am_merge.proofs.changes.drop_expired.Given as goal

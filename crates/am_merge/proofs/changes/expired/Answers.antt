@@ -1,8 +1,7 @@
-use Rattle.std.proofs.Common.{◌≡◌, true, sym, ap, ◌∙◌, rules}
+use Rattle.std.proofs.Common.{◌≡◌, true, sym, ◌∙◌, rules}
 use Rattle.slab.specs.Slab.{get}
 use Rattle.am_blocks.specs.Rows.{entries}
 use Rattle.am_version_order.specs.Versions.{is_live}
-use Rattle.am_merge.specs.Maps.{swept}
 use Rattle.am_merge.specs.Shelves.{versions}
 use Rattle.am_merge.proofs.Firsts.{swept_all, live_from, expired_from, first_least, first_named, none_first, each_version, if_none}
 use Rattle.am_merge.proofs.changes.expired.Goals as goal

@@ -1,5 +1,4 @@
-use Rattle.std.proofs.Common.{sym, ◌∙◌, subst, Some}
-use Rattle.slab.specs.Slab.{Updates}
+use Rattle.std.proofs.Common.{sym, ◌∙◌}
 use Rattle.am_merge.proofs.Steps.{put_in}
 use Rattle.am_merge.proofs.shelf.put_in.Goals as goal
 

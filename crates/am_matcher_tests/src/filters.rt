@@ -1,0 +1,128 @@
+//! Filters of queries, and want of memory in all calls.
+
+use crate::fixtures::{JOB_IS_X, MatcherRow, silence};
+use crate::matchers::{answer, verdict_on};
+use am_matcher::{BuildError, Filter, FilterError};
+use am_silence::{MatcherKind, Silence, Verdict};
+use std::alloc::{AllocError, Global};
+use std::test::Fail;
+
+/// Why a text is refused as a filter.
+fn refusal(alloc: Global, text: &str) -> Option<FilterError> {
+    Filter::parse(alloc, text).err()
+}
+
+#[test]
+fn bad_filters_are_refused(rt: HostRuntime) {
+    for (text, want) in [
+        ("1a=x", FilterError::Syntax),
+        ("a=\"x", FilterError::Syntax),
+        ("a=x\"", FilterError::Syntax),
+        ("a==\"x\"", FilterError::Syntax),
+        ("a=\"x\\\"", FilterError::Syntax),
+        ("a=\"", FilterError::Syntax),
+        ("", FilterError::Syntax),
+        ("=x", FilterError::Syntax),
+        ("a b=x", FilterError::Syntax),
+        ("a!x", FilterError::Syntax),
+        ("a=~(", FilterError::BadPattern),
+        ("a!~(", FilterError::BadPattern),
+        ("a!~\"a)|(b\"", FilterError::BadPattern),
+        ("a=~[", FilterError::BadPattern),
+        ("a!~x{999999999}", FilterError::BadPattern),
+    ] {
+        let refused = refusal(rt.alloc(), text);
+        assert_eq!(rt; refused, Some(want), "{text}");
+    }
+}
+
+fn passed(alloc: Global, text: &str, silence: &Silence) -> Result<bool, FilterError> {
+    let mut filter = Filter::parse(alloc, text)?;
+    Ok(filter.passes(silence)?)
+}
+
+/// Whether a silence with these matchers passes a filter.
+fn passes(alloc: Global, text: &str, rows: &[MatcherRow]) -> Result<bool, FilterError> {
+    let silence = silence(alloc, "p", rows)?;
+    passed(alloc, text, &silence)
+}
+
+#[test]
+fn filters_pass_silences(rt: HostRuntime) {
+    for (text, want) in [
+        (" job =~ \"x|y\" ", true),
+        ("job!=\"\\x\"", true),
+        ("job!=\\x", true),
+        ("job!=x", false),
+        ("job!~x|y", false),
+        ("env=", true),
+        ("env=x", false),
+        ("\t job\n=\r\x0Cx ", true),
+    ] {
+        let found = passes(rt.alloc(), text, &[JOB_IS_X]);
+        assert_eq!(rt; found, Ok(want), "{text}");
+    }
+}
+
+/// Whatever its kind, the last matcher of a name counts.
+#[test]
+fn the_last_matcher_of_a_name_counts(rt: HostRuntime) {
+    let last = (MatcherKind::NotRegexp, "job", "a\"\\\nb");
+    for (text, want) in [
+        ("job=x", false),
+        ("job=\"a\\\"\\\\\\nb\"", true),
+        ("job=a\\\"\\\\\\nb", true),
+        ("job=\"a\\\"\\\\nb\"", false),
+    ] {
+        let found = passes(rt.alloc(), text, &[JOB_IS_X, last]);
+        assert_eq!(rt; found, Ok(want), "{text}");
+    }
+}
+
+/// Filters with classes, flags and repetitions, and a silence for job `node_1234` that passes them or doesn't.
+#[test]
+fn filters_have_patterns(rt: HostRuntime) {
+    let node = (MatcherKind::Equal, "job", "node_1234");
+    for (text, want) in [
+        ("job=~[a-z_]+[0-9]{2,4}", true),
+        ("job!~[a-z_]+[0-9]{2,4}", false),
+        ("job=~[a-z_]+[0-9]{5,9}", false),
+        ("job!~[a-z_]+[0-9]{5,9}", true),
+        ("job=~\"(?i)NODE_\\d+\"", true),
+        ("job!~\"(?i)NODE_\\d+\"", false),
+        (
+            "job=~\"(?:app|node|store|[^a-z]+|\\\\p{Greek}+)_(?:1|2|3|4|[5-9]{1,2})*\"",
+            true,
+        ),
+        (
+            "job!~\"(?:app|node|store|[^a-z]+|\\\\p{Greek}+)_(?:1|2|3|4|[5-9]{1,2})*\"",
+            false,
+        ),
+    ] {
+        let found = passes(rt.alloc(), text, &[node]);
+        assert_eq!(rt; found, Ok(want), "{text}");
+    }
+}
+
+/// Whether the answers are right, or want of memory.
+fn answers(alloc: Global) -> Result<bool, AllocError> {
+    let row = (MatcherKind::Regexp, "job", "x|[y-z]+");
+    let found = answer(alloc, row, "yz");
+    let judged = verdict_on(alloc, &[row])?;
+    let passed = passes(alloc, " job =~ \"x|y\"", &[JOB_IS_X]);
+    match (found, passed) {
+        (Err(BuildError::Memory), _) | (_, Err(FilterError::Memory)) => Err(AllocError),
+        _ => Ok(found == Ok(true) && judged == Verdict::Fine && passed == Ok(true)),
+    }
+}
+
+/// Want of memory is told as such, and the call can be made again.
+#[test]
+fn want_of_memory_is_no_bad_pattern(rt: HostRuntime) {
+    let first = answers(rt.alloc());
+    assert!(rt; first != Ok(false));
+    if first.is_err() {
+        let again = answers(rt.alloc());
+        assert_eq!(rt; again, Ok(true));
+    }
+}
