@@ -53,3 +53,33 @@ module _ (value : ℕ) (bytes : List ℕ) (len rest : ℕ) (h : HasWritten value
       let len_in = h.len_in in
       let k : 9 - len ≡ 0 = omega arith in
       ends (rest % 128) refl (rw k refl)
+
+-- ---- a loop that puts the groups behind other bytes
+pub record HasPushed (value : ℕ) (old new : List ℕ) (len rest : ℕ) : Type 0 where
+  pub len_in : len ≤ 9
+  pub rest_in : rest < 2 ^ 64
+  pub goes_on : new ++ groups (9 - len) rest ≡ old ++ groups 9 value
+
+module _ (value : ℕ) (old new : List ℕ) (len rest : ℕ) (h : HasPushed value old new len rest) where
+  pub goes_on_pushing : 128 ≤ rest → len < 9 → HasPushed value old (new ++ (128 + rest % 128) ∷ []) (len + 1) (rest / 128)
+  unfolding groups
+  goes_on_pushing le lt =
+      let below = h.rest_in in
+      let t : ltb rest 128 ≡ false = le-ltb _ _ le in
+      let k : 9 - len ≡ suc (9 - (len + 1)) = omega arith in
+      let others : groups (9 - len) rest ≡ (128 + rest % 128) ∷ groups (9 - (len + 1)) (rest / 128) = rw (k, t) refl in
+      record {
+        len_in = omega arith;
+        rest_in = omega arith;
+        goes_on = append_assoc new ((128 + rest % 128) ∷ []) (groups (9 - (len + 1)) (rest / 128)) ∙ ap (λ (x : List ℕ). new ++ x) (sym others) ∙ h.goes_on;
+      }
+
+  pub pushed_low : rest < 128 → new ++ rest % 128 ∷ [] ≡ old ++ groups 9 value
+  pushed_low lt = ap (λ (x : List ℕ). new ++ x) (sym (low (9 - len) rest lt)) ∙ h.goes_on
+
+  pub pushed_full : 9 ≤ len → new ++ rest % 128 ∷ [] ≡ old ++ groups 9 value
+  unfolding groups
+  pushed_full le =
+      let len_in = h.len_in in
+      let k : 9 - len ≡ 0 = omega arith in
+      ap (λ (x : List ℕ). new ++ x) (rw k refl) ∙ h.goes_on

@@ -119,6 +119,7 @@ fn chunk_payload<'a>(
     Ok((Value::Bytes(&rest[..size]), start + len, len + size))
 }
 
+#[inline(always)]
 #[tactic(auto, unfolding(crate::specs::Fields::payload_at))]
 fn payload_from<'a>(
     wire_type: WireType,

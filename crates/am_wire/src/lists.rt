@@ -1,6 +1,6 @@
 //! Bytes that need not be a text, and lists of numbers, one to a field or packed.
 
-ghost use Rattle.std.specs.Prelude.{◌≡◌, ℕ, List, [], ◌∷◌, ◌++◌, Option, None, Some, ◌<◌, ◌^◌, length, All, OnOk, IfErr};
+ghost use Rattle.std.specs.Prelude.{◌≡◌, ℕ, List, [], ◌∷◌, ◌++◌, Option, None, Some, ◌<◌, ◌^◌, length, All, OnOk, IfErr, count_by, nat_lt};
 ghost use Rattle.std.specs.List.{flat_map};
 ghost use Rattle.am_wire.specs.Fields.{field_of};
 ghost use Rattle.am_wire.specs.Reading.{Fails, last_or, chunk_in, numbers_in, numbers_fault, kept, first_fault, unpacked};
@@ -51,12 +51,20 @@ pub fn push_numbers(numbers: &mut Vec<u64>, field: Field<'_>) -> Result<(), Wire
     Ok(())
 }
 
+// How many packed numbers end in the bytes.
+fn packed_count(bytes: &[u8]) -> usize
+    ensures { result ≡ count_by (λ byte. nat_lt byte 128) bytes.now }
+{
+    bytes.iter().filter(|byte| **byte < 128).count()
+}
+
 // Reads the numbers that are packed in bytes; a fault is put down to `at`.
 fn unpack(numbers: &mut Vec<u64>, bytes: &[u8], at: usize) -> Result<(), WireError>
     ensures held { OnOk result (numbers.new.items ≡ numbers.old.items ++ kept (unpacked at bytes.now)) }
     ensures clean { OnOk result (first_fault (unpacked at bytes.now) ≡ None) }
     ensures fault { IfErr result (λ e. Fails e (first_fault (unpacked at bytes.now))) }
 {
+    numbers.reserve(packed_count(bytes))?;
     let mut rest = bytes;
     while !rest.is_empty() {
         let (number, len) = varint_from(rest, at)?;

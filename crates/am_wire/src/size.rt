@@ -14,13 +14,10 @@ pub fn varint_size(value: u64) -> u64
     ensures size { result ≡ length (shortest value) }
     ensures most { result ≤ 10 }
 {
-    let mut size = 1;
-    let mut rest = value;
-    while rest >= 128 && size < 10 {
-        rest /= 128;
-        size += 1;
+    if value < 128 {
+        return 1;
     }
-    size
+    u64::from(63 - value.leading_zeros()) / 7 + 1
 }
 
 /// How many bytes a number takes as a field.

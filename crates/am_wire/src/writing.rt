@@ -27,7 +27,15 @@ fn push_varint(out: &mut Vec<u8>, value: u64) -> Result<(), AllocError>
 fn push_long_varint(out: &mut Vec<u8>, value: u64) -> Result<(), AllocError>
     ensures ok { OnOk result (out.new.items ≡ out.old.items ++ shortest value) }
 {
-    out.extend_from_slice(write_varint(value).as_slice())
+    let mut rest = value;
+    let mut len: usize = 0;
+    while rest >= 128 && len < 9 {
+        out.push((128 + rest % 128) as u8)?;
+        rest /= 128;
+        len += 1;
+    }
+    out.push((rest % 128) as u8)?;
+    Ok(())
 }
 
 /// Writes a number as a field. 0 is left out, since it is what a missing number is read as.

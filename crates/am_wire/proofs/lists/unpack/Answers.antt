@@ -6,7 +6,7 @@ use Rattle.am_wire.proofs.lists.unpack.Goals as goal
 
 pub returns-in_err-number-clause-fault : goal.returns-in_err-number-clause-fault
 returns-in_err-number-clause-fault c =
-    let p = err_from_is_err_and c.from_residual.result c.from_residual.ensures.1 in
+    let p = err_from_is_err_and c.from_residual-in_err-number.result c.from_residual-in_err-number.ensures.1 in
     rw (p.1, p.2) (λ _. sym c.loop-rest.invariant.clean ∙ unpacked-fault _ _ _ (sym c.in_err-number.ensures.value) c.loop-rest-test.ensures)
 
 pub loop-rest-preserved : goal.loop-rest-preserved

@@ -1,11 +1,9 @@
-use Rattle.am_wire.proofs.Sizes.{HasCounted-more, counted_low, counted_full}
+use Rattle.std.proofs.Common.{ℕ, ◌+◌, ◌/◌, sym, ◌∙◌, ap, arith}
+use Rattle.am_wire.proofs.Sizes.{one_group, size_by_zeros}
 use Rattle.am_wire.proofs.size.varint_size.Goals as goal
 
-pub loop-rest-preserved : goal.loop-rest-preserved
-loop-rest-preserved c = HasCounted-more _ _ _ c.loop-rest.invariant c.loop-rest-test.true c.if-size-lt10.true
+pub returns-then-value-lt128-clause-size : goal.returns-then-value-lt128-clause-size
+returns-then-value-lt128-clause-size c = sym (one_group 9 c.args.value c.if-value-lt128.true)
 
-pub returns-else-size-lt10-clause-size : goal.returns-else-size-lt10-clause-size
-returns-else-size-lt10-clause-size c = counted_full _ _ _ c.loop-rest.invariant c.if-size-lt10.false
-
-pub returns-after-loop-rest-clause-size : goal.returns-after-loop-rest-clause-size
-returns-after-loop-rest-clause-size c = counted_low _ _ _ c.loop-rest.invariant c.loop-rest-test.false
+pub returns-clause-size : goal.returns-clause-size
+returns-clause-size c = ap (λ (n : ℕ). n / 7 + 1) c.from.ensures ∙ size_by_zeros c.args.value (omega (arith, c.if-value-lt128.false)) c.ranges.value.fits
