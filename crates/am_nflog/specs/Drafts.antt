@@ -11,11 +11,13 @@ use Rattle.am_nflog.specs.declared.receiver.ReceiverDraft.{ReceiverDraft}
 use Rattle.am_nflog.specs.declared.entry.EntryDraft.{EntryDraft}
 use Rattle.am_nflog.specs.declared.mesh.MeshEntryDraft.{MeshEntryDraft}
 
+-- a receiver's draft holds what these fields leave
 pub record IsReceiverDraft (es : List FieldAt) (d : ReceiverDraft) : Type 0 where
   pub group_name : d.group_name.text.now ≡ last_text 1 es
   pub integration : d.integration.text.now ≡ last_text 2 es
   pub idx : d.idx.value ≡ last_number 3 es
 
+-- an entry's draft does
 pub record IsEntryDraft (es : List FieldAt) (d : EntryDraft) : Type 0 where
   pub group_key : d.group_key.bytes.now ≡ last_text 1 es
   pub receiver : IsPart IsReceiverDraft receiver 2 es d.receiver
@@ -25,6 +27,7 @@ pub record IsEntryDraft (es : List FieldAt) (d : EntryDraft) : Type 0 where
   pub firing_alerts : d.firing_alerts.items ≡ all_numbers 6 es
   pub resolved_alerts : d.resolved_alerts.items ≡ all_numbers 7 es
 
+-- the draft of an entry that is passed on does
 pub record IsMeshEntryDraft (es : List FieldAt) (d : MeshEntryDraft) : Type 0 where
   pub entry : IsPart IsEntryDraft entry 1 es d.entry
   pub expires_at : IsPart IsTimestampDraft timestamp 2 es d.expires_at

@@ -5,19 +5,23 @@ use Rattle.am_version_order.specs.Moments.{greatest}
 use Rattle.am_wire.specs.declared.error.WireError.{WireError}
 use Rattle.am_wire.specs.declared.error.WireError.TheVariants as errors
 use Rattle.am_wire.specs.Fields.{FieldAt}
-use Rattle.am_wire.specs.Reading.{Table, table_of, varint_row, blob_row, part_row, numbers_row, last_number, last_text, all_numbers, joined, is_given, read_by}
+use Rattle.am_wire.specs.Reading.{Table, table_of, varint_row, blob_row, part_row, numbers_row}
+use Rattle.am_wire.specs.Reading.{last_number, last_text, all_numbers, joined, is_given, read_by}
 use Rattle.am_wire.specs.Timestamps.{timestamp, moment_of, moment_test, writes_moment}
 use Rattle.am_wire.specs.Writing.{put_number, put_text, put_chunk, put_numbers}
 use Rattle.am_nflog.specs.declared.entry.Entry.{Entry}
 use Rattle.am_nflog.specs.declared.entry.LogKey.{LogKey}
 use Rattle.am_nflog.specs.Receivers.{receiver, receiver_value, writes_receiver, IsReceiver}
 
+-- which wire types an entry's fields have, and what is at fault inside them
 abbrev pub entry : Table
 entry = table_of (blob_row 1 ∷ part_row 2 receiver ∷ blob_row 3 ∷ varint_row 4 ∷ part_row 5 timestamp ∷ numbers_row 6 ∷ numbers_row 7 ∷ [])
 
+-- the key of an entry of these fields
 abbrev pub key_value : List FieldAt → LogKey
 key_value es = record { group_key = last_text 1 es; receiver = receiver_value (joined receiver 2 es) }
 
+-- the entry of these fields
 abbrev pub entry_value : List FieldAt → Entry
 entry_value es = record {
   key = key_value es;
@@ -32,13 +36,15 @@ entry_value es = record {
 abbrev pub entry_tests : ℕ → List FieldAt → Option WireError
 entry_tests place es = if is_given 2 es then moment_test 5 es else Some (errors.MissingMessage 2)
 
+-- the entry that bytes spell, or their first fault
 unfoldable pub reads_entry : ℕ → List ℕ → Result Entry WireError
 reads_entry at bytes = read_by entry entry_tests entry_value at at bytes
 
+-- the one text of an entry
 unfoldable pub writes_entry : Entry → List ℕ
 writes_entry e =
-    put_text 1 e.key.group_key ++ put_chunk 2 (writes_receiver e.key.receiver) ++ put_text 3 e.group_hash ++ put_number 4 (if e.resolved then 1 else 0)
-    ++ put_chunk 5 (writes_moment e.timestamp) ++ put_numbers 6 e.firing_alerts ++ put_numbers 7 e.resolved_alerts
+    put_text 1 e.key.group_key ++ put_chunk 2 (writes_receiver e.key.receiver) ++ put_text 3 e.group_hash
+    ++ put_number 4 (if e.resolved then 1 else 0) ++ put_chunk 5 (writes_moment e.timestamp) ++ put_numbers 6 e.firing_alerts ++ put_numbers 7 e.resolved_alerts
 
 -- the values of an entry
 pub record IsEntry (e : Entry) : Type 0 where

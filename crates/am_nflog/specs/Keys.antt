@@ -9,6 +9,7 @@ use Rattle.std.proofs.lemmas.Cmp.{ranked}
 use Rattle.std.proofs.lemmas.Map.Lookups.{exact_bytes}
 use Rattle.am_nflog.specs.declared.entry.LogKey.{LogKey}
 
+-- keys in their order
 abbrev pub key_cmp : LogKey → LogKey → Ordering
 key_cmp =
     then_cmp (on (λ k. k.group_key) (slice_cmp nat_cmp))

@@ -13,6 +13,7 @@ pub record Mesh : Type 0 where
   pub entry : Entry
   pub expires_at : ℕ
 
+-- the canonical text of a version
 unfoldable pub writes_mesh_entry : Mesh → List ℕ
 writes_mesh_entry m = put_chunk 1 (writes_entry m.entry) ++ put_chunk 2 (writes_moment m.expires_at)
 

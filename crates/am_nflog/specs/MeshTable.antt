@@ -8,9 +8,11 @@ use Rattle.am_wire.specs.Timestamps.{timestamp, moment_of, moment_test}
 use Rattle.am_nflog.specs.Entries.{entry, entry_value, entry_tests}
 use Rattle.am_nflog.specs.Mesh.{Mesh}
 
+-- which wire types its fields have, and what is at fault inside them
 abbrev pub mesh_entry : Table
 mesh_entry = table_of (part_row 1 entry ∷ part_row 2 timestamp ∷ [])
 
+-- the version of these fields
 abbrev pub mesh_entry_value : List FieldAt → Mesh
 mesh_entry_value es = record { entry = entry_value (joined entry 1 es); expires_at = moment_of 2 es }
 
@@ -19,5 +21,6 @@ abbrev pub mesh_entry_tests : ℕ → List FieldAt → Option WireError
 mesh_entry_tests place es =
     if is_given 1 es then (entry_tests (last_place 1 es) (joined entry 1 es) then moment_test 2 es) else Some (errors.MissingMessage 1)
 
+-- the version that bytes spell, or their first fault
 unfoldable pub reads_mesh_entry : ℕ → List ℕ → Result Mesh WireError
 reads_mesh_entry at bytes = read_by mesh_entry mesh_entry_tests mesh_entry_value at at bytes

@@ -8,9 +8,11 @@ use Rattle.am_wire.specs.Timestamps.{low_half}
 use Rattle.am_wire.specs.Writing.{put_number, put_text}
 use Rattle.am_nflog.specs.declared.receiver.Receiver.{Receiver}
 
+-- which wire types a receiver's fields have, and what is at fault inside them
 abbrev pub receiver : Table
 receiver = table_of (text_row 1 ∷ text_row 2 ∷ varint_row 3 ∷ [])
 
+-- the receiver of these fields
 abbrev pub receiver_value : List FieldAt → Receiver
 receiver_value es = record { group_name = last_text 1 es; integration = last_text 2 es; idx = low_half (last_number 3 es) }
 
@@ -18,9 +20,11 @@ receiver_value es = record { group_name = last_text 1 es; integration = last_tex
 abbrev pub receiver_tests : ℕ → List FieldAt → Option WireError
 receiver_tests place es = None
 
+-- the receiver that bytes spell, or their first fault
 unfoldable pub reads_receiver : ℕ → List ℕ → Result Receiver WireError
 reads_receiver at bytes = read_by receiver receiver_tests receiver_value at at bytes
 
+-- the one text of a receiver
 unfoldable pub writes_receiver : Receiver → List ℕ
 writes_receiver r = put_text 1 r.group_name ++ put_text 2 r.integration ++ put_number 3 r.idx
 

@@ -28,7 +28,11 @@ pub struct LogKey {
 }
 
 impl LogKey {
-    /// A copy, or want of memory.
+    /// A copy.
+    ///
+    /// # Errors
+    ///
+    /// [`AllocError`] where memory runs out.
     pub fn try_clone(&self, alloc: Global) -> Result<LogKey, AllocError>
         ensures { IfOk result (λ copy. copy ≡ self.now) }
     {
@@ -89,7 +93,11 @@ pub struct Entry {
 }
 
 impl Entry {
-    /// A copy, or want of memory.
+    /// A copy.
+    ///
+    /// # Errors
+    ///
+    /// [`AllocError`] where memory runs out.
     pub fn try_clone(&self, alloc: Global) -> Result<Entry, AllocError>
         ensures { IfOk result (λ copy. copy ≡ self.now) }
     {

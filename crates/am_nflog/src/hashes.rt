@@ -40,7 +40,11 @@ impl Hashes {
         self.hashes
     }
 
-    /// A copy, or want of memory.
+    /// A copy.
+    ///
+    /// # Errors
+    ///
+    /// [`AllocError`] where memory runs out.
     pub fn try_clone(&self, alloc: Global) -> Result<Hashes, AllocError>
         ensures { IfOk result (λ copy. copy ≡ self.now) }
     {

@@ -15,8 +15,12 @@ use std::alloc::Global;
 
 /// The entry of a notification at `now`: it expires after the smaller of `retention` and two times
 /// `repeat`, and [`Moment::GREATEST`] caps that. Where this is not after `now`, no entry is made, and nothing
-/// is refused. Else it refuses by [`WireError::TooLarge`], exactly where the canonical text of the version has
-/// over 67,108,864 bytes, and by [`WireError::Memory`].
+/// is refused.
+///
+/// # Errors
+///
+/// [`WireError::TooLarge`] exactly where an entry is to be made and its version's canonical text has over
+/// 67,108,864 bytes, and [`WireError::Memory`] where memory runs out.
 pub fn make_entry(
     alloc: Global,
     group_key: Bytes,

@@ -41,8 +41,12 @@ impl Model for MeshEntry {
 }
 
 impl MeshEntry {
-    /// A version of these parts. It refuses by [`WireError::TooLarge`], exactly where its canonical text has
-    /// over 67,108,864 bytes, and by [`WireError::Memory`].
+    /// A version of these parts.
+    ///
+    /// # Errors
+    ///
+    /// [`WireError::TooLarge`] exactly where its canonical text has over 67,108,864 bytes, and
+    /// [`WireError::Memory`] where memory runs out.
     pub fn new(alloc: Global, entry: Entry, expires_at: Moment) -> Result<MeshEntry, WireError>
         ensures parts { IfOk result (λ m. m ≡ record { entry = entry; expires_at = expires_at }) }
         ensures within { IfOk result (λ m. length (writes_mesh_entry m) ≤ 67108864) }

@@ -18,7 +18,11 @@ pub struct Receiver {
 }
 
 impl Receiver {
-    /// A copy, or want of memory.
+    /// A copy.
+    ///
+    /// # Errors
+    ///
+    /// [`AllocError`] where memory runs out.
     pub fn try_clone(&self, alloc: Global) -> Result<Receiver, AllocError>
         ensures { IfOk result (λ copy. copy ≡ self.now) }
     {

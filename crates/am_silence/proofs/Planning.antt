@@ -15,8 +15,8 @@ use Rattle.am_silence.specs.declared.error.SilenceError.TheVariants as errors
 use Rattle.am_silence.specs.declared.plan.Plan.TheVariants as plans
 use Rattle.am_silence.specs.Mesh.{Mesh, mesh_version}
 use Rattle.am_silence.specs.States.{state_of, is_expired, has_expired}
-use Rattle.am_silence.specs.Plans.{Post, former, version_of, new_version, updated_version, ended_in, ended_version, same_matchers, allows_update, may_update, new_plan, plan_over, successor, Succeeds}
-use Rattle.am_silence.specs.Refusals.{◌when◌, ◌before◌, matchers_refusal, times_refusal, newer_refusal, former_refusal, posted_refusal}
+use Rattle.am_silence.specs.Plans.{Post, held_silence, version_of, new_version, updated_version, ended_in, ended_version, same_matchers, allows_update, may_update, new_plan, plan_over, successor, Succeeds}
+use Rattle.am_silence.specs.Refusals.{◌when◌, ◌before◌, matchers_refusal, times_refusal, newer_refusal, held_refusal, posted_refusal}
 
 -- ---- what passed tests say
 
@@ -36,21 +36,21 @@ times_pass posted now h =
     grind (arith, nat_tests)
 
 -- the end is after now, and the silence that is posted again was updated before now
-pub posted_passes : (prev : Option Mesh) (posted : Posted) (verdict : Verdict) (now : ℕ) → posted_refusal prev posted verdict now ≡ None
-    → (now < posted.ends_at) × (former_refusal (former prev posted) now ≡ None)
+pub posted_passes : (held : Option Mesh) (posted : Posted) (verdict : Verdict) (now : ℕ) → posted_refusal held posted verdict now ≡ None
+    → (now < posted.ends_at) × (held_refusal (held_silence held posted) now ≡ None)
 unfolding posted_refusal
-posted_passes prev posted verdict now h =
-    let known = errors.NotFound when (is_some posted.id && is_none prev) in
+posted_passes held posted verdict now h =
+    let known = errors.NotFound when (is_some posted.id && is_none held) in
     let matchers = matchers_refusal posted.matchers verdict in
     let times = times_refusal posted now in
-    let all = before_none (known before matchers before times) (former_refusal (former prev posted) now) h in
+    let all = before_none (known before matchers before times) (held_refusal (held_silence held posted) now) h in
     let tests = before_none (known before matchers) times all.0 in
     (times_pass posted now tests.1, all.1)
 
-newer_passes : (old : Silence) (now : ℕ) → newer_refusal old now ≡ None → old.updated_at < now
+newer_passes : (silence : Silence) (now : ℕ) → newer_refusal silence now ≡ None → silence.updated_at < now
 unfolding newer_refusal
-newer_passes old now h =
-    let later : nat_le now old.updated_at ≡ false = when_none (errors.Newer old.updated_at) (nat_le now old.updated_at) h in
+newer_passes silence now h =
+    let later : nat_le now silence.updated_at ≡ false = when_none (errors.Newer silence.updated_at) (nat_le now silence.updated_at) h in
     grind (arith, nat_tests)
 
 -- ---- live
@@ -59,15 +59,15 @@ live_at_end : (s : Silence) (now retention : ℕ) → now < s.ends_at → s.ends
 live_at_end s now retention h k = omega arith
 
 -- what ending a silence makes of it
-record IsEnded (old ended : Silence) (now : ℕ) : Type 0 where
-  id : ended.id ≡ old.id
+record IsEnded (silence ended : Silence) (now : ℕ) : Type 0 where
+  id : ended.id ≡ silence.id
   ends_at : ended.ends_at ≡ now
   updated_at : ended.updated_at ≡ now
 
-ended_is : (state : State) (old : Silence) (now : ℕ) → is_expired state ≡ false → IsEnded old (ended_in state old now) now
-ended_is states.Pending old now h = record { id = refl; ends_at = refl; updated_at = refl }
-ended_is states.Active old now h = record { id = refl; ends_at = refl; updated_at = refl }
-ended_is states.Expired old now h = absurd cc
+ended_is : (state : State) (silence : Silence) (now : ℕ) → is_expired state ≡ false → IsEnded silence (ended_in state silence now) now
+ended_is states.Pending silence now h = record { id = refl; ends_at = refl; updated_at = refl }
+ended_is states.Active silence now h = record { id = refl; ends_at = refl; updated_at = refl }
+ended_is states.Expired silence now h = absurd cc
 
 -- ---- greater
 
@@ -75,45 +75,45 @@ below_later : (held v : Mesh) → held.silence.updated_at < v.silence.updated_at
 unfolding is_below
 below_later held v h = let less : nat_lt held.silence.updated_at v.silence.updated_at ≡ true = lt-ltb _ _ h in rw less refl
 
-pub ended-succeeds : (held : Mesh) (old : Silence) (now retention : ℕ) → old ≡ held.silence → has_expired old now ≡ false → newer_refusal old now ≡ None
-    → Succeeds held (ended_version old now retention)
-ended-succeeds held old now retention same lives older =
-    let is = ended_is (state_of old now) old now lives in
-    let earlier : old.updated_at < now = newer_passes old now older in
-    let held_at : old.updated_at ≡ held.silence.updated_at = ap (λ (s : Silence). s.updated_at) same in
-    let made_at : (ended_version old now retention).silence.updated_at ≡ now = is.updated_at in
-    record { same_id = is.id ∙ ap (λ (s : Silence). s.id) same; greater = below_later held (ended_version old now retention) (omega arith) }
+pub ended-succeeds : (held : Mesh) (silence : Silence) (now retention : ℕ) → silence ≡ held.silence → has_expired silence now ≡ false → newer_refusal silence now ≡ None
+    → Succeeds held (ended_version silence now retention)
+ended-succeeds held silence now retention same lives older =
+    let is = ended_is (state_of silence now) silence now lives in
+    let earlier : silence.updated_at < now = newer_passes silence now older in
+    let held_at : silence.updated_at ≡ held.silence.updated_at = ap (λ (s : Silence). s.updated_at) same in
+    let made_at : (ended_version silence now retention).silence.updated_at ≡ now = is.updated_at in
+    record { same_id = is.id ∙ ap (λ (s : Silence). s.id) same; greater = below_later held (ended_version silence now retention) (omega arith) }
 
 updated-succeeds : (held : Mesh) (p : Post) → newer_refusal held.silence p.now ≡ None → Succeeds held (updated_version held.silence p)
 updated-succeeds held p older =
     record { same_id = refl; greater = below_later held (updated_version held.silence p) (newer_passes held.silence p.now older) }
 
 -- the version that a plan puts in the place of one that is held
-pub plan-succeeds : (prev : Option Mesh) (p : Post) → former_refusal (former prev p.posted) p.now ≡ None
-    → IfSome (successor (plan_over (former prev p.posted) p)) (λ v. IfSome prev (λ held. Succeeds held v))
-unfolding former_refusal
-plan-succeeds prev p = by_id (is_some p.posted.id) prev
+pub plan-succeeds : (held : Option Mesh) (p : Post) → held_refusal (held_silence held p.posted) p.now ≡ None
+    → IfSome (successor (plan_over (held_silence held p.posted) p)) (λ v. IfSome held (λ version. Succeeds version v))
+unfolding held_refusal
+plan-succeeds held p = by_id (is_some p.posted.id) held
   where
-    -- the former silence is not expired, and it was updated before now
+    -- the held silence is not expired, and it was updated before now
     ended : (held : Mesh) (b : Bool) → has_expired held.silence p.now ≡ b → (if b then None else newer_refusal held.silence p.now) ≡ None
         → IfSome (successor (if b then plans.Create (new_version p) else plans.Replace (new_version p) (ended_version held.silence p.now p.retention))) (λ v. Succeeds held v)
     ended held true e h = tt
     ended held false e h = ended-succeeds held held.silence p.now p.retention refl e h
 
     -- a silence that may be updated has not expired
-    lives : (old : Silence) (state : State) → allows_update state old p.posted p.now ≡ true → is_expired state ≡ false
-    lives old states.Pending h = refl
-    lives old states.Active h = refl
-    lives old states.Expired h = cc
+    lives : (silence : Silence) (state : State) → allows_update state silence p.posted p.now ≡ true → is_expired state ≡ false
+    lives silence states.Pending h = refl
+    lives silence states.Active h = refl
+    lives silence states.Expired h = cc
 
-    over : (held : Mesh) (b : Bool) → may_update held.silence p.posted p.now ≡ b → former_refusal (Some held.silence) p.now ≡ None
+    over : (held : Mesh) (b : Bool) → may_update held.silence p.posted p.now ≡ b → held_refusal (Some held.silence) p.now ≡ None
         → IfSome (successor (if b then plans.Update (updated_version held.silence p) else new_plan (Some held.silence) p)) (λ v. Succeeds held v)
     over held true e h =
         let alive : has_expired held.silence p.now ≡ false = lives held.silence (state_of held.silence p.now) (second_so (same_matchers p.posted.matchers held.silence.matchers) _ e) in
         updated-succeeds held p (rw alive at h)
     over held false e h = ended held (has_expired held.silence p.now) refl h
 
-    by_id : (b : Bool) (held : Option Mesh) → former_refusal (if b then option_map (λ m. m.silence) held else None) p.now ≡ None
+    by_id : (b : Bool) (held : Option Mesh) → held_refusal (if b then option_map (λ m. m.silence) held else None) p.now ≡ None
         → IfSome (successor (plan_over (if b then option_map (λ m. m.silence) held else None) p)) (λ v. IfSome held (λ h. Succeeds h v))
     by_id false held h = tt
     by_id true None h = tt

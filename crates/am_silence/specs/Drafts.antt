@@ -13,12 +13,14 @@ use Rattle.am_silence.specs.declared.comment.FirstComment.{FirstComment}
 use Rattle.am_silence.specs.declared.silence.SilenceDraft.{SilenceDraft}
 use Rattle.am_silence.specs.declared.mesh.MeshSilenceDraft.{MeshSilenceDraft}
 
+-- a matcher's draft holds what these fields leave
 pub record IsMatcherDraft (es : List FieldAt) (d : MatcherDraft) : Type 0 where
   pub kind : d.kind.value ≡ last_number 1 es
   pub kind_place : d.kind.at ≡ last_number_place 1 es
   pub name : d.name.text.now ≡ last_text 2 es
   pub pattern : d.pattern.text.now ≡ last_text 3 es
 
+-- an old comment's draft does
 pub record IsCommentDraft (es : List FieldAt) (d : CommentDraft) : Type 0 where
   pub author : d.author.text.now ≡ last_text 1 es
   pub text : d.text.text.now ≡ last_text 2 es
@@ -30,9 +32,11 @@ pub record KeepsComment (d : FirstComment) (es : List FieldAt) : Type 0 where
   pub author : d.author.now ≡ last_text 1 es
   pub text : d.text.now ≡ last_text 2 es
 
+-- author and text of the first old comment among the fields, if there is one
 abbrev pub IsFirstComment : List FieldAt → FirstComment → Type 0
 IsFirstComment es d = MatchOption (first_comment es) (d.given ≡ false) (KeepsComment d)
 
+-- a silence's draft holds what these fields leave
 pub record IsSilenceDraft (es : List FieldAt) (d : SilenceDraft) : Type 0 where
   pub id : d.id.text.now ≡ last_text 1 es
   pub matchers : d.matchers.items ≡ map matcher_value (messages matcher 2 es)
@@ -43,6 +47,7 @@ pub record IsSilenceDraft (es : List FieldAt) (d : SilenceDraft) : Type 0 where
   pub created_by : d.created_by.text.now ≡ last_text 8 es
   pub comment : d.comment.text.now ≡ last_text 9 es
 
+-- the draft of a silence that is passed on does
 pub record IsMeshSilenceDraft (es : List FieldAt) (d : MeshSilenceDraft) : Type 0 where
   pub silence : IsPart IsSilenceDraft silence 1 es d.silence
   pub expires_at : IsPart IsTimestampDraft timestamp 2 es d.expires_at

@@ -3,6 +3,7 @@ use Rattle.std.specs.Prelude.{ℕ, Bool, true, false, ◌==◌, if◌then◌else
 use Rattle.am_silence.specs.declared.matcher.MatcherKind.{MatcherKind}
 use Rattle.am_silence.specs.declared.matcher.MatcherKind.TheVariants as kinds
 
+-- the number of a kind
 abbrev pub kind_code : MatcherKind → ℕ
 kind_code kinds.Equal = 0
 kind_code kinds.Regexp = 1

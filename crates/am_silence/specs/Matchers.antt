@@ -11,9 +11,11 @@ use Rattle.am_silence.specs.declared.matcher.Matcher.{Matcher}
 use Rattle.am_silence.specs.declared.matcher.MatcherKind.TheVariants as kinds
 use Rattle.am_silence.specs.Kinds.{kind_code, kind_of}
 
+-- which wire types a matcher's fields have, and what is at fault inside them
 abbrev pub matcher : Table
 matcher = table_of (varint_row 1 ∷ text_row 2 ∷ text_row 3 ∷ [])
 
+-- the matcher of these fields
 abbrev pub matcher_value : List FieldAt → Matcher
 matcher_value es = record { kind = kind_of (low_half (last_number 1 es)); name = last_text 2 es; pattern = last_text 3 es }
 
@@ -21,9 +23,11 @@ matcher_value es = record { kind = kind_of (low_half (last_number 1 es)); name =
 abbrev pub matcher_tests : ℕ → List FieldAt → Option WireError
 matcher_tests place es = if nat_lt (low_half (last_number 1 es)) 4 then None else Some (errors.MatcherType (last_number_place 1 es))
 
+-- the matcher that bytes spell, or their first fault
 unfoldable pub reads_matcher : ℕ → List ℕ → Result Matcher WireError
 reads_matcher at bytes = read_by matcher matcher_tests matcher_value at at bytes
 
+-- the one text of a matcher
 unfoldable pub writes_matcher : Matcher → List ℕ
 writes_matcher m = put_number 1 (kind_code m.kind) ++ put_text 2 m.name ++ put_text 3 m.pattern
 

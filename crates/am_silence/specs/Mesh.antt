@@ -17,6 +17,7 @@ pub record Mesh : Type 0 where
   pub silence : Silence
   pub expires_at : ℕ
 
+-- the canonical text of a version
 unfoldable pub writes_mesh_silence : Mesh → List ℕ
 writes_mesh_silence m = put_chunk 1 (writes_silence m.silence) ++ put_chunk 2 (writes_moment m.expires_at)
 

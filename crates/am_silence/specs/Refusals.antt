@@ -1,5 +1,6 @@
 -- Why a silence is not posted, or not ended: tests in their order, of which the first that holds counts.
-use Rattle.std.specs.Prelude.{◌≡◌, ℕ, Bool, ◌&&◌, ◌==◌, nat_lt, nat_le, List, [], ◌∷◌, length, not, Option, Some, None, is_some, is_none, Result, MatchResult, if◌then◌else◌}
+use Rattle.std.specs.Prelude.{◌≡◌, ℕ, Bool, ◌&&◌, ◌==◌, nat_lt, nat_le, List, [], ◌∷◌}
+use Rattle.std.specs.Prelude.{length, not, Option, Some, None, is_some, is_none, Result, MatchResult, if◌then◌else◌}
 use Rattle.std.specs.List.{list_any}
 use Rattle.am_silence.specs.declared.matcher.Matcher.{Matcher}
 use Rattle.am_silence.specs.declared.silence.Silence.{Silence}
@@ -10,7 +11,7 @@ use Rattle.am_silence.specs.declared.error.SilenceError.{SilenceError}
 use Rattle.am_silence.specs.declared.error.SilenceError.TheVariants as errors
 use Rattle.am_silence.specs.Mesh.{Mesh, writes_mesh_silence}
 use Rattle.am_silence.specs.States.{has_expired}
-use Rattle.am_silence.specs.Plans.{Post, former, planned, versions, updates, ended_version}
+use Rattle.am_silence.specs.Plans.{Post, held_silence, planned, versions, updates, ended_version}
 
 -- an error where its cause holds
 infixl 12 ◌when◌
@@ -29,6 +30,7 @@ Refuses result refusal = MatchResult result (λ _. refusal ≡ None) (λ error. 
 
 -- ---- what is posted
 
+-- patterns that are none, or that all match the empty text
 abbrev pub verdict_refusal : Verdict → Option SilenceError
 verdict_refusal verdicts.Fine = None
 verdict_refusal verdicts.Bad = Some errors.BadPattern
@@ -51,12 +53,12 @@ times_refusal posted now =
 
 -- the silence that would get a new version was updated now or later
 unfoldable pub newer_refusal : Silence → ℕ → Option SilenceError
-newer_refusal old now = errors.Newer old.updated_at when nat_le now old.updated_at
+newer_refusal held now = errors.Newer held.updated_at when nat_le now held.updated_at
 
--- a former silence gets a new version unless it has expired
-unfoldable pub former_refusal : Option Silence → ℕ → Option SilenceError
-former_refusal None now = None
-former_refusal (Some old) now = if has_expired old now then None else newer_refusal old now
+-- a held silence gets a new version unless it has expired
+unfoldable pub held_refusal : Option Silence → ℕ → Option SilenceError
+held_refusal None now = None
+held_refusal (Some held) now = if has_expired held now then None else newer_refusal held now
 
 -- the canonical text of a version has over 67,108,864 bytes
 abbrev pub is_too_large : Mesh → Bool
@@ -70,31 +72,34 @@ size_refusal made = errors.TooLarge when list_any is_too_large made
 
 -- what is posted, and what is held of the silence that is posted again
 unfoldable pub posted_refusal : Option Mesh → Posted → Verdict → ℕ → Option SilenceError
-posted_refusal prev posted verdict now =
-    errors.NotFound when (is_some posted.id && is_none prev)
+posted_refusal held posted verdict now =
+    errors.NotFound when (is_some posted.id && is_none held)
     before matchers_refusal posted.matchers verdict
     before times_refusal posted now
-    before former_refusal (former prev posted) now
+    before held_refusal (held_silence held posted) now
 
 -- a new silence is to be made, and its id is held
 unfoldable pub fresh_refusal : Option Silence → Posted → Bool → ℕ → Option SilenceError
-fresh_refusal old posted id_held now = errors.IdInUse when (not (updates old posted now) && id_held)
+fresh_refusal held posted id_held now = errors.IdInUse when (not (updates held posted now) && id_held)
 
 -- the tests that come before those of the versions' lengths
 unfoldable pub early_refusal : Option Mesh → Posted → Verdict → Bool → ℕ → Option SilenceError
-early_refusal prev posted verdict id_held now =
-    posted_refusal prev posted verdict now before fresh_refusal (former prev posted) posted id_held now
+early_refusal held posted verdict id_held now =
+    posted_refusal held posted verdict now before fresh_refusal (held_silence held posted) posted id_held now
 
+-- why a post is refused, memory aside
 unfoldable pub refusal : Option Mesh → Verdict → Bool → Post → Option SilenceError
-refusal prev verdict id_held p =
-    early_refusal prev p.posted verdict id_held p.now before size_refusal (versions (planned prev p))
+refusal held verdict id_held p =
+    early_refusal held p.posted verdict id_held p.now before size_refusal (versions (planned held p))
 
 -- ---- an end
 
+-- the tests of an end that come before that of the version's length
 unfoldable pub early_end_refusal : Option Mesh → ℕ → Option SilenceError
 early_end_refusal None now = Some errors.NotFound
 early_end_refusal (Some held) now = errors.AlreadyExpired when has_expired held.silence now before newer_refusal held.silence now
 
+-- why an end is refused, memory aside
 unfoldable pub end_refusal : Option Mesh → ℕ → ℕ → Option SilenceError
 end_refusal None now retention = early_end_refusal None now
 end_refusal (Some held) now retention =

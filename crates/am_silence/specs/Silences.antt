@@ -13,20 +13,27 @@ use Rattle.am_silence.specs.declared.silence.Silence.{Silence}
 use Rattle.am_silence.specs.Matchers.{matcher, matcher_value, matcher_tests, writes_matcher, IsMatcher}
 use Rattle.am_silence.specs.Comments.{comment, comment_tests}
 
+-- which wire types a silence's fields have, and what is at fault inside them
 abbrev pub silence : Table
-silence = table_of (text_row 1 ∷ item_row 2 matcher matcher_tests ∷ part_row 3 timestamp ∷ part_row 4 timestamp ∷ part_row 5 timestamp ∷ item_row 7 comment comment_tests ∷ text_row 8 ∷ text_row 9 ∷ [])
+silence =
+    table_of (
+    text_row 1 ∷ item_row 2 matcher matcher_tests ∷ part_row 3 timestamp ∷ part_row 4 timestamp ∷ part_row 5 timestamp
+    ∷ item_row 7 comment comment_tests ∷ text_row 8 ∷ text_row 9 ∷ []
+    )
 
 -- the first of the old comments, as its fields
 abbrev pub first_comment : List FieldAt → Option (List FieldAt)
 first_comment es = slice_get (messages comment 7 es) 0
 
--- an old comment's author and text replace those of the silence
+-- an old comment's author replaces that of the silence
 abbrev pub author_of : List FieldAt → List ℕ
 author_of es = option_map_or (last_text 1) (first_comment es) (last_text 8 es)
 
+-- its text replaces that of the silence
 abbrev pub comment_of : List FieldAt → List ℕ
 comment_of es = option_map_or (last_text 2) (first_comment es) (last_text 9 es)
 
+-- the silence of these fields
 abbrev pub silence_value : List FieldAt → Silence
 silence_value es = record {
   id = last_text 1 es;
@@ -38,16 +45,19 @@ silence_value es = record {
   comment = comment_of es;
 }
 
+-- its three timestamps are moments; the first that is none is at fault
 abbrev pub silence_tests : ℕ → List FieldAt → Option WireError
 silence_tests place es = moment_test 3 es then moment_test 4 es then moment_test 5 es
 
+-- the silence that bytes spell, or their first fault
 unfoldable pub reads_silence : ℕ → List ℕ → Result Silence WireError
 reads_silence at bytes = read_by silence silence_tests silence_value at at bytes
 
+-- the one text of a silence
 unfoldable pub writes_silence : Silence → List ℕ
 writes_silence s =
-    put_text 1 s.id ++ put_messages writes_matcher 2 s.matchers ++ put_chunk 3 (writes_moment s.starts_at) ++ put_chunk 4 (writes_moment s.ends_at)
-    ++ put_chunk 5 (writes_moment s.updated_at) ++ put_text 8 s.created_by ++ put_text 9 s.comment
+    put_text 1 s.id ++ put_messages writes_matcher 2 s.matchers ++ put_chunk 3 (writes_moment s.starts_at)
+    ++ put_chunk 4 (writes_moment s.ends_at) ++ put_chunk 5 (writes_moment s.updated_at) ++ put_text 8 s.created_by ++ put_text 9 s.comment
 
 -- the values of a silence
 pub record IsSilence (s : Silence) : Type 0 where

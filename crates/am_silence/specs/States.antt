@@ -10,11 +10,13 @@ state_of silence now =
     if nat_lt now silence.starts_at then states.Pending
     else (if nat_lt now silence.ends_at then states.Active else states.Expired)
 
+-- expired is one of the three
 abbrev pub is_expired : State → Bool
 is_expired states.Pending = false
 is_expired states.Active = false
 is_expired states.Expired = true
 
+-- a silence has expired at a moment
 abbrev pub has_expired : Silence → ℕ → Bool
 has_expired silence now = is_expired (state_of silence now)
 
@@ -23,5 +25,6 @@ pub record IsActive (silence : Silence) (now : ℕ) : Type 0 where
   pub started : silence.starts_at ≤ now
   pub not_ended : now < silence.ends_at
 
+-- before its start
 abbrev pub IsPending : Silence → ℕ → Type 0
 IsPending silence now = now < silence.starts_at

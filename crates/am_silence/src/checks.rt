@@ -4,8 +4,8 @@ ghost use Rattle.std.specs.Prelude.{◌≡◌, ◌≢◌, ◌==◌, ◌&&◌, le
 ghost use Rattle.std.specs.List.{list_any};
 ghost use Rattle.std.specs.Option.{option_copied};
 ghost use Rattle.am_silence.specs.declared.error.SilenceError.TheVariants as errors;
-ghost use Rattle.am_silence.specs.Plans.{former};
-ghost use Rattle.am_silence.specs.Refusals.{Refuses, ◌when◌, posted_refusal, matchers_refusal, times_refusal, newer_refusal, former_refusal};
+ghost use Rattle.am_silence.specs.Plans.{held_silence};
+ghost use Rattle.am_silence.specs.Refusals.{Refuses, ◌when◌, posted_refusal, matchers_refusal, times_refusal, newer_refusal, held_refusal};
 
 use crate::error::SilenceError;
 use crate::matcher::Matcher;
@@ -18,35 +18,35 @@ use am_version_order::Moment;
 /// The tests of what is posted, and of the silence that is posted again, which is given back.
 #[tactic(auto, unfolding(crate::specs::Refusals::posted_refusal))]
 pub fn check_posted<'a>(
-    prev: Option<&'a MeshSilence>,
+    held: Option<&'a MeshSilence>,
     posted: &Posted,
     verdict: Verdict,
     now: Moment,
 ) -> Result<Option<&'a Silence>, SilenceError>
-    ensures former { IfOk result (λ old. option_copied old ≡ former (option_copied prev.entry) posted.now) }
-    ensures tests { Refuses result (posted_refusal (option_copied prev.entry) posted.now verdict now) }
+    ensures held { IfOk result (λ silence. option_copied silence ≡ held_silence (option_copied held.entry) posted.now) }
+    ensures tests { Refuses result (posted_refusal (option_copied held.entry) posted.now verdict now) }
     ensures no_memory { IfErr result (λ e. e ≢ errors.Memory) }
 {
-    let former = former_silence(prev, posted)?;
+    let held = held_silence(held, posted)?;
     check_matchers(posted.matchers.as_slice(), verdict)?;
     check_times(posted, now)?;
-    check_former(former, now)?;
-    Ok(former)
+    check_held(held, now)?;
+    Ok(held)
 }
 
 // The silence that is posted again, if one is: it has to be there.
-fn former_silence<'a>(
-    prev: Option<&'a MeshSilence>,
+fn held_silence<'a>(
+    held: Option<&'a MeshSilence>,
     posted: &Posted,
 ) -> Result<Option<&'a Silence>, SilenceError>
-    ensures former { IfOk result (λ old. option_copied old ≡ former (option_copied prev.entry) posted.now) }
-    ensures found { Refuses result (errors.NotFound when (is_some posted.now.id && is_none (option_copied prev.entry))) }
+    ensures held { IfOk result (λ silence. option_copied silence ≡ held_silence (option_copied held.entry) posted.now) }
+    ensures found { Refuses result (errors.NotFound when (is_some posted.now.id && is_none (option_copied held.entry))) }
     ensures no_memory { IfErr result (λ e. e ≢ errors.Memory) }
 {
     if posted.id.is_none() {
         return Ok(None);
     }
-    match prev {
+    match held {
         Some(version) => Ok(Some(version.silence())),
         None => Err(SilenceError::NotFound),
     }
@@ -97,26 +97,26 @@ fn check_times(posted: &Posted, now: Moment) -> Result<(), SilenceError>
 
 /// The silence was updated before now, so that a version which is made now is greater.
 #[tactic(auto, unfolding(crate::specs::Refusals::newer_refusal))]
-pub fn check_older(old: &Silence, now: Moment) -> Result<(), SilenceError>
-    ensures tests { Refuses result (newer_refusal old.now now) }
+pub fn check_older(held: &Silence, now: Moment) -> Result<(), SilenceError>
+    ensures tests { Refuses result (newer_refusal held.now now) }
     ensures no_memory { IfErr result (λ e. e ≢ errors.Memory) }
 {
-    if old.updated_at >= now {
+    if held.updated_at >= now {
         return Err(SilenceError::Newer {
-            held: old.updated_at,
+            held: held.updated_at,
         });
     }
     Ok(())
 }
 
 // The same of a silence that is posted again, unless it has expired: it then gets no new version.
-#[tactic(auto, unfolding(crate::specs::Refusals::former_refusal))]
-fn check_former(former: Option<&Silence>, now: Moment) -> Result<(), SilenceError>
-    ensures tests { Refuses result (former_refusal (option_copied former.entry) now) }
+#[tactic(auto, unfolding(crate::specs::Refusals::held_refusal))]
+fn check_held(held: Option<&Silence>, now: Moment) -> Result<(), SilenceError>
+    ensures tests { Refuses result (held_refusal (option_copied held.entry) now) }
     ensures no_memory { IfErr result (λ e. e ≢ errors.Memory) }
 {
-    match former {
-        Some(old) if state_at(old, now) != State::Expired => check_older(old, now),
+    match held {
+        Some(held) if state_at(held, now) != State::Expired => check_older(held, now),
         _ => Ok(()),
     }
 }

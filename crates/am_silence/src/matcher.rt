@@ -76,7 +76,11 @@ impl Matcher {
         matches!(self.kind, MatcherKind::Equal) && !self.pattern.as_str().is_empty()
     }
 
-    /// A copy, or want of memory.
+    /// A copy.
+    ///
+    /// # Errors
+    ///
+    /// [`AllocError`] where memory runs out.
     pub fn try_clone(&self, alloc: Global) -> Result<Matcher, AllocError>
         ensures { IfOk result (λ copy. copy ≡ self.now) }
     {
@@ -124,7 +128,11 @@ impl Matchers {
         self.matchers
     }
 
-    /// A copy, or want of memory.
+    /// A copy.
+    ///
+    /// # Errors
+    ///
+    /// [`AllocError`] where memory runs out.
     pub fn try_clone(&self, alloc: Global) -> Result<Matchers, AllocError>
         ensures { IfOk result (λ copy. copy ≡ self.now) }
     {

@@ -1,11 +1,7 @@
 //! Silences as instances pass them on.
 
-ghost use Rattle.std.specs.Prelude.{◌≡◌, ◌≢◌, ℕ, ◌<◌, ◌≤◌, List, [], ◌∷◌, ◌++◌, length, Err, OnOk, IfOk, IfErr, false, find, ◌⊎◌, ◌↔◌};
+ghost use Rattle.std.specs.Prelude.{◌≡◌, ◌<◌, ◌≤◌, length, Err, IfOk, IfErr, false, ◌⊎◌, ◌↔◌};
 ghost use Rattle.am_wire.specs.declared.error.WireError.TheVariants as errors;
-ghost use Rattle.std.specs.Option.{option_copied};
-ghost use Rattle.std.specs.List.{list_any};
-ghost use Rattle.am_silence.specs.Kinds.{is_regexp};
-ghost use Rattle.am_silence.specs.Matchers.{wants_label};
 ghost use Rattle.am_version_order.specs.Moments.{greatest};
 ghost use Rattle.am_wire.specs.Sizes.{counted};
 ghost use Rattle.am_silence.specs.Silences.{writes_silence};
@@ -54,8 +50,12 @@ impl Model for MeshSilence {
 }
 
 impl MeshSilence {
-    /// A version of these parts. It refuses by [`WireError::TooLarge`], exactly where its canonical text has
-    /// over 67,108,864 bytes, and by [`WireError::Memory`].
+    /// A version of these parts.
+    ///
+    /// # Errors
+    ///
+    /// [`WireError::TooLarge`] exactly where its canonical text has over 67,108,864 bytes, and
+    /// [`WireError::Memory`] where memory runs out.
     pub fn new(
         alloc: Global,
         silence: Silence,

@@ -5,7 +5,8 @@ ghost use Rattle.std.specs.Option.{option_copied};
 ghost use Rattle.am_version_order.specs.Versions.{IsLive};
 ghost use Rattle.am_silence.specs.declared.error.SilenceError.TheVariants as errors;
 ghost use Rattle.am_silence.specs.Mesh.{mesh_version};
-ghost use Rattle.am_silence.specs.Plans.{post_of, former, planned, plan_over, new_plan, versions, successor, ended_of, Succeeds, IsUpdate, MayUpdate};
+ghost use Rattle.am_silence.specs.Plans.{post_of, held_silence, planned, plan_over, new_plan, versions, successor, ended_of};
+ghost use Rattle.am_silence.specs.Plans.{Succeeds, IsUpdate, MayUpdate};
 ghost use Rattle.am_silence.specs.Refusals.{◌before◌, refusal, early_refusal, end_refusal, early_end_refusal, fresh_refusal, size_refusal};
 
 use crate::checks::{check_fresh, check_older, check_posted};
@@ -50,17 +51,24 @@ pub enum Plan {
     /// A new silence.
     Create(MeshSilence),
     /// A new silence, and the one of the posted identifier, which ends. The new one is put in first.
-    Replace { new: MeshSilence, old: MeshSilence },
+    Replace {
+        new: MeshSilence,
+        ended: MeshSilence,
+    },
 }
 
-/// The versions that a post at `now` makes, where `prev` is the version of the posted identifier in the
+/// The versions that a post at `now` makes, where `held` is the version of the posted identifier in the
 /// view, `bits` are random, and `id_held` says that the identifier that they give is held, live or not.
-/// Where no identifier is posted, nothing is looked at of `prev`. It refuses by the first
-/// [`SilenceError`] that applies; want of memory is the last of them.
+/// Where no identifier is posted, nothing is looked at of `held`.
+///
+/// # Errors
+///
+/// The first [`SilenceError`] that applies, in their order, of which [`SilenceError::Memory`], where memory runs
+/// out, is the last.
 #[tactic(auto, unfolding(crate::specs::Refusals::early_refusal, crate::specs::Refusals::refusal, crate::specs::Plans::planned))]
 pub fn plan_post(
     alloc: Global,
-    prev: Option<&MeshSilence>,
+    held: Option<&MeshSilence>,
     posted: Posted,
     verdict: Verdict,
     now: Moment,
@@ -68,76 +76,87 @@ pub fn plan_post(
     id_held: bool,
     retention: Interval,
 ) -> Result<Plan, SilenceError>
-    ensures planned { IfOk result (λ plan. plan ≡ planned (option_copied prev.entry) (post_of posted now bits retention)) }
-    ensures accepted { OnOk result (refusal (option_copied prev.entry) verdict id_held (post_of posted now bits retention) ≡ None) }
-    ensures refused { IfErr result (λ e. e ≢ errors.Memory → refusal (option_copied prev.entry) verdict id_held (post_of posted now bits retention) ≡ Some e) }
-    ensures memory { IfErr result (λ e. e ≡ errors.Memory → refusal (option_copied prev.entry) verdict id_held (post_of posted now bits retention) ≡ None) }
+    ensures planned { IfOk result (λ plan. plan ≡ planned (option_copied held.entry) (post_of posted now bits retention)) }
+    ensures accepted { OnOk result (refusal (option_copied held.entry) verdict id_held (post_of posted now bits retention) ≡ None) }
+    ensures refused { IfErr result (λ e. e ≢ errors.Memory →
+        refusal (option_copied held.entry) verdict id_held (post_of posted now bits retention) ≡ Some e) }
+    ensures memory { IfErr result (λ e. e ≡ errors.Memory →
+        refusal (option_copied held.entry) verdict id_held (post_of posted now bits retention) ≡ None) }
 
     // The silence that is posted again is updated exactly where the rule allows it.
-    ensures in_place { IfOk result (λ plan. IsUpdate plan ↔ IsSomeAnd (former (option_copied prev.entry) posted) (λ old. MayUpdate old posted now)) }
+    ensures in_place { IfOk result (λ plan. IsUpdate plan ↔
+        IsSomeAnd (held_silence (option_copied held.entry) posted) (λ silence. MayUpdate silence posted now)) }
 
     // What the plan makes is live, and greater than what it takes the place of.
     ensures live { IfOk result (λ plan. All (λ v. IsLive now (mesh_version v)) (versions plan)) }
-    ensures greater { IfOk result (λ plan. IfSome (successor plan) (λ v. IfSome (option_copied prev.entry) (λ held. Succeeds held v))) }
+    ensures greater { IfOk result (λ plan. IfSome (successor plan) (λ v. IfSome (option_copied held.entry) (λ version. Succeeds version v))) }
 {
-    let former = check_posted(prev, &posted, verdict, now)?;
-    plan_over(alloc, former, posted, now, bits, id_held, retention)
+    let held = check_posted(held, &posted, verdict, now)?;
+    plan_over(alloc, held, posted, now, bits, id_held, retention)
 }
 
-// The versions that a post makes, where `former` is the silence that is posted again.
+// The versions that a post makes, where `held` is the silence that is posted again.
 #[tactic(auto, unfolding(crate::specs::Refusals::fresh_refusal, crate::specs::Refusals::size_refusal))]
 fn plan_over(
     alloc: Global,
-    former: Option<&Silence>,
+    held: Option<&Silence>,
     posted: Posted,
     now: Moment,
     bits: u128,
     id_held: bool,
     retention: Interval,
 ) -> Result<Plan, SilenceError>
-    ensures planned { IfOk result (λ plan. plan ≡ plan_over (option_copied former.entry) (post_of posted now bits retention)) }
-    ensures fresh { OnOk result (fresh_refusal (option_copied former.entry) posted id_held now ≡ None) }
-    ensures size { OnOk result (size_refusal (versions (plan_over (option_copied former.entry) (post_of posted now bits retention))) ≡ None) }
-    ensures refused { IfErr result (λ e. e ≢ errors.Memory → (fresh_refusal (option_copied former.entry) posted id_held now before size_refusal (versions (plan_over (option_copied former.entry) (post_of posted now bits retention)))) ≡ Some e) }
-    ensures in_place { IfOk result (λ plan. IsUpdate plan ↔ IsSomeAnd (option_copied former.entry) (λ old. MayUpdate old posted now)) }
+    ensures planned { IfOk result (λ plan. plan ≡ plan_over (option_copied held.entry) (post_of posted now bits retention)) }
+    ensures fresh { OnOk result (fresh_refusal (option_copied held.entry) posted id_held now ≡ None) }
+    ensures size { OnOk result (size_refusal (versions (plan_over (option_copied held.entry) (post_of posted now bits retention))) ≡ None) }
+    ensures refused { IfErr result (λ e. e ≢ errors.Memory →
+        (fresh_refusal (option_copied held.entry) posted id_held now
+        before size_refusal (versions (plan_over (option_copied held.entry) (post_of posted now bits retention)))) ≡ Some e) }
+    ensures in_place { IfOk result (λ plan. IsUpdate plan ↔
+        IsSomeAnd (option_copied held.entry) (λ silence. MayUpdate silence posted now)) }
     ensures live { now < posted.ends_at → IfOk result (λ plan. All (λ v. IsLive now (mesh_version v)) (versions plan)) }
-    ensures memory { IfErr result (λ e. e ≡ errors.Memory → (fresh_refusal (option_copied former.entry) posted id_held now before size_refusal (versions (plan_over (option_copied former.entry) (post_of posted now bits retention)))) ≡ None) }
+    ensures memory { IfErr result (λ e. e ≡ errors.Memory →
+        (fresh_refusal (option_copied held.entry) posted id_held now
+        before size_refusal (versions (plan_over (option_copied held.entry) (post_of posted now bits retention)))) ≡ None) }
 {
-    match former {
-        Some(old) if may_update(old, &posted, now) => {
-            let version = updated_version(alloc, old, posted, now, retention)?;
+    match held {
+        Some(held) if may_update(held, &posted, now) => {
+            let version = updated_version(alloc, held, posted, now, retention)?;
             Ok(Plan::Update(version))
         }
         _ => {
             check_fresh(id_held)?;
-            plan_new(alloc, former, posted, now, bits, retention)
+            plan_new(alloc, held, posted, now, bits, retention)
         }
     }
 }
 
-// A new silence, and the end of the former one, unless that has expired.
+// A new silence, and the end of the held one, unless that has expired.
 #[tactic(auto, unfolding(crate::specs::Refusals::size_refusal))]
 fn plan_new(
     alloc: Global,
-    former: Option<&Silence>,
+    held: Option<&Silence>,
     posted: Posted,
     now: Moment,
     bits: u128,
     retention: Interval,
 ) -> Result<Plan, SilenceError>
     ensures new { IfOk result (λ plan. ¬ IsUpdate plan) }
-    ensures planned { IfOk result (λ plan. plan ≡ new_plan (option_copied former.entry) (post_of posted now bits retention)) }
-    ensures accepted { OnOk result (size_refusal (versions (new_plan (option_copied former.entry) (post_of posted now bits retention))) ≡ None) }
-    ensures refused { IfErr result (λ e. e ≢ errors.Memory → size_refusal (versions (new_plan (option_copied former.entry) (post_of posted now bits retention))) ≡ Some e) }
-    ensures memory { IfErr result (λ e. e ≡ errors.Memory → size_refusal (versions (new_plan (option_copied former.entry) (post_of posted now bits retention))) ≡ None) }
+    ensures planned { IfOk result (λ plan. plan ≡ new_plan (option_copied held.entry) (post_of posted now bits retention)) }
+    ensures accepted { OnOk result (
+        size_refusal (versions (new_plan (option_copied held.entry) (post_of posted now bits retention))) ≡ None) }
+    ensures refused { IfErr result (λ e. e ≢ errors.Memory →
+        size_refusal (versions (new_plan (option_copied held.entry) (post_of posted now bits retention))) ≡ Some e) }
+    ensures memory { IfErr result (λ e. e ≡ errors.Memory →
+        size_refusal (versions (new_plan (option_copied held.entry) (post_of posted now bits retention))) ≡ None) }
     ensures live { now < posted.ends_at → IfOk result (λ plan. All (λ v. IsLive now (mesh_version v)) (versions plan)) }
 {
-    match former {
-        Some(old) if state_at(old, now) != State::Expired => {
-            check_ended(old, now, retention)?;
+    match held {
+        Some(held) if state_at(held, now) != State::Expired => {
+            check_ended(held, now, retention)?;
             let new = new_version(alloc, posted, now, bits, retention)?;
-            let old = ended_version(alloc, old, now, retention)?;
-            Ok(Plan::Replace { new, old })
+            let ended = ended_version(alloc, held, now, retention)?;
+            Ok(Plan::Replace { new, ended })
         }
         _ => {
             let new = new_version(alloc, posted, now, bits, retention)?;
@@ -146,31 +165,35 @@ fn plan_new(
     }
 }
 
-/// The version by which `prev`, the version of an identifier in the view, ends at `now`. It refuses by
-/// the first [`SilenceError`] that applies; want of memory is the last of them.
+/// The version by which `held`, the version of an identifier in the view, ends at `now`.
+///
+/// # Errors
+///
+/// The first [`SilenceError`] that applies, in their order, of which [`SilenceError::Memory`], where memory runs
+/// out, is the last.
 #[tactic(auto, unfolding(crate::specs::Refusals::early_end_refusal, crate::specs::Refusals::end_refusal, crate::specs::Refusals::size_refusal))]
 pub fn plan_expire(
     alloc: Global,
-    prev: Option<&MeshSilence>,
+    held: Option<&MeshSilence>,
     now: Moment,
     retention: Interval,
 ) -> Result<MeshSilence, SilenceError>
-    ensures ended { IfOk result (λ v. ended_of (option_copied prev.entry) now retention ≡ Some v) }
-    ensures accepted { OnOk result (end_refusal (option_copied prev.entry) now retention ≡ None) }
-    ensures refused { IfErr result (λ e. e ≢ errors.Memory → end_refusal (option_copied prev.entry) now retention ≡ Some e) }
-    ensures memory { IfErr result (λ e. e ≡ errors.Memory → end_refusal (option_copied prev.entry) now retention ≡ None) }
+    ensures ended { IfOk result (λ v. ended_of (option_copied held.entry) now retention ≡ Some v) }
+    ensures accepted { OnOk result (end_refusal (option_copied held.entry) now retention ≡ None) }
+    ensures refused { IfErr result (λ e. e ≢ errors.Memory → end_refusal (option_copied held.entry) now retention ≡ Some e) }
+    ensures memory { IfErr result (λ e. e ≡ errors.Memory → end_refusal (option_copied held.entry) now retention ≡ None) }
 
     // The version is live, and greater than what it takes the place of.
     ensures live { IfOk result (λ v. IsLive now (mesh_version v)) }
-    ensures greater { IfOk result (λ v. IfSome (option_copied prev.entry) (λ held. Succeeds held v)) }
+    ensures greater { IfOk result (λ v. IfSome (option_copied held.entry) (λ version. Succeeds version v)) }
 {
-    let Some(held) = prev else {
+    let Some(held) = held else {
         return Err(SilenceError::NotFound);
     };
-    let old = held.silence();
+    let silence = held.silence();
     if held.state_at(now) == State::Expired {
         return Err(SilenceError::AlreadyExpired);
     }
-    check_older(old, now)?;
-    ended_version(alloc, old, now, retention)
+    check_older(silence, now)?;
+    ended_version(alloc, silence, now, retention)
 }

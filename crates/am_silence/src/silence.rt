@@ -29,7 +29,11 @@ pub struct Silence {
 }
 
 impl Silence {
-    /// A copy, or want of memory.
+    /// A copy.
+    ///
+    /// # Errors
+    ///
+    /// [`AllocError`] where memory runs out.
     pub fn try_clone(&self, alloc: Global) -> Result<Silence, AllocError>
         ensures { IfOk result (λ copy. copy ≡ self.now) }
     {

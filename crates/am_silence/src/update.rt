@@ -11,14 +11,14 @@ use crate::state::{State, state_at};
 use am_version_order::Moment;
 
 /// The silence is updated in place by a post at `now`.
-pub fn may_update(old: &Silence, posted: &Posted, now: Moment) -> bool
-    ensures test { result ≡ may_update old.now posted.now now }
-    ensures rule { IsTrue result ↔ MayUpdate old.now posted.now now }
+pub fn may_update(held: &Silence, posted: &Posted, now: Moment) -> bool
+    ensures test { result ≡ may_update held.now posted.now now }
+    ensures rule { IsTrue result ↔ MayUpdate held.now posted.now now }
 {
-    same_matchers(posted.matchers.as_slice(), old.matchers.as_slice())
-        && match state_at(old, now) {
+    same_matchers(posted.matchers.as_slice(), held.matchers.as_slice())
+        && match state_at(held, now) {
             State::Active => {
-                same_second(posted.starts_at, old.starts_at) && posted.ends_at >= now
+                same_second(posted.starts_at, held.starts_at) && posted.ends_at >= now
             }
             State::Pending => posted.starts_at >= now,
             State::Expired => false,
@@ -26,18 +26,18 @@ pub fn may_update(old: &Silence, posted: &Posted, now: Moment) -> bool
 }
 
 // The same matchers, in the same order.
-fn same_matchers(posted: &[Matcher], old: &[Matcher]) -> bool
-    ensures test { result ≡ same_matchers posted.now old.now }
-    ensures equal { IsTrue result ↔ (posted.now ≡ old.now) }
+fn same_matchers(posted: &[Matcher], held: &[Matcher]) -> bool
+    ensures test { result ≡ same_matchers posted.now held.now }
+    ensures equal { IsTrue result ↔ (posted.now ≡ held.now) }
 {
-    posted.len() == old.len() && same_pairs(posted, old)
+    posted.len() == held.len() && same_pairs(posted, held)
 }
 
 // Each matcher is the same as the one in its place.
-fn same_pairs(posted: &[Matcher], old: &[Matcher]) -> bool
-    ensures { result ≡ list_all (λ pair. same_matcher pair.0 pair.1) (zip posted.now old.now) }
+fn same_pairs(posted: &[Matcher], held: &[Matcher]) -> bool
+    ensures { result ≡ list_all (λ pair. same_matcher pair.0 pair.1) (zip posted.now held.now) }
 {
-    posted.iter().zip(old).all(|(a, b)| same_matcher(a, b))
+    posted.iter().zip(held).all(|(a, b)| same_matcher(a, b))
 }
 
 fn same_matcher(a: &Matcher, b: &Matcher) -> bool

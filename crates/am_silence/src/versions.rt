@@ -114,33 +114,33 @@ pub fn new_version(
 /// The silence as it is posted again.
 pub fn updated_version(
     alloc: Global,
-    old: &Silence,
+    held: &Silence,
     posted: Posted,
     now: Moment,
     retention: Interval,
 ) -> Result<MeshSilence, SilenceError>
-    ensures made { IfOk result (λ v. v ≡ updated_version old.now (post_of posted now 0 retention)) }
-    ensures within { OnOk result (is_too_large (updated_version old.now (post_of posted now 0 retention)) ≡ false) }
+    ensures made { IfOk result (λ v. v ≡ updated_version held.now (post_of posted now 0 retention)) }
+    ensures within { OnOk result (is_too_large (updated_version held.now (post_of posted now 0 retention)) ≡ false) }
     ensures bound { OnOk result (posted.ends_at ≤ greatest) }
-    ensures too_large { (result ≡ Err errors.TooLarge) ↔ (is_too_large (updated_version old.now (post_of posted now 0 retention)) ≡ true) }
+    ensures too_large { (result ≡ Err errors.TooLarge) ↔ (is_too_large (updated_version held.now (post_of posted now 0 retention)) ≡ true) }
     ensures refused { IfErr result (λ e. (e ≡ errors.Memory) ⊎ (e ≡ errors.TooLarge)) }
 {
     let starts_at = posted.starts_at;
     check_size(
-        &posted_fields(old.id.as_str(), starts_at, &posted, now),
+        &posted_fields(held.id.as_str(), starts_at, &posted, now),
         retention,
     )?;
-    let id = old.id.try_clone(alloc)?;
+    let id = held.id.try_clone(alloc)?;
     version_of(alloc, silence_of(id, starts_at, posted, now), retention)
 }
 
 /// The version by which the silence ends is not too large. To say so takes no memory.
-pub fn check_ended(old: &Silence, now: Moment, retention: Interval) -> Result<(), SilenceError>
-    requires { has_expired old.now now ≡ false }
-    ensures { Refuses result (errors.TooLarge when is_too_large (ended_version old.now now retention)) }
+pub fn check_ended(held: &Silence, now: Moment, retention: Interval) -> Result<(), SilenceError>
+    requires { has_expired held.now now ≡ false }
+    ensures { Refuses result (errors.TooLarge when is_too_large (ended_version held.now now retention)) }
 {
-    let mut fields = SilenceFields::of(old);
-    fields.starts_at = old.starts_at.min(now);
+    let mut fields = SilenceFields::of(held);
+    fields.starts_at = held.starts_at.min(now);
     fields.ends_at = now;
     fields.updated_at = now;
     check_size(&fields, retention)
@@ -149,20 +149,20 @@ pub fn check_ended(old: &Silence, now: Moment, retention: Interval) -> Result<()
 /// The silence, ended at `now`. A pending one also starts at `now`.
 pub fn ended_version(
     alloc: Global,
-    old: &Silence,
+    held: &Silence,
     now: Moment,
     retention: Interval,
 ) -> Result<MeshSilence, SilenceError>
-    requires { has_expired old.now now ≡ false }
-    ensures made { IfOk result (λ v. v ≡ ended_version old.now now retention) }
-    ensures within { OnOk result (is_too_large (ended_version old.now now retention) ≡ false) }
-    ensures live { OnOk result (now < greatest → IsLive now (mesh_version (ended_version old.now now retention))) }
-    ensures too_large { (result ≡ Err errors.TooLarge) ↔ (is_too_large (ended_version old.now now retention) ≡ true) }
+    requires { has_expired held.now now ≡ false }
+    ensures made { IfOk result (λ v. v ≡ ended_version held.now now retention) }
+    ensures within { OnOk result (is_too_large (ended_version held.now now retention) ≡ false) }
+    ensures live { OnOk result (now < greatest → IsLive now (mesh_version (ended_version held.now now retention))) }
+    ensures too_large { (result ≡ Err errors.TooLarge) ↔ (is_too_large (ended_version held.now now retention) ≡ true) }
     ensures refused { IfErr result (λ e. (e ≡ errors.Memory) ⊎ (e ≡ errors.TooLarge)) }
 {
-    check_ended(old, now, retention)?;
-    let mut ended = old.try_clone(alloc)?;
-    ended.starts_at = old.starts_at.min(now);
+    check_ended(held, now, retention)?;
+    let mut ended = held.try_clone(alloc)?;
+    ended.starts_at = held.starts_at.min(now);
     ended.ends_at = now;
     ended.updated_at = now;
     version_of(alloc, ended, retention)

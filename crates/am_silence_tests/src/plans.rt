@@ -151,7 +151,7 @@ fn moments_of(version: &MeshSilence) -> Moments {
 enum Answer {
     Updated(Moments),
     Created(Moments),
-    Replaced { new: Moments, old: Moments },
+    Replaced { new: Moments, ended: Moments },
     Refused(SilenceError),
 }
 
@@ -159,9 +159,9 @@ fn answer_over(alloc: Global, prev: Option<&MeshSilence>, row: PostRow) -> Answe
     match planned(alloc, prev, row) {
         Ok(Plan::Update(version)) => Answer::Updated(moments_of(&version)),
         Ok(Plan::Create(version)) => Answer::Created(moments_of(&version)),
-        Ok(Plan::Replace { new, old }) => Answer::Replaced {
+        Ok(Plan::Replace { new, ended }) => Answer::Replaced {
             new: moments_of(&new),
-            old: moments_of(&old),
+            ended: moments_of(&ended),
         },
         Err(error) => Answer::Refused(error),
     }
@@ -189,11 +189,11 @@ fn created(starts_at: u64) -> Answer {
     Answer::Created(made(starts_at))
 }
 
-// A new silence that starts at 20 s, and the former one ended with this start.
+// A new silence that starts at 20 s, and the one that is held ended with this start.
 fn replaced(starts_at: u64) -> Answer {
     Answer::Replaced {
         new: made(NOW),
-        old: Moments([at(starts_at), at(NOW), at(NOW), at(120_000)]),
+        ended: Moments([at(starts_at), at(NOW), at(NOW), at(120_000)]),
     }
 }
 
@@ -243,10 +243,10 @@ fn an_update_keeps_the_identifier(rt: HostRuntime) -> Result<(), Fail> {
 // The plan is a new silence of this identifier, and a greater version of the silence `a`.
 fn replaces_as(alloc: Global, prev: &MeshSilence, row: PostRow, id: &str) -> bool {
     match planned(alloc, Some(prev), row) {
-        Ok(Plan::Replace { new, old }) => {
+        Ok(Plan::Replace { new, ended }) => {
             new.key().as_str() == id
-                && old.key().as_str() == "a"
-                && old.compare(prev) == Ordering::Greater
+                && ended.key().as_str() == "a"
+                && ended.compare(prev) == Ordering::Greater
         }
         _ => false,
     }

@@ -95,7 +95,7 @@ fn planned(
 enum Part {
     Updated,
     New,
-    Old,
+    Ended,
 }
 
 // The length of a version of the plan, or 0 where it has none such.
@@ -103,7 +103,7 @@ fn length_of(plan: &Plan, part: Part) -> usize {
     match (plan, part) {
         (Plan::Update(version), Part::Updated) => version.canonical().len(),
         (Plan::Replace { new, .. }, Part::New) => new.canonical().len(),
-        (Plan::Replace { old, .. }, Part::Old) => old.canonical().len(),
+        (Plan::Replace { ended, .. }, Part::Ended) => ended.canonical().len(),
         _ => 0,
     }
 }
@@ -157,11 +157,11 @@ fn after_twenty(nanos: u32) -> Moment {
 
 fn length_replaced(alloc: Global, prev: &MeshSilence, now: Moment) -> Result<usize, SilenceError> {
     let plan = planned(alloc, prev, 11_000, 0, now)?;
-    Ok(length_of(&plan, Part::Old))
+    Ok(length_of(&plan, Part::Ended))
 }
 
 #[test]
-fn the_version_that_ends_the_old_silence_may_be_too_large(rt: HostRuntime) -> Result<(), Fail> {
+fn the_version_that_ends_the_held_silence_may_be_too_large(rt: HostRuntime) -> Result<(), Fail> {
     for (len, nanos, want) in ENDED {
         let prev = held(rt.alloc(), len)?;
         let made = length_replaced(rt.alloc(), &prev, after_twenty(nanos));

@@ -51,7 +51,8 @@ pub trait Version: Drop {
         ensures content { result.now ≡ (seen self.now).content }
         ensures value { is_value self.now };
 
-    /// The bytes under which the version is looked up; empty where it is looked at each time.
+    /// What a label set finds the version by: of a silence the text of a matcher. Where it is empty, the version
+    /// has to be tried for every label set.
     fn bucket(&self) -> &[u8]
         ensures { result.now ≡ bucket_of self.now };
 

@@ -9,9 +9,9 @@ use Rattle.am_silence.proofs.plan.plan_expire.Goals as goal
 pub returns-clause-greater : goal.returns-clause-greater
 returns-clause-greater c =
     let held = c.in-Some.held.now in
-    let old = c.silence-old.result.now in
-    let lives : has_expired old c.args.now ≡ false = search rules in
-    let made = ended-succeeds held old c.args.now c.args.retention c.silence-old.ensures lives c.in_ok-check_older.ensures.tests in
-    IfOk-weaker c.ended_version.result (λ v. v ≡ ended_version old c.args.now c.args.retention)
-    (λ v. IfSome (option_copied c.args.prev) (λ h. Succeeds h v))
+    let silence = c.silence-silence.result.now in
+    let lives : has_expired silence c.args.now ≡ false = search rules in
+    let made = ended-succeeds held silence c.args.now c.args.retention c.silence-silence.ensures lives c.in_ok-check_older.ensures.tests in
+    IfOk-weaker c.ended_version.result (λ v. v ≡ ended_version silence c.args.now c.args.retention)
+    (λ v. IfSome (option_copied c.args.held) (λ h. Succeeds h v))
     (λ v e. rw (e, c.in-Some.is) made) c.ended_version.ensures.made

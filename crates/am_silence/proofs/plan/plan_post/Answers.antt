@@ -7,13 +7,13 @@ use Rattle.am_silence.proofs.plan.plan_post.Goals as goal
 
 pub returns-clause-live : goal.returns-clause-live
 returns-clause-live c =
-    c.plan_over.ensures.live (posted_passes (option_copied c.args.prev) c.args.posted c.args.verdict c.args.now c.in_ok-former.ensures.tests).0
+    c.plan_over.ensures.live (posted_passes (option_copied c.args.held) c.args.posted c.args.verdict c.args.now c.in_ok-held.ensures.tests).0
 
 pub returns-clause-greater : goal.returns-clause-greater
 returns-clause-greater c =
-    let passed = posted_passes (option_copied c.args.prev) c.args.posted c.args.verdict c.args.now c.in_ok-former.ensures.tests in
+    let passed = posted_passes (option_copied c.args.held) c.args.posted c.args.verdict c.args.now c.in_ok-held.ensures.tests in
     let post = post_of c.args.posted c.args.now c.args.bits c.args.retention in
-    let greater = plan-succeeds (option_copied c.args.prev) post passed.1 in
-    IfOk-weaker c.plan_over.result (λ plan. plan ≡ plan_over (option_copied c.in_ok-former.former) post)
-    (λ plan. IfSome (successor plan) (λ v. IfSome (option_copied c.args.prev) (λ held. Succeeds held v)))
-    (λ plan e. rw (e, c.in_ok-former.ensures.former) greater) c.plan_over.ensures.planned
+    let greater = plan-succeeds (option_copied c.args.held) post passed.1 in
+    IfOk-weaker c.plan_over.result (λ plan. plan ≡ plan_over (option_copied c.in_ok-held.held) post)
+    (λ plan. IfSome (successor plan) (λ v. IfSome (option_copied c.args.held) (λ held. Succeeds held v)))
+    (λ plan e. rw (e, c.in_ok-held.ensures.held) greater) c.plan_over.ensures.planned
