@@ -6,6 +6,7 @@ mod hashes;
 mod make;
 mod mesh;
 mod receiver;
+mod record;
 
 pub use am_wire::Bytes;
 pub use entry::{Entry, EntryDraft, LogKey};

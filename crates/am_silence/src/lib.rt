@@ -9,6 +9,7 @@ mod ids;
 mod matcher;
 mod mesh;
 mod plan;
+mod record;
 mod silence;
 mod sizes;
 mod state;

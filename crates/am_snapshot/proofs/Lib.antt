@@ -7,3 +7,4 @@ pub mod Bests
 pub mod Stops
 pub mod Inserts
 pub mod OneFault
+pub mod Saved

@@ -35,10 +35,10 @@ module _ {A : Type 0} (reads : ℕ → List ℕ → Result A WireError) where
   err_first : (e : WireError) (m : A) (others : List (Result A WireError)) → faulty e ∷ [] ≡ sound m ∷ others → ⊥
   err_first e m others h = absurd cc
 
-  head_is : (m n : A) (ms ns : List (Result A WireError)) → sound m ∷ ms ≡ sound n ∷ ns → m ≡ n
+  pub head_is : (m n : A) (ms ns : List (Result A WireError)) → sound m ∷ ms ≡ sound n ∷ ns → m ≡ n
   head_is m n ms ns h = cc
 
-  tail_is : (m n : A) (ms ns : List (Result A WireError)) → sound m ∷ ms ≡ sound n ∷ ns → ms ≡ ns
+  pub tail_is : (m n : A) (ms ns : List (Result A WireError)) → sound m ∷ ms ≡ sound n ∷ ns → ms ≡ ns
   tail_is m n ms ns h = cc
 
   same_fault : (ms ns : List A) (e d : WireError) → map sound ms ++ faulty e ∷ [] ≡ map sound ns ++ faulty d ∷ [] → (ms ≡ ns) × (e ≡ d)

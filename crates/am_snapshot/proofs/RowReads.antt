@@ -76,7 +76,7 @@ module _ {A : Type 0} (reads : ℕ → List ℕ → Result A WireError) where
   pub message_at-cut : (at : ℕ) (bytes : List ℕ) → IsCut at bytes → message_at reads at bytes ≡ Err (Truncated at)
   message_at-cut at bytes h = rw h refl
 
-  from-more : (at : ℕ) (row rest : List ℕ) (v : A) → 0 < length row → ReadsAs reads at row (Ok v) → from at (row ++ rest) ≡ Ok v ∷ from (at + length row) rest
+  pub from-more : (at : ℕ) (row rest : List ℕ) (v : A) → 0 < length row → ReadsAs reads at row (Ok v) → from at (row ++ rest) ≡ Ok v ∷ from (at + length row) rest
   from-more at row rest v filled gives =
       pieces-first (message_at reads) at (row ++ rest) (v, length row) (message_at-whole at row rest v gives) filled (omega (arith, length-append row rest))
       ∙ ap (λ (r : List ℕ). sound v ∷ from (at + length row) r) (drop-append_seam row rest)

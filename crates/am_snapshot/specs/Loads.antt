@@ -1,5 +1,5 @@
 -- What loading a snapshot answers.
-use Rattle.std.specs.Prelude.{◌≡◌, ◌≢◌, ℕ, ◌≤◌, List, [], ◌∷◌, ◌++◌, length, map, Contains, AllPairs, Option, Some, Result, Ok, ⊤}
+use Rattle.std.specs.Prelude.{◌≡◌, ◌≢◌, ℕ, ◌≤◌, List, [], ◌∷◌, ◌++◌, length, map, Contains, AllPairs, IsPermutation, Option, Some, Result, Ok, ⊤}
 use Rattle.std.specs.Io.KnownBytes.{Consumes}
 use Rattle.am_version_order.specs.Versions.{Version}
 use Rattle.am_wire.specs.declared.error.WireError.{WireError}
@@ -40,6 +40,10 @@ module _ {K X : Type 0} (seen : X → Version K) where
       pub size : length bytes ≤ most
       pub read : Consumes (Some input) left bytes
 
+    -- the map has exactly the versions of the input, of which no two have one key
+    abbrev pub IsLoaded : List ℕ → List X → Type 0
+    IsLoaded input held = (versions : List X) × AreMessages reads input versions × AreDistinct versions × IsPermutation versions held
+
     -- the fault that stands first: none of the versions before it repeats a key
     abbrev pub StopsLoad : List ℕ → Option (List ℕ) → SnapshotError → Type 0
     StopsLoad input left (Read at) = (versions : List X) × StopsAfter reads input versions left (reading.Read at) × AreDistinct versions
@@ -48,3 +52,9 @@ module _ {K X : Type 0} (seen : X → Version K) where
     StopsLoad input left DuplicateKey = RepeatsKey input left
     StopsLoad input left Memory = ⊤
     StopsLoad input left (Write k) = ⊥
+
+-- it is not the bytes of the input that are at fault: a read failed, or memory ran out
+abbrev pub IsOutside : SnapshotError → Type 0
+IsOutside (Read at) = ⊤
+IsOutside Memory = ⊤
+IsOutside _ = ⊥

@@ -1,10 +1,22 @@
--- What a snapshot that was not saved leaves of the writer.
-use Rattle.std.specs.Prelude.{◌≡◌, ℕ, ◌<◌, List, length, take, Option}
+-- Which maps are saved, and what a snapshot that was not saved leaves of the writer.
+use Rattle.std.specs.Prelude.{◌≡◌, ℕ, ◌<◌, ◌≤◌, List, length, take, Option}
 use Rattle.std.specs.Io.KnownBytes.{Appends}
+use Rattle.std.specs.List.{All}
+use Rattle.std.specs.declared.cmp.Ordering.{Ordering}
+use Rattle.am_version_order.specs.Versions.{Version}
+use Rattle.am_wire.specs.Reader.{most}
+use Rattle.am_merge.specs.Maps.{IsMap}
+use Rattle.am_snapshot.specs.Texts.{row_text}
 use Rattle.am_snapshot.specs.declared.row.WriteFault.{WriteFault}
 use Rattle.am_snapshot.specs.declared.row.WriteFault.TheVariants as faults
 use Rattle.am_snapshot.specs.declared.error.SnapshotError.{SnapshotError}
 use Rattle.am_snapshot.specs.declared.error.SnapshotError.TheVariants.{Write, TooLarge, Memory}
+
+-- a map of values, of which a row may be written
+pub record IsSavable {K X : Type 0} (seen : X → Version K) (cmp : K → K → Ordering) (is_value : X → Type 0) (map : List X) : Type 0 where
+  pub order : IsMap seen cmp map
+  pub values : All is_value map
+  pub size : length (row_text seen map) ≤ most
 
 -- the fault of a row, as that of a snapshot
 abbrev pub save_fault : WriteFault → SnapshotError

@@ -1,11 +1,16 @@
-//! What holds of inputs that are not read to their end.
+//! What holds of inputs that are not read to their end, and of those that were saved.
 
 ghost use Rattle.std.specs.Prelude.{◌≡◌, ℕ, List, Option};
 ghost use Rattle.am_wire.specs.declared.error.WireError.{WireError};
 ghost use Rattle.am_wire.specs.declared.reader.RowFault.TheVariants.{Wire, TooLarge};
 ghost use Rattle.am_wire.specs.Inputs.{AreMessages, StopsAfter};
+ghost use Rattle.am_merge.specs.Maps.{IsMap};
+ghost use Rattle.am_snapshot.specs.Texts.{row_text};
+ghost use Rattle.am_snapshot.specs.Loads.{IsLoaded, StopsLoad, IsOutside};
+ghost use Rattle.am_snapshot.specs.Saving.{IsSavable};
+ghost use Rattle.am_snapshot.specs.declared.error.SnapshotError.{SnapshotError};
 
-use am_wire::Message;
+use am_wire::{Message, Record};
 
 /// A fault of the bytes of an input is its only one, after the same messages, and none where it is whole
 /// or too large.
@@ -17,4 +22,16 @@ pub fn an_input_has_one_fault<M: Message>()
         StopsAfter M.reads input messages left (Wire e) → StopsAfter M.reads input others rest TooLarge → ⊥ }
     ensures whole { (input : List ℕ) (messages others : List M) (left : Option (List ℕ)) (e : WireError) →
         StopsAfter M.reads input messages left (Wire e) → AreMessages M.reads input others → ⊥ }
+{}
+
+/// What is saved of a map is loaded as that map: its row is that of these versions, another map is not loaded of
+/// it, and no fault stands in it.
+pub fn what_is_saved_is_loaded<V: Record>()
+    ensures loaded { (map : List V) → IsSavable V.seen V.Key.cmp V.Version.is_value map →
+        IsLoaded V.seen V.reads (row_text V.seen map) map }
+    ensures alone { (map held : List V) → IsSavable V.seen V.Key.cmp V.Version.is_value map →
+        IsMap V.seen V.Key.cmp held → IsLoaded V.seen V.reads (row_text V.seen map) held → held ≡ map }
+    ensures sound { (map : List V) (left : Option (List ℕ)) (e : SnapshotError) →
+        IsSavable V.seen V.Key.cmp V.Version.is_value map →
+        StopsLoad V.seen V.reads (row_text V.seen map) left e → IsOutside e }
 {}

@@ -1,11 +1,10 @@
 //! Reading a snapshot.
 
-ghost use Rattle.std.specs.Prelude.{◌≡◌, List, ◌≤◌, length, IfOk, IfErr, OnOk, IfSome, IsPermutation};
+ghost use Rattle.std.specs.Prelude.{◌≡◌, ◌≤◌, length, IfOk, IfErr, OnOk, IfSome};
 ghost use Rattle.std.specs.Io.KnownBytes.{IsAtEnd};
 ghost use Rattle.am_merge.specs.Maps.{IsMap};
 ghost use Rattle.am_wire.specs.Reader.{most};
-ghost use Rattle.am_wire.specs.Inputs.{AreMessages};
-ghost use Rattle.am_snapshot.specs.Loads.{AreDistinct, StopsLoad};
+ghost use Rattle.am_snapshot.specs.Loads.{IsLoaded, StopsLoad};
 ghost use Rattle.am_snapshot.specs.declared.error.SnapshotError.TheVariants as errors;
 
 use crate::error::SnapshotError;
@@ -51,8 +50,7 @@ pub fn load<V: Version + Message, R: Read>(
     reader: &mut R,
 ) -> Result<Held<V>, SnapshotError>
     ensures order { IfOk result (IsMap V.seen V.Key.cmp) }
-    ensures members { IfOk result (λ held. IfSome (R.remaining reader.old) (λ input.
-        (versions : List V) × AreMessages V.reads input versions × AreDistinct V.seen versions × IsPermutation versions held)) }
+    ensures members { IfOk result (λ held. IfSome (R.remaining reader.old) (λ input. IsLoaded V.seen V.reads input held)) }
     ensures size { OnOk result (IfSome (R.remaining reader.old) (λ input. length input ≤ most)) }
     ensures end { OnOk result (IsAtEnd (R.remaining reader.new)) }
 

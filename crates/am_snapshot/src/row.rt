@@ -1,12 +1,13 @@
 //! Versions written as a row.
 
-ghost use Rattle.std.specs.Prelude.{◌≡◌, ◌+◌, ◌<◌, ◌≤◌, ◌^◌, ◌++◌, length, vec_len, OnOk, IfErr};
+ghost use Rattle.std.specs.Prelude.{◌≡◌, ◌+◌, ◌<◌, ◌≤◌, ◌^◌, ◌++◌, length, vec_len, OnOk, OnSome, IfErr};
 ghost use Rattle.std.specs.Option.{SomeIff};
 ghost use Rattle.am_wire.specs.Writing.{delimited};
 ghost use Rattle.am_wire.specs.Reader.{most};
 ghost use Rattle.am_snapshot.specs.Texts.{row_text};
 ghost use Rattle.am_snapshot.specs.Writing.{Passes, TakesPart};
 ghost use Rattle.am_snapshot.specs.Rows.{Writes};
+ghost use Rattle.am_snapshot.specs.Saving.{IsSavable};
 
 use crate::outgoing::{Outgoing, Stopped};
 use am_merge::Held;
@@ -40,7 +41,8 @@ impl From<Stopped> for WriteFault {
 
 /// How many bytes the row has, where they aren't too many.
 fn row_length<V: Version>(held: &Held<V>) -> Option<u64>
-    ensures { SomeIff result (length (row_text V.seen held.now) ≤ most) (length (row_text V.seen held.now)) }
+    ensures length { SomeIff result (length (row_text V.seen held.now) ≤ most) (length (row_text V.seen held.now)) }
+    ensures savable { OnSome result (IsSavable V.seen V.Key.cmp V.is_value held.now) }
 {
     let mut total: u64 = 0;
     for version in held.iter() {
@@ -87,7 +89,8 @@ pub fn write_row<V: Version, W: Write>(
     held: &Held<V>,
     writer: &mut W,
 ) -> Result<u64, WriteFault>
-    ensures { Writes W.contents writer.old writer.new (row_text V.seen held.now) result }
+    ensures written { Writes W.contents writer.old writer.new (row_text V.seen held.now) result }
+    ensures savable { OnOk result (IsSavable V.seen V.Key.cmp V.is_value held.now) }
 {
     let Some(length) = row_length(held) else {
         return Err(WriteFault::TooLarge);

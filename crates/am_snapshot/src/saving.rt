@@ -4,7 +4,7 @@ ghost use Rattle.std.specs.Prelude.{◌≡◌, ◌<◌, ◌↔◌, length, IfOk,
 ghost use Rattle.std.specs.Io.KnownBytes.{Appends};
 ghost use Rattle.am_wire.specs.Reader.{most};
 ghost use Rattle.am_snapshot.specs.Texts.{row_text};
-ghost use Rattle.am_snapshot.specs.Saving.{StopsSaving};
+ghost use Rattle.am_snapshot.specs.Saving.{IsSavable, StopsSaving};
 
 use crate::error::SnapshotError;
 use crate::row::{WriteFault, write_row};
@@ -41,6 +41,7 @@ pub fn save<V: Version, W: Write>(
     writer: &mut W,
 ) -> Result<u64, SnapshotError>
     ensures row { OnOk result (Appends (W.contents writer.old) (W.contents writer.new) (row_text V.seen held.now)) }
+    ensures savable { OnOk result (IsSavable V.seen V.Key.cmp V.is_value held.now) }
     ensures count { IfOk result (λ written. written ≡ length (row_text V.seen held.now)) }
 
     ensures stopped { IfErr result (StopsSaving W.contents writer.old writer.new (row_text V.seen held.now)) }

@@ -242,7 +242,7 @@ fn read_up_to_a_fault(alloc: Global, bytes: &[u8]) -> (usize, Option<WireError>)
         if let Err(fault) = message {
             return (count, Some(fault));
         }
-        count += 1;
+        count = usize::saturating_add(count, 1);
     }
     (count, None)
 }

@@ -5,6 +5,7 @@ ghost use Rattle.std.specs.Prelude.{None};
 use crate::streams::Broken;
 use am_merge::{Held, Taken};
 use am_silence::MeshSilence;
+use am_snapshot::laws::what_is_saved_is_loaded;
 use am_snapshot::{FoldError, SnapshotError, fold, load, save};
 use am_version_order::Moment;
 use am_wire::{Message, WireError};
@@ -163,6 +164,17 @@ fn resaved<W: Write>(alloc: Global, row: &[u8], writer: &mut W) -> Result<u64, S
     let mut reader = row;
     let held: Held<MeshSilence> = load(alloc, &mut reader)?;
     save(alloc, &held, writer)
+}
+
+#[test]
+fn silences_are_loaded_as_they_are_saved(rt: HostRuntime) {
+    what_is_saved_is_loaded::<MeshSilence>();
+    for row in [FIRST, SECOND, EXPIRES_LATER, ENDS_LATER] {
+        let mut output = Vec::new(rt.alloc());
+        let answer = resaved(rt.alloc(), &row, &mut output);
+        assert!(rt; answer == Ok(33), "answer");
+        assert!(rt; output.as_slice() == row.as_slice(), "saved");
+    }
 }
 
 #[test]

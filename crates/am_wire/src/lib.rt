@@ -12,6 +12,7 @@ mod message;
 mod messages;
 mod parts;
 mod reader;
+mod record;
 mod rows;
 mod size;
 mod text;
@@ -30,6 +31,7 @@ pub use message::{Message, push_message, push_sized};
 pub use messages::Messages;
 pub use parts::{LastNumber, LastText, Part, push_item};
 pub use reader::{RowFault, RowReader, Standing};
+pub use record::Record;
 pub use rows::{MOST_MESSAGE_BYTES, Rows};
 pub use size::{
     bytes_size, chunk_size, message_size, number_size, numbers_size, text_size, varint_size,

@@ -3,8 +3,8 @@ use Rattle.am_wire.specs.Varint.{shortest}
 use Rattle.am_snapshot.proofs.RowTexts.{row_first}
 use Rattle.am_snapshot.proofs.row.row_length.Goals as goal
 
-pub returns-then-total-gt-MOST : goal.returns-then-total-gt-MOST
-returns-then-total-gt-MOST g c = λ small.
+pub returns-then-total-gt-MOST-clause-length : goal.returns-then-total-gt-MOST-clause-length
+returns-then-total-gt-MOST-clause-length g c = λ small.
     let content = (g.V.Version.seen c.in-Some.version.now).content in
     let first = row_first g.V.Version.seen c.loop-version.version-iterator c.next.new.self c.in-Some.version.now c.in-Some.ensures.steps in
     let size : length c.canonical.result.now ≡ length content = ap (λ (x : List ℕ). length x) c.canonical.ensures.content in

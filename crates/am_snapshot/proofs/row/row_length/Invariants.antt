@@ -1,6 +1,8 @@
 use Rattle.std.proofs.Common.{◌≡◌, ◌≤◌, ◌+◌, length}
 use Rattle.am_wire.specs.Reader.{most}
 use Rattle.am_snapshot.specs.Texts.{row_text}
+use Rattle.std.specs.List.{All}
+use Rattle.am_merge.specs.Maps.{IsMap}
 use Rattle.am_snapshot.proofs.row.row_length.Given as goal
 
 abbrev pub invariant-loop-version : goal.invariant-loop-version
@@ -8,4 +10,6 @@ invariant-loop-version g l =
     record {
       count : l.total + length (row_text g.V.Version.seen l.version-iterator) ≡ length (row_text g.V.Version.seen l.held);
       few : l.total ≤ most;
+      order : IsMap g.V.Version.seen g.V.Key.Ord.cmp l.held;
+      values : All g.V.Version.is_value l.version-iterator → All g.V.Version.is_value l.held;
     }
