@@ -5,3 +5,8 @@ pub mod Runs
 pub mod Splits
 pub mod FilterTexts
 pub mod Mutings
+pub mod Members
+pub mod Orders
+pub mod Gatherings
+pub mod OtherBuckets
+pub mod Apart

@@ -1,9 +1,8 @@
 -- Silences that are judged one after the other.
-use Rattle.std.proofs.Common.{◌≡◌, ℕ, ◌+◌, ◌<◌, Bool, true, false, cond, List, [], ◌∷◌, ◌++◌, length, take, get_or, map, refl, sym, ap, ap₂, ◌∙◌, true≢false, append-nil, subst, arith, length-append}
+use Rattle.std.proofs.Common.{◌≡◌, ℕ, ◌+◌, ◌<◌, Bool, true, false, cond, List, [], ◌∷◌, ◌++◌, length, take, get_or, map, refl, sym, ap, ap₂, ◌∙◌, true≢false, append-nil}
 use Rattle.std.specs.Prelude.{filter}
-use Rattle.std.proofs.lemmas.List.{map-append, take_all}
-use Rattle.std.proofs.Math.Seq.{take-append_seam, get_or-append_seam}
-use Rattle.std.proofs.lemmas.List.Elements.{filter_more, filter-append, All-push, All-nil}
+use Rattle.std.proofs.lemmas.List.{map-append}
+use Rattle.std.proofs.lemmas.List.Elements.{filter_more, filter-append, All-push}
 use Rattle.am_silence.specs.Mesh.{Mesh}
 use Rattle.am_matcher.specs.declared.labels.Label.{Label}
 use Rattle.am_matcher.specs.declared.muting.Effect.{Effect}
@@ -41,9 +40,6 @@ judged_more labels now held i v j muting broken ids bs ids' bs' within is active
   broken_are = bs_so ∙ ap (λ (l : List (List ℕ)). l ++ cond broken (id_of j ∷ []) []) before.broken_are ∙ sym (ids_more (λ x. x.broken) before.judged j broken is_broken_so);
 }
 
-pub muted_none : (labels : List Label) (now : ℕ) → AreMuted labels now [] [] []
-muted_none labels now = record { judged = []; all_active = refl; are_judged = All-nil IsJudged; ids_are = refl; broken_are = refl }
-
 -- one more silence, whose ids go where its effect wants them
 pub muted_more : (labels : List Label) (now : ℕ) (held : List Mesh) (i : ℕ) (v : Mesh) (e : Effect) (ids bs ids' bs' : List (List ℕ)) → i < length held → v ≡ get_or held i v → IsEffect labels now v e → AreMuted labels now (take i held) ids bs → ids' ≡ ids ++ if_mutes e v.silence.id → bs' ≡ bs ++ if_broken e v.silence.id → AreMuted labels now (take (i + 1) held) ids' bs'
 muted_more labels now held i v Idle ids bs ids' bs' within is effect before ids_so bs_so = record {
@@ -62,11 +58,3 @@ muted_more labels now held i v Passes ids bs ids' bs' within is effect before id
 muted_more labels now held i v Broken ids bs ids' bs' within is effect before ids_so bs_so =
     let refused : IsJudged (record { silence = v; broken = true }) = record { refused = λ e. effect.1; read = λ e. absurd (true≢false e) } in
     judged_more labels now held i v (record { silence = v; broken = true }) false true ids bs ids' bs' within is effect.0 refl refused refl refl before ids_so bs_so
-
--- the same, by the silences that were judged before it
-pub muted_next : (labels : List Label) (now : ℕ) (seen : List Mesh) (v : Mesh) (e : Effect) (ids bs ids' bs' : List (List ℕ)) → IsEffect labels now v e → AreMuted labels now seen ids bs → ids' ≡ ids ++ if_mutes e v.silence.id → bs' ≡ bs ++ if_broken e v.silence.id → AreMuted labels now (seen ++ v ∷ []) ids' bs'
-muted_next labels now seen v e ids bs ids' bs' effect before ids_so bs_so =
-    let long = length-append seen (v ∷ []) in
-    subst (λ (vs : List Mesh). AreMuted labels now vs ids' bs') (take_all (length seen + 1) (seen ++ v ∷ []) (omega arith))
-    (muted_more labels now (seen ++ v ∷ []) (length seen) v e ids bs ids' bs' (omega arith) (sym (get_or-append_seam seen v [] v)) effect
-    (subst (λ (vs : List Mesh). AreMuted labels now vs ids bs) (sym (take-append_seam seen (v ∷ []))) before) ids_so bs_so)

@@ -5,3 +5,4 @@ pub mod Matching
 pub mod Filters
 pub mod Errors
 pub mod Mutes
+pub mod Buckets

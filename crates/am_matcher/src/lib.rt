@@ -4,6 +4,7 @@
 mod compiled;
 mod filter;
 mod filter_text;
+mod gathering;
 mod judged;
 mod labels;
 pub mod laws;

@@ -1,10 +1,11 @@
 //! Which silences mute an alert.
 
-ghost use Rattle.std.specs.Prelude.{◌≡◌, ◌++◌, ℕ, List, IfOk, OnOk};
+ghost use Rattle.std.specs.Prelude.{◌≡◌, ◌++◌, ℕ, List, map, IfOk, OnOk};
 ghost use Rattle.am_silence.specs.Mesh.{Mesh};
 ghost use Rattle.am_matcher.specs.Mutes.{is_active, IsEffect, if_mutes, if_broken, AreMuted};
 
 use crate::compiled::BuildError;
+use crate::gathering::{buckets_for, gather};
 use crate::judged::judge_all;
 use crate::labels::{Label, Labels};
 use crate::muted::{Ids, Mutes};
@@ -74,18 +75,18 @@ fn put_id(
     Ok(())
 }
 
-/// Which of the held silences mute an alert, and which are broken.
+/// Which of the silences mute an alert, and which are broken.
 fn mutes_among(
     alloc: Global,
-    held: &Held<MeshSilence>,
+    silences: &[&MeshSilence],
     labels: &[Label],
     now: Moment,
 ) -> Result<Mutes, AllocError>
-    ensures { IfOk result (λ m. AreMuted labels.now now held.now m.ids m.broken) }
+    ensures { IfOk result (λ m. AreMuted labels.now now (map (λ m. m.now) silences.now) m.ids m.broken) }
 {
     let mut ids = Vec::new(alloc);
     let mut broken = Vec::new(alloc);
-    for version in held.iter() {
+    for &version in silences {
         let effect = effect_of(alloc, version, labels, now)?;
         put_id(alloc, version.key(), effect, &mut ids, &mut broken)?;
     }
@@ -97,9 +98,10 @@ fn mutes_among(
 
 /// The silences that mute an alert with these labels, and those with a pattern that `regex` refuses.
 ///
-/// Only silences in view that have begun and haven't ended are looked at. One without matchers mutes
+/// Only silences in view that have begun and haven't ended are asked. One without matchers mutes
 /// every alert. Patterns are compiled for this call alone, and those of an active silence all of them,
-/// since a broken one is told whatever the labels are.
+/// since a broken one is told whatever the labels are. Silences that have no pattern and want a label to
+/// be a text that it isn't are not looked at.
 pub fn mutes(
     alloc: Global,
     held: &Held<MeshSilence>,
@@ -108,5 +110,9 @@ pub fn mutes(
 ) -> Result<Mutes, AllocError>
     ensures { IfOk result (λ m. AreMuted labels.now now held.now m.ids m.broken) }
 {
-    mutes_among(alloc, held, labels.as_slice(), now)
+    let labels = labels.as_slice();
+    let buckets = buckets_for(alloc, labels)?;
+    let silences = gather(alloc, held, &buckets)?;
+    let muted = mutes_among(alloc, &silences, labels, now)?;
+    Ok(muted)
 }

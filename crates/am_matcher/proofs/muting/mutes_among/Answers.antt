@@ -1,28 +1,18 @@
-use Rattle.std.proofs.Common.{◌≡◌, ◌∙◌, ap, sym, ◌++◌, ◌∷◌, [], append_assoc, append-nil}
+use Rattle.std.proofs.Common.{◌≡◌, ◌∙◌, ◌<◌, ap, sym, ◌++◌, length, get_or, arith}
+use Rattle.std.proofs.lemmas.List.{get_or-map, length-map}
 use Rattle.am_matcher.specs.Mutes.{if_mutes, if_broken}
-use Rattle.am_matcher.proofs.Mutings.{muted_none, muted_next}
+use Rattle.am_matcher.proofs.Mutings.{muted_more}
+use Rattle.am_matcher.proofs.Orders.{Silence, silences}
 use Rattle.am_matcher.proofs.muting.mutes_among.Goals as goal
-
-pub loop-version-init : goal.loop-version-init
-loop-version-init c =
-    let same : c.into_iter-version-iterator.result ≡ c.args.held.now = let gives = c.into_iter-version-iterator.ensures.into_iter_gives in let items = c.iter-version-items.ensures.items in cc in
-    record { judged = []; whole = same; muted = rw (c.new-ids.ensures.items, c.new-broken.ensures.items) (muted_none c.args.labels.now c.args.now) }
 
 pub loop-version-preserved : goal.loop-version-preserved
 loop-version-preserved c =
-    let so_far = c.loop-version.invariant in
-    record {
-      judged = so_far.judged ++ c.in-Some.version.now ∷ [];
-      whole = append_assoc so_far.judged (c.in-Some.version.now ∷ []) c.next.new.self ∙ ap (λ vs. so_far.judged ++ vs) (sym c.in-Some.ensures.steps) ∙ so_far.whole;
-      muted =
-          muted_next c.args.labels.now c.args.now so_far.judged c.in-Some.version.now c.in_ok-effect.effect c.loop-version.ids.items c.loop-version.broken.items _ _
-          c.in_ok-effect.ensures so_far.muted
-          (c.in_ok-put_id.ensures.ids ∙ ap (λ id. c.loop-version.ids.items ++ if_mutes c.in_ok-effect.effect id) c.key.ensures)
-          (c.in_ok-put_id.ensures.broken ∙ ap (λ id. c.loop-version.broken.items ++ if_broken c.in_ok-effect.effect id) c.key.ensures);
-    }
-
-pub returns : goal.returns
-returns c =
-    let so_far = c.loop-version.invariant in
-    let all = sym (append-nil so_far.judged) ∙ ap (λ vs. so_far.judged ++ vs) (sym c.in-None.ensures.steps.0) ∙ so_far.whole in
-    rw (c.new.ensures, c.new-2.ensures) (rw all at so_far.muted)
+    let item = c.version-item.result in
+    let all = silences c.args.silences.now in
+    let within : c.loop-version.version-index < length all = omega (arith, length-map c.args.silences.now (λ (m : Silence). m.now)) in
+    let is : item.now ≡ get_or all c.loop-version.version-index item.now =
+    ap (λ (m : Silence). m.now) c.version-item.is ∙ sym (get_or-map (λ (m : Silence). m.now) c.args.silences.now c.loop-version.version-index item item.now c.loop-version-test.true) in
+    muted_more c.args.labels.now c.args.now all c.loop-version.version-index item.now c.in_ok-effect.effect c.loop-version.ids.items c.loop-version.broken.items _ _ within is
+    c.in_ok-effect.ensures c.loop-version.invariant
+    (c.in_ok-put_id.ensures.ids ∙ ap (λ id. c.loop-version.ids.items ++ if_mutes c.in_ok-effect.effect id) c.key.ensures)
+    (c.in_ok-put_id.ensures.broken ∙ ap (λ id. c.loop-version.broken.items ++ if_broken c.in_ok-effect.effect id) c.key.ensures)
