@@ -17,7 +17,7 @@ use Rattle.am_merge.specs.Places.{IsPlaceOf, IsGapFor}
 use Rattle.am_merge.proofs.Keys.{IsKeyOrder, AreBelow, AreAbove, IsBetween, IsMap-insert, IsMap-without, both_parts, all_joined}
 use Rattle.am_merge.proofs.Puts.{cut_at}
 
-some_is : {Y : Type 0} {x y : Y} → Some x ≡ Some y → x ≡ y
+pub some_is : {Y : Type 0} {x y : Y} → Some x ≡ Some y → x ≡ y
 some_is e = cc
 
 Contains-head : {X : Type 0} (x : X) (xs : List X) → Contains (x ∷ xs) x

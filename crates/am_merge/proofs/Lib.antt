@@ -8,5 +8,6 @@ pub mod Exists
 pub mod Values
 pub mod Indexes
 pub mod Shelves
-pub mod Steps
 pub mod Firsts
+pub mod Buckets
+pub mod Steps

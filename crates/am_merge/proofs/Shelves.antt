@@ -47,7 +47,7 @@ spot_within {T} rows spot within = by (nat_lt spot.block (length rows.blocks)) r
       omega arith
 
 -- ---- moments
-then_equal : (a b : Ordering) → ordering_then a b ≡ Equal → (a ≡ Equal) × (b ≡ Equal)
+pub then_equal : (a b : Ordering) → ordering_then a b ≡ Equal → (a ≡ Equal) × (b ≡ Equal)
 then_equal Less b h = absurd cc
 then_equal Equal b h = (refl, h)
 then_equal Greater b h = absurd cc
@@ -194,6 +194,15 @@ module _ {K X : Type 0} (seen : X → Version K) where
 
     pub versions_length : (table : ℕ → Option X) (es : List KeyEntry) → IsKeyIndex seen head_of cmp table es → length (versions_of table es) ≡ length es
     versions_length table es is = indexes.listed-length key_slot (key_entry seen head_of) key_slot_entry table es is.index.sound
+
+    -- no two slots have versions of one key
+    pub key_unique : (table : ℕ → Option X) (es : List KeyEntry) (s t : ℕ) (v w : X) → IsKeyIndex seen head_of cmp table es → table s ≡ Some v → table t ≡ Some w → (seen v).key ≡ (seen w).key → s ≡ t
+    key_unique table es s t v w is here there key =
+        let inside = is.index.complete s v here in
+        let e = key_entry seen head_of s v in
+        let side = (indexes.sides key_slot (key_entry seen head_of) key_slot_entry seen cmp keys table t w there es is.index is.order inside.0 e inside.1 (sym inside.2)).1.0 in
+        let same : v ≡ side.value = indexes.some_is (sym here ∙ side.there) in
+        indexes.same-slot key_slot (key_entry seen head_of) key_slot_entry seen cmp keys table t w there es is.index is.order inside.0 e inside.1 (sym inside.2) (ap (λ x. (seen x).key) (sym same) ∙ key)
 
     module _ (old new : ℕ → Option X) (es : List KeyEntry) (slot : ℕ) (v : X) (is : IsKeyIndex seen head_of cmp old es) (i : ℕ) where
       pub versions_put : old slot ≡ None → Changes old new slot (Some v) → versions_of new (insert es i (key_entry seen head_of slot v)) ≡ insert (versions_of old es) i v

@@ -1,6 +1,6 @@
 -- A shelf when a version is put in, replaced or taken out.
-use Rattle.std.proofs.Common.{◌≡◌, ℕ, ◌<◌, ◌≤◌, ◌+◌, zero, suc, Bool, true, false, append_assoc, List, [], ◌∷◌, ◌++◌, length, take, drop, get_or, set, Some, None, refl, sym, ap, ◌∙◌, subst, arith}
-use Rattle.std.specs.Prelude.{insert, slice_index_or, count_by, is_some, Result, Ok, Err, OnOk}
+use Rattle.std.proofs.Common.{◌≡◌, ℕ, ◌<◌, ◌≤◌, ◌+◌, zero, suc, Bool, true, false, cond, append_assoc, List, [], ◌∷◌, ◌++◌, length, take, drop, get_or, set, Option, Some, None, refl, sym, ap, ◌∙◌, subst, arith, inl, inr}
+use Rattle.std.specs.Prelude.{insert, slice_index_or, count_by, is_some, is_none, if◌then◌else◌, Result, Ok, Err, OnOk}
 use Rattle.std.specs.List.{slice_get}
 use Rattle.std.proofs.lemmas.Option.{get_or_from_slice_get}
 use Rattle.std.specs.List.{HoldsAt, remove}
@@ -16,18 +16,24 @@ use Rattle.am_blocks.specs.declared.spot.Spot.{Spot}
 use Rattle.am_blocks.specs.Rows.{Rows, joined, entries, HasRoom}
 use Rattle.am_blocks.specs.Spots.{IsItem, place, place_in, block_at}
 use Rattle.am_version_order.specs.Versions.{Version, is_below, rank_cmp}
-use Rattle.am_merge.specs.Maps.{IsMap, replaces}
-use Rattle.am_merge.specs.Takings.{IsPut}
+use Rattle.am_version_order.proofs.Ranks.{below_trans}
+use Rattle.am_merge.specs.Maps.{IsMap, at, replaces, greater_of, is_above}
+use Rattle.am_merge.specs.Takings.{IsPut, new_keys, new_versions}
 use Rattle.am_merge.specs.Places.{IsPlaceOf, IsGapFor}
 use Rattle.am_merge.specs.Indexes.{Changes, filed}
 use Rattle.am_merge.specs.Entries.{versions_of, key_slot, expiry_slot, key_entry, with_slots, by_time, time_cmp}
-use Rattle.am_merge.specs.Shelves.{versions, IsExpiryIndex, IsKeyIndex, IsShelf, IsKeySpot, IsGapSpot, IsWithout}
+use Rattle.am_merge.specs.Buckets.{bucket_slot, bucket_entry, by_bucket, bucket_cmp}
+use Rattle.am_merge.specs.Shelves.{versions, IsAbsent, IsExpiryIndex, IsKeyIndex, IsBucketIndex, IsShelf, IsKeySpot, IsGapSpot, IsSlotAt, IsWithout, HasRooms}
 use Rattle.am_merge.specs.declared.entry.KeyEntry.{KeyEntry}
+use Rattle.am_merge.specs.declared.entry.BucketEntry.{BucketEntry}
 use Rattle.am_merge.specs.declared.entry.ExpiryEntry.{ExpiryEntry}
 use Rattle.am_merge.specs.declared.shelf.Shelf.{Shelf}
 use Rattle.am_merge.proofs.Keys.{IsKeyOrder, IsMap-without, both_parts}
-use Rattle.am_merge.proofs.Puts.{cut_at, place_over, place_nowhere}
-use Rattle.am_merge.proofs.Shelves.{item_within, spot_within, changes_of, changes_after, expiry_taken, expiry_put, key_put, versions_put, key_taken, versions_taken, version_here, versions_swapped, key_swapped, versions_length}
+use Rattle.am_merge.proofs.Puts.{cut_at, place_over, place_nowhere, at-member, at_found, at_absent}
+use Rattle.am_merge.proofs.Firsts.{version_inside}
+use Rattle.am_merge.proofs.Buckets.{bucket_put, bucket_taken, bucket_swapped}
+use Rattle.std.proofs.lemmas.Bool.{cases_eq}
+use Rattle.am_merge.proofs.Shelves.{item_within, spot_within, changes_of, changes_after, expiry_taken, expiry_put, key_put, versions_put, key_taken, versions_taken, version_here, versions_swapped, key_swapped, key_unique, versions_length}
 
 module _ {K X : Type 0} (seen : X → Version K) where
   pub taken_out : (old new : Slab X) (rows after : Rows ExpiryEntry) (slot : ℕ) (v : X) (spot : Spot) → get old slot ≡ Some v → Updates old new slot None → IsExpiryIndex seen (get old) (entries rows) → IsItem rows spot → HoldsAt (λ e. expiry_slot e ≡ slot) (entries rows) (place rows spot) → entries after ≡ remove (entries rows) (place rows spot) → IsExpiryIndex seen (get new) (entries after)
@@ -42,9 +48,49 @@ module _ {K X : Type 0} (seen : X → Version K) where
       (changes_of old new slot (Some v) (subst (λ s. Updates old new s (Some v)) same updates)) is
       (subst (λ t. IsGapFor (by_time seen) time_cmp (filed expiry_slot (with_slots (get old)) (entries rows)) (t, slot) (place rows spot)) moment gap))
 
-  module _ (head_of : K → ℕ) (cmp : K → K → Ordering) (keys : IsKeyOrder cmp) where
+  module _ (head_of : K → ℕ) (cmp : K → K → Ordering) (keys : IsKeyOrder cmp) (bucket_of : X → List ℕ) where
     abbrev Whole : Shelf X → Type 0
-    Whole shelf = IsShelf seen head_of cmp shelf
+    Whole shelf = IsShelf seen head_of cmp bucket_of shelf
+
+    abbrev Filed : (ℕ → Option X) → List BucketEntry → Type 0
+    Filed table es = IsBucketIndex seen head_of cmp bucket_of table es
+
+    -- ---- the index by bucket
+    pub filed_put : (old new : Slab X) (rows mid after : Rows BucketEntry) (slot given : ℕ) (v : X) (e : BucketEntry) (spot : Spot) → get old slot ≡ None → Updates old new slot (Some v) → Filed (get old) (entries rows) → IsGapFor (by_bucket seen bucket_of) (bucket_cmp cmp) (filed bucket_slot (get old) (entries rows)) (by_bucket seen bucket_of v).key (place rows spot) → mid ≡ rows → e ≡ bucket_entry seen bucket_of head_of given v → given ≡ slot → entries after ≡ insert (entries mid) (place mid spot) e → Filed (get new) (entries after)
+    filed_put old new rows mid after slot given v e spot vacant updates is gap same entry_is slot_is put =
+        let known : entries after ≡ insert (entries rows) (place rows spot) (bucket_entry seen bucket_of head_of slot v) =
+        put ∙ (λ i. insert (entries (same i)) (place (same i) spot) (entry_is i)) ∙ ap (λ s. insert (entries rows) (place rows spot) (bucket_entry seen bucket_of head_of s v)) slot_is in
+        subst (Filed (get new)) (sym known) (bucket_put seen head_of cmp keys bucket_of (get old) (get new) (entries rows) slot v (place rows spot) vacant (changes_of old new slot (Some v) updates) is gap)
+
+    pub filed_taken : (old new : Slab X) (rows mid after : Rows BucketEntry) (slot : ℕ) (w : X) (spot : Spot) → get old slot ≡ Some w → Updates old new slot None → Filed (get old) (entries rows) → IsItem rows spot → HoldsAt (λ e. bucket_slot e ≡ slot) (entries rows) (place rows spot) → mid ≡ rows → entries after ≡ remove (entries mid) (place mid spot) → Filed (get new) (entries after)
+    filed_taken old new rows mid after slot w spot there out is item own same left =
+        let known : entries after ≡ remove (entries rows) (place rows spot) = left ∙ (λ i. remove (entries (same i)) (place (same i) spot)) in
+        subst (Filed (get new)) (sym known) (bucket_taken seen head_of cmp keys bucket_of (get old) (get new) (entries rows) slot w (place rows spot) there (changes_of old new slot None out) is (item_within rows spot item) own)
+
+    pub filed_swapped : (old mid new : Slab X) (rows after : Rows BucketEntry) (slot : ℕ) (w v : X) → get old slot ≡ Some w → Updates old mid slot None → Updates mid new slot (Some v) → (seen v).key ≡ (seen w).key → bucket_of v ≡ bucket_of w → Filed (get old) (entries rows) → after ≡ rows → Filed (get new) (entries after)
+    filed_swapped old mid new rows after slot w v there out back key bucket is same =
+        subst (λ r. Filed (get new) (entries r)) (sym same)
+        (bucket_swapped seen head_of cmp keys bucket_of (get old) (get new) (entries rows) slot w v there
+        (changes_after (get old) (get mid) (get new) slot None (Some v) (changes_of old mid slot None out) (changes_of mid new slot (Some v) back)) key bucket is)
+
+    -- ---- keys that no slot has
+    pub gap_absent : (shelf : Shelf X) (key : K) (spot : Spot) → Whole shelf → IsGapSpot seen cmp shelf key spot → IsAbsent seen (get shelf.table) key
+    gap_absent shelf key spot is gap slot v there same =
+        let here = at-member seen cmp keys (versions shelf) v is.keys.order (version_inside seen (get shelf.table) head_of cmp (entries shelf.keys) is.keys slot v there) in
+        let nothing = at_absent seen cmp keys (versions shelf) key (place shelf.keys spot) gap.gap in
+        let found : at seen cmp (versions shelf) key ≡ Some v = ap (λ k. at seen cmp (versions shelf) k) (sym same) ∙ here in
+        cc
+
+    pub taken_absent : (old : Shelf X) (mid : Slab X) (slot : ℕ) (w : X) (key : K) → Whole old → get old.table slot ≡ Some w → (seen w).key ≡ key → Updates old.table mid slot None → IsAbsent seen (get mid) key
+    taken_absent old mid slot w key is there own out s v here same = elim (cases_eq s slot) [
+      | inl met ↦ let none : get mid s ≡ None = ap (get mid) met ∙ out.changed in cc
+      | inr differs ↦ differs (key_unique seen head_of cmp keys (get old.table) (entries old.keys) s slot v w is.keys (sym (out.others s differs) ∙ here) there (same ∙ sym own))
+    ]
+
+    -- the version at a spot has its key
+    pub spot_key : (old : Shelf X) (key : K) (spot : Spot) (slot : ℕ) (w : X) → Whole old → IsKeySpot seen cmp old key spot → IsSlotAt old.keys spot slot → get old.table slot ≡ Some w → (seen w).key ≡ key
+    spot_key old key spot slot w is at own there =
+        ap (λ x. (seen x).key) (sym (version_here seen head_of cmp keys (get old.table) (get old.table) (entries old.keys) slot w is.keys (place old.keys spot) there (item_within old.keys spot at.item) own)) ∙ at.place.here w
 
     module _ (old mid : Shelf X) (after : Rows KeyEntry) (slot head : ℕ) (v : X) (spot : Spot) (is : Whole old) (gap : IsGapSpot seen cmp old (seen v).key spot) (vacant : get old.table slot ≡ None) (updates : Updates old.table mid.table slot (Some v)) (same : mid.keys ≡ old.keys) (head_is : head ≡ head_of (seen v).key) (put : entries after ≡ insert (entries mid.keys) (place mid.keys spot) (record { head = head; slot = slot })) where
       known : entries after ≡ insert (entries old.keys) (place old.keys spot) (key_entry seen head_of slot v)
@@ -56,26 +102,24 @@ module _ {K X : Type 0} (seen : X → Version K) where
       pub added_versions : versions_of (get mid.table) (entries after) ≡ insert (versions old) (place old.keys spot) v
       added_versions = ap (versions_of (get mid.table)) known ∙ versions_put seen head_of cmp keys (get old.table) (get mid.table) (entries old.keys) slot v is.keys (place old.keys spot) vacant changes
 
-      pub added : IsExpiryIndex seen (get mid.table) (entries mid.expiries) → slab_len mid.table ≡ slab_len old.table + 1 → Whole (record mid { keys = after })
-      added expiries long =
+      pub added : (rows : Rows BucketEntry) → IsExpiryIndex seen (get mid.table) (entries mid.expiries) → Filed (get mid.table) (entries rows) → slab_len mid.table ≡ slab_len old.table + 1 → Whole (record mid { keys = after; buckets = rows })
+      added rows expiries buckets long =
           record {
             keys = subst (IsKeyIndex seen head_of cmp (get mid.table)) (sym known) (key_put seen head_of cmp keys (get old.table) (get mid.table) (entries old.keys) slot v is.keys (place old.keys spot) vacant changes gap.gap);
             expiries = expiries;
+            buckets = buckets;
             count = let longer = length-insert (entries old.keys) (place old.keys spot) (key_entry seen head_of slot v) (spot_within old.keys spot gap.within) in let count = is.count in let now = ap length known in omega arith;
           }
 
-    module _ (old mid new : Shelf X) (e : KeyEntry) (slot : ℕ) (w v : X) (spot : Spot) (is : Whole old) (at : IsKeySpot seen cmp old (seen v).key spot) (got : slice_get (entries old.keys) (place old.keys spot) ≡ Some e) (slot_is : slot ≡ e.slot) (there : get old.table slot ≡ Some w) (out : Updates old.table mid.table slot None) (back : Updates mid.table new.table slot (Some v)) (same_mid : mid.keys ≡ old.keys) (same_new : new.keys ≡ mid.keys) where
+    module _ (old mid new : Shelf X) (slot : ℕ) (w v : X) (spot : Spot) (is : Whole old) (at : IsKeySpot seen cmp old (seen v).key spot) (own : IsSlotAt old.keys spot slot) (there : get old.table slot ≡ Some w) (out : Updates old.table mid.table slot None) (back : Updates mid.table new.table slot (Some v)) (same_mid : mid.keys ≡ old.keys) (same_new : new.keys ≡ mid.keys) where
       within : place old.keys spot < length (entries old.keys)
       within = item_within old.keys spot at.item
-
-      own : HoldsAt (λ x. key_slot x ≡ slot) (entries old.keys) (place old.keys spot)
-      own d = ap key_slot (get_or_from_slice_get (entries old.keys) (place old.keys spot) e d got) ∙ sym slot_is
 
       swap : Changes (get old.table) (get new.table) slot (Some v)
       swap = changes_after (get old.table) (get mid.table) (get new.table) slot None (Some v) (changes_of old.table mid.table slot None out) (changes_of mid.table new.table slot (Some v) back)
 
       same_key : (seen v).key ≡ (seen w).key
-      same_key = sym (ap (λ x. (seen x).key) (sym (version_here seen head_of cmp keys (get old.table) (get new.table) (entries old.keys) slot w is.keys (place old.keys spot) there within own)) ∙ at.place.here w)
+      same_key = sym (spot_key old (seen v).key spot slot w is at own there)
 
       rows_same : entries new.keys ≡ entries old.keys
       rows_same = ap entries (same_new ∙ same_mid)
@@ -86,11 +130,12 @@ module _ {K X : Type 0} (seen : X → Version K) where
           ∙ versions_swapped seen head_of cmp keys (get old.table) (get new.table) (entries old.keys) slot w is.keys (place old.keys spot) there within own v swap same_key
           ∙ sym (set_split (versions old) (place old.keys spot) v (let long = versions_length seen head_of cmp keys (get old.table) (entries old.keys) is.keys in let low = within in omega arith))
 
-      pub replaced : IsExpiryIndex seen (get new.table) (entries new.expiries) → slab_len mid.table + 1 ≡ slab_len old.table → slab_len new.table ≡ slab_len mid.table + 1 → Whole new
-      replaced expiries less more =
+      pub replaced : IsExpiryIndex seen (get new.table) (entries new.expiries) → Filed (get new.table) (entries new.buckets) → slab_len mid.table + 1 ≡ slab_len old.table → slab_len new.table ≡ slab_len mid.table + 1 → Whole new
+      replaced expiries buckets less more =
           record {
             keys = subst (IsKeyIndex seen head_of cmp (get new.table)) (sym rows_same) (key_swapped seen head_of cmp keys (get old.table) (get new.table) (entries old.keys) slot w is.keys (place old.keys spot) there within own v swap same_key);
             expiries = expiries;
+            buckets = buckets;
             count = let count = is.count in let now = ap length rows_same in omega arith;
           }
 
@@ -113,20 +158,22 @@ module _ {K X : Type 0} (seen : X → Version K) where
             after = ap (versions_of (get mid.table)) known_left ∙ versions_taken seen head_of cmp keys (get old.table) (get mid.table) (entries old.keys) slot w is.keys (place old.keys spot) there inside own gone;
           }
 
-      pub dropped : IsExpiryIndex seen (get mid.table) (entries mid.expiries) → slab_len mid.table + 1 ≡ slab_len old.table → Whole (record mid { keys = after })
-      dropped expiries less =
+      pub dropped : (rows : Rows BucketEntry) → IsExpiryIndex seen (get mid.table) (entries mid.expiries) → Filed (get mid.table) (entries rows) → slab_len mid.table + 1 ≡ slab_len old.table → Whole (record mid { keys = after; buckets = rows })
+      dropped rows expiries buckets less =
           record {
             keys = subst (IsKeyIndex seen head_of cmp (get mid.table)) (sym known_left) (key_taken seen head_of cmp keys (get old.table) (get mid.table) (entries old.keys) slot w is.keys (place old.keys spot) there inside own gone);
             expiries = expiries;
+            buckets = buckets;
             count = let shorter = length-remove (entries old.keys) (place old.keys spot) inside in let count = is.count in let now = ap length known_left in omega arith;
           }
 
     -- a shelf with the same slots and the same blocks
-    pub moved : (old new : Shelf X) → new.table.slots ≡ old.table.slots → new.keys.blocks ≡ old.keys.blocks → new.expiries.blocks ≡ old.expiries.blocks → Whole old → Whole new
-    moved old new slots key_blocks expiry_blocks is =
+    pub moved : (old new : Shelf X) → new.table.slots ≡ old.table.slots → new.keys.blocks ≡ old.keys.blocks → new.expiries.blocks ≡ old.expiries.blocks → new.buckets.blocks ≡ old.buckets.blocks → Whole old → Whole new
+    moved old new slots key_blocks expiry_blocks bucket_blocks is =
         record {
           keys = subst (λ t. IsKeyIndex seen head_of cmp t (entries new.keys)) table_is (subst (IsKeyIndex seen head_of cmp (get old.table)) (ap joined (sym key_blocks)) is.keys);
           expiries = subst (λ t. IsExpiryIndex seen t (entries new.expiries)) table_is (subst (IsExpiryIndex seen (get old.table)) (ap joined (sym expiry_blocks)) is.expiries);
+          buckets = subst (λ t. Filed t (entries new.buckets)) table_is (subst (Filed (get old.table)) (ap joined (sym bucket_blocks)) is.buckets);
           count = ap (count_by is_some) slots ∙ is.count ∙ ap (λ bs. length (joined bs)) (sym key_blocks);
         }
       where
@@ -156,8 +203,8 @@ module _ {K X : Type 0} (seen : X → Version K) where
 pub less_room : {T : Type 0} (rows : Rows T) (n : ℕ) → HasRoom rows (n + 1) → HasRoom rows n
 less_room rows n room = let spares = room.spares in let places = room.places in record { spares = omega arith; places = omega arith }
 
-pub count_is : {K X : Type 0} (seen : X → Version K) (head_of : K → ℕ) (cmp : K → K → Ordering) (keys : IsKeyOrder cmp) (shelf : Shelf X) → IsShelf seen head_of cmp shelf → slab_len shelf.table ≡ length (versions shelf)
-count_is seen head_of cmp keys shelf is = is.count ∙ sym (versions_length seen head_of cmp keys (get shelf.table) (entries shelf.keys) is.keys)
+pub count_is : {K X : Type 0} (seen : X → Version K) (head_of : K → ℕ) (cmp : K → K → Ordering) (keys : IsKeyOrder cmp) (bucket_of : X → List ℕ) (shelf : Shelf X) → IsShelf seen head_of cmp bucket_of shelf → slab_len shelf.table ≡ length (versions shelf)
+count_is seen head_of cmp keys bucket_of shelf is = is.count ∙ sym (versions_length seen head_of cmp keys (get shelf.table) (entries shelf.keys) is.keys)
 
 module _ {K X : Type 0} (seen : X → Version K) (cmp : K → K → Ordering) (keys : IsKeyOrder cmp) where
   -- whether a version is greater than the one of its key
@@ -202,3 +249,56 @@ pub element : {X : Type 0} (xs : List X) (i : ℕ) → i < length xs → (x : X)
 element [] i within = absurd (omega arith)
 element (x ∷ xs) zero within = (x, refl)
 element (x ∷ xs) (suc i) within = element xs i (omega arith)
+
+-- room for so many is room for fewer
+pub fewer_rooms : {X : Type 0} (shelf : Shelf X) (n m k l : ℕ) → k ≤ n → l ≤ m → HasRooms shelf n m → HasRooms shelf k l
+fewer_rooms shelf n m k l fewer few room =
+    record { table = let have = room.table in omega arith; keys = at_most shelf.keys n k fewer room.keys; expiries = at_most shelf.expiries m l few room.expiries; buckets = at_most shelf.buckets m l few room.buckets }
+  where
+    at_most : {T : Type 0} (rows : Rows T) (n k : ℕ) → k ≤ n → HasRoom rows n → HasRoom rows k
+    at_most rows n k less room = let spares = room.spares in let places = room.places in record { spares = omega arith; places = omega arith }
+
+-- ---- how many keys and versions come with a version
+module _ {K X : Type 0} (seen : X → Version K) (cmp : K → K → Ordering) (keys : IsKeyOrder cmp) where
+  pub no_key : (map : List X) (v : X) (i : ℕ) → IsMap seen cmp map → IsPlaceOf seen cmp map (seen v).key i → new_keys seen cmp map v ≡ 0
+  no_key map v i order at = let w = element map i at.in_range in ap (λ o. if is_none o then 1 else 0) (at_found seen cmp keys map (seen v).key i w.0 order at w.1)
+
+  pub one_key : (map : List X) (v : X) (i : ℕ) → IsGapFor seen cmp map (seen v).key i → new_keys seen cmp map v ≡ 1
+  one_key map v i gap = ap (λ o. if is_none o then 1 else 0) (at_absent seen cmp keys map (seen v).key i gap)
+
+  pub versions_by : (map : List X) (v : X) (b : Bool) → replaces seen cmp map v ≡ b → new_versions seen cmp map v ≡ (if b then 1 else 0)
+  versions_by map v b e = ap (λ c. if c then 1 else 0) e
+
+  abbrev one_if : Bool → ℕ
+  one_if b = if b then 1 else 0
+
+  at_most_one : (b : Bool) → one_if b ≤ 1
+  at_most_one true = omega arith
+  at_most_one false = omega arith
+
+  below_up : (u v w : X) (b : Bool) → is_below (seen u) (seen v) ≡ true → is_below (seen v) (seen w) ≡ b → one_if b ≤ one_if (is_below (seen u) (seen w))
+  below_up u v w false first second = omega arith
+  below_up u v w true first second = let further = below_trans (seen u) (seen v) (seen w) first second in rw further (omega arith)
+
+  over_by : (u v w : X) (b : Bool) → is_below (seen u) (seen v) ≡ b → (one_if (is_none (cond b (Some v) (Some u))) ≤ 0) × (one_if (is_above seen (cond b (Some v) (Some u)) w) ≤ one_if (is_below (seen u) (seen w)))
+  over_by u v w true less = (omega arith, below_up u v w (is_below (seen v) (seen w)) less refl)
+  over_by u v w false less = (omega arith, omega arith)
+
+  fewer_by : (w : X) (o p : Option X) → (one_if (is_none (greater_of seen o p)) ≤ one_if (is_none o)) × (one_if (is_above seen (greater_of seen o p) w) ≤ one_if (is_above seen o w))
+  fewer_by w None None = (omega arith, omega arith)
+  fewer_by w None (Some v) = (omega arith, at_most_one (is_below (seen v) (seen w)))
+  fewer_by w (Some u) None = (omega arith, omega arith)
+  fewer_by w (Some u) (Some v) = over_by u v w (is_below (seen u) (seen v)) refl
+
+  -- once another version was taken, as many come with a version, or fewer
+  pub fewer_after : (map new : List X) (v w : X) → IsPut seen cmp map v new → (new_keys seen cmp new w ≤ new_keys seen cmp map w) × (new_versions seen cmp new w ≤ new_versions seen cmp map w)
+  fewer_after map new v w put =
+      let parts = fewer_by w (at seen cmp map (seen w).key) (at seen cmp (v ∷ []) (seen w).key) in
+      let here = put.joined (seen w).key in
+      rw here parts
+
+  pub few_keys : (map : List X) (v : X) → new_keys seen cmp map v ≤ 1
+  few_keys map v = at_most_one (is_none (at seen cmp map (seen v).key))
+
+  pub few_versions : (map : List X) (v : X) → new_versions seen cmp map v ≤ 1
+  few_versions map v = at_most_one (replaces seen cmp map v)

@@ -1,16 +1,19 @@
--- A table of versions under slots, with an index by key and one by expiry.
+-- A table of versions under slots, with an index by key, one by expiry and one by bucket.
 -- X is the type of versions, and `seen` is what the merge sees of one.
-use Rattle.std.specs.Prelude.{◌≡◌, ℕ, List, ◌∷◌, ◌++◌, length, Option, Some, false}
+use Rattle.std.specs.Prelude.{◌≡◌, ◌≢◌, ℕ, List, ◌∷◌, ◌++◌, length, Option, Some, false}
+use Rattle.std.specs.List.{HoldsAt}
 use Rattle.std.specs.declared.cmp.Ordering.{Ordering}
 use Rattle.slab.specs.Slab.{Slab, get, slab_len, HasRoomFor}
 use Rattle.am_blocks.specs.declared.spot.Spot.{Spot}
-use Rattle.am_blocks.specs.Rows.{entries, HasRoom}
+use Rattle.am_blocks.specs.Rows.{Rows, entries, HasRoom}
 use Rattle.am_blocks.specs.Spots.{IsItem, IsWithin, place}
 use Rattle.am_version_order.specs.Versions.{Version, is_live}
 use Rattle.am_merge.specs.Maps.{IsMap}
 use Rattle.am_merge.specs.Places.{IsPlaceOf, IsGapFor}
 use Rattle.am_merge.specs.Indexes.{IsIndex, filed}
 use Rattle.am_merge.specs.Entries.{versions_of, key_slot, expiry_slot, key_entry, expiry_entry, with_slots, by_time, time_cmp}
+use Rattle.am_merge.specs.Buckets.{bucket_slot, bucket_entry, by_bucket, bucket_cmp}
+use Rattle.am_merge.specs.declared.entry.BucketEntry.{BucketEntry}
 use Rattle.am_merge.specs.declared.entry.KeyEntry.{KeyEntry}
 use Rattle.am_merge.specs.declared.entry.ExpiryEntry.{ExpiryEntry}
 use Rattle.am_merge.specs.declared.shelf.Shelf.{Shelf}
@@ -19,11 +22,12 @@ use Rattle.am_merge.specs.declared.shelf.Shelf.{Shelf}
 abbrev pub versions : {X : Type 0} → Shelf X → List X
 versions shelf = versions_of (get shelf.table) (entries shelf.keys)
 
--- so many versions can be put in without memory
-pub record HasRooms {X : Type 0} (shelf : Shelf X) (n : ℕ) : Type 0 where
+-- n keys can come without memory, and m versions, under these or in the place of others
+pub record HasRooms {X : Type 0} (shelf : Shelf X) (n m : ℕ) : Type 0 where
   pub table : HasRoomFor shelf.table n
   pub keys : HasRoom shelf.keys n
-  pub expiries : HasRoom shelf.expiries n
+  pub expiries : HasRoom shelf.expiries m
+  pub buckets : HasRoom shelf.buckets m
 
 -- new has what old has, under the same slots and in the same places
 pub record IsSame {X : Type 0} (old new : Shelf X) : Type 0 where
@@ -31,6 +35,7 @@ pub record IsSame {X : Type 0} (old new : Shelf X) : Type 0 where
   pub vacant : new.table.vacant_key ≡ old.table.vacant_key
   pub keys : new.keys.blocks ≡ old.keys.blocks
   pub expiries : new.expiries.blocks ≡ old.expiries.blocks
+  pub buckets : new.buckets.blocks ≡ old.buckets.blocks
 
 -- new is old without one of its elements
 pub record IsWithout {X : Type 0} (v : X) (old new : List X) : Type 0 where
@@ -38,6 +43,14 @@ pub record IsWithout {X : Type 0} (v : X) (old new : List X) : Type 0 where
   pub back : List X
   pub before : old ≡ front ++ v ∷ back
   pub after : new ≡ front ++ back
+
+-- no slot has a version of the key
+abbrev pub IsAbsent : {K X : Type 0} → (X → Version K) → (ℕ → Option X) → K → Type 0
+IsAbsent {K} {X} seen table key = (slot : ℕ) (v : X) → table slot ≡ Some v → (seen v).key ≢ key
+
+-- the entry at a spot of the index by key names the slot
+abbrev pub IsSlotAt : Rows KeyEntry → Spot → ℕ → Type 0
+IsSlotAt keys spot slot = HoldsAt (λ e. key_slot e ≡ slot) (entries keys) (place keys spot)
 
 -- a slot has something
 abbrev pub HasSlot : {X : Type 0} → Slab X → ℕ → Type 0
@@ -61,11 +74,18 @@ module _ {K X : Type 0} (seen : X → Version K) where
       pub index : IsIndex key_slot (key_entry seen head_of) table es
       pub order : IsMap seen cmp (versions_of table es)
 
-    -- both indexes are those of the table
-    pub record IsShelf (shelf : Shelf X) : Type 0 where
-      pub keys : IsKeyIndex (get shelf.table) (entries shelf.keys)
-      pub expiries : IsExpiryIndex (get shelf.table) (entries shelf.expiries)
-      pub count : slab_len shelf.table ≡ length (entries shelf.keys)
+    module _ (bucket_of : X → List ℕ) where
+      -- the entries are those of the table's versions, by bucket
+      pub record IsBucketIndex (table : ℕ → Option X) (es : List BucketEntry) : Type 0 where
+        pub index : IsIndex bucket_slot (bucket_entry seen bucket_of head_of) table es
+        pub order : IsMap (by_bucket seen bucket_of) (bucket_cmp cmp) (filed bucket_slot table es)
+
+      -- the indexes are those of the table
+      pub record IsShelf (shelf : Shelf X) : Type 0 where
+        pub keys : IsKeyIndex (get shelf.table) (entries shelf.keys)
+        pub expiries : IsExpiryIndex (get shelf.table) (entries shelf.expiries)
+        pub buckets : IsBucketIndex (get shelf.table) (entries shelf.buckets)
+        pub count : slab_len shelf.table ≡ length (entries shelf.keys)
 
   module _ (cmp : K → K → Ordering) where
     -- at the spot is the entry of the key's version

@@ -1,9 +1,9 @@
 -- What taking a version does to a map, and what it answers.
 -- X is the type of versions, and `seen` is what the merge sees of one.
-use Rattle.std.specs.Prelude.{◌≡◌, ◌≢◌, ℕ, List, [], ◌∷◌, Bool, false, IsTrue, ◌↔◌, if◌then◌else◌}
+use Rattle.std.specs.Prelude.{◌≡◌, ◌≢◌, ℕ, List, [], ◌∷◌, Bool, false, is_none, IsTrue, ◌↔◌, if◌then◌else◌}
 use Rattle.std.specs.declared.cmp.Ordering.{Ordering}
 use Rattle.am_version_order.specs.Versions.{Version, is_live}
-use Rattle.am_merge.specs.Maps.{IsMap, IsJoin, replaces}
+use Rattle.am_merge.specs.Maps.{IsMap, IsJoin, at, replaces}
 use Rattle.am_merge.specs.declared.held.Taken.{Taken}
 use Rattle.am_merge.specs.declared.held.Taken.TheVariants.{Changed, Kept, Expired}
 
@@ -18,6 +18,13 @@ module _ {K X : Type 0} (seen : X → Version K) (cmp : K → K → Ordering) wh
     pub joined : IsJoin seen cmp map (v ∷ []) new
     pub changed : IsTrue (replaces seen cmp map v) ↔ (new ≢ map)
     pub kept : replaces seen cmp map v ≡ false → new ≡ map
+
+  -- how many keys come with v, and how many versions: 1 or 0
+  abbrev pub new_keys : List X → X → ℕ
+  new_keys map v = if is_none (at seen cmp map (seen v).key) then 1 else 0
+
+  abbrev pub new_versions : List X → X → ℕ
+  new_versions map v = if replaces seen cmp map v then 1 else 0
 
   -- what taking v does
   abbrev pub taken_as : ℕ → List X → X → Taken

@@ -4,7 +4,7 @@ ghost use Rattle.std.specs.Prelude.{◌≡◌, ℕ, ◌+◌, ◌<◌, ◌++◌, 
 ghost use Rattle.am_merge.specs.Maps.{IsMap, IsJoin, HasTwice, replaces, swept};
 ghost use Rattle.am_merge.specs.Shelves.{versions, HasRooms, IsShelf, IsKeySpot, IsGapSpot, IsExpiredAt};
 ghost use Rattle.am_blocks.specs.Spots.{place};
-ghost use Rattle.am_merge.specs.Takings.{IsPut, taken_by};
+ghost use Rattle.am_merge.specs.Takings.{IsPut, new_keys, new_versions, taken_by};
 
 use crate::held::{MergeError, Taken};
 use crate::iter::walk_shelf;
@@ -15,7 +15,7 @@ use std::alloc::{AllocError, Global};
 
 /// Whether a version is greater than the one at the spot, which has its key.
 fn is_greater<V: Version>(shelf: &Shelf<V>, spot: Spot, version: &V) -> bool
-    requires shelf { IsShelf V.seen V.head_of V.Key.cmp shelf.now }
+    requires shelf { IsShelf V.seen V.head_of V.Key.cmp V.bucket_of shelf.now }
     requires spot { IsKeySpot V.seen V.Key.cmp shelf.now (V.seen version.now).key spot }
     ensures answer { result ≡ replaces V.seen V.Key.cmp (versions shelf.now) version.now }
     ensures kept { result ≡ false →
@@ -28,50 +28,66 @@ fn is_greater<V: Version>(shelf: &Shelf<V>, spot: Spot, version: &V) -> bool
 
 /// Puts a version over the lesser one of its key. All growth comes before any change.
 fn put_over<V: Version>(shelf: &mut Shelf<V>, spot: Spot, version: V) -> Result<(), AllocError>
-    requires shelf { IsShelf V.seen V.head_of V.Key.cmp shelf.old }
+    requires shelf { IsShelf V.seen V.head_of V.Key.cmp V.bucket_of shelf.old }
     requires spot { IsKeySpot V.seen V.Key.cmp shelf.old (V.seen version).key spot }
     requires over { IsPut V.seen V.Key.cmp (versions shelf.old) version
         (slice_set (versions shelf.old) (place shelf.old.keys spot) version) }
-    ensures shelf { IsShelf V.seen V.head_of V.Key.cmp shelf.new }
+    ensures shelf { IsShelf V.seen V.head_of V.Key.cmp V.bucket_of shelf.new }
     ensures put { OnOk result (IsPut V.seen V.Key.cmp (versions shelf.old) version (versions shelf.new)) }
     ensures err { OnErr result (versions shelf.new ≡ versions shelf.old) }
-    ensures succeeds { HasRooms shelf.old 1 → IsOk result }
-    ensures room { (n : ℕ) → HasRooms shelf.old (n + 1) → HasRooms shelf.new n }
+    ensures succeeds { HasRooms shelf.old 0 1 → IsOk result }
+    ensures room { (n m : ℕ) → HasRooms shelf.old n (m + 1) → HasRooms shelf.new n m }
 {
-    reserve(shelf, 1)?;
+    reserve(shelf, 0, 1)?;
     replace(shelf, spot, version);
     Ok(())
 }
 
 /// Puts the first version of its key in. All growth comes before any change.
 pub fn put_new<V: Version>(shelf: &mut Shelf<V>, spot: Spot, version: V) -> Result<(), AllocError>
-    requires shelf { IsShelf V.seen V.head_of V.Key.cmp shelf.old }
+    requires shelf { IsShelf V.seen V.head_of V.Key.cmp V.bucket_of shelf.old }
     requires spot { IsGapSpot V.seen V.Key.cmp shelf.old (V.seen version).key spot }
-    ensures shelf { IsShelf V.seen V.head_of V.Key.cmp shelf.new }
+    ensures shelf { IsShelf V.seen V.head_of V.Key.cmp V.bucket_of shelf.new }
     ensures put { OnOk result (IsPut V.seen V.Key.cmp (versions shelf.old) version (versions shelf.new)) }
     ensures new { replaces V.seen V.Key.cmp (versions shelf.old) version ≡ true }
     ensures added { OnOk result
         (versions shelf.new ≡ insert (versions shelf.old) (place shelf.old.keys spot) version) }
     ensures err { OnErr result (versions shelf.new ≡ versions shelf.old) }
-    ensures succeeds { HasRooms shelf.old 1 → IsOk result }
-    ensures room { (n : ℕ) → HasRooms shelf.old (n + 1) → HasRooms shelf.new n }
+    ensures succeeds { HasRooms shelf.old 1 1 → IsOk result }
+    ensures room { (n m : ℕ) → HasRooms shelf.old (n + 1) (m + 1) → HasRooms shelf.new n m }
 {
-    reserve(shelf, 1)?;
+    reserve(shelf, 1, 1)?;
     add(shelf, spot, version);
     Ok(())
+}
+
+/// How many keys come with a version, and how many versions.
+pub fn needs<V: Version>(shelf: &Shelf<V>, version: &V) -> (usize, usize)
+    requires { IsShelf V.seen V.head_of V.Key.cmp V.bucket_of shelf.now }
+    ensures keys { result.0 ≡ new_keys V.seen V.Key.cmp (versions shelf.now) version.now }
+    ensures versions { result.1 ≡ new_versions V.seen V.Key.cmp (versions shelf.now) version.now }
+{
+    match find(shelf, version.key()) {
+        Ok(spot) => (0, usize::from(is_greater(shelf, spot, version))),
+        Err(_) => (1, 1),
+    }
 }
 
 /// Puts a version in where it is greater than the one that its key has, and says whether it did. Where
 /// it stays out nothing is asked for.
 pub fn put<V: Version>(shelf: &mut Shelf<V>, version: V) -> Result<bool, AllocError>
-    requires { IsShelf V.seen V.head_of V.Key.cmp shelf.old }
-    ensures shelf { IsShelf V.seen V.head_of V.Key.cmp shelf.new }
+    requires { IsShelf V.seen V.head_of V.Key.cmp V.bucket_of shelf.old }
+    ensures shelf { IsShelf V.seen V.head_of V.Key.cmp V.bucket_of shelf.new }
     ensures put { OnOk result (IsPut V.seen V.Key.cmp (versions shelf.old) version (versions shelf.new)) }
     ensures answer { IfOk result (λ changed.
         changed ≡ replaces V.seen V.Key.cmp (versions shelf.old) version) }
     ensures err { OnErr result (versions shelf.new ≡ versions shelf.old) }
-    ensures succeeds { HasRooms shelf.old 1 → IsOk result }
-    ensures room { (n : ℕ) → HasRooms shelf.old (n + 1) → HasRooms shelf.new n }
+    ensures succeeds { HasRooms shelf.old (new_keys V.seen V.Key.cmp (versions shelf.old) version)
+        (new_versions V.seen V.Key.cmp (versions shelf.old) version) → IsOk result }
+    ensures room { (n m : ℕ) →
+        HasRooms shelf.old (n + new_keys V.seen V.Key.cmp (versions shelf.old) version)
+        (m + new_versions V.seen V.Key.cmp (versions shelf.old) version) →
+        HasRooms shelf.new n m }
 {
     match find(shelf, version.key()) {
         Ok(spot) => {
@@ -95,8 +111,8 @@ pub fn put_copy<V: Version>(
     version: &V,
     alloc: Global,
 ) -> Result<bool, AllocError>
-    requires { IsShelf V.seen V.head_of V.Key.cmp shelf.old }
-    ensures shelf { IsShelf V.seen V.head_of V.Key.cmp shelf.new }
+    requires { IsShelf V.seen V.head_of V.Key.cmp V.bucket_of shelf.old }
+    ensures shelf { IsShelf V.seen V.head_of V.Key.cmp V.bucket_of shelf.new }
     ensures put { OnOk result
         (IsPut V.seen V.Key.cmp (versions shelf.old) version.now (versions shelf.new)) }
     ensures answer { IfOk result (λ changed.
@@ -120,9 +136,9 @@ pub fn put_copy<V: Version>(
 
 /// Puts a version behind all others.
 pub fn append<V: Version>(shelf: &mut Shelf<V>, version: V) -> Result<(), AllocError>
-    requires shelf { IsShelf V.seen V.head_of V.Key.cmp shelf.old }
+    requires shelf { IsShelf V.seen V.head_of V.Key.cmp V.bucket_of shelf.old }
     requires last { IsMap V.seen V.Key.cmp (versions shelf.old ++ version ∷ []) }
-    ensures shelf { IsShelf V.seen V.head_of V.Key.cmp shelf.new }
+    ensures shelf { IsShelf V.seen V.head_of V.Key.cmp V.bucket_of shelf.new }
     ensures appended { OnOk result (versions shelf.new ≡ versions shelf.old ++ version ∷ []) }
 {
     let end = shelf.keys.end();
@@ -142,7 +158,7 @@ pub fn order_by_key<V: Version>(versions: &mut Vec<V>) -> bool
 /// The shelf of versions that are in the order of their keys.
 pub fn shelve<V: Version>(alloc: Global, sorted: Vec<V>) -> Result<Shelf<V>, AllocError>
     requires { IsMap V.seen V.Key.cmp sorted.items }
-    ensures shelf { IfOk result (IsShelf V.seen V.head_of V.Key.cmp) }
+    ensures shelf { IfOk result (IsShelf V.seen V.head_of V.Key.cmp V.bucket_of) }
     ensures all { IfOk result (λ shelf. versions shelf ≡ sorted.items) }
 {
     let mut shelf = empty_shelf(alloc);
@@ -154,8 +170,8 @@ pub fn shelve<V: Version>(alloc: Global, sorted: Vec<V>) -> Result<Shelf<V>, All
 
 /// A shelf with a copy of each version.
 pub fn copy_shelf<V: Version>(held: &Shelf<V>, alloc: Global) -> Result<Shelf<V>, AllocError>
-    requires { IsShelf V.seen V.head_of V.Key.cmp held.now }
-    ensures shelf { IfOk result (IsShelf V.seen V.head_of V.Key.cmp) }
+    requires { IsShelf V.seen V.head_of V.Key.cmp V.bucket_of held.now }
+    ensures shelf { IfOk result (IsShelf V.seen V.head_of V.Key.cmp V.bucket_of) }
     ensures all { IfOk result (λ shelf. versions shelf ≡ versions held.now) }
 {
     let mut shelf = empty_shelf(alloc);
@@ -171,9 +187,9 @@ pub fn merge_in<V: Version>(
     other: &Shelf<V>,
     alloc: Global,
 ) -> Result<usize, MergeError>
-    requires shelf { IsShelf V.seen V.head_of V.Key.cmp shelf.old }
-    requires other { IsShelf V.seen V.head_of V.Key.cmp other.now }
-    ensures shelf { IsShelf V.seen V.head_of V.Key.cmp shelf.new }
+    requires shelf { IsShelf V.seen V.head_of V.Key.cmp V.bucket_of shelf.old }
+    requires other { IsShelf V.seen V.head_of V.Key.cmp V.bucket_of other.now }
+    ensures shelf { IsShelf V.seen V.head_of V.Key.cmp V.bucket_of shelf.new }
     ensures joined { OnOk result
         (IsJoin V.seen V.Key.cmp (versions shelf.old) (versions other.now) (versions shelf.new)) }
     ensures count { IfOk result (λ changed.
@@ -197,7 +213,7 @@ pub fn merge_in<V: Version>(
 
 /// The slot of the version that expires first, where it isn't live.
 fn expired<V: Version>(shelf: &Shelf<V>, now: Moment) -> Option<usize>
-    requires { IsShelf V.seen V.head_of V.Key.cmp shelf.now }
+    requires { IsShelf V.seen V.head_of V.Key.cmp V.bucket_of shelf.now }
     ensures first { IfSome result (IsExpiredAt V.seen now shelf.now.table) }
     ensures none { IfNone result (swept V.seen now (versions shelf.now) ≡ versions shelf.now) }
 {
@@ -211,8 +227,8 @@ fn expired<V: Version>(shelf: &Shelf<V>, now: Moment) -> Option<usize>
 
 /// Drops each version that isn't live, and says how many went. It takes no memory.
 pub fn drop_expired<V: Version>(shelf: &mut Shelf<V>, now: Moment) -> usize
-    requires { IsShelf V.seen V.head_of V.Key.cmp shelf.old }
-    ensures shelf { IsShelf V.seen V.head_of V.Key.cmp shelf.new }
+    requires { IsShelf V.seen V.head_of V.Key.cmp V.bucket_of shelf.old }
+    ensures shelf { IsShelf V.seen V.head_of V.Key.cmp V.bucket_of shelf.new }
     ensures swept { versions shelf.new ≡ swept V.seen now (versions shelf.old) }
     ensures went { result + length (versions shelf.new) ≡ length (versions shelf.old) }
 {

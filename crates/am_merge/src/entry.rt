@@ -1,6 +1,8 @@
 //! The small entries of a map's indexes, and what is looked for among them.
 
 ghost use Rattle.std.specs.Prelude.{◌≡◌};
+ghost use Rattle.std.specs.Ordering.{ordering_then};
+ghost use Rattle.am_merge.specs.Buckets.{number_of, bytes_order, front_order};
 ghost use Rattle.am_merge.specs.Entries.{tie_of, key_order, expiry_order};
 ghost use Rattle.slab.specs.Slab.{get};
 
@@ -68,4 +70,80 @@ impl Probe<ExpiryEntry> for ExpiryProbe {
             apart => apart,
         }
     }
+}
+
+/// A version in the order of the buckets: its bucket's number, and its entry in the order of the keys.
+#[derive(Clone, Copy)]
+pub struct BucketEntry {
+    pub number: u64,
+    pub key: KeyEntry,
+}
+
+/// A bucket that is looked for, and its number. No entry is it: what is found is where its entries begin.
+#[derive(Drop)]
+pub struct FrontProbe<'a, V: Version> {
+    pub table: &'a Slab<V>,
+    pub bucket: &'a [u8],
+    pub number: u64,
+}
+
+impl<'a, V: Version> Probe<BucketEntry> for FrontProbe<'a, V> {
+    ghost order = { λ probe. front_order V.bucket_of (get probe.table.now) probe.number probe.bucket.now };
+
+    fn compare(&self, item: &BucketEntry) -> Ordering {
+        match compare_bucket(self, item) {
+            Ordering::Equal => Ordering::Greater,
+            apart => apart,
+        }
+    }
+}
+
+/// A key in a bucket that is looked for.
+#[derive(Drop)]
+pub struct BucketProbe<'a, V: Version> {
+    pub front: FrontProbe<'a, V>,
+    pub key: KeyProbe<'a, V>,
+}
+
+impl<'a, V: Version> Probe<BucketEntry> for BucketProbe<'a, V> {
+    ghost order = { λ probe e. ordering_then
+        (bytes_order V.bucket_of (get probe.front.table.now) probe.front.number probe.front.bucket.now e)
+        (key_order V.seen V.Key.cmp (get probe.key.table.now) probe.key.head probe.key.key.now e.key) };
+
+    fn compare(&self, item: &BucketEntry) -> Ordering {
+        match compare_bucket(&self.front, item) {
+            Ordering::Equal => self.key.compare(&item.key),
+            apart => apart,
+        }
+    }
+}
+
+/// Where an entry stands to a bucket. The bytes are looked at where the numbers are one, and not that of
+/// the empty bucket.
+fn compare_bucket<V: Version>(front: &FrontProbe<'_, V>, item: &BucketEntry) -> Ordering
+    ensures { result ≡ bytes_order V.bucket_of (get front.now.table.now) front.now.number front.now.bucket.now item.now }
+{
+    if item.number != front.number || item.number == 0 {
+        return item.number.cmp(&front.number);
+    }
+    match front.table.get(item.key.slot) {
+        Some(version) => version.bucket().cmp(front.bucket),
+        None => Ordering::Less,
+    }
+}
+
+/// A number of a bucket's bytes. That of the empty bucket is 0, and no other's is.
+pub fn bucket_number(bucket: &[u8]) -> u64
+    ensures { result ≡ number_of bucket.now }
+{
+    let mut number: u64 = 0;
+    for byte in bucket {
+        number = number
+            .wrapping_mul(1_099_511_628_211)
+            .wrapping_add(u64::from(*byte));
+    }
+    if number == 0 && !bucket.is_empty() {
+        number = 1;
+    }
+    number
 }

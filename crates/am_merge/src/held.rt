@@ -5,7 +5,7 @@ ghost use Rattle.std.specs.Option.{option_copied};
 ghost use Rattle.am_merge.specs.Maps.{IsMap, IsJoin, IsLeastExpiry, HasTwice, at, if_live, in_bucket, replaces, swept};
 
 use crate::changes::{
-    copy_shelf, drop_expired, merge_in, order_by_key, put, put_new, shelve, taken_as,
+    copy_shelf, drop_expired, merge_in, needs, order_by_key, put, put_new, shelve, taken_as,
 };
 use crate::iter::{InBucket, Iter, walk_bucket, walk_shelf};
 use crate::shelf::{Shelf, empty_shelf, find, reserve, version_at};
@@ -56,7 +56,7 @@ impl<V: Version> Model for Held<V> {
 
     ghost view = { λ held. versions held.shelf };
 
-    ghost invariant = { λ held. IsShelf V.seen V.head_of V.Key.cmp held.shelf };
+    ghost invariant = { λ held. IsShelf V.seen V.head_of V.Key.cmp V.bucket_of held.shelf };
 }
 
 impl<V: Version> Held<V> {
@@ -195,7 +195,13 @@ impl<V: Version> Held<V> {
     {
         let is_first_live = now < first.expires();
         let is_second_live = now < second.expires();
-        reserve(&mut self.shelf, 2)?;
+        let (first_keys, first_versions) = needs(&self.shelf, &first);
+        let (second_keys, second_versions) = needs(&self.shelf, &second);
+        reserve(
+            &mut self.shelf,
+            first_keys + second_keys,
+            first_versions + second_versions,
+        )?;
         let is_first_new = put(&mut self.shelf, first)?;
         let is_second_new = put(&mut self.shelf, second)?;
         Ok((

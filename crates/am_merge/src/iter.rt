@@ -48,7 +48,7 @@ impl<'a, V> Iterator for Iter<'a, V> {
 
 /// All versions of a shelf, in the order of their keys.
 pub fn walk_shelf<V: Version>(shelf: &Shelf<V>) -> Iter<'_, V>
-    requires { IsShelf V.seen V.head_of V.Key.cmp shelf.now }
+    requires { IsShelf V.seen V.head_of V.Key.cmp V.bucket_of shelf.now }
     ensures { result ≡ versions shelf.now }
 {
     Iter {
@@ -94,7 +94,7 @@ impl<'a, V: Version> Iterator for InBucket<'a, V> {
 
 /// The versions of a shelf whose bucket is this one.
 pub fn walk_bucket<'a, V: Version>(shelf: &'a Shelf<V>, bucket: &'a [u8]) -> InBucket<'a, V>
-    requires { IsShelf V.seen V.head_of V.Key.cmp shelf.now }
+    requires { IsShelf V.seen V.head_of V.Key.cmp V.bucket_of shelf.now }
     ensures { result ≡ in_bucket V.bucket_of bucket.now (versions shelf.now) }
 {
     InBucket {

@@ -25,14 +25,14 @@ loop-slot-preserved g c =
 
 pub overflow_sub-result : goal.overflow_sub-result
 overflow_sub-result g c =
-    let before = c.len-before.ensures ∙ count_is g.V.Version.seen g.V.Version.head_of g.V.Key.Ord.cmp (key_order g.met.V.Key.Ord.total g.met.V.Version.exact_keys) c.args.shelf.now c.requires in
-    let after = c.len.ensures ∙ count_is g.V.Version.seen g.V.Version.head_of g.V.Key.Ord.cmp (key_order g.met.V.Key.Ord.total g.met.V.Version.exact_keys) c.loop-slot.shelf c.loop-slot.invariant.shelf in
+    let before = c.len-before.ensures ∙ count_is g.V.Version.seen g.V.Version.head_of g.V.Key.Ord.cmp (key_order g.met.V.Key.Ord.total g.met.V.Version.exact_keys) g.V.Version.bucket_of c.args.shelf.now c.requires in
+    let after = c.len.ensures ∙ count_is g.V.Version.seen g.V.Version.head_of g.V.Key.Ord.cmp (key_order g.met.V.Key.Ord.total g.met.V.Version.exact_keys) g.V.Version.bucket_of c.loop-slot.shelf c.loop-slot.invariant.shelf in
     let shorter = c.loop-slot.invariant.shorter in
     omega arith
 
 pub returns-clause-went : goal.returns-clause-went
 returns-clause-went g c =
-    let before = c.len-before.ensures ∙ count_is g.V.Version.seen g.V.Version.head_of g.V.Key.Ord.cmp (key_order g.met.V.Key.Ord.total g.met.V.Version.exact_keys) c.args.shelf.now c.requires in
-    let after = c.len.ensures ∙ count_is g.V.Version.seen g.V.Version.head_of g.V.Key.Ord.cmp (key_order g.met.V.Key.Ord.total g.met.V.Version.exact_keys) c.loop-slot.shelf c.loop-slot.invariant.shelf in
+    let before = c.len-before.ensures ∙ count_is g.V.Version.seen g.V.Version.head_of g.V.Key.Ord.cmp (key_order g.met.V.Key.Ord.total g.met.V.Version.exact_keys) g.V.Version.bucket_of c.args.shelf.now c.requires in
+    let after = c.len.ensures ∙ count_is g.V.Version.seen g.V.Version.head_of g.V.Key.Ord.cmp (key_order g.met.V.Key.Ord.total g.met.V.Version.exact_keys) g.V.Version.bucket_of c.loop-slot.shelf c.loop-slot.invariant.shelf in
     let shorter = c.loop-slot.invariant.shorter in
     omega arith

@@ -6,7 +6,7 @@ use Rattle.am_merge.proofs.changes.drop_expired.Given as goal
 abbrev pub invariant-loop-slot : goal.invariant-loop-slot
 invariant-loop-slot g l =
     record {
-      shelf : IsShelf g.V.Version.seen g.V.Version.head_of g.V.Key.Ord.cmp l.shelf;
+      shelf : IsShelf g.V.Version.seen g.V.Version.head_of g.V.Key.Ord.cmp g.V.Version.bucket_of l.shelf;
       swept : swept g.V.Version.seen l.now (versions l.shelf) ≡ swept g.V.Version.seen l.now (versions l.fn.shelf);
       shorter : length (versions l.shelf) ≤ length (versions l.fn.shelf);
     }

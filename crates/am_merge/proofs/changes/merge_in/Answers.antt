@@ -45,7 +45,7 @@ overflow_add-changed g c =
     let long = ap length c.in-Some.ensures.steps in
     let byte = c.from-changed.ensures in
     let small = at_most_one c.in-Ok.more in
-    let size = c.len-size.ensures ∙ count_is g.V.Version.seen g.V.Version.head_of g.V.Key.Ord.cmp (key_order g.met.V.Key.Ord.total g.met.V.Version.exact_keys) c.args.other.now c.requires.other in
+    let size = c.len-size.ensures ∙ count_is g.V.Version.seen g.V.Version.head_of g.V.Key.Ord.cmp (key_order g.met.V.Key.Ord.total g.met.V.Version.exact_keys) g.V.Version.bucket_of c.args.other.now c.requires.other in
     let fits = c.len-size.type_inv in
     omega arith
 
@@ -54,6 +54,6 @@ overflow_add-taken g c =
     let so_far = c.loop-version.invariant in
     let within = so_far.within in
     let long = ap length c.in-Some.ensures.steps in
-    let size = c.len-size.ensures ∙ count_is g.V.Version.seen g.V.Version.head_of g.V.Key.Ord.cmp (key_order g.met.V.Key.Ord.total g.met.V.Version.exact_keys) c.args.other.now c.requires.other in
+    let size = c.len-size.ensures ∙ count_is g.V.Version.seen g.V.Version.head_of g.V.Key.Ord.cmp (key_order g.met.V.Key.Ord.total g.met.V.Version.exact_keys) g.V.Version.bucket_of c.args.other.now c.requires.other in
     let fits = c.len-size.type_inv in
     omega arith

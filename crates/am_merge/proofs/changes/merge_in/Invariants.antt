@@ -6,7 +6,7 @@ use Rattle.am_merge.proofs.changes.merge_in.Given as goal
 abbrev pub invariant-loop-version : goal.invariant-loop-version
 invariant-loop-version g l =
     record {
-      shelf : IsShelf g.V.Version.seen g.V.Version.head_of g.V.Key.Ord.cmp l.shelf;
+      shelf : IsShelf g.V.Version.seen g.V.Version.head_of g.V.Key.Ord.cmp g.V.Version.bucket_of l.shelf;
       rest : drop l.taken (versions l.other) ≡ l.version-iterator;
       within : l.taken + length l.version-iterator ≡ length (versions l.other);
       joined : IsJoin g.V.Version.seen g.V.Key.Ord.cmp (versions l.fn.shelf) (take l.taken (versions l.other)) (versions l.shelf);

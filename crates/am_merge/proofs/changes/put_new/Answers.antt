@@ -25,4 +25,4 @@ pub returns-clause-added : goal.returns-clause-added
 returns-clause-added g c = c.add.ensures.added ∙ (λ i. insert (c.reserve.ensures.versions i) (place_in (c.reserve.ensures.same.keys i) c.args.spot) c.args.version)
 
 pub returns-clause-room : goal.returns-clause-room
-returns-clause-room g c = λ n had. c.add.ensures.room n (c.reserve.ensures.kept (n + 1) had)
+returns-clause-room g c = λ n m had. c.add.ensures.room n m (c.reserve.ensures.kept (n + 1) (m + 1) had)

@@ -11,4 +11,4 @@ returns-clause-put g c =
     c.requires.over
 
 pub returns-clause-room : goal.returns-clause-room
-returns-clause-room g c = λ n had. c.replace.ensures.room n (c.reserve.ensures.kept (n + 1) had)
+returns-clause-room g c = λ n m had. c.replace.ensures.room n m (c.reserve.ensures.kept n (m + 1) had)

@@ -6,26 +6,37 @@ use Rattle.am_merge.proofs.shelf.reserve.Goals as goal
 
 pub returns-in_err-reserve-clause-shelf : goal.returns-in_err-reserve-clause-shelf
 returns-in_err-reserve-clause-shelf g c =
-    moved g.V.Version.seen g.V.Version.head_of g.V.Key.Ord.cmp (order_of_keys g.met.V.Key.Ord.total g.met.V.Version.exact_keys) c.args.shelf.now (record c.args.shelf.now { table = c.reserve.new.self }) (ap (λ (s : Slab g.row.V.Denot). s.slots) c.reserve.ensures.rest_kept) refl refl c.requires
+    moved g.V.Version.seen g.V.Version.head_of g.V.Key.Ord.cmp (order_of_keys g.met.V.Key.Ord.total g.met.V.Version.exact_keys) g.V.Version.bucket_of c.args.shelf.now (record c.args.shelf.now { table = c.reserve.new.self }) (ap (λ (s : Slab g.row.V.Denot). s.slots) c.reserve.ensures.rest_kept) refl refl refl c.requires
 
 pub returns-in_err-reserve-2-clause-shelf : goal.returns-in_err-reserve-2-clause-shelf
 returns-in_err-reserve-2-clause-shelf g c =
-    moved g.V.Version.seen g.V.Version.head_of g.V.Key.Ord.cmp (order_of_keys g.met.V.Key.Ord.total g.met.V.Version.exact_keys) c.args.shelf.now (record c.args.shelf.now { table = c.reserve.new.self; keys = c.reserve-2.new.self }) (ap (λ (s : Slab g.row.V.Denot). s.slots) c.reserve.ensures.rest_kept) c.reserve-2.ensures.items refl c.requires
+    moved g.V.Version.seen g.V.Version.head_of g.V.Key.Ord.cmp (order_of_keys g.met.V.Key.Ord.total g.met.V.Version.exact_keys) g.V.Version.bucket_of c.args.shelf.now (record c.args.shelf.now { table = c.reserve.new.self; keys = c.reserve-2.new.self }) (ap (λ (s : Slab g.row.V.Denot). s.slots) c.reserve.ensures.rest_kept) c.reserve-2.ensures.items refl refl c.requires
 
 pub returns-in_err-reserve-2-clause-kept : goal.returns-in_err-reserve-2-clause-kept
-returns-in_err-reserve-2-clause-kept g c = λ n had.
+returns-in_err-reserve-2-clause-kept g c = λ n m had.
     let have = had.table in
     let long : slab_len c.reserve.new.self ≡ slab_len c.args.shelf.now.table = ap (λ (s : Slab g.row.V.Denot). slab_len s) c.reserve.ensures.rest_kept in
     let wide = c.reserve.ensures.capacity in
-    record { table = omega arith; keys = c.reserve-2.ensures.kept n had.keys; expiries = had.expiries }
+    record { table = omega arith; keys = c.reserve-2.ensures.kept n had.keys; expiries = had.expiries; buckets = had.buckets }
+
+pub returns-in_err-reserve-3-clause-shelf : goal.returns-in_err-reserve-3-clause-shelf
+returns-in_err-reserve-3-clause-shelf g c =
+    moved g.V.Version.seen g.V.Version.head_of g.V.Key.Ord.cmp (order_of_keys g.met.V.Key.Ord.total g.met.V.Version.exact_keys) g.V.Version.bucket_of c.args.shelf.now (record c.args.shelf.now { table = c.reserve.new.self; keys = c.reserve-2.new.self; expiries = c.reserve-3.new.self }) (ap (λ (s : Slab g.row.V.Denot). s.slots) c.reserve.ensures.rest_kept) c.reserve-2.ensures.items c.reserve-3.ensures.items refl c.requires
+
+pub returns-in_err-reserve-3-clause-kept : goal.returns-in_err-reserve-3-clause-kept
+returns-in_err-reserve-3-clause-kept g c = λ n m had.
+    let have = had.table in
+    let long : slab_len c.reserve.new.self ≡ slab_len c.args.shelf.now.table = ap (λ (s : Slab g.row.V.Denot). slab_len s) c.reserve.ensures.rest_kept in
+    let wide = c.reserve.ensures.capacity in
+    record { table = omega arith; keys = c.reserve-2.ensures.kept n had.keys; expiries = c.reserve-3.ensures.kept m had.expiries; buckets = had.buckets }
 
 pub returns-clause-shelf : goal.returns-clause-shelf
 returns-clause-shelf g c =
-    moved g.V.Version.seen g.V.Version.head_of g.V.Key.Ord.cmp (order_of_keys g.met.V.Key.Ord.total g.met.V.Version.exact_keys) c.args.shelf.now (record { table = c.reserve.new.self; keys = c.reserve-2.new.self; expiries = c.reserve-3.new.self }) (ap (λ (s : Slab g.row.V.Denot). s.slots) c.reserve.ensures.rest_kept) c.reserve-2.ensures.items c.reserve-3.ensures.items c.requires
+    moved g.V.Version.seen g.V.Version.head_of g.V.Key.Ord.cmp (order_of_keys g.met.V.Key.Ord.total g.met.V.Version.exact_keys) g.V.Version.bucket_of c.args.shelf.now (record { table = c.reserve.new.self; keys = c.reserve-2.new.self; expiries = c.reserve-3.new.self; buckets = c.reserve-4.new.self }) (ap (λ (s : Slab g.row.V.Denot). s.slots) c.reserve.ensures.rest_kept) c.reserve-2.ensures.items c.reserve-3.ensures.items c.reserve-4.ensures.items c.requires
 
 pub returns-clause-kept : goal.returns-clause-kept
-returns-clause-kept g c = λ n had.
+returns-clause-kept g c = λ n m had.
     let have = had.table in
     let long : slab_len c.reserve.new.self ≡ slab_len c.args.shelf.now.table = ap (λ (s : Slab g.row.V.Denot). slab_len s) c.reserve.ensures.rest_kept in
     let wide = c.reserve.ensures.capacity in
-    record { table = omega arith; keys = c.reserve-2.ensures.kept n had.keys; expiries = c.reserve-3.ensures.kept n had.expiries }
+    record { table = omega arith; keys = c.reserve-2.ensures.kept n had.keys; expiries = c.reserve-3.ensures.kept m had.expiries; buckets = c.reserve-4.ensures.kept m had.buckets }
