@@ -22,6 +22,3 @@ pub use feeder::{Fed, Feeder};
 pub use frame::{Frame, FullState, Part, StateKey};
 pub use hello::read_hello;
 pub use kind::FrameKind;
-
-#[cfg(test)]
-mod tests;

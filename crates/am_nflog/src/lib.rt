@@ -14,6 +14,3 @@ pub use hashes::Hashes;
 pub use make::make_entry;
 pub use mesh::{MeshEntry, MeshEntryDraft};
 pub use receiver::{Receiver, ReceiverDraft};
-
-#[cfg(test)]
-mod tests;

@@ -30,6 +30,3 @@ pub use step::{
     Versions,
 };
 pub use word::Word;
-
-#[cfg(test)]
-mod tests;

@@ -1,5 +1,7 @@
 //! The command line.
 
+ghost use Rattle.std.specs.Prelude.{◌≡◌, ◌≢◌};
+
 use crate::{fault, status};
 use am_snapshot::FoldError;
 use am_version_order::Moment;
@@ -37,12 +39,20 @@ pub enum WordsError {
 }
 
 impl From<AllocError> for WordsError {
+    ghost use Rattle.am_tool.specs.declared.words.WordsError.TheVariants.{Memory};
+
+    ghost from_gives = { λ _ error. error ≡ Memory };
+
     fn from(_error: AllocError) -> WordsError {
         WordsError::Memory
     }
 }
 
 impl From<clap::Error> for WordsError {
+    ghost use Rattle.am_tool.specs.declared.words.WordsError.TheVariants.{NotUtf8};
+
+    ghost from_gives = { λ _ error. error ≢ NotUtf8 };
+
     fn from(error: clap::Error) -> WordsError {
         match error.kind() {
             ErrorKind::OutOfMemory => WordsError::Memory,
