@@ -24,7 +24,7 @@ use std::marker::Model;
 /// A version of a silence: the silence, and the moment from which on it may be forgotten.
 ///
 /// Its canonical text is kept beside its parts, so that comparing takes no memory, and of its bucket the
-/// place in that text.
+/// place in that text. A text of 2^32 bytes or more is refused as one that memory is not enough for.
 #[derive(Drop)]
 pub struct MeshSilence {
     silence: Silence,
@@ -76,8 +76,7 @@ impl MeshSilence {
         Ok(version)
     }
 
-    // A version of these parts, whose silence has so many bytes. A text of 2^32 bytes or more is answered as one
-    // that memory is not enough for.
+    // A version of these parts, whose silence has so many bytes.
     #[tactic(auto, unfolding(crate::specs::Mesh::writes_mesh_silence))]
     fn of_parts(
         alloc: Global,
