@@ -9,6 +9,7 @@ use Rattle.am_wire.specs.declared.value.WireType.TheVariants as kinds
 use Rattle.am_wire.specs.declared.value.Field.{Field}
 use Rattle.am_wire.specs.declared.value.Value.{Value}
 use Rattle.am_wire.specs.declared.value.Value.TheVariants as values
+use Rattle.am_wire.specs.Limits.{most}
 use Rattle.am_wire.specs.Varint.{varint_at}
 
 -- what stands behind a tag; of bytes also the offset at which they begin
@@ -115,7 +116,7 @@ any number kind = true
 unfoldable pub row_at : ℕ → List ℕ → Result (List ℕ × ℕ) WireError
 row_at at bytes = do
   n ← varint_at at bytes
-  if nat_lt 67108864 n.0 then Err TooLarge else
+  if nat_lt most n.0 then Err TooLarge else
       if nat_lt (length (drop n.1 bytes)) n.0 then Err (Truncated at) else Ok (take n.0 (drop n.1 bytes), n.1 + n.0)
 
 abbrev pub rows_of : List ℕ → List (Result (List ℕ) WireError)

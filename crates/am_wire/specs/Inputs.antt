@@ -6,7 +6,8 @@ use Rattle.am_wire.specs.declared.error.WireError.TheVariants as errors
 use Rattle.am_wire.specs.declared.reader.RowFault.{RowFault}
 use Rattle.am_wire.specs.declared.reader.RowFault.TheVariants.{Read, Wire, TooLarge, Ended, Memory}
 use Rattle.am_wire.specs.Fields.{row_at, pieces, ◌>>=◌}
-use Rattle.am_wire.specs.Reader.{most, IsCut}
+use Rattle.am_wire.specs.Limits.{most}
+use Rattle.am_wire.specs.Reader.{IsCut}
 
 -- a message that was read
 abbrev pub sound : {A : Type 0} → A → Result A WireError

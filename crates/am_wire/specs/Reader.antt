@@ -9,12 +9,9 @@ use Rattle.am_wire.specs.declared.reader.RowFault.{RowFault}
 use Rattle.am_wire.specs.declared.reader.RowFault.TheVariants.{Read, Wire, TooLarge, Ended, Memory}
 use Rattle.am_wire.specs.declared.reader.Standing.{Standing}
 use Rattle.am_wire.specs.declared.reader.Standing.TheVariants.{Before, Over, Refused}
+use Rattle.am_wire.specs.Limits.{most}
 use Rattle.am_wire.specs.Varint.{varint_at}
 use Rattle.am_wire.specs.Fields.{row_at, ◌>>=◌}
-
--- the most bytes of an input
-abbrev pub most : ℕ
-most = 67108864
 
 -- the bytes begin a row at the offset `at`: it is not whole in them, and its length is not at fault
 abbrev pub IsCut : ℕ → List ℕ → Type 0
