@@ -62,10 +62,11 @@ pub record HasTag (Says : ℕ → ℕ → List ℕ → Type 0) (bytes : List ℕ
   pub code_is : code < 8
   pub says : Says number code behind
 
--- the numbers that a field may have, and those that none has
+-- the numbers that a field may have
 abbrev pub IsFieldNumber : ℕ → Type 0
 IsFieldNumber number = (0 < number) × (number < 2 ^ 29)
 
+-- the numbers that no field has
 abbrev pub IsNoFieldNumber : ℕ → Type 0
 IsNoFieldNumber number = (number ≡ 0) ⊎ (2 ^ 29 ≤ number)
 

@@ -28,6 +28,7 @@ IsPayload (eight n) at text = (length text ≡ 8) × (n ≡ from_le_bytes w64 te
 IsPayload (four n) at text = (length text ≡ 4) × (n ≡ from_le_bytes w32 text)
 IsPayload (chunk inside bytes) at text = IsChunk inside bytes at text
 
+-- the wire type of a payload
 abbrev pub wire_type_of : Payload → WireType
 wire_type_of (varint n) = kinds.Varint
 wire_type_of (eight n) = kinds.Eight
