@@ -7,8 +7,6 @@ ghost use Rattle.am_schedule.specs.Times.{moment_behind, whole_moment_in, fracti
 use crate::numbers::{count, number_within};
 use am_version_order::{Interval, Moment};
 
-const NANOS_PER_SECOND: u64 = 1_000_000_000;
-
 /// Seconds from 1970-01-01T00:00:00Z to the last moment's second.
 const LAST_SECOND: u64 = 253_402_300_799;
 
@@ -16,8 +14,7 @@ const LAST_SECOND: u64 = 253_402_300_799;
 pub(crate) fn seconds(word: &str) -> Option<Interval>
     ensures { result ≡ seconds_in word.now }
 {
-    let seconds = number_within(1, 999_999_999, word)?;
-    Interval::from_nanos(seconds * NANOS_PER_SECOND)
+    Interval::from_seconds(number_within(1, 999_999_999, word)?)
 }
 
 /// The moment of whole seconds since 1970, and `nanos` behind it.

@@ -13,7 +13,8 @@ use Rattle.am_wire.specs.declared.reader.Standing.TheVariants.{Before, Over, Ref
 use Rattle.am_wire.specs.Varint.{varint_within}
 use Rattle.am_wire.specs.Fields.{row_at, pieces}
 use Rattle.am_wire.specs.Again.Pieces.{pieces-first}
-use Rattle.am_wire.specs.Reader.{IsCut, ReadsAs, HasBadLength, EndsInRow, Answers, all_but_last, most}
+use Rattle.am_wire.specs.Limits.{most}
+use Rattle.am_wire.specs.Reader.{IsCut, ReadsAs, HasBadLength, EndsInRow, Answers, all_but_last}
 use Rattle.am_wire.specs.Inputs.{sound, message_at, messages_of, AreMessages, HasFaultAfter, IsTooLargeAfter, StopsAfter}
 use Rattle.am_snapshot.proofs.Whole.{row_at-whole, row_at-fails}
 use Rattle.am_snapshot.proofs.Ends.{ends_once}

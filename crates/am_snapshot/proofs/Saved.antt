@@ -15,7 +15,8 @@ use Rattle.am_wire.specs.Varint.{shortest}
 use Rattle.am_wire.specs.Writing.{delimited}
 use Rattle.am_wire.specs.Grammar as grammar
 use Rattle.am_wire.specs.Again.Varints.{shortest_spells, shortest_filled}
-use Rattle.am_wire.specs.Reader.{most, IsRow, ReadsAs}
+use Rattle.am_wire.specs.Limits.{most}
+use Rattle.am_wire.specs.Reader.{IsRow, ReadsAs}
 use Rattle.am_wire.specs.Inputs.{sound, messages_from, AreMessages}
 use Rattle.am_wire.proofs.Exact.{row_read}
 use Rattle.am_merge.specs.Maps.{IsMap, at}

@@ -2,6 +2,7 @@
 use Rattle.std.proofs.Common.{◌≡◌, ◌≢◌, ℕ, zero, suc, ◌+◌, ◌*◌, ◌%◌, ◌≤◌, ltb, nat_lt, if◌then◌else◌, true, false, List, [], ◌∷◌, ◌++◌, length, take, drop, Result, Ok, Err, refl, ap, ◌∙◌, arith, inl, inr, length-append}
 use Rattle.std.proofs.lemmas.Bool.{lt-ltb, le-ltb, cases_lt}
 use Rattle.std.proofs.lemmas.List.{take-append-le, drop-append-le}
+use Rattle.am_wire.specs.Limits.{most}
 use Rattle.am_wire.specs.declared.error.WireError.{WireError}
 use Rattle.am_wire.specs.declared.error.WireError.TheVariants.{Truncated, TooLarge}
 use Rattle.am_wire.specs.Varint.{one_more, varint_within}
@@ -62,7 +63,7 @@ varint_fails at (suc room) (b ∷ bytes) rest e h other =
 
 -- ---- a row, by its length
 abbrev row_by : ℕ → List ℕ → Result (ℕ × ℕ) WireError → Result (List ℕ × ℕ) WireError
-row_by at bytes r = r >>= λ n. if nat_lt 67108864 n.0 then Err TooLarge else if nat_lt (length (drop n.1 bytes)) n.0 then Err (Truncated at) else Ok (take n.0 (drop n.1 bytes), n.1 + n.0)
+row_by at bytes r = r >>= λ n. if nat_lt most n.0 then Err TooLarge else if nat_lt (length (drop n.1 bytes)) n.0 then Err (Truncated at) else Ok (take n.0 (drop n.1 bytes), n.1 + n.0)
 
 abbrev message : List ℕ × ℕ → Result (List ℕ × ℕ) WireError
 message y = Ok y
@@ -72,10 +73,10 @@ row_fails e = Err e
 
 row_by_whole : (at : ℕ) (bytes rest : List ℕ) (n : ℕ × ℕ) (y : List ℕ × ℕ) → n.1 ≤ length bytes → row_by at bytes (Ok n) ≡ Ok y → row_by at (bytes ++ rest) (Ok n) ≡ Ok y
 row_by_whole at bytes rest n y within h =
-    elim (cases_lt 67108864 n.0) [
-      | inl lt ↦ let t : ltb 67108864 n.0 ≡ true = lt-ltb _ _ lt in let k = rw t at h in absurd cc
+    elim (cases_lt most n.0) [
+      | inl lt ↦ let t : ltb most n.0 ≡ true = lt-ltb _ _ lt in let k = rw t at h in absurd cc
       | inr le ↦
-          let t : ltb 67108864 n.0 ≡ false = le-ltb _ _ le in
+          let t : ltb most n.0 ≡ false = le-ltb _ _ le in
           elim (cases_lt (length (drop n.1 bytes)) n.0) [
             | inl lt ↦ let s : ltb (length (drop n.1 bytes)) n.0 ≡ true = lt-ltb _ _ lt in let k = rw (t, s) at h in absurd cc
             | inr fits ↦
@@ -90,10 +91,10 @@ row_by_whole at bytes rest n y within h =
 
 row_by_fails : (at : ℕ) (bytes rest : List ℕ) (n : ℕ × ℕ) (e : WireError) → row_by at bytes (Ok n) ≡ Err e → e ≢ Truncated at → row_by at (bytes ++ rest) (Ok n) ≡ Err e
 row_by_fails at bytes rest n e h other =
-    elim (cases_lt 67108864 n.0) [
-      | inl lt ↦ let t : ltb 67108864 n.0 ≡ true = lt-ltb _ _ lt in let k = rw t at h in rw t k
+    elim (cases_lt most n.0) [
+      | inl lt ↦ let t : ltb most n.0 ≡ true = lt-ltb _ _ lt in let k = rw t at h in rw t k
       | inr le ↦
-          let t : ltb 67108864 n.0 ≡ false = le-ltb _ _ le in
+          let t : ltb most n.0 ≡ false = le-ltb _ _ le in
           elim (cases_lt (length (drop n.1 bytes)) n.0) [
             | inl lt ↦ let s : ltb (length (drop n.1 bytes)) n.0 ≡ true = lt-ltb _ _ lt in let k = rw (t, s) at h in absurd (other cc)
             | inr fits ↦ let s : ltb (length (drop n.1 bytes)) n.0 ≡ false = le-ltb _ _ fits in let k = rw (t, s) at h in absurd cc

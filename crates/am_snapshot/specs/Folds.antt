@@ -7,7 +7,7 @@ use Rattle.am_wire.specs.declared.error.WireError.{WireError}
 use Rattle.am_wire.specs.declared.reader.RowFault.{RowFault}
 use Rattle.am_wire.specs.declared.reader.RowFault.TheVariants as reading
 use Rattle.am_merge.specs.Maps.{IsMap}
-use Rattle.am_wire.specs.Reader.{most}
+use Rattle.am_wire.specs.Limits.{most}
 use Rattle.am_snapshot.specs.Texts.{row_text}
 use Rattle.am_wire.specs.Inputs.{AreMessages, StopsAfter}
 use Rattle.am_snapshot.specs.Best.{HoldsBest}
@@ -16,6 +16,7 @@ use Rattle.am_snapshot.specs.declared.row.WriteFault.TheVariants as writing
 use Rattle.am_snapshot.specs.declared.folding.FoldError.{FoldError}
 use Rattle.am_snapshot.specs.declared.folding.FoldError.TheVariants.{Read, Write, Wire, TooLarge, Memory}
 
+-- the fault of reading rows, as that of a fold
 abbrev pub reading_fault : RowFault → FoldError
 reading_fault (reading.Read at) = Read at
 reading_fault (reading.Wire e) = Wire e
@@ -23,6 +24,7 @@ reading_fault reading.TooLarge = TooLarge
 reading_fault reading.Ended = Memory
 reading_fault reading.Memory = Memory
 
+-- the fault of writing a row, as that of a fold
 abbrev pub writing_fault : WriteFault → FoldError
 writing_fault (writing.Write k) = Write k
 writing_fault writing.TooLarge = TooLarge

@@ -1,11 +1,12 @@
 -- What loading a snapshot answers.
-use Rattle.std.specs.Prelude.{◌≡◌, ◌≢◌, ℕ, ◌≤◌, List, [], ◌∷◌, ◌++◌, length, map, Contains, AllPairs, IsPermutation, Option, Some, Result, Ok, ⊤}
+use Rattle.std.specs.Prelude.{◌≡◌, ◌≢◌, ℕ, ◌≤◌, List, [], ◌∷◌, ◌++◌, length, map, Contains, AllPairs}
+use Rattle.std.specs.Prelude.{IsPermutation, Option, Some, Result, Ok, ⊤}
 use Rattle.std.specs.Io.KnownBytes.{Consumes}
 use Rattle.am_version_order.specs.Versions.{Version}
 use Rattle.am_wire.specs.declared.error.WireError.{WireError}
 use Rattle.am_wire.specs.declared.reader.RowFault.{RowFault}
 use Rattle.am_wire.specs.declared.reader.RowFault.TheVariants as reading
-use Rattle.am_wire.specs.Reader.{most}
+use Rattle.am_wire.specs.Limits.{most}
 use Rattle.am_wire.specs.Inputs.{sound, messages_of, AreMessages, StopsAfter}
 use Rattle.am_snapshot.specs.declared.error.SnapshotError.{SnapshotError}
 use Rattle.am_snapshot.specs.declared.error.SnapshotError.TheVariants.{Read, Write, Wire, DuplicateKey, TooLarge, Memory}

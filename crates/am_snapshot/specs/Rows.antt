@@ -1,7 +1,7 @@
 -- What writing a row answers.
 use Rattle.std.specs.Prelude.{◌≡◌, ℕ, ◌<◌, ◌≤◌, List, length, take, Option, Result, Ok, Err}
 use Rattle.std.specs.Io.KnownBytes.{Appends}
-use Rattle.am_wire.specs.Reader.{most}
+use Rattle.am_wire.specs.Limits.{most}
 use Rattle.am_snapshot.specs.declared.row.WriteFault.{WriteFault}
 use Rattle.am_snapshot.specs.declared.row.WriteFault.TheVariants.{Write, TooLarge, Memory}
 

@@ -4,7 +4,7 @@ use Rattle.std.specs.Io.KnownBytes.{Appends}
 use Rattle.std.specs.List.{All}
 use Rattle.std.specs.declared.cmp.Ordering.{Ordering}
 use Rattle.am_version_order.specs.Versions.{Version}
-use Rattle.am_wire.specs.Reader.{most}
+use Rattle.am_wire.specs.Limits.{most}
 use Rattle.am_merge.specs.Maps.{IsMap}
 use Rattle.am_snapshot.specs.Texts.{row_text}
 use Rattle.am_snapshot.specs.declared.row.WriteFault.{WriteFault}

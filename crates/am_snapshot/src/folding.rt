@@ -2,7 +2,7 @@
 
 ghost use Rattle.std.specs.Prelude.{◌≡◌, ◌≤◌, ℕ, List, length, IfOk, OnOk, IfErr, IfSome};
 ghost use Rattle.std.specs.Io.KnownBytes.{Appends};
-ghost use Rattle.am_wire.specs.Reader.{most};
+ghost use Rattle.am_wire.specs.Limits.{most};
 ghost use Rattle.am_snapshot.specs.Folds.{IsFold, StopsFold};
 
 use crate::reading::take_row;
@@ -66,7 +66,8 @@ impl From<WriteFault> for FoldError {
 ///
 /// The first fault of the input, with nothing written. [`FoldError::Write`] where a write fails or takes
 /// nothing: exactly the first `written` bytes of the row went out, and it is not tried again.
-/// [`FoldError::TooLarge`] also where the row would have over 67,108,864 bytes, with nothing written.
+/// [`FoldError::TooLarge`] also where the row would have over
+/// [`MOST_MESSAGE_BYTES`](am_wire::MOST_MESSAGE_BYTES), with nothing written, and [`FoldError::Memory`] for want of memory.
 pub fn fold<V: Version + Message, R: Read, W: Write>(
     alloc: Global,
     reader: &mut R,

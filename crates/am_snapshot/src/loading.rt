@@ -3,7 +3,7 @@
 ghost use Rattle.std.specs.Prelude.{◌≡◌, ◌≤◌, length, IfOk, IfErr, OnOk, IfSome};
 ghost use Rattle.std.specs.Io.KnownBytes.{IsAtEnd};
 ghost use Rattle.am_merge.specs.Maps.{IsMap};
-ghost use Rattle.am_wire.specs.Reader.{most};
+ghost use Rattle.am_wire.specs.Limits.{most};
 ghost use Rattle.am_snapshot.specs.Loads.{IsLoaded, StopsLoad};
 ghost use Rattle.am_snapshot.specs.declared.error.SnapshotError.TheVariants as errors;
 
@@ -44,7 +44,8 @@ impl From<AllocError> for SnapshotError {
 ///
 /// # Errors
 ///
-/// The first fault of the input. [`SnapshotError::DuplicateKey`] stands where the row that repeats a key ends.
+/// The first fault of the input, or [`SnapshotError::Memory`]. [`SnapshotError::DuplicateKey`] stands where the row
+/// that repeats a key ends.
 pub fn load<V: Version + Message, R: Read>(
     alloc: Global,
     reader: &mut R,

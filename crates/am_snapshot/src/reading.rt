@@ -3,7 +3,7 @@
 ghost use Rattle.std.specs.Prelude.{ℕ, List, ◌≤◌, length, IfOk, IfErr, OnOk, IfSome};
 ghost use Rattle.std.specs.Io.KnownBytes.{IsAtEnd};
 ghost use Rattle.am_merge.specs.Maps.{IsMap};
-ghost use Rattle.am_wire.specs.Reader.{most};
+ghost use Rattle.am_wire.specs.Limits.{most};
 ghost use Rattle.am_wire.specs.Inputs.{AreMessages, StopsAfter};
 ghost use Rattle.am_snapshot.specs.Best.{HoldsBest};
 
@@ -15,7 +15,11 @@ use std::io::Read;
 
 /// Reads every version of a row and takes each, live or not. The moment makes no difference.
 ///
-/// It holds the version that is being read and the winners. [`RowFault::Ended`] is not answered.
+/// It holds the version that is being read and the winners.
+///
+/// # Errors
+///
+/// The first fault of the input, or [`RowFault::Memory`]. [`RowFault::Ended`] is not answered.
 pub fn take_row<V: Version + Message, R: Read>(
     alloc: Global,
     reader: &mut R,

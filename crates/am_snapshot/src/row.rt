@@ -3,7 +3,7 @@
 ghost use Rattle.std.specs.Prelude.{◌≡◌, ◌+◌, ◌<◌, ◌≤◌, ◌^◌, ◌++◌, length, vec_len, OnOk, OnSome, IfErr};
 ghost use Rattle.std.specs.Option.{SomeIff};
 ghost use Rattle.am_wire.specs.Writing.{delimited};
-ghost use Rattle.am_wire.specs.Reader.{most};
+ghost use Rattle.am_wire.specs.Limits.{most};
 ghost use Rattle.am_snapshot.specs.Texts.{row_text};
 ghost use Rattle.am_snapshot.specs.Writing.{Passes, TakesPart};
 ghost use Rattle.am_snapshot.specs.Rows.{Writes};
@@ -12,19 +12,19 @@ ghost use Rattle.am_snapshot.specs.Saving.{IsSavable};
 use crate::outgoing::{Outgoing, Stopped};
 use am_merge::Held;
 use am_version_order::Version;
-use am_wire::write_varint;
+use am_wire::{MOST_MESSAGE_BYTES, write_varint};
 use std::alloc::Global;
 use std::io::Write;
 
 /// The most bytes of a row.
-const MOST: u64 = 67_108_864;
+const MOST: u64 = MOST_MESSAGE_BYTES;
 
 /// Why a row was not written.
 #[derive(Clone, Copy)]
 pub enum WriteFault {
     /// A write failed or took nothing, when so many bytes had gone out.
     Write { written: u64 },
-    /// The row has over 67,108,864 bytes.
+    /// The row has over [`MOST_MESSAGE_BYTES`].
     TooLarge,
     Memory,
 }

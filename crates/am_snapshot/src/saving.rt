@@ -2,7 +2,7 @@
 
 ghost use Rattle.std.specs.Prelude.{◌≡◌, ◌<◌, ◌↔◌, length, IfOk, IfErr, OnOk};
 ghost use Rattle.std.specs.Io.KnownBytes.{Appends};
-ghost use Rattle.am_wire.specs.Reader.{most};
+ghost use Rattle.am_wire.specs.Limits.{most};
 ghost use Rattle.am_snapshot.specs.Texts.{row_text};
 ghost use Rattle.am_snapshot.specs.Saving.{IsSavable, StopsSaving};
 
@@ -33,8 +33,8 @@ impl From<WriteFault> for SnapshotError {
 /// # Errors
 ///
 /// [`SnapshotError::Write`] where a write fails or takes nothing: exactly the first `written` bytes of the row
-/// went out, and it is not tried again. [`SnapshotError::TooLarge`] where the row has over 67,108,864 bytes,
-/// and [`SnapshotError::Memory`], before a byte goes out.
+/// went out, and it is not tried again. [`SnapshotError::TooLarge`] where the row has over
+/// [`MOST_MESSAGE_BYTES`](am_wire::MOST_MESSAGE_BYTES), and [`SnapshotError::Memory`], before a byte goes out.
 pub fn save<V: Version, W: Write>(
     alloc: Global,
     held: &Held<V>,

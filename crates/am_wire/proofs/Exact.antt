@@ -4,6 +4,7 @@ use Rattle.std.specs.List.{All, AllPass, flat_map}
 use Rattle.std.proofs.lemmas.Bool.{lt-ltb, le-ltb, cases_lt}
 use Rattle.std.proofs.lemmas.List.{take_at, drop_at}
 use Rattle.std.proofs.lemmas.List.Elements.{All-cons, All-head, All-tail}
+use Rattle.am_wire.specs.Limits.{most}
 use Rattle.am_wire.specs.declared.error.WireError.{WireError}
 use Rattle.am_wire.specs.declared.value.WireType.{WireType}
 use Rattle.am_wire.specs.Varint.{IsVarint, IsChain, total, varint_at, groups, shortest}
@@ -80,7 +81,7 @@ row_read message at text is =
       reads = λ rest.
           let regroup : text ++ rest ≡ size ++ (message ++ rest) = ap (λ (x : List ℕ). x ++ rest) is.text_is ∙ append_assoc size message rest in
           let sized = varint_read at (length message) size (message ++ rest) is.size_is in
-          let small : ltb 67108864 (length message) ≡ false = le-ltb _ _ is.not_large in
+          let small : ltb most (length message) ≡ false = le-ltb _ _ is.not_large in
           let cut : drop (length size) (size ++ (message ++ rest)) ≡ message ++ rest = drop_at size (message ++ rest) (length size) refl in
           let room : ltb (length (message ++ rest)) (length message) ≡ false = le-ltb _ _ (omega (arith, length-append message rest)) in
           let front : take (length message) (message ++ rest) ≡ message = take_at message rest (length message) refl in
@@ -97,7 +98,7 @@ pub rows_one_way : (bytes : List ℕ) (messages others : List (List ℕ)) → Ar
 rows_one_way bytes messages others first second = lists_are messages others (sym (rows_read bytes messages first) ∙ rows_read bytes others second)
 
 abbrev IsSmall : List ℕ → Type 0
-IsSmall message = length message ≤ 67108864
+IsSmall message = length message ≤ most
 
 pub rows_written : (messages : List (List ℕ)) (at : ℕ) → All IsSmall messages → AreSpelled IsRow messages at (put_rows messages)
 rows_written [] at small = refl

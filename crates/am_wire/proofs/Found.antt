@@ -4,6 +4,7 @@ use Rattle.std.specs.Int.{w32, w64, from_le_bytes}
 use Rattle.std.proofs.lemmas.Bool.{eqb-true, ltb-true, ltb-false, and_parts}
 use Rattle.std.proofs.lemmas.List.{take-append-drop, length-take-le}
 use Rattle.std.proofs.Math.Seq.{take-add}
+use Rattle.am_wire.specs.Limits.{most}
 use Rattle.am_wire.specs.declared.error.WireError.{WireError}
 use Rattle.am_wire.specs.declared.error.WireError.TheVariants.{Truncated, FieldNumber, WrongType, TooLarge}
 use Rattle.am_wire.specs.declared.error.WireError.TheVariants as errors
@@ -211,11 +212,11 @@ module _ (fits : ℕ → WireType → Bool) (at : ℕ) (bytes : List ℕ) where
 pub row_found : (at : ℕ) (bytes : List ℕ) (y : List ℕ × ℕ) → row_at at bytes ≡ Ok y → Finds IsRow y.0 at y.1 bytes
 unfolding row_at
 row_found at bytes y h =
-    let v = bind_ok (varint_at at bytes) (λ n. cond (ltb 67108864 n.0) (Err TooLarge) (cond (ltb (length (drop n.1 bytes)) n.0) (Err (Truncated at)) (ok (take n.0 (drop n.1 bytes), n.1 + n.0)))) y h in
+    let v = bind_ok (varint_at at bytes) (λ n. cond (ltb most n.0) (Err TooLarge) (cond (ltb (length (drop n.1 bytes)) n.0) (Err (Truncated at)) (ok (take n.0 (drop n.1 bytes), n.1 + n.0)))) y h in
     let size : ℕ = v.0.0 in
     let len : ℕ = v.0.1 in
     let rest : List ℕ = drop len bytes in
-    let w = when_ok (ltb 67108864 size) TooLarge (cond (ltb (length rest) size) (Err (Truncated at)) (ok (take size rest, len + size))) y v.2 in
+    let w = when_ok (ltb most size) TooLarge (cond (ltb (length rest) size) (Err (Truncated at)) (ok (take size rest, len + size))) y v.2 in
     let x = when_ok (ltb (length rest) size) (Truncated at) (ok (take size rest, len + size)) y w.1 in
     let small = ltb-false _ _ w.0 in
     let le = ltb-false _ _ x.0 in

@@ -14,7 +14,8 @@ use Rattle.am_wire.specs.Varint.{one_more, varint_within, varint_at}
 use Rattle.am_wire.specs.Fields.{row_at, ◌>>=◌}
 use Rattle.std.specs.Io.KnownBytes.{Consumes, Keeps, IsAtEnd}
 use Rattle.std.proofs.KnownBytes.{Consumes-nil, Consumes-trans}
-use Rattle.am_wire.specs.Reader.{most, IsCut, IsRow, ReadsAs, Stops, Answers, row_fault, all_but_last, length_at, IsLength, ByteStops, BytesStop}
+use Rattle.am_wire.specs.Limits.{most}
+use Rattle.am_wire.specs.Reader.{IsCut, IsRow, ReadsAs, Stops, Answers, row_fault, all_but_last, length_at, IsLength, ByteStops, BytesStop}
 use Rattle.am_wire.proofs.Spelled.{more_ok}
 
 abbrev cut : ℕ → Result (ℕ × ℕ) WireError

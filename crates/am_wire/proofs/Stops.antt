@@ -3,6 +3,7 @@ use Rattle.std.proofs.Common.{◌≡◌, ◌≢◌, ℕ, zero, suc, ◌+◌, ◌
 use Rattle.std.specs.Int.{w32, w64, from_le_bytes}
 use Rattle.std.proofs.lemmas.Bool.{eqb-false, lt-ltb, le-ltb, ltb-true, ltb-false, cases_lt}
 use Rattle.std.proofs.lemmas.List.{drop_at}
+use Rattle.am_wire.specs.Limits.{most}
 use Rattle.am_wire.specs.declared.error.WireError.{WireError}
 use Rattle.am_wire.specs.declared.error.WireError.TheVariants.{Truncated, LongVarint, FieldNumber, WrongType, TooLarge}
 use Rattle.am_wire.specs.declared.error.WireError.TheVariants as errors
@@ -74,7 +75,7 @@ module _ (at : ℕ) (bytes : List ℕ) where
   in_limit n = cond (ltb (length (drop n.1 bytes)) n.0) (Err (Truncated at)) (ok (take n.0 (drop n.1 bytes), n.1 + n.0))
 
   abbrev after_size : ℕ × ℕ → Result (List ℕ × ℕ) WireError
-  after_size n = cond (ltb 67108864 n.0) (Err TooLarge) (in_limit n)
+  after_size n = cond (ltb most n.0) (Err TooLarge) (in_limit n)
 
   row_from_number : (e : WireError) → IsNumberFault at bytes e → IsRowFault at bytes e
   row_from_number (Truncated place) h = (h.0, inl h.1)
@@ -88,7 +89,7 @@ module _ (at : ℕ) (bytes : List ℕ) where
         | inl v ↦ row_from_number e (number_fault_found at bytes e v)
         | inr v ↦
             let n = number_found at at bytes v.0 v.1 in
-            elim (when_err (ltb 67108864 v.0.0) TooLarge (in_limit v.0) e v.2) [
+            elim (when_err (ltb most v.0.0) TooLarge (in_limit v.0) e v.2) [
               | inl large ↦ subst (IsRowFault at bytes) large.1 (has_number at bytes v.0 n (ltb-true _ _ large.0))
               | inr small ↦
                   elim (when_err (ltb (length (drop v.0.1 bytes)) v.0.0) (Truncated at) (ok (take v.0.0 (drop v.0.1 bytes), v.0.1 + v.0.0)) e small.1) [
@@ -106,7 +107,7 @@ module _ (at : ℕ) (bytes : List ℕ) where
         | inl ends ↦ rw (ends_fails at bytes ends) moved
         | inr is ↦
             let sized = front_is at bytes is in
-            let small : ltb 67108864 is.number ≡ false = le-ltb _ _ is.says.0 in
+            let small : ltb most is.number ≡ false = le-ltb _ _ is.says.0 in
             let cut = behind_is at bytes is in
             let few : ltb (length is.behind) is.number ≡ true = lt-ltb _ _ is.says.1 in
             rw (sized, small, cut, few) moved
@@ -116,7 +117,7 @@ module _ (at : ℕ) (bytes : List ℕ) where
       rw (long_number_fails at bytes h.1) moved
   row_fails TooLarge is =
       let sized = front_is at bytes is in
-      let large : ltb 67108864 is.number ≡ true = lt-ltb _ _ is.says in
+      let large : ltb most is.number ≡ true = lt-ltb _ _ is.says in
       rw (sized, large) refl
   row_fails e h = absurd h
 

@@ -2,6 +2,7 @@
 -- are relations on whole texts, as the grammar is.
 use Rattle.std.specs.Prelude.{◌≡◌, ℕ, ◌+◌, ◌*◌, ◌^◌, ◌<◌, ◌≤◌, Bool, true, false, List, length, take, ◌++◌, slice_index, All, ◌⊎◌}
 use Rattle.std.specs.List.{AllPass}
+use Rattle.am_wire.specs.Limits.{most}
 use Rattle.am_wire.specs.declared.error.WireError.{WireError}
 use Rattle.am_wire.specs.declared.error.WireError.TheVariants.{Truncated, LongVarint, FieldNumber, WrongType, TooLarge}
 use Rattle.am_wire.specs.declared.error.WireError.TheVariants as errors
@@ -61,10 +62,11 @@ pub record HasTag (Says : ℕ → ℕ → List ℕ → Type 0) (bytes : List ℕ
   pub code_is : code < 8
   pub says : Says number code behind
 
--- the numbers that a field may have, and those that none has
+-- the numbers that a field may have
 abbrev pub IsFieldNumber : ℕ → Type 0
 IsFieldNumber number = (0 < number) × (number < 2 ^ 29)
 
+-- the numbers that no field has
 abbrev pub IsNoFieldNumber : ℕ → Type 0
 IsNoFieldNumber number = (number ≡ 0) ⊎ (2 ^ 29 ≤ number)
 
@@ -115,11 +117,11 @@ AreFieldsUntil fits es fault at bytes = AreSpelledUntil IsField (IsFieldFault fi
 -- ---- rows
 -- a length of more than a message may have
 abbrev pub HasLargeLength : List ℕ → Type 0
-HasLargeLength bytes = HasNumber (λ size behind. 67_108_864 < size) bytes
+HasLargeLength bytes = HasNumber (λ size behind. most < size) bytes
 
 -- a message that passes the end of the bytes
 abbrev pub EndsInMessage : List ℕ → Type 0
-EndsInMessage bytes = HasNumber (λ size behind. (size ≤ 67_108_864) × (length behind < size)) bytes
+EndsInMessage bytes = HasNumber (λ size behind. (size ≤ most) × (length behind < size)) bytes
 
 -- why no message of a row stands at the front
 abbrev pub IsRowFault : ℕ → List ℕ → WireError → Type 0

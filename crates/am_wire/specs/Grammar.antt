@@ -3,6 +3,7 @@ use Rattle.std.specs.Prelude.{◌≡◌, ℕ, ◌+◌, ◌*◌, ◌^◌, ◌<◌
 use Rattle.std.specs.Int.{w32, w64, from_le_bytes}
 use Rattle.am_wire.specs.declared.value.WireType.{WireType}
 use Rattle.am_wire.specs.declared.value.WireType.TheVariants as kinds
+use Rattle.am_wire.specs.Limits.{most}
 use Rattle.am_wire.specs.Varint.{IsVarint}
 use Rattle.am_wire.specs.Fields.{Payload, varint, eight, four, chunk, FieldAt}
 
@@ -27,6 +28,7 @@ IsPayload (eight n) at text = (length text ≡ 8) × (n ≡ from_le_bytes w64 te
 IsPayload (four n) at text = (length text ≡ 4) × (n ≡ from_le_bytes w32 text)
 IsPayload (chunk inside bytes) at text = IsChunk inside bytes at text
 
+-- the wire type of a payload
 abbrev pub wire_type_of : Payload → WireType
 wire_type_of (varint n) = kinds.Varint
 wire_type_of (eight n) = kinds.Eight
@@ -65,7 +67,7 @@ pub record IsRow (message : List ℕ) (at : ℕ) (text : List ℕ) : Type 0 wher
   pub size : List ℕ
   pub size_is : IsVarint size (length message)
   pub text_is : text ≡ size ++ message
-  pub not_large : length message ≤ 67_108_864
+  pub not_large : length message ≤ most
 
 -- the bytes are a row of these messages
 abbrev pub AreRows : List (List ℕ) → List ℕ → Type 0

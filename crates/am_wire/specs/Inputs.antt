@@ -1,12 +1,14 @@
 -- The messages of an input, and the fault that ends its reading.
 -- `reads` is what reading a message gives, at the offset where it begins.
-use Rattle.std.specs.Prelude.{◌≡◌, ◌≢◌, ℕ, ◌+◌, ◌-◌, ◌<◌, ◌≤◌, List, [], ◌∷◌, ◌++◌, length, take, drop, map, Option, Some, None, Result, Ok, Err, ⊤}
+use Rattle.std.specs.Prelude.{◌≡◌, ◌≢◌, ℕ, ◌+◌, ◌-◌, ◌<◌, ◌≤◌, List, [], ◌∷◌, ◌++◌, length, take, drop}
+use Rattle.std.specs.Prelude.{map, Option, Some, None, Result, Ok, Err, ⊤}
 use Rattle.am_wire.specs.declared.error.WireError.{WireError}
 use Rattle.am_wire.specs.declared.error.WireError.TheVariants as errors
 use Rattle.am_wire.specs.declared.reader.RowFault.{RowFault}
 use Rattle.am_wire.specs.declared.reader.RowFault.TheVariants.{Read, Wire, TooLarge, Ended, Memory}
 use Rattle.am_wire.specs.Fields.{row_at, pieces, ◌>>=◌}
-use Rattle.am_wire.specs.Reader.{most, IsCut}
+use Rattle.am_wire.specs.Limits.{most}
+use Rattle.am_wire.specs.Reader.{IsCut}
 
 -- a message that was read
 abbrev pub sound : {A : Type 0} → A → Result A WireError
@@ -53,8 +55,10 @@ module _ {A : Type 0} (reads : ℕ → List ℕ → Result A WireError) where
   -- what may be read of it, where it is more than that an input which is too large is cut there; or a read failed
   -- when just so many bytes had come, of which none is at fault; or the input is too large.
   abbrev pub StopsAfter : List ℕ → List A → Option (List ℕ) → RowFault → Type 0
-  StopsAfter input messages left (Wire e) = HasFaultAfter input messages e × HasFaultAfter (take most input) messages e × ¬ IsTooLargeAfter input messages
-  StopsAfter input messages left (Read k) = IsCutAfter (take k input) messages × (k ≤ most) × (k ≤ length input) × (left ≡ Some (drop k input))
+  StopsAfter input messages left (Wire e) =
+      HasFaultAfter input messages e × HasFaultAfter (take most input) messages e × ¬ IsTooLargeAfter input messages
+  StopsAfter input messages left (Read k) =
+      IsCutAfter (take k input) messages × (k ≤ most) × (k ≤ length input) × (left ≡ Some (drop k input))
   StopsAfter input messages left TooLarge = IsTooLargeAfter input messages
   StopsAfter input messages left Memory = ⊤
   StopsAfter input messages left Ended = ⊥

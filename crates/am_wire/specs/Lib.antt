@@ -1,3 +1,4 @@
+pub mod Limits
 pub mod Varint
 pub mod Length
 pub mod Fields

@@ -1,6 +1,7 @@
 -- What a reader of rows answers for the bytes that it reads, `left` being what its source has left then. Offsets
 -- count the bytes of the whole input.
-use Rattle.std.specs.Prelude.{◌≡◌, ◌≢◌, ℕ, ◌+◌, ◌-◌, ◌<◌, ◌≤◌, List, [], length, take, Option, Some, None, Result, Ok, Err, ◌⊎◌, ⊤, nat_lt, if◌then◌else◌}
+use Rattle.std.specs.Prelude.{◌≡◌, ◌≢◌, ℕ, ◌+◌, ◌-◌, ◌<◌, ◌≤◌, List, [], length, take, Option, Some, None}
+use Rattle.std.specs.Prelude.{Result, Ok, Err, ◌⊎◌, ⊤, nat_lt, if◌then◌else◌}
 use Rattle.std.specs.Io.KnownBytes.{IsAtEnd}
 use Rattle.am_wire.specs.declared.error.WireError.{WireError}
 use Rattle.am_wire.specs.declared.error.WireError.TheVariants.{Truncated}
@@ -9,12 +10,9 @@ use Rattle.am_wire.specs.declared.reader.RowFault.{RowFault}
 use Rattle.am_wire.specs.declared.reader.RowFault.TheVariants.{Read, Wire, TooLarge, Ended, Memory}
 use Rattle.am_wire.specs.declared.reader.Standing.{Standing}
 use Rattle.am_wire.specs.declared.reader.Standing.TheVariants.{Before, Over, Refused}
+use Rattle.am_wire.specs.Limits.{most}
 use Rattle.am_wire.specs.Varint.{varint_at}
 use Rattle.am_wire.specs.Fields.{row_at, ◌>>=◌}
-
--- the most bytes of an input
-abbrev pub most : ℕ
-most = 67108864
 
 -- the bytes begin a row at the offset `at`: it is not whole in them, and its length is not at fault
 abbrev pub IsCut : ℕ → List ℕ → Type 0
@@ -24,6 +22,7 @@ IsCut at bytes = row_at at bytes ≡ Err (Truncated at)
 abbrev pub IsRow : ℕ → List ℕ → List ℕ → Type 0
 IsRow at bytes message = row_at at bytes ≡ Ok (message, length bytes)
 
+-- the bytes without the last one
 abbrev pub all_but_last : List ℕ → List ℕ
 all_but_last bytes = take (length bytes - 1) bytes
 
@@ -48,10 +47,13 @@ Stops at bytes left Ended = ⊥
 Stops at bytes left Memory = ⊤
 
 -- What a call answers that reads these bytes, by where it stood; `next` is where it stands then.
-abbrev pub Answers : {A : Type 0} → (ℕ → List ℕ → Result A WireError) → Standing → List ℕ → Option (List ℕ) → Result (Option A) RowFault → Standing → Type 0
-Answers reads (Before at) bytes left (Ok (Some value)) next = ReadsAs reads at bytes (Ok value) × (0 < length bytes) × (at + length bytes ≤ most) × (next ≡ Before (at + length bytes))
+abbrev pub Answers : {A : Type 0} → (ℕ → List ℕ → Result A WireError)
+    → Standing → List ℕ → Option (List ℕ) → Result (Option A) RowFault → Standing → Type 0
+Answers reads (Before at) bytes left (Ok (Some value)) next =
+    ReadsAs reads at bytes (Ok value) × (0 < length bytes) × (at + length bytes ≤ most) × (next ≡ Before (at + length bytes))
 Answers reads (Before at) bytes left (Ok None) next = (bytes ≡ []) × IsAtEnd left × (next ≡ Over)
-Answers reads (Before at) bytes left (Err (Wire e)) next = (Stops at bytes left (Wire e) ⊎ (ReadsAs reads at bytes (Err e) × (at + length bytes ≤ most) × (e ≢ errors.Memory))) × (next ≡ Refused)
+Answers reads (Before at) bytes left (Err (Wire e)) next =
+    (Stops at bytes left (Wire e) ⊎ (ReadsAs reads at bytes (Err e) × (at + length bytes ≤ most) × (e ≢ errors.Memory))) × (next ≡ Refused)
 Answers reads (Before at) bytes left (Err fault) next = Stops at bytes left fault × (next ≡ Refused)
 Answers reads Over bytes left answer next = (bytes ≡ []) × (answer ≡ Ok None) × (next ≡ Over)
 Answers reads Refused bytes left answer next = (bytes ≡ []) × (answer ≡ Err Ended) × (next ≡ Refused)

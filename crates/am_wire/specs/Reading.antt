@@ -38,9 +38,11 @@ pub record Table : Type 0 where
   pub fits : ℕ → WireType → Bool
   pub inside : FieldAt → Option WireError
 
+-- the fields of bytes before the first fault
 abbrev pub fields_in : Table → ℕ → List ℕ → List FieldAt
 fields_in table at bytes = sound_fields (fields_of table.fits at bytes)
 
+-- the first fault in bytes
 abbrev pub faults_in : Table → ℕ → List ℕ → Option WireError
 faults_in table at bytes = scan table.inside (fields_of table.fits at bytes)
 
@@ -71,13 +73,15 @@ abbrev pub last_or : {A : Type 0} → A → List A → A
 last_or d [] = d
 last_or d (x ∷ xs) = last_or x xs
 
--- the number, the bytes or the message in a field, where it has one
+-- the number in a field, where it has one
 abbrev pub varint_in : FieldAt → List ℕ
 varint_in e = elim e.payload [ varint n ↦ n ∷ [] | _ ↦ [] ]
 
+-- the bytes in a field, where it has some
 abbrev pub chunk_in : FieldAt → List (List ℕ)
 chunk_in e = elim e.payload [ chunk at bytes ↦ bytes ∷ [] | _ ↦ [] ]
 
+-- the message in a field, where it has one, as its fields
 abbrev pub message_in : Table → FieldAt → List (List FieldAt)
 message_in table e = elim e.payload [ chunk at bytes ↦ fields_in table at bytes ∷ [] | _ ↦ [] ]
 
@@ -89,10 +93,11 @@ parts_in table e = elim e.payload [ chunk at bytes ↦ fields_in table at bytes 
 abbrev pub table_at : (ℕ → WireType → Bool) → (FieldAt → Option WireError) → Table
 table_at fits inside = record { fits = fits; inside = inside }
 
--- of a number that is given more than once the last counts; a missing one is 0, and a missing text is empty
+-- of a number that is given more than once the last counts; a missing one is 0
 abbrev pub last_number : ℕ → List FieldAt → ℕ
 last_number n es = last_or 0 (picked varint_in n es)
 
+-- the same of a text; a missing one is empty
 abbrev pub last_text : ℕ → List FieldAt → List ℕ
 last_text n es = last_or [] (picked chunk_in n es)
 
@@ -110,21 +115,27 @@ pub record Row : Type 0 where
   pub takes : WireType → Bool
   pub row_inside : FieldAt → Option WireError
 
+-- a number
 abbrev pub is_varint : WireType → Bool
 is_varint kind = elim kind [ kinds.Varint ↦ true | _ ↦ false ]
 
+-- bytes
 abbrev pub is_bytes : WireType → Bool
 is_bytes kind = elim kind [ kinds.Bytes ↦ true | _ ↦ false ]
 
+-- a field of a number
 abbrev pub varint_row : ℕ → Row
 varint_row n = record { row_number = n; takes = is_varint; row_inside = λ e. None }
 
+-- a field of a text
 abbrev pub text_row : ℕ → Row
 text_row n = record { row_number = n; takes = is_bytes; row_inside = text_fault }
 
+-- a field of a message that is held once
 abbrev pub part_row : ℕ → Table → Row
 part_row n table = record { row_number = n; takes = is_bytes; row_inside = part_fault table }
 
+-- a field of one of many messages
 abbrev pub item_row : ℕ → Table → (ℕ → List FieldAt → Option WireError) → Row
 item_row n table tests = record { row_number = n; takes = is_bytes; row_inside = item_fault table tests }
 
@@ -133,10 +144,12 @@ abbrev pub fits_by : List Row → ℕ → WireType → Bool
 fits_by [] n kind = true
 fits_by (row ∷ rows) n kind = if n == row.row_number then row.takes kind else fits_by rows n kind
 
+-- what is at fault inside a field, by its row
 abbrev pub inside_by : List Row → FieldAt → Option WireError
 inside_by [] e = None
 inside_by (row ∷ rows) e = if e.number == row.row_number then row.row_inside e else inside_by rows e
 
+-- the table of these rows
 abbrev pub table_of : List Row → Table
 table_of rows = record { fits = fits_by rows; inside = inside_by rows }
 
@@ -146,6 +159,7 @@ abbrev pub judged : {A : Type 0} → Option WireError → A → Result A WireErr
 judged (Some fault) value = Err fault
 judged None value = Ok value
 
+-- what reading a message gives
 abbrev pub read_by : {A : Type 0} → Table → (ℕ → List FieldAt → Option WireError) → (List FieldAt → A) → ℕ → ℕ → List ℕ → Result A WireError
 read_by table tests value place at bytes =
     judged (faults_in table at bytes then tests place (fields_in table at bytes)) (value (fields_in table at bytes))
@@ -155,33 +169,38 @@ abbrev pub Gives : {A : Type 0} → Result A WireError → Result A WireError �
 Gives (Ok x) read = read ≡ Ok x
 Gives (Err e) read = e ≢ errors.Memory → read ≡ Err e
 
--- where the last number or the last payload of bytes stands
+-- where a number stands
 abbrev pub varint_place : FieldAt → List ℕ
 varint_place e = elim e.payload [ varint n ↦ e.at ∷ [] | _ ↦ [] ]
 
+-- where a payload of bytes stands
 abbrev pub chunk_place : FieldAt → List ℕ
 chunk_place e = elim e.payload [ chunk at bytes ↦ e.at ∷ [] | _ ↦ [] ]
 
+-- where the last number stands
 abbrev pub last_number_place : ℕ → List FieldAt → ℕ
 last_number_place n es = last_or 0 (picked varint_place n es)
 
+-- where the last payload of bytes stands
 abbrev pub last_place : ℕ → List FieldAt → ℕ
 last_place n es = last_or 0 (picked chunk_place n es)
 
--- whether a message of the number was given
+-- a payload of bytes was given
 abbrev pub chunk_given : FieldAt → List Bool
 chunk_given e = elim e.payload [ chunk at bytes ↦ true ∷ [] | _ ↦ [] ]
 
+-- whether a message of the number was given
 abbrev pub is_given : ℕ → List FieldAt → Bool
 is_given n es = last_or false (picked chunk_given n es)
 
 -- ---- lists of numbers, one to a field or packed
--- those before the first fault, and that fault
+-- those before the first fault
 abbrev pub kept : {A : Type 0} → List (Result A WireError) → List A
 kept [] = []
 kept (Ok x ∷ xs) = x ∷ kept xs
 kept (Err e ∷ xs) = []
 
+-- the first fault
 abbrev pub first_fault : {A : Type 0} → List (Result A WireError) → Option WireError
 first_fault [] = None
 first_fault (Ok x ∷ xs) = first_fault xs
@@ -191,6 +210,7 @@ first_fault (Err e ∷ xs) = Some e
 abbrev pub unpacked : ℕ → List ℕ → List (Result ℕ WireError)
 unpacked tag bytes = pieces (λ at text. varint_at tag text) 0 0 bytes
 
+-- the numbers in a field, single or packed
 abbrev pub numbers_in : FieldAt → List ℕ
 numbers_in e = elim e.payload [ varint n ↦ n ∷ [] | chunk at bytes ↦ kept (unpacked e.at bytes) | _ ↦ [] ]
 
@@ -202,6 +222,7 @@ is_varint_or_bytes kind = elim kind [ kinds.Varint ↦ true | kinds.Bytes ↦ tr
 abbrev pub numbers_fault : FieldAt → Option WireError
 numbers_fault e = in_chunk (λ at bytes. first_fault (unpacked e.at bytes)) e
 
+-- a field of a list of numbers
 abbrev pub numbers_row : ℕ → Row
 numbers_row n = record { row_number = n; takes = is_varint_or_bytes; row_inside = numbers_fault }
 

@@ -7,6 +7,7 @@ abbrev pub row_seen : Result (Bor (List ℕ)) WireError → Result (List ℕ) Wi
 row_seen (Ok b) = Ok b.now
 row_seen (Err e) = Err e
 
+-- the same with its length
 abbrev pub first_row_seen : Result (Bor (List ℕ) × ℕ) WireError → Result (List ℕ × ℕ) WireError
 first_row_seen (Ok x) = Ok (x.0.now, x.1)
 first_row_seen (Err e) = Err e

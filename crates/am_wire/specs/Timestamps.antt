@@ -1,5 +1,6 @@
 -- A timestamp (google.protobuf.Timestamp: seconds int64 = 1, nanos int32 = 2), and the moment that it stands for.
-use Rattle.std.specs.Prelude.{ℕ, ◌+◌, ◌-◌, ◌*◌, ◌/◌, ◌%◌, ◌^◌, Bool, List, [], ◌∷◌, ◌++◌, Option, Some, None, Result, nat_lt, ◌&&◌, if◌then◌else◌}
+use Rattle.std.specs.Prelude.{ℕ, ◌+◌, ◌-◌, ◌*◌, ◌/◌, ◌%◌, ◌^◌, Bool, List, [], ◌∷◌, ◌++◌}
+use Rattle.std.specs.Prelude.{Option, Some, None, Result, nat_lt, ◌&&◌, if◌then◌else◌}
 use Rattle.am_version_order.specs.Moments.{seconds_before_1970}
 use Rattle.am_wire.specs.declared.error.WireError.{WireError}
 use Rattle.am_wire.specs.declared.error.WireError.TheVariants as errors
@@ -7,6 +8,7 @@ use Rattle.am_wire.specs.Fields.{FieldAt}
 use Rattle.am_wire.specs.Reading.{Table, table_of, varint_row, last_number, last_place, joined, is_given, read_by}
 use Rattle.am_wire.specs.Writing.{put_number}
 
+-- its fields
 abbrev pub timestamp : Table
 timestamp = table_of (varint_row 1 ∷ varint_row 2 ∷ [])
 
@@ -26,6 +28,7 @@ is_moment es = nat_lt (seconds_since_least (last_number 1 es)) 315_537_897_600 &
 abbrev pub moment : List FieldAt → ℕ
 moment es = seconds_since_least (last_number 1 es) * 1_000_000_000 + low_half (last_number 2 es)
 
+-- its own test, whose fault stands at `place`
 abbrev pub timestamp_tests : ℕ → List FieldAt → Option WireError
 timestamp_tests place es = if is_moment es then None else Some (errors.Timestamp place)
 
@@ -38,6 +41,7 @@ reads_moment at bytes = read_by timestamp timestamp_tests moment at at bytes
 abbrev pub moment_of : ℕ → List FieldAt → ℕ
 moment_of n es = if is_given n es then moment (joined timestamp n es) else 0
 
+-- the test of a part, whose fault stands at its last payload
 abbrev pub moment_test : ℕ → List FieldAt → Option WireError
 moment_test n es = timestamp_tests (last_place n es) (joined timestamp n es)
 
@@ -46,5 +50,6 @@ moment_test n es = timestamp_tests (last_place n es) (joined timestamp n es)
 abbrev pub seconds_number : ℕ → ℕ
 seconds_number m = (m / 1_000_000_000 + (2 ^ 64 - seconds_before_1970)) % 2 ^ 64
 
+-- the text of a moment
 unfoldable pub writes_moment : ℕ → List ℕ
 writes_moment m = put_number 1 (seconds_number m) ++ put_number 2 (m % 1_000_000_000)

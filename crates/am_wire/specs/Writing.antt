@@ -3,6 +3,7 @@ use Rattle.std.specs.Prelude.{ℕ, ◌+◌, ◌*◌, List, [], ◌++◌, length,
 use Rattle.std.specs.List.{flat_map}
 use Rattle.am_wire.specs.Varint.{shortest}
 
+-- the tag of a field
 abbrev pub tag : ℕ → ℕ → List ℕ
 tag n kind = shortest (n * 8 + kind)
 

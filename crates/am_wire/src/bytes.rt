@@ -33,7 +33,11 @@ impl Bytes {
         Self { bytes }
     }
 
-    /// Bytes of its own, or want of memory.
+    /// Bytes of its own.
+    ///
+    /// # Errors
+    ///
+    /// [`AllocError`] for want of memory.
     pub fn copied(alloc: Global, bytes: &[u8]) -> Result<Bytes, AllocError>
         ensures { IfOk result (λ copy. copy ≡ bytes.now) }
     {
@@ -55,7 +59,11 @@ impl Bytes {
         bytes
     }
 
-    /// A copy, or want of memory.
+    /// A copy.
+    ///
+    /// # Errors
+    ///
+    /// [`AllocError`] for want of memory.
     pub fn try_clone(&self, alloc: Global) -> Result<Bytes, AllocError>
         ensures { IfOk result (λ copy. copy ≡ self.now) }
     {

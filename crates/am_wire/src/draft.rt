@@ -28,19 +28,34 @@ pub trait Draft<'a>: Schema + Drop {
     /// The message of these fields.
     ghost value: { List FieldAt → Self.Done };
 
+    /// No field was taken yet.
     fn start(alloc: Global) -> Self
         ensures { holds [] result };
 
+    /// Takes the next field.
+    ///
+    /// # Errors
+    ///
+    /// The fault inside the field, or [`WireError::Memory`].
     fn take(&mut self, field: Field<'a>) -> Result<(), WireError>
         ensures held { OnOk result ((es : List FieldAt) → holds es self.old → holds (es ++ field_of field.entry ∷ []) self.new) }
         ensures clean { OnOk result (inside (field_of field.entry) ≡ None) }
         ensures fault { IfErr result (λ e. Fails e (inside (field_of field.entry))) };
 
+    /// The message of the fields that were taken; what its own tests find stands at `place`.
+    ///
+    /// # Errors
+    ///
+    /// What the tests find, or [`WireError::Memory`].
     fn finish(self, alloc: Global, place: usize) -> Result<Self::Done, WireError>
         ensures { (es : List FieldAt) → holds es self → Gives result (judged (tests place es) (value es)) };
 }
 
 /// Takes the fields of the bytes, which begin at the offset `at` of the outermost input.
+///
+/// # Errors
+///
+/// The first fault in the bytes, or [`WireError::Memory`].
 pub fn take_fields<'a, D: Draft<'a>>(
     draft: &mut D,
     bytes: &'a [u8],
@@ -59,6 +74,10 @@ pub fn take_fields<'a, D: Draft<'a>>(
 
 /// Reads a message from the bytes, which begin at the offset `at` of the outermost input; what its own tests
 /// find stands at `place`.
+///
+/// # Errors
+///
+/// The first fault in the bytes, else what the message's own tests find; or [`WireError::Memory`].
 pub fn read_message<'a, D: Draft<'a>>(
     alloc: Global,
     bytes: &'a [u8],

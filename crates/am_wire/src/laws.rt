@@ -4,6 +4,7 @@
 ghost use Rattle.std.specs.Prelude.{◌≡◌, ℕ, List, [], ◌∷◌, Bool, true, ◌+◌, ◌<◌, ◌≤◌, ◌^◌, ◌↔◌, ◌⊎◌, length, take, map, Option, Some, None, Ok, Err, ◌++◌, All, IsTrue, slice_index};
 ghost use Rattle.std.specs.List.{AllPass, flat_map};
 ghost use Rattle.std.specs.Str.{IsUtf8};
+ghost use Rattle.am_wire.specs.Limits.{most};
 ghost use Rattle.am_wire.specs.declared.error.WireError.{WireError};
 ghost use Rattle.am_wire.specs.declared.error.WireError.TheVariants.{Truncated, LongVarint, NotUtf8};
 ghost use Rattle.am_wire.specs.declared.value.WireType.{WireType};
@@ -44,7 +45,7 @@ pub fn rows_are_the_grammar()
     ensures found { (bytes : List ℕ) (messages : List (List ℕ)) → rows_of bytes ≡ map Ok messages → AreRows messages bytes }
     ensures read { (bytes : List ℕ) (messages : List (List ℕ)) → AreRows messages bytes → rows_of bytes ≡ map Ok messages }
     ensures one_way { (bytes : List ℕ) (messages others : List (List ℕ)) → AreRows messages bytes → AreRows others bytes → messages ≡ others }
-    ensures written { (messages : List (List ℕ)) → All (λ m. length m ≤ 67108864) messages → AreRows messages (put_rows messages) }
+    ensures written { (messages : List (List ℕ)) → All (λ m. length m ≤ most) messages → AreRows messages (put_rows messages) }
 {}
 
 /// Bytes are read without a fault as these packed numbers exactly where they spell them one after the other.

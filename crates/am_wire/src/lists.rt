@@ -28,6 +28,7 @@ impl<'a> LastBytes<'a> {
         LastBytes { bytes: &[] }
     }
 
+    /// Takes the field, where it has bytes.
     pub fn put(&mut self, field: Field<'a>)
         ensures { self.new.bytes.now ≡ last_or self.old.bytes.now (chunk_in (field_of field.entry)) }
     {
@@ -38,6 +39,10 @@ impl<'a> LastBytes<'a> {
 }
 
 /// Reads the numbers in a field, packed or not, and puts them behind those before them.
+///
+/// # Errors
+///
+/// The first fault in packed numbers, told at the field's tag, or [`WireError::Memory`].
 pub fn push_numbers(numbers: &mut Vec<u64>, field: Field<'_>) -> Result<(), WireError>
     ensures held { OnOk result (numbers.new.items ≡ numbers.old.items ++ numbers_in (field_of field.entry)) }
     ensures clean { OnOk result (numbers_fault (field_of field.entry) ≡ None) }
@@ -75,6 +80,10 @@ fn unpack(numbers: &mut Vec<u64>, bytes: &[u8], at: usize) -> Result<(), WireErr
 }
 
 /// Writes bytes as a field, where there are any.
+///
+/// # Errors
+///
+/// [`AllocError`] for want of memory. A part of the field may be left.
 pub fn push_bytes(out: &mut Vec<u8>, number: u32, bytes: &[u8]) -> Result<(), AllocError>
     requires { number < 2 ^ 29 }
     ensures ok { OnOk result (out.new.items ≡ out.old.items ++ put_text number bytes.now) }
@@ -86,6 +95,10 @@ pub fn push_bytes(out: &mut Vec<u8>, number: u32, bytes: &[u8]) -> Result<(), Al
 }
 
 /// Writes numbers packed in one field, where there are any.
+///
+/// # Errors
+///
+/// [`AllocError`] for want of memory. A part of the field may be left.
 pub fn pack_numbers(out: &mut Vec<u8>, number: u32, numbers: &[u64]) -> Result<(), AllocError>
     requires { number < 2 ^ 29 }
     ensures ok { OnOk result (out.new.items ≡ out.old.items ++ put_numbers number numbers.now) }

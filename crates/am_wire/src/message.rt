@@ -1,6 +1,7 @@
 //! Messages, which are written in one way and read from every spelling.
 
 ghost use Rattle.std.specs.Prelude.{◌≡◌, ℕ, List, ◌++◌, ◌+◌, ◌<◌, ◌≤◌, ◌^◌, Result, Ok, Err, OnOk, OnErr, IfErr, ◌⊎◌, ◌↔◌, length};
+ghost use Rattle.am_wire.specs.Limits.{most};
 ghost use Rattle.am_wire.specs.Reading.{Gives};
 ghost use Rattle.am_wire.specs.Sizes.{counted};
 ghost use Rattle.am_wire.specs.Writing.{put_chunk};
@@ -27,20 +28,27 @@ pub trait Message: Sized + Drop {
     fn size(&self) -> u64
         ensures { result ≡ counted (length (writes self.now)) };
 
-    /// Writes the text at the end of the bytes. Want of memory may leave a part of it there.
+    /// Writes the text at the end of the bytes.
+    ///
+    /// # Errors
+    ///
+    /// [`AllocError`] for want of memory. A part of the text may be left.
     fn put(&self, out: &mut Vec<u8>) -> Result<(), AllocError>
         ensures written { OnOk result (out.new.items ≡ out.old.items ++ writes self.now) }
         ensures value { OnOk result (is_value self.now) };
 
-    /// Writes the text at the end of the bytes, which grow by their own allocator. It refuses by
-    /// [`WireError::TooLarge`], exactly where the text has over 67,108,864 bytes, and by [`WireError::Memory`],
-    /// and leaves the bytes as they were.
+    /// Writes the text at the end of the bytes, which grow by their own allocator.
+    ///
+    /// # Errors
+    ///
+    /// [`WireError::TooLarge`], exactly where the text has over [`MOST_MESSAGE_BYTES`], and [`WireError::Memory`].
+    /// Either leaves the bytes as they were.
     fn encode(&self, out: &mut Vec<u8>) -> Result<(), WireError>
         ensures written { OnOk result (out.new.items ≡ out.old.items ++ writes self.now) }
         ensures value { OnOk result (is_value self.now) }
-        ensures size { OnOk result (length (writes self.now) ≤ 67108864) }
+        ensures size { OnOk result (length (writes self.now) ≤ most) }
         ensures unchanged { OnErr result (out.new.items ≡ out.old.items) }
-        ensures too_large { (result ≡ Err errors.TooLarge) ↔ (67108864 < length (writes self.now)) }
+        ensures too_large { (result ≡ Err errors.TooLarge) ↔ (most < length (writes self.now)) }
         ensures refused { IfErr result (λ e. (e ≡ errors.Memory) ⊎ (e ≡ errors.TooLarge)) }
     {
         let size = self.size();
@@ -53,13 +61,20 @@ pub trait Message: Sized + Drop {
         Ok(())
     }
 
-    /// Reads a value from all of the bytes, which begin at the offset `at` of the outermost input, or answers
-    /// the first fault in them.
+    /// Reads a value from all of the bytes, which begin at the offset `at` of the outermost input.
+    ///
+    /// # Errors
+    ///
+    /// The first fault in the bytes, or [`WireError::Memory`].
     fn decode_at(alloc: Global, bytes: &[u8], at: usize) -> Result<Self, WireError>
         requires { at + length bytes.now < 2 ^ 64 }
         ensures { Gives result (reads at bytes.now) };
 
-    /// Reads a value from all of the bytes, or answers the first fault in them.
+    /// Reads a value from all of the bytes.
+    ///
+    /// # Errors
+    ///
+    /// The first fault in the bytes, or [`WireError::Memory`].
     fn decode(alloc: Global, bytes: &[u8]) -> Result<Self, WireError>
         ensures { Gives result (reads 0 bytes.now) }
     {
@@ -70,7 +85,11 @@ pub trait Message: Sized + Drop {
     ghost again: { (v : Self) (at : ℕ) → is_value v → length (writes v) < 2 ^ 64 → reads at (writes v) ≡ Ok v };
 }
 
-/// Writes a message as a field, also where its text is empty. Want of memory may leave a part of it.
+/// Writes a message as a field, also where its text is empty.
+///
+/// # Errors
+///
+/// [`AllocError`] for want of memory. A part of the field may be left.
 pub fn push_message<M: Message>(
     out: &mut Vec<u8>,
     number: u32,
@@ -84,6 +103,10 @@ pub fn push_message<M: Message>(
 }
 
 /// Writes a message whose [`Message::size`] is known as a field.
+///
+/// # Errors
+///
+/// [`AllocError`] for want of memory. A part of the field may be left.
 pub fn push_sized<M: Message>(
     out: &mut Vec<u8>,
     number: u32,

@@ -25,6 +25,7 @@ impl LastNumber {
         LastNumber { value: 0, at: 0 }
     }
 
+    /// Takes the field, where it has a number.
     pub fn put(&mut self, field: Field<'_>)
         ensures value { self.new.value ≡ last_or self.old.value (varint_in (field_of field.entry)) }
         ensures at { self.new.at ≡ last_or self.old.at (varint_place (field_of field.entry)) }
@@ -50,6 +51,11 @@ impl<'a> LastText<'a> {
         LastText { text: "" }
     }
 
+    /// Takes the field, where it has bytes.
+    ///
+    /// # Errors
+    ///
+    /// [`WireError::NotUtf8`] for bytes that are no text.
     pub fn put(&mut self, field: Field<'a>) -> Result<(), WireError>
         ensures held { OnOk result (self.new.text.now ≡ last_or self.old.text.now (chunk_in (field_of field.entry))) }
         ensures clean { OnOk result (text_fault (field_of field.entry) ≡ None) }
@@ -89,6 +95,11 @@ impl<D> Part<D> {
         }
     }
 
+    /// Takes the fields of the payload, where it has bytes.
+    ///
+    /// # Errors
+    ///
+    /// The first fault in the payload, or [`WireError::Memory`].
     pub fn put<'a>(&mut self, field: Field<'a>) -> Result<(), WireError>
     where
         D: Draft<'a>,
@@ -108,6 +119,11 @@ impl<D> Part<D> {
 }
 
 /// Reads the message in a field, and puts it behind those before it.
+///
+/// # Errors
+///
+/// The first fault in the message, else what its own tests find, told at the field's tag; or
+/// [`WireError::Memory`].
 pub fn push_item<'a, D: Draft<'a>>(
     alloc: Global,
     items: &mut Vec<D::Done>,

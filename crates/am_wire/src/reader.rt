@@ -2,7 +2,8 @@
 
 ghost use Rattle.std.specs.Prelude.{◌≡◌, ℕ, List, [], ◌∷◌, ◌++◌, ◌+◌, ◌<◌, ◌≤◌, ◌^◌, None, length, take, drop, vec_len, IfOk, OnOk, IfErr, OnErr, IfSome, MatchResult};
 ghost use Rattle.std.specs.Io.KnownBytes.{Consumes, Keeps, IsAtEnd};
-ghost use Rattle.am_wire.specs.Reader.{most, IsRow, Stops, Answers, row_fault, ByteStops, length_at, IsLength, BytesStop};
+ghost use Rattle.am_wire.specs.Limits.{most};
+ghost use Rattle.am_wire.specs.Reader.{IsRow, Stops, Answers, row_fault, ByteStops, length_at, IsLength, BytesStop};
 ghost use Rattle.am_wire.specs.declared.reader.RowFault.TheVariants.{Memory};
 ghost use Rattle.am_wire.specs.declared.reader.Standing.TheVariants.{Before};
 
@@ -76,7 +77,7 @@ pub struct RowReader<V: Message> {
 /// Seen as where it stands.
 impl<V: Message> Model for RowReader<V> {
     ghost use Rattle.std.specs.Prelude.{◌≡◌, ℕ, ◌≤◌};
-    ghost use Rattle.am_wire.specs.Reader.{most};
+    ghost use Rattle.am_wire.specs.Limits.{most};
     ghost use Rattle.am_wire.specs.declared.reader.Standing.{Standing};
     ghost use Rattle.am_wire.specs.declared.reader.Standing.TheVariants.{Before};
 
@@ -100,11 +101,14 @@ impl<V: Message> RowReader<V> {
         }
     }
 
-    /// Reads the next message. It reads no byte behind its row, and the row's length byte by byte.
+    /// Reads the next message. It reads no byte behind its row, and the row's length byte by byte. None is the
+    /// end of the input, and every call after it is None.
     ///
-    /// None is the end of the input, and every call after it is None. After a refusal every call is
-    /// [`RowFault::Ended`]. A row is judged once it is whole or its length is at fault; a failed read is not
-    /// tried again, and an input ends at 67,108,864 bytes.
+    /// # Errors
+    ///
+    /// [`RowFault::Wire`] for the first fault of a row, which is judged once it is whole or its length is at fault;
+    /// [`RowFault::Read`] for a read that failed, which is not tried again; [`RowFault::TooLarge`] for an input
+    /// of over [`MOST_MESSAGE_BYTES`]; [`RowFault::Memory`]; and after a refusal at every call [`RowFault::Ended`].
     pub fn next<R: Read>(&mut self, reader: &mut R) -> Result<Option<V>, RowFault>
         ensures { (bytes : List ℕ) × Consumes (R.remaining reader.old) (R.remaining reader.new) bytes ×
             Answers V.reads self.old bytes (R.remaining reader.new) result self.new }

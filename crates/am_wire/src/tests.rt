@@ -245,9 +245,7 @@ fn parts_of_messages(rt: HostRuntime) -> Result<(), Fail> {
 #[test]
 fn chunks_and_texts_are_put_at_the_end(rt: HostRuntime) -> Result<(), Fail> {
     let mut bytes = vec![in rt.alloc(); 7]?;
-    let start = begin_chunk(&mut bytes, 2)?;
-    push_number(&mut bytes, 1, 300)?;
-    end_chunk(&mut bytes, start)?;
+    push_chunk(&mut bytes, 2, &[0x08, 0xAC, 0x02])?;
     append_text(&mut bytes, &[0x61])?;
     assert_eq!(rt;
         bytes.as_slice(),

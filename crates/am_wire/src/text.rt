@@ -34,7 +34,11 @@ impl Text {
         Text { string }
     }
 
-    /// A text of its own, or want of memory.
+    /// A text of its own.
+    ///
+    /// # Errors
+    ///
+    /// [`AllocError`] for want of memory.
     pub fn copied(alloc: Global, text: &str) -> Result<Text, AllocError>
         ensures { IfOk result (λ copy. copy ≡ text.now) }
     {
@@ -57,7 +61,11 @@ impl Text {
         self.string
     }
 
-    /// A copy, or want of memory.
+    /// A copy.
+    ///
+    /// # Errors
+    ///
+    /// [`AllocError`] for want of memory.
     pub fn try_clone(&self, alloc: Global) -> Result<Text, AllocError>
         ensures { IfOk result (λ copy. copy ≡ self.now) }
     {

@@ -76,6 +76,10 @@ impl<'a> Draft<'a> for TimestampDraft {
 }
 
 /// The moment that a part of a message holds; a missing one is [`Moment::LEAST`].
+///
+/// # Errors
+///
+/// [`WireError::Timestamp`] where the seconds or the nanoseconds make no moment, told at the part's tag.
 pub fn moment_in(alloc: Global, part: Part<TimestampDraft>) -> Result<Moment, WireError>
     ensures { (n : ℕ) (es : List FieldAt) → IsPart IsTimestampDraft timestamp n es part → Gives result (judged (moment_test n es) (moment_of n es)) }
 {

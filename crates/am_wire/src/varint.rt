@@ -48,7 +48,12 @@ fn long_varint_from(bytes: &[u8], at: usize) -> Result<(u64, usize), WireError>
 }
 
 /// Reads the number at the front of the bytes, and how many of them it takes, also where it is spelled longer
-/// than it need be. It refuses by [`WireError::Truncated`] and [`WireError::LongVarint`] alone.
+/// than it need be.
+///
+/// # Errors
+///
+/// [`WireError::Truncated`] where the bytes end in the number, and [`WireError::LongVarint`] where it has more
+/// than 64 bits.
 pub fn read_varint(bytes: &[u8]) -> Result<(u64, usize), WireError>
     ensures exact { result ≡ varint_at 0 bytes.now }
 {

@@ -1,7 +1,7 @@
-//! Fields at the end of a vector. Where memory is wanting, a part of a field may be left there; only
-//! [`append_text`] writes all or nothing.
+//! Fields at the end of a vector.
 
 ghost use Rattle.std.specs.Prelude.{◌≡◌, ℕ, List, ◌++◌, ◌<◌, ◌≤◌, ◌^◌, OnOk, IfOk, OnErr, IfErr, ◌⊎◌, ◌↔◌, length, vec_len};
+ghost use Rattle.am_wire.specs.Limits.{most};
 ghost use Rattle.am_wire.specs.Varint.{shortest};
 ghost use Rattle.am_wire.specs.declared.error.WireError.TheVariants as errors;
 ghost use Rattle.am_wire.specs.Writing.{tag, put_number, put_chunk, put_text};
@@ -39,6 +39,10 @@ fn push_long_varint(out: &mut Vec<u8>, value: u64) -> Result<(), AllocError>
 }
 
 /// Writes a number as a field. 0 is left out, since it is what a missing number is read as.
+///
+/// # Errors
+///
+/// [`AllocError`] for want of memory. A part of the field may be left.
 pub fn push_number(out: &mut Vec<u8>, number: u32, value: u64) -> Result<(), AllocError>
     requires { number < 2 ^ 29 }
     ensures ok { OnOk result (out.new.items ≡ out.old.items ++ put_number number value) }
@@ -51,6 +55,10 @@ pub fn push_number(out: &mut Vec<u8>, number: u32, value: u64) -> Result<(), All
 }
 
 /// Writes what stands in front of so many bytes in a field: its tag, and the length.
+///
+/// # Errors
+///
+/// [`AllocError`] for want of memory. A part of the field may be left.
 pub fn push_size(out: &mut Vec<u8>, number: u32, size: u64) -> Result<(), AllocError>
     requires { number < 2 ^ 29 }
     ensures ok { OnOk result (out.new.items ≡ out.old.items ++ (tag number 2 ++ shortest size)) }
@@ -60,6 +68,10 @@ pub fn push_size(out: &mut Vec<u8>, number: u32, size: u64) -> Result<(), AllocE
 }
 
 /// Writes bytes as a field, also where there are none.
+///
+/// # Errors
+///
+/// [`AllocError`] for want of memory. A part of the field may be left.
 pub fn push_chunk(out: &mut Vec<u8>, number: u32, bytes: &[u8]) -> Result<(), AllocError>
     requires { number < 2 ^ 29 }
     ensures ok { OnOk result (out.new.items ≡ out.old.items ++ put_chunk number bytes.now) }
@@ -70,6 +82,10 @@ pub fn push_chunk(out: &mut Vec<u8>, number: u32, bytes: &[u8]) -> Result<(), Al
 }
 
 /// Writes a text as a field. An empty one is left out, since it is what a missing text is read as.
+///
+/// # Errors
+///
+/// [`AllocError`] for want of memory. A part of the field may be left.
 pub fn push_text(out: &mut Vec<u8>, number: u32, text: &str) -> Result<(), AllocError>
     requires { number < 2 ^ 29 }
     ensures ok { OnOk result (out.new.items ≡ out.old.items ++ put_text number text.now) }
@@ -80,35 +96,17 @@ pub fn push_text(out: &mut Vec<u8>, number: u32, text: &str) -> Result<(), Alloc
     Ok(())
 }
 
-/// Writes the tag of a field of bytes, and answers where the bytes begin: all that is written from
-/// here to [`end_chunk`].
-pub fn begin_chunk(out: &mut Vec<u8>, number: u32) -> Result<usize, AllocError>
-    requires { number < 2 ^ 29 }
-    ensures ok { OnOk result (out.new.items ≡ out.old.items ++ tag number 2) }
-    ensures start { IfOk result (λ start. start ≡ vec_len out.new) }
-{
-    push_varint(out, u64::from(number) * 8 + 2)?;
-    Ok(out.len())
-}
-
-/// Puts the length of all that was written from `start` on in front of it.
-pub fn end_chunk(out: &mut Vec<u8>, start: usize) -> Result<(), AllocError>
-    requires { start ≤ vec_len out.old }
-    ensures ok { OnOk result ((before bytes : List ℕ) → out.old.items ≡ before ++ bytes → length before ≡ start → out.new.items ≡ before ++ (shortest (length bytes) ++ bytes)) }
-{
-    let length = write_varint((out.len() - start) as u64);
-    out.extend_from_slice(length.as_slice())?;
-    out[start..].rotate_right(length.as_slice().len());
-    Ok(())
-}
-
-/// Puts the whole text of a message at the end; an error leaves the bytes as they were. A text that is too
-/// large is refused as that, whatever memory there is.
+/// Puts the whole text of a message at the end.
+///
+/// # Errors
+///
+/// [`WireError::TooLarge`], exactly where the text has over [`MOST_MESSAGE_BYTES`], whatever memory there is, and
+/// [`WireError::Memory`]. Either leaves the bytes as they were.
 pub fn append_text(out: &mut Vec<u8>, text: &[u8]) -> Result<(), WireError>
     ensures ok { OnOk result (out.new.items ≡ out.old.items ++ text.now) }
-    ensures size { OnOk result (length text.now ≤ 67108864) }
+    ensures size { OnOk result (length text.now ≤ most) }
     ensures err { OnErr result (out.new.items ≡ out.old.items) }
-    ensures too_large { (result ≡ Err errors.TooLarge) ↔ (67108864 < length text.now) }
+    ensures too_large { (result ≡ Err errors.TooLarge) ↔ (most < length text.now) }
     ensures refused { IfErr result (λ e. (e ≡ errors.Memory) ⊎ (e ≡ errors.TooLarge)) }
 {
     if text.len() as u64 > MOST_MESSAGE_BYTES {

@@ -1,7 +1,7 @@
 use Rattle.std.proofs.Common.{◌-◌, ℕ, List}
 use Rattle.std.specs.Prelude.{IsPermutation}
 use Rattle.am_merge.specs.Maps.{IsMap}
-use Rattle.am_wire.specs.Reader.{most}
+use Rattle.am_wire.specs.Limits.{most}
 use Rattle.am_snapshot.specs.Loads.{AreDistinct}
 use Rattle.am_snapshot.proofs.RowReads.{ReadsSoFar, offset}
 use Rattle.am_snapshot.proofs.loading.load.Given as goal

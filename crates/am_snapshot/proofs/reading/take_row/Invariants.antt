@@ -1,6 +1,6 @@
 use Rattle.std.proofs.Common.{◌-◌, ℕ, List}
 use Rattle.am_merge.specs.Maps.{IsMap, at}
-use Rattle.am_wire.specs.Reader.{most}
+use Rattle.am_wire.specs.Limits.{most}
 use Rattle.am_snapshot.proofs.Bests.{IsBestAt}
 use Rattle.am_snapshot.proofs.RowReads.{ReadsSoFar, offset}
 use Rattle.am_snapshot.proofs.reading.take_row.Given as goal

@@ -1,5 +1,5 @@
 use Rattle.std.proofs.Common.{◌≡◌, ◌≤◌, ◌+◌, length}
-use Rattle.am_wire.specs.Reader.{most}
+use Rattle.am_wire.specs.Limits.{most}
 use Rattle.am_snapshot.specs.Texts.{row_text}
 use Rattle.std.specs.List.{All}
 use Rattle.am_merge.specs.Maps.{IsMap}
