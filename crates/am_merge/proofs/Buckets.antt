@@ -1,5 +1,5 @@
 -- The index by bucket when something is put into its table, replaced or taken out, and what searches over it find.
-use Rattle.std.proofs.Common.{◌≡◌, ◌≢◌, ℕ, ◌<◌, ◌≤◌, suc, Bool, true, false, cond, List, [], ◌∷◌, ◌++◌, length, take, drop, get_or, fold, Option, Some, None, refl, sym, ap, ◌∙◌, subst, arith, Contains}
+use Rattle.std.proofs.Common.{◌≡◌, ℕ, ◌<◌, Bool, true, false, cond, List, [], ◌∷◌, length, get_or, fold, Option, Some, None, refl, sym, ap, ◌∙◌, subst, arith}
 use Rattle.std.specs.Prelude.{insert, ◌==◌, if◌then◌else◌}
 use Rattle.std.specs.Option.{option_cmp}
 use Rattle.std.specs.List.{HoldsAt, remove}
@@ -10,7 +10,7 @@ use Rattle.std.specs.declared.cmp.Ordering.TheVariants.{Less, Equal, Greater}
 use Rattle.std.specs.Ordering.{nat_cmp, ordering_then}
 use Rattle.std.specs.Cmp.{IsTotalOrder}
 use Rattle.std.specs.Cmp.Lexicographic.{slice_cmp, options_total}
-use Rattle.std.proofs.lemmas.Cmp.{nat_cmp_total, nat_list_cmp_total, on_total, then_total, ranked, tied_itself}
+use Rattle.std.proofs.lemmas.Cmp.{nat_cmp_total, nat_list_cmp_total, on_total, then_total, ranked}
 use Rattle.std.proofs.lemmas.Map.Lookups.{exact_bytes}
 use Rattle.am_blocks.specs.declared.spot.Spot.{Spot}
 use Rattle.am_blocks.specs.Rows.{Rows, entries}
@@ -19,21 +19,20 @@ use Rattle.am_blocks.specs.Searches.{IsRising, IsFound, IsMissing}
 use Rattle.am_version_order.specs.Versions.{Version}
 use Rattle.am_merge.specs.Maps.{IsMap}
 use Rattle.am_merge.specs.Places.{IsGapFor}
-use Rattle.am_merge.specs.Indexes.{Changes, filed, Names}
-use Rattle.am_merge.specs.Entries.{key_order, tie_of}
+use Rattle.am_merge.specs.Indexes.{Changes, filed}
+use Rattle.am_merge.specs.Entries.{tie_of}
 use Rattle.am_merge.specs.Buckets.{bucket_slot, numbered, number_of, bytes_cmp, bucket_cmp, bytes_tie, bytes_order, front_order, by_bucket, bucket_entry, bucket_order}
 use Rattle.am_merge.specs.Shelves.{IsBucketIndex, IsAbsent}
-use Rattle.am_merge.specs.declared.entry.KeyEntry.{KeyEntry}
 use Rattle.am_merge.specs.declared.entry.BucketEntry.{BucketEntry}
 use Rattle.am_merge.proofs.Keys.{IsKeyOrder, key_order as order_of_keys}
 use Rattle.am_merge.proofs.Indexes as indexes
 use Rattle.am_merge.proofs.Shelves.{then_equal, item_within, spot_within}
 
 -- ---- the order of places
-bytes_exact : (b c : List ℕ) → bytes_cmp b c ≡ Equal → b ≡ c
+pub bytes_exact : (b c : List ℕ) → bytes_cmp b c ≡ Equal → b ≡ c
 bytes_exact b c e = exact_bytes b c (then_equal (nat_cmp (number_of b) (number_of c)) (slice_cmp nat_cmp b c) e).1
 
-bytes_total : IsTotalOrder bytes_cmp
+pub bytes_total : IsTotalOrder bytes_cmp
 bytes_total = then_total (on_total number_of nat_cmp_total) nat_list_cmp_total
 
 module _ {K : Type 0} (cmp : K → K → Ordering) (keys : IsKeyOrder cmp) where
@@ -81,7 +80,7 @@ fallback : BucketEntry
 fallback = record { number = 0; key = record { head = 0; slot = 0 } }
 
 module _ {K X : Type 0} (seen : X → Version K) (head_of : K → ℕ) (cmp : K → K → Ordering) (keys : IsKeyOrder cmp) (bucket_of : X → List ℕ) where
-  slot_entry : (s : ℕ) (v : X) → bucket_slot (bucket_entry seen bucket_of head_of s v) ≡ s
+  pub slot_entry : (s : ℕ) (v : X) → bucket_slot (bucket_entry seen bucket_of head_of s v) ≡ s
   slot_entry s v = refl
 
   abbrev own : ℕ → X → BucketEntry

@@ -20,13 +20,13 @@ use Rattle.am_merge.proofs.Puts.{cut_at}
 pub some_is : {Y : Type 0} {x y : Y} → Some x ≡ Some y → x ≡ y
 some_is e = cc
 
-Contains-head : {X : Type 0} (x : X) (xs : List X) → Contains (x ∷ xs) x
+pub Contains-head : {X : Type 0} (x : X) (xs : List X) → Contains (x ∷ xs) x
 Contains-head x xs = (0, omega arith, refl)
 
-Contains-tail : {X : Type 0} (head x : X) (xs : List X) → Contains xs x → Contains (head ∷ xs) x
+pub Contains-tail : {X : Type 0} (head x : X) (xs : List X) → Contains xs x → Contains (head ∷ xs) x
 Contains-tail head x xs p = (suc p.0, omega (arith, p.1), p.2)
 
-Contains-cases : {X : Type 0} (head x : X) (xs : List X) → Contains (head ∷ xs) x → (head ≡ x) ⊎ Contains xs x
+pub Contains-cases : {X : Type 0} (head x : X) (xs : List X) → Contains (head ∷ xs) x → (head ≡ x) ⊎ Contains xs x
 Contains-cases {X} head x xs p = by p.0 p.1 p.2 where
   by : (k : ℕ) → k < suc (length xs) → get_or (head ∷ xs) k x ≡ x → (head ≡ x) ⊎ Contains xs x
   by zero within found = inl found

@@ -10,4 +10,5 @@ pub mod Indexes
 pub mod Shelves
 pub mod Firsts
 pub mod Buckets
+pub mod Walks
 pub mod Steps

@@ -1,8 +1,6 @@
 -- A shelf when a version is put in, replaced or taken out.
 use Rattle.std.proofs.Common.{◌≡◌, ℕ, ◌<◌, ◌≤◌, ◌+◌, zero, suc, Bool, true, false, cond, append_assoc, List, [], ◌∷◌, ◌++◌, length, take, drop, get_or, set, Option, Some, None, refl, sym, ap, ◌∙◌, subst, arith, inl, inr}
 use Rattle.std.specs.Prelude.{insert, slice_index_or, count_by, is_some, is_none, if◌then◌else◌, Result, Ok, Err, OnOk}
-use Rattle.std.specs.List.{slice_get}
-use Rattle.std.proofs.lemmas.Option.{get_or_from_slice_get}
 use Rattle.std.specs.List.{HoldsAt, remove}
 use Rattle.std.proofs.lemmas.List.{set_split, take_all, drop_all}
 use Rattle.std.proofs.lemmas.List.Elements.{All-from_recursion, All-nil}

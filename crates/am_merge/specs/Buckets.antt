@@ -1,6 +1,6 @@
 -- The entries of the index by bucket, and where one stands to what is looked for.
 -- A key's place among the buckets is its bucket with the key; the bucket with no key is the front of it.
-use Rattle.std.specs.Prelude.{ℕ, ◌+◌, ◌*◌, ◌%◌, ◌^◌, List, [], ◌∷◌, Option, Some, None, fold, if◌then◌else◌, ◌==◌}
+use Rattle.std.specs.Prelude.{ℕ, ◌+◌, ◌*◌, ◌%◌, ◌^◌, List, [], ◌∷◌, Option, Some, None, fold, take_while, bytes_eq, if◌then◌else◌, ◌==◌}
 use Rattle.std.specs.Option.{option_cmp}
 use Rattle.std.specs.declared.cmp.Ordering.{Ordering}
 use Rattle.std.specs.declared.cmp.Ordering.TheVariants.{Less, Equal, Greater}
@@ -32,6 +32,10 @@ module _ {K : Type 0} (cmp : K → K → Ordering) where
   bucket_cmp one other = ordering_then (bytes_cmp one.0 other.0) (option_cmp cmp one.1 other.1)
 
 module _ {X : Type 0} (bucket_of : X → List ℕ) where
+  -- the versions up to the first of another bucket
+  abbrev pub run_of : List ℕ → List X → List X
+  run_of bucket versions = take_while (λ v. bytes_eq (bucket_of v) bucket) versions
+
   -- how the bucket of what is in a slot compares to another; nothing is before all buckets
   abbrev pub bytes_tie : Option X → List ℕ → Ordering
   bytes_tie None bucket = Less

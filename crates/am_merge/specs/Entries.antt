@@ -20,8 +20,8 @@ abbrev pub versions_of : {X : Type 0} → (ℕ → Option X) → List KeyEntry �
 versions_of table keys = filed key_slot table keys
 
 -- the table has something in the slot of each entry
-abbrev pub AreThere : {X : Type 0} → (ℕ → Option X) → List KeyEntry → Type 0
-AreThere table keys = All (λ e. IsSome (table e.slot)) keys
+abbrev pub AreThere : {E X : Type 0} → (E → ℕ) → (ℕ → Option X) → List E → Type 0
+AreThere slot_of table entries = All (λ e. IsSome (table (slot_of e))) entries
 
 -- moments in their order, and those that are the same by the slots
 abbrev pub time_cmp : (ℕ × ℕ) → (ℕ × ℕ) → Ordering

@@ -5,8 +5,8 @@ ghost use Rattle.std.specs.Iterator.{YieldsFirstRef, item_count};
 ghost use Rattle.am_merge.specs.Maps.{in_bucket};
 ghost use Rattle.am_merge.specs.Shelves.{versions, IsShelf};
 
-use crate::entry::KeyEntry;
-use crate::shelf::Shelf;
+use crate::entry::{BucketEntry, KeyEntry};
+use crate::shelf::{Shelf, bucket_front};
 use am_blocks::Walk;
 use am_version_order::Version;
 use slab::Slab;
@@ -24,13 +24,13 @@ pub struct Iter<'a, V> {
 impl<'a, V> Model for Iter<'a, V> {
     ghost use Rattle.std.specs.Prelude.{List};
     ghost use Rattle.slab.specs.Slab.{get};
-    ghost use Rattle.am_merge.specs.Entries.{versions_of, AreThere};
+    ghost use Rattle.am_merge.specs.Entries.{versions_of, key_slot, AreThere};
 
     ghost Value = { List V };
 
     ghost view = { λ iter. versions_of (get iter.table.now) iter.walk };
 
-    ghost invariant = { λ iter. AreThere (get iter.table.now) iter.walk };
+    ghost invariant = { λ iter. AreThere key_slot (get iter.table.now) iter.walk };
 }
 
 impl<'a, V> Iterator for Iter<'a, V> {
@@ -62,17 +62,24 @@ pub fn walk_shelf<V: Version>(shelf: &Shelf<V>) -> Iter<'_, V>
 /// Contracts see it as the list of those versions.
 #[derive(Drop)]
 pub struct InBucket<'a, V: Version> {
-    versions: Iter<'a, V>,
+    table: &'a Slab<V>,
+    // It goes on past the bucket.
+    walk: Walk<'a, BucketEntry>,
     bucket: &'a [u8],
 }
 
 impl<'a, V: Version> Model for InBucket<'a, V> {
     ghost use Rattle.std.specs.Prelude.{List};
-    ghost use Rattle.am_merge.specs.Maps.{in_bucket};
+    ghost use Rattle.slab.specs.Slab.{get};
+    ghost use Rattle.am_merge.specs.Buckets.{bucket_slot, run_of};
+    ghost use Rattle.am_merge.specs.Entries.{AreThere};
+    ghost use Rattle.am_merge.specs.Indexes.{filed};
 
     ghost Value = { List V };
 
-    ghost view = { λ walk. in_bucket V.bucket_of walk.bucket.now walk.versions };
+    ghost view = { λ rest. run_of V.bucket_of rest.bucket.now (filed bucket_slot (get rest.table.now) rest.walk) };
+
+    ghost invariant = { λ rest. AreThere bucket_slot (get rest.table.now) rest.walk };
 }
 
 impl<'a, V: Version> Iterator for InBucket<'a, V> {
@@ -83,22 +90,25 @@ impl<'a, V: Version> Iterator for InBucket<'a, V> {
     ghost remaining = { item_count (λ rest. rest) };
 
     fn next(&mut self) -> Option<&'a V> {
-        while let Some(version) = self.versions.next() {
-            if version.bucket() == self.bucket {
-                return Some(version);
-            }
+        let entry = self.walk.next()?;
+        let version = &self.table[entry.key.slot];
+        if version.bucket() != self.bucket {
+            self.walk = Walk::none();
+            return None;
         }
-        None
+        Some(version)
     }
 }
 
-/// The versions of a shelf whose bucket is this one.
+/// The versions of a shelf whose bucket is this one, in the order of their keys.
 pub fn walk_bucket<'a, V: Version>(shelf: &'a Shelf<V>, bucket: &'a [u8]) -> InBucket<'a, V>
     requires { IsShelf V.seen V.head_of V.Key.cmp V.bucket_of shelf.now }
     ensures { result ≡ in_bucket V.bucket_of bucket.now (versions shelf.now) }
 {
+    let front = bucket_front(shelf, bucket);
     InBucket {
-        versions: walk_shelf(shelf),
+        table: &shelf.table,
+        walk: shelf.buckets.walk_from(front),
         bucket,
     }
 }

@@ -1,4 +1,4 @@
-use Rattle.std.proofs.Common.{sym, ap, ◌∙◌, subst, true}
+use Rattle.std.proofs.Common.{sym, subst, true}
 use Rattle.am_blocks.specs.Spots.{place}
 use Rattle.am_merge.specs.Shelves.{versions}
 use Rattle.am_merge.specs.Places.{IsPlaceOf, IsGapFor}

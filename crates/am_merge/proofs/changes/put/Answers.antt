@@ -1,8 +1,8 @@
-use Rattle.std.proofs.Common.{◌≡◌, ◌+◌, true, sym, ◌∙◌, subst, arith}
+use Rattle.std.proofs.Common.{◌+◌, true, sym, ◌∙◌, subst, arith}
 use Rattle.std.specs.Prelude.{IsOk}
 use Rattle.am_blocks.specs.Spots.{place}
 use Rattle.am_merge.specs.Places.{IsGapFor}
-use Rattle.am_merge.specs.Shelves.{versions, HasRooms}
+use Rattle.am_merge.specs.Shelves.{versions}
 use Rattle.am_merge.specs.Takings.{new_keys, new_versions}
 use Rattle.am_merge.proofs.Keys.{key_order}
 use Rattle.am_merge.proofs.Steps.{one_key, versions_by, fewer_rooms}

@@ -1,4 +1,4 @@
-use Rattle.std.proofs.Common.{refl, subst}
+use Rattle.std.proofs.Common.{refl}
 use Rattle.slab.specs.Slab.{get}
 use Rattle.am_merge.proofs.Keys.{key_order as order_of_keys}
 use Rattle.am_merge.proofs.Buckets.{bucket_never_missed, bucket_met_own}

@@ -1,6 +1,6 @@
-use Rattle.std.proofs.Common.{ℕ, ◌+◌, Some, None, refl, sym, ◌∙◌, subst, arith}
-use Rattle.slab.specs.Slab.{get, Updates}
-use Rattle.am_blocks.specs.Rows.{entries, HasRoom}
+use Rattle.std.proofs.Common.{◌+◌, Some, refl, sym, ◌∙◌, subst, arith}
+use Rattle.slab.specs.Slab.{Updates}
+use Rattle.am_blocks.specs.Rows.{HasRoom}
 use Rattle.am_merge.proofs.Keys.{key_order as order_of_keys}
 use Rattle.am_merge.proofs.Steps.{replaced, replaced_versions, filed_put, filed_taken, taken_absent, spot_key}
 use Rattle.am_merge.proofs.shelf.replace_across.Goals as goal

@@ -1,4 +1,4 @@
-use Rattle.std.proofs.Common.{ℕ, ◌+◌, Some, sym, ◌∙◌, subst, arith}
+use Rattle.std.proofs.Common.{◌+◌, Some, sym, ◌∙◌, subst, arith}
 use Rattle.slab.specs.Slab.{Updates}
 use Rattle.am_blocks.specs.Rows.{HasRoom}
 use Rattle.am_merge.proofs.Keys.{key_order as order_of_keys}

@@ -1,9 +1,9 @@
-use Rattle.std.proofs.Common.{◌≡◌, ◌≤◌, ◌+◌, sym, ap, ◌∙◌, subst, arith}
+use Rattle.std.proofs.Common.{◌+◌, sym, ap, ◌∙◌, subst, arith}
 use Rattle.std.specs.Prelude.{IsOk}
 use Rattle.am_merge.specs.Shelves.{versions}
 use Rattle.am_merge.specs.Takings.{new_keys, new_versions}
 use Rattle.am_merge.proofs.Keys.{key_order}
-use Rattle.am_merge.proofs.Steps.{few_keys, few_versions, fewer_after, fewer_rooms}
+use Rattle.am_merge.proofs.Steps.{fewer_after, fewer_rooms}
 use Rattle.am_merge.proofs.held.Held.take_pair.Goals as goal
 
 pub returns-in_err-is_second_new-clause-err : goal.returns-in_err-is_second_new-clause-err
