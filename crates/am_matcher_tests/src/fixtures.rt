@@ -14,21 +14,30 @@ pub const JOB_IS_X: MatcherRow = (MatcherKind::Equal, "job", "x");
 const REGIONS: &str = "(?:eu|us|ap)-(?:north|south|east|west)-[1-9][a-f]?(?:\\.(?:prod|stage|dev)\
     \\.(?:example|test)\\.(?:com|org|net))?(?::[0-9]{1,5})?(?:/(?:[a-z0-9._~-]|%[0-9a-f]{2})*)*";
 
-/// Patterns, a value that matches each, and one that doesn't. None matches the empty text.
-pub const PATTERNS: [(&str, &str, &str); 9] = [
-    ("a|b", "b", "ab"),
-    ("[^x]", "y", "x"),
-    ("[a-z_]+[0-9]{2,4}", "node_1234", "node_1"),
-    ("(?i)job-[[:alpha:]]*", "JOB-Api", "job-7"),
-    ("(?s)x.*y", "x\ny", "x\n"),
-    ("\\d{1,3}(\\.\\d{1,3}){3}", "10.0.0.255", "10.0.0"),
-    ("(?:a{2,5}b?)*c", "aabaaac", "abc"),
-    ("\\p{Greek}+", "αβγ", "abc"),
+/// Patterns and values, and whether they match. No pattern matches the empty text.
+pub const PATTERNS: [(&str, &str, bool); 18] = [
+    ("a|b", "b", true),
+    ("a|b", "ab", false),
+    ("[^x]", "y", true),
+    ("[^x]", "x", false),
+    ("[a-z_]+[0-9]{2,4}", "node_1234", true),
+    ("[a-z_]+[0-9]{2,4}", "node_1", false),
+    ("(?i)job-[[:alpha:]]*", "JOB-Api", true),
+    ("(?i)job-[[:alpha:]]*", "job-7", false),
+    ("(?s)x.*y", "x\ny", true),
+    ("(?s)x.*y", "x\n", false),
+    ("\\d{1,3}(\\.\\d{1,3}){3}", "10.0.0.255", true),
+    ("\\d{1,3}(\\.\\d{1,3}){3}", "10.0.0", false),
+    ("(?:a{2,5}b?)*c", "aabaaac", true),
+    ("(?:a{2,5}b?)*c", "abc", false),
+    ("\\p{Greek}+", "αβγ", true),
+    ("\\p{Greek}+", "abc", false),
     (
         REGIONS,
         "eu-west-1a.prod.example.com:9090/metrics/%2f",
-        "eu-west-0",
+        true,
     ),
+    (REGIONS, "eu-west-0", false),
 ];
 
 /// Patterns that are broken: the last but one only by itself, and the last since it is too big.

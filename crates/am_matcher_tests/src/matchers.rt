@@ -17,68 +17,73 @@ pub fn answer(alloc: Global, row: MatcherRow, value: &str) -> Result<bool, Build
     asked(alloc, &matcher, value)
 }
 
-/// What matchers of the two kinds, whose pattern this is, say of a value.
-fn both(
+/// A matcher of the first kind says this of the value, and one of the second kind the opposite.
+fn are_answers(
     alloc: Global,
     kinds: [MatcherKind; 2],
     pattern: &'static str,
     value: &str,
-) -> (Result<bool, BuildError>, Result<bool, BuildError>) {
+    want: bool,
+) -> bool {
     let [first, second] = kinds;
-    (
-        answer(alloc, (first, "job", pattern), value),
-        answer(alloc, (second, "job", pattern), value),
-    )
+    answer(alloc, (first, "job", pattern), value) == Ok(want)
+        && answer(alloc, (second, "job", pattern), value) == Ok(!want)
+}
+
+/// The first of the rows of which matchers of the two kinds say something else.
+fn wrong_answer(
+    alloc: Global,
+    kinds: [MatcherKind; 2],
+    rows: &[(&'static str, &'static str, bool)],
+) -> Option<usize> {
+    for (i, &(pattern, value, want)) in rows.iter().enumerate() {
+        if !are_answers(alloc, kinds, pattern, value, want) {
+            return Some(i);
+        }
+    }
+    None
 }
 
 const REGEXPS: [MatcherKind; 2] = [MatcherKind::Regexp, MatcherKind::NotRegexp];
 
 const TEXTS: [MatcherKind; 2] = [MatcherKind::Equal, MatcherKind::NotEqual];
 
-#[test]
-fn a_pattern_matches_from_end_to_end(rt: HostRuntime) {
-    for (pattern, value, want) in [
-        ("a|b", "ab", false),
-        ("a|b", "b", true),
-        ("", "", true),
-        ("", "a", false),
-        ("x\ny", "x\ny", true),
-        ("x\ny", "x", false),
-        ("x", "x\n", false),
-        ("(?i)JOB", "job", true),
-    ] {
-        let found = both(rt.alloc(), REGEXPS, pattern, value);
-        assert_eq!(rt; found, (Ok(want), Ok(!want)), "{pattern} {value}");
-    }
-}
+const FROM_END_TO_END: [(&str, &str, bool); 8] = [
+    ("a|b", "ab", false),
+    ("a|b", "b", true),
+    ("", "", true),
+    ("", "a", false),
+    ("x\ny", "x\ny", true),
+    ("x\ny", "x", false),
+    ("x", "x\n", false),
+    ("(?i)JOB", "job", true),
+];
+
+const WHOLE: [(&str, &str, bool); 3] = [("x", "x", true), ("x", "", false), ("x", "xx", false)];
 
 #[test]
-fn a_text_is_compared_whole(rt: HostRuntime) {
-    for (value, same) in [("x", true), ("", false), ("xx", false)] {
-        let found = both(rt.alloc(), TEXTS, "x", value);
-        assert_eq!(rt; found, (Ok(same), Ok(!same)), "{value}");
-    }
+fn matchers_say_whether_a_value_matches(rt: HostRuntime) {
+    let from_end_to_end = wrong_answer(rt.alloc(), REGEXPS, &FROM_END_TO_END);
+    assert_eq!(rt; from_end_to_end, None);
+    let whole = wrong_answer(rt.alloc(), TEXTS, &WHOLE);
+    assert_eq!(rt; whole, None);
+    let patterns = wrong_answer(rt.alloc(), REGEXPS, &PATTERNS);
+    assert_eq!(rt; patterns, None);
 }
 
-#[test]
-fn patterns_are_compiled(rt: HostRuntime) {
-    for (pattern, yes, no) in PATTERNS {
-        let found = both(rt.alloc(), REGEXPS, pattern, yes);
-        assert_eq!(rt; found, (Ok(true), Ok(false)), "{pattern} {yes}");
-        let found = both(rt.alloc(), REGEXPS, pattern, no);
-        assert_eq!(rt; found, (Ok(false), Ok(true)), "{pattern} {no}");
-    }
+/// The pattern is refused, and the text that it is too matches itself.
+fn is_refused(alloc: Global, pattern: &'static str) -> bool {
+    let bad = Err(BuildError::BadPattern);
+    answer(alloc, (MatcherKind::Regexp, "job", pattern), "a") == bad
+        && answer(alloc, (MatcherKind::NotRegexp, "job", pattern), "a") == bad
+        && answer(alloc, (MatcherKind::Equal, "job", pattern), pattern) == Ok(true)
 }
 
-/// As a text it is none.
 #[test]
 fn a_broken_pattern_is_refused(rt: HostRuntime) {
-    let bad = Err(BuildError::BadPattern);
     for pattern in BROKEN {
-        let found = both(rt.alloc(), REGEXPS, pattern, "a");
-        assert_eq!(rt; found, (bad, bad), "{pattern}");
-        let found = both(rt.alloc(), TEXTS, pattern, pattern);
-        assert_eq!(rt; found, (Ok(true), Ok(false)), "{pattern}");
+        let refused = is_refused(rt.alloc(), pattern);
+        assert!(rt; refused, "{pattern}");
     }
 }
 
@@ -93,8 +98,8 @@ fn keeps(alloc: Global, matcher: &Matcher, row: MatcherRow) -> Result<bool, Buil
 fn a_compiled_matcher_keeps_its_parts(rt: HostRuntime) -> Result<(), Fail> {
     let row = (MatcherKind::Regexp, "job", "x|y");
     let given = matcher(rt.alloc(), row)?;
-    let kept = keeps(rt.alloc(), &given, row)?;
-    assert!(rt; kept);
+    let kept = keeps(rt.alloc(), &given, row);
+    assert_eq!(rt; kept, Ok(true));
     Ok(())
 }
 
@@ -102,6 +107,11 @@ fn a_compiled_matcher_keeps_its_parts(rt: HostRuntime) -> Result<(), Fail> {
 pub fn verdict_on(alloc: Global, rows: &[MatcherRow]) -> Result<Verdict, AllocError> {
     let matchers = matchers(alloc, rows)?;
     verdict(alloc, matchers.as_slice())
+}
+
+/// A matcher of the kind has this verdict.
+fn is_verdict(alloc: Global, kind: MatcherKind, pattern: &'static str, want: Verdict) -> bool {
+    verdict_on(alloc, &[(kind, "job", pattern)]) == Ok(want)
 }
 
 /// A broken pattern is told, also where another matcher doesn't match the empty text.
@@ -118,38 +128,26 @@ fn matchers_have_a_verdict(rt: HostRuntime) {
         (MatcherKind::Equal, "x", Verdict::Fine),
         (MatcherKind::NotEqual, "x", Verdict::AllEmpty),
     ] {
-        let found = verdict_on(rt.alloc(), &[(kind, "job", pattern)]);
-        assert_eq!(rt; found, Ok(want), "{pattern}");
+        let is_so = is_verdict(rt.alloc(), kind, pattern, want);
+        assert!(rt; is_so, "{pattern}");
     }
 }
 
-/// The verdicts on a matcher of each kind of regular expression.
-fn verdicts_on(
-    alloc: Global,
-    pattern: &'static str,
-) -> (Result<Verdict, AllocError>, Result<Verdict, AllocError>) {
-    (
-        verdict_on(alloc, &[(MatcherKind::Regexp, "job", pattern)]),
-        verdict_on(alloc, &[(MatcherKind::NotRegexp, "job", pattern)]),
-    )
+/// The verdicts on the two kinds of regular expressions.
+fn are_verdicts(alloc: Global, pattern: &'static str, wants: [Verdict; 2]) -> bool {
+    let [regexp, not_regexp] = wants;
+    is_verdict(alloc, MatcherKind::Regexp, pattern, regexp)
+        && is_verdict(alloc, MatcherKind::NotRegexp, pattern, not_regexp)
 }
 
 #[test]
 fn patterns_have_a_verdict(rt: HostRuntime) {
     for (pattern, _, _) in PATTERNS {
-        let found = verdicts_on(rt.alloc(), pattern);
-        assert_eq!(rt;
-            found,
-            (Ok(Verdict::Fine), Ok(Verdict::AllEmpty)),
-            "{pattern}"
-        );
+        let are_so = are_verdicts(rt.alloc(), pattern, [Verdict::Fine, Verdict::AllEmpty]);
+        assert!(rt; are_so, "{pattern}");
     }
-}
-
-#[test]
-fn broken_patterns_have_a_verdict(rt: HostRuntime) {
     for pattern in BROKEN {
-        let found = verdicts_on(rt.alloc(), pattern);
-        assert_eq!(rt; found, (Ok(Verdict::Bad), Ok(Verdict::Bad)), "{pattern}");
+        let are_so = are_verdicts(rt.alloc(), pattern, [Verdict::Bad, Verdict::Bad]);
+        assert!(rt; are_so, "{pattern}");
     }
 }

@@ -52,15 +52,16 @@ fn hold(
     Ok(())
 }
 
-/// Whether the ids, each of one letter, are those in the text.
+/// Whether the ids, one after the other, are the text.
 fn are(ids: &Ids, text: &str) -> bool {
-    let ids = ids.as_slice();
-    let text = text.as_bytes();
-    ids.len() == text.len()
-        && ids
-            .iter()
-            .zip(text)
-            .all(|(id, byte)| id.as_str().as_bytes() == [*byte].as_slice())
+    let mut left = text;
+    for id in ids.as_slice() {
+        let Some(rest) = left.strip_prefix(id.as_str()) else {
+            return false;
+        };
+        left = rest;
+    }
+    left.is_empty()
 }
 
 fn mutes_are(
@@ -86,6 +87,34 @@ fn is_muted(
     mutes_are(alloc, held, &labels, seconds, want)
 }
 
+/// The first of the rows, a job, a moment in seconds and what mutes it then, that doesn't hold.
+fn wrong_job(
+    alloc: Global,
+    held: &Held<MeshSilence>,
+    rows: &[(&'static str, i64, Wanted)],
+) -> Option<usize> {
+    for (i, &(job, seconds, want)) in rows.iter().enumerate() {
+        if is_muted(alloc, held, &[("job", job)], seconds, want) != Ok(true) {
+            return Some(i);
+        }
+    }
+    None
+}
+
+/// The first of the rows, two labels and what mutes an alert with them at 50 s, that doesn't hold.
+fn wrong_pair(
+    alloc: Global,
+    held: &Held<MeshSilence>,
+    rows: &[(LabelRow, LabelRow, Wanted)],
+) -> Option<usize> {
+    for (i, &(first, second, want)) in rows.iter().enumerate() {
+        if is_muted(alloc, held, &[first, second], 50, want) != Ok(true) {
+            return Some(i);
+        }
+    }
+    None
+}
+
 /// p wants job `x`, q has a broken pattern beside that, r has no matchers, and s wants `x` or `z`.
 fn hold_four(alloc: Global, held: &mut Held<MeshSilence>) -> Result<(), WireError> {
     let open = (MatcherKind::Regexp, "env", "(");
@@ -96,20 +125,20 @@ fn hold_four(alloc: Global, held: &mut Held<MeshSilence>) -> Result<(), WireErro
     hold(alloc, held, "p", &[JOB_IS_X])
 }
 
+const JOBS: [(&str, i64, Wanted); 5] = [
+    ("y", 50, ("r", "q")),
+    ("x", 50, ("prs", "q")),
+    ("z", 10, ("rs", "q")),
+    ("x", 9, ("", "")),
+    ("x", 100, ("", "")),
+];
+
 #[test]
 fn active_silences_mute_labels(rt: HostRuntime) -> Result<(), Fail> {
     let mut held = Held::new(rt.alloc());
     hold_four(rt.alloc(), &mut held)?;
-    for (value, seconds, want) in [
-        ("y", 50, ("r", "q")),
-        ("x", 50, ("prs", "q")),
-        ("z", 10, ("rs", "q")),
-        ("x", 9, ("", "")),
-        ("x", 100, ("", "")),
-    ] {
-        let so = is_muted(rt.alloc(), &held, &[("job", value)], seconds, want);
-        assert_eq!(rt; so, Ok(true), "{value} {seconds}");
-    }
+    let wrong = wrong_job(rt.alloc(), &held, &JOBS);
+    assert_eq!(rt; wrong, None);
     Ok(())
 }
 
@@ -133,10 +162,57 @@ fn an_absent_label_is_the_empty_text(rt: HostRuntime) -> Result<(), Fail> {
 fn only_silences_in_view_mute(rt: HostRuntime) -> Result<(), Fail> {
     let mut held = Held::new(rt.alloc());
     held.take(version(rt.alloc(), "p", &[], 50)?, at(10))?;
-    for (seconds, want) in [(49, ("p", "")), (50, ("", ""))] {
-        let so = is_muted(rt.alloc(), &held, &[("job", "x")], seconds, want);
-        assert_eq!(rt; so, Ok(true), "{seconds}");
-    }
+    let wrong = wrong_job(
+        rt.alloc(),
+        &held,
+        &[("x", 49, ("p", "")), ("x", 50, ("", ""))],
+    );
+    assert_eq!(rt; wrong, None);
+    Ok(())
+}
+
+/// a wants job `x`, c wants job `z`, h wants job `x` and env `prod`, and b wants env `prod` where the job
+/// isn't `y`: they are in three buckets. d, e, f and g are in the empty one: d wants job `x` or `z`, e has
+/// no matchers, f wants no env, and g has a broken pattern beside job `x`.
+fn hold_eight(alloc: Global, held: &mut Held<MeshSilence>) -> Result<(), WireError> {
+    let prod = (MatcherKind::Equal, "env", "prod");
+    let not_y = (MatcherKind::NotEqual, "job", "y");
+    hold(alloc, held, "h", &[JOB_IS_X, prod])?;
+    hold(alloc, held, "d", &[(MatcherKind::Regexp, "job", "x|z")])?;
+    hold(alloc, held, "c", &[(MatcherKind::Equal, "job", "z")])?;
+    hold(
+        alloc,
+        held,
+        "g",
+        &[JOB_IS_X, (MatcherKind::Regexp, "env", "(")],
+    )?;
+    hold(alloc, held, "b", &[not_y, prod])?;
+    hold(alloc, held, "f", &[(MatcherKind::Equal, "env", "")])?;
+    hold(alloc, held, "e", &[])?;
+    hold(alloc, held, "a", &[JOB_IS_X])
+}
+
+/// Of labels with one name the last one counts.
+const PAIRS: [(LabelRow, LabelRow, Wanted); 11] = [
+    (("job", "x"), ("env", "prod"), ("abdeh", "g")),
+    (("env", "prod"), ("job", "x"), ("abdeh", "g")),
+    (("job", "x"), ("zone", "1"), ("adef", "g")),
+    (("zone", "1"), ("env", "prod"), ("be", "g")),
+    (("job", "z"), ("env", "prod"), ("bcde", "g")),
+    (("job", "y"), ("env", "prod"), ("e", "g")),
+    (("job", "y"), ("env", ""), ("ef", "g")),
+    (("job", "x"), ("job", "z"), ("cdef", "g")),
+    (("job", "z"), ("job", "x"), ("adef", "g")),
+    (("job", "x"), ("job", "x"), ("adef", "g")),
+    (("", ""), ("job", "x"), ("adef", "g")),
+];
+
+#[test]
+fn silences_of_all_buckets_mute(rt: HostRuntime) -> Result<(), Fail> {
+    let mut held = Held::new(rt.alloc());
+    hold_eight(rt.alloc(), &mut held)?;
+    let wrong = wrong_pair(rt.alloc(), &held, &PAIRS);
+    assert_eq!(rt; wrong, None);
     Ok(())
 }
 
@@ -152,29 +228,42 @@ fn one_mutes(
     Ok(is_muted(alloc, &held, &[("job", value)], 50, want)?)
 }
 
-#[test]
-fn silences_with_patterns_mute(rt: HostRuntime) {
-    for (pattern, yes, no) in PATTERNS {
-        for (kind, value, want) in [
-            (MatcherKind::Regexp, yes, ("p", "")),
-            (MatcherKind::Regexp, no, ("", "")),
-            (MatcherKind::NotRegexp, yes, ("", "")),
-            (MatcherKind::NotRegexp, no, ("p", "")),
-        ] {
-            let so = one_mutes(rt.alloc(), (kind, "job", pattern), value, want);
-            assert_eq!(rt; so, Ok(true), "{pattern} {value}");
+/// The first of the patterns with which a silence of the kind mutes otherwise than where it matches, or
+/// where it doesn't.
+fn wrong_pattern(alloc: Global, kind: MatcherKind, mutes_where: bool) -> Option<usize> {
+    for (i, &(pattern, value, matches)) in PATTERNS.iter().enumerate() {
+        let ids = if matches == mutes_where { "p" } else { "" };
+        if one_mutes(alloc, (kind, "job", pattern), value, (ids, "")) != Ok(true) {
+            return Some(i);
         }
     }
+    None
+}
+
+#[test]
+fn silences_with_patterns_mute(rt: HostRuntime) {
+    let regexp = wrong_pattern(rt.alloc(), MatcherKind::Regexp, true);
+    assert_eq!(rt; regexp, None);
+    let not_regexp = wrong_pattern(rt.alloc(), MatcherKind::NotRegexp, false);
+    assert_eq!(rt; not_regexp, None);
+}
+
+/// The first of the broken patterns with which a silence of the kind isn't told as broken.
+fn wrong_broken(alloc: Global, kind: MatcherKind) -> Option<usize> {
+    for (i, &pattern) in BROKEN.iter().enumerate() {
+        if one_mutes(alloc, (kind, "job", pattern), "x", ("", "p")) != Ok(true) {
+            return Some(i);
+        }
+    }
+    None
 }
 
 #[test]
 fn silences_with_broken_patterns_are_told(rt: HostRuntime) {
-    for pattern in BROKEN {
-        for kind in [MatcherKind::Regexp, MatcherKind::NotRegexp] {
-            let so = one_mutes(rt.alloc(), (kind, "job", pattern), "x", ("", "p"));
-            assert_eq!(rt; so, Ok(true), "{pattern}");
-        }
-    }
+    let regexp = wrong_broken(rt.alloc(), MatcherKind::Regexp);
+    assert_eq!(rt; regexp, None);
+    let not_regexp = wrong_broken(rt.alloc(), MatcherKind::NotRegexp);
+    assert_eq!(rt; not_regexp, None);
 }
 
 #[test]
