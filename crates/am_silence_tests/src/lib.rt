@@ -6,4 +6,6 @@ mod fixtures;
 #[cfg(test)]
 mod plans;
 #[cfg(test)]
+mod readers;
+#[cfg(test)]
 mod versions;

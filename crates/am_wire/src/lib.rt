@@ -40,6 +40,3 @@ pub use varint::{VarintBytes, read_varint, write_varint};
 pub use writing::{
     append_text, begin_chunk, end_chunk, push_chunk, push_number, push_size, push_text,
 };
-
-#[cfg(test)]
-mod tests;
