@@ -6,6 +6,8 @@ mod fixtures;
 #[cfg(test)]
 mod plans;
 #[cfg(test)]
+mod readers;
+#[cfg(test)]
 mod sizes;
 #[cfg(test)]
 mod versions;

@@ -42,6 +42,3 @@ pub use timestamp::{TimestampDraft, moment_in};
 pub use value::{Field, Value, WireType};
 pub use varint::{VarintBytes, read_varint, write_varint};
 pub use writing::{append_text, push_chunk, push_number, push_size, push_text};
-
-#[cfg(test)]
-mod tests;

@@ -277,6 +277,3 @@ fn read_message_bytes<R: Read>(
     }
     Ok(())
 }
-
-#[cfg(test)]
-mod tests;

@@ -1,0 +1,175 @@
+//! The parts of a message: here a text = 1, a number = 2, a timestamp = 3, and timestamps = 4.
+
+use am_version_order::Moment;
+use am_wire::{
+    Fields, LastNumber, LastText, Part, TimestampDraft, WireError, append_text, moment_in,
+    push_chunk, push_item, push_message, push_number, push_size, push_text,
+};
+use std::alloc::{AllocError, Global};
+use std::process::Abort;
+
+/// Three texts, two numbers, of which 0 is left out, a timestamp in two payloads, and two timestamps.
+const SAMPLE: [u8; 22] = [
+    0x0A, 0x01, 0x61, 0x0A, 0x01, 0x62, 0x10, 0x07, 0x1A, 0x02, 0x08, 0x0A, 0x1A, 0x02, 0x10, 0x05,
+    0x22, 0x02, 0x08, 0x0A, 0x22, 0x00,
+];
+
+fn ten() -> Moment {
+    Moment::from_parts(10, 0).unwrap_or(Moment::LEAST)
+}
+
+fn push_sample(bytes: &mut Vec<u8>) -> Result<(), AllocError> {
+    push_text(bytes, 1, "a")?;
+    push_text(bytes, 1, "b")?;
+    push_text(bytes, 1, "")?;
+    push_number(bytes, 2, 7)?;
+    push_number(bytes, 2, 0)?;
+    push_message(bytes, 3, &ten())?;
+    push_chunk(bytes, 3, &[0x10, 0x05])?;
+    push_message(bytes, 4, &ten())?;
+    push_chunk(bytes, 4, &[])
+}
+
+fn is_sample_written(alloc: Global) -> Result<bool, AllocError> {
+    let mut bytes = Vec::new(alloc);
+    push_sample(&mut bytes)?;
+    Ok(bytes.as_slice() == SAMPLE.as_slice())
+}
+
+#[test]
+fn parts_are_written(rt: HostRuntime) {
+    let is_written = is_sample_written(rt.alloc());
+    assert!(rt; is_written == Ok(true));
+}
+
+fn text_in(bytes: &[u8]) -> Result<&str, WireError> {
+    let mut text = LastText::none();
+    for field in Fields::new(bytes) {
+        let field = field?;
+        if field.number == 1 {
+            text.put(field)?;
+        }
+    }
+    Ok(text.text)
+}
+
+fn number_in(bytes: &[u8]) -> Result<u64, WireError> {
+    let mut number = LastNumber::none();
+    for field in Fields::new(bytes) {
+        let field = field?;
+        if field.number == 2 {
+            number.put(field);
+        }
+    }
+    Ok(number.value)
+}
+
+#[test]
+fn the_last_text_and_the_last_number_count(rt: HostRuntime) {
+    let text = text_in(&SAMPLE);
+    let number = number_in(&SAMPLE);
+    assert!(rt; text == Ok("b") && number == Ok(7));
+}
+
+#[test]
+fn bytes_that_are_no_text_are_told(rt: HostRuntime) {
+    let text = text_in(&[0x0A, 0x00, 0x0A, 0x01, 0xFF]);
+    assert!(rt; text == Err(WireError::NotUtf8 { at: 2 }));
+}
+
+fn put_moment(part: &mut Part<TimestampDraft>, bytes: &[u8]) -> Result<(), WireError> {
+    for field in Fields::new(bytes) {
+        let field = field?;
+        if field.number == 3 {
+            part.put(field)?;
+        }
+    }
+    Ok(())
+}
+
+// The moment under the number 3.
+fn moment_of(alloc: Global, bytes: &[u8]) -> Result<Moment, WireError> {
+    let mut part = Part::<TimestampDraft>::none(alloc);
+    put_moment(&mut part, bytes)?;
+    moment_in(alloc, part)
+}
+
+/// Bytes, and the parts of the moment under the number 3.
+type MomentRow = (&'static [u8], Result<(i64, u32), WireError>);
+
+const MOMENTS: [MomentRow; 5] = [
+    // two payloads of one message are joined
+    (&SAMPLE, Ok((10, 5))),
+    // a moment that is missing is the first one, and an empty one is the start of 1970
+    (&[], Ok((-62_135_596_800, 0))),
+    (&[0x1A, 0x00], Ok((0, 0))),
+    (
+        &[
+            0x0A, 0x00, 0x1A, 0x07, 0x08, 0x80, 0x83, 0xD1, 0xFF, 0xAF, 0x07, 0x1A, 0x00,
+        ],
+        Err(WireError::Timestamp { at: 11 }),
+    ),
+    (
+        &[0x1A, 0x03, 0x10, 0x01, 0x0B],
+        Err(WireError::WireType { at: 4 }),
+    ),
+];
+
+fn moment_parts(alloc: Global, bytes: &[u8]) -> Result<(i64, u32), WireError> {
+    let moment = moment_of(alloc, bytes)?;
+    Ok(moment.parts())
+}
+
+fn are_moments(rt: &impl Abort, alloc: Global, rows: &[MomentRow]) {
+    for (bytes, wanted) in rows {
+        let found = moment_parts(alloc, bytes);
+        assert!(rt; found == *wanted, "{bytes:?}");
+    }
+}
+
+#[test]
+fn payloads_of_one_message_are_joined(rt: HostRuntime) {
+    are_moments(&rt, rt.alloc(), &MOMENTS);
+}
+
+fn push_moments(alloc: Global, moments: &mut Vec<Moment>, bytes: &[u8]) -> Result<(), WireError> {
+    for field in Fields::new(bytes) {
+        let field = field?;
+        if field.number == 4 {
+            push_item::<TimestampDraft>(alloc, moments, field)?;
+        }
+    }
+    Ok(())
+}
+
+// These are the seconds of the moments under the number 4.
+fn are_items(alloc: Global, bytes: &[u8], seconds: &[i64]) -> Result<bool, WireError> {
+    let mut moments = Vec::new(alloc);
+    push_moments(alloc, &mut moments, bytes)?;
+    let is_at = |(moment, seconds): (&Moment, &i64)| moment.parts() == (*seconds, 0);
+    Ok(moments.len() == seconds.len() && moments.iter().zip(seconds).all(is_at))
+}
+
+#[test]
+fn each_item_stands_by_itself(rt: HostRuntime) {
+    let are_items = are_items(rt.alloc(), &SAMPLE, &[10, 0]);
+    assert!(rt; are_items == Ok(true));
+}
+
+fn push_behind(bytes: &mut Vec<u8>) -> Result<(), WireError> {
+    push_size(bytes, 2, 3)?;
+    push_number(bytes, 1, 300)?;
+    append_text(bytes, &[0x61])
+}
+
+fn is_behind(alloc: Global, wanted: &[u8]) -> Result<bool, WireError> {
+    let mut bytes = vec![in alloc; 7]?;
+    push_behind(&mut bytes)?;
+    Ok(bytes.as_slice() == wanted)
+}
+
+#[test]
+fn chunks_and_texts_are_put_at_the_end(rt: HostRuntime) {
+    let is_behind = is_behind(rt.alloc(), &[7, 0x12, 0x03, 0x08, 0xAC, 0x02, 0x61]);
+    assert!(rt; is_behind == Ok(true));
+}
