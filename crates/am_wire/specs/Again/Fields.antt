@@ -1,10 +1,12 @@
 -- A field that is spelled is read, whatever follows it.
-use Rattle.std.proofs.Common.{◌≡◌, ℕ, ◌+◌, ◌*◌, ◌/◌, ◌%◌, ◌^◌, ◌<◌, Bool, ltb, true, false, List, ◌++◌, length, take, drop, Ok, refl, sym, ap, ◌∙◌, append_assoc, length-append, arith}
+use Rattle.std.proofs.Common.{◌≡◌, ℕ, ◌+◌, ◌*◌, ◌/◌, ◌%◌, ◌^◌, ◌<◌, Bool, ltb, true, false, List, ◌++◌, length, take, drop, Ok, refl, sym}
+use Rattle.std.proofs.Common.{ap, ◌∙◌, append_assoc, length-append, arith}
 use Rattle.std.proofs.lemmas.Bool.{lt-ltb, le-ltb}
 use Rattle.std.proofs.lemmas.List.{take_at, drop_at}
 use Rattle.am_wire.specs.declared.value.WireType.{WireType}
 use Rattle.am_wire.specs.declared.value.WireType.TheVariants as kinds
-use Rattle.am_wire.specs.Fields.{FieldAt, Payload, varint, eight, four, chunk, field_at, payload_at, number_at, chunk_at, tag_number, kind_of}
+use Rattle.am_wire.specs.Fields.{FieldAt, Payload, varint, eight, four, chunk, field_at, payload_at, number_at, chunk_at, tag_number}
+use Rattle.am_wire.specs.Fields.{kind_of}
 use Rattle.am_wire.specs.Grammar.{IsPayload, IsField, wire_type_of, wire_code, field_fits}
 use Rattle.am_wire.specs.Again.Varints.{varint_read, varint_filled}
 use Rattle.am_wire.specs.Again.Pieces.{Reads}
@@ -37,7 +39,8 @@ kind_of_is at n kind =
     ap (kind_of at) e ∙ kind_of-wire_code at kind
 
 -- the payload at the front
-pub payload_read : (p : Payload) (at start : ℕ) (text rest : List ℕ) → IsPayload p start text → payload_at (wire_type_of p) at start (text ++ rest) ≡ Ok (p, length text)
+pub payload_read : (p : Payload) (at start : ℕ) (text rest : List ℕ) → IsPayload p start text
+    → payload_at (wire_type_of p) at start (text ++ rest) ≡ Ok (p, length text)
 unfolding payload_at number_at chunk_at
 payload_read (varint n) at start text rest is = rw (varint_read at n text rest is) refl
 payload_read (eight n) at start text rest is =
@@ -57,7 +60,8 @@ payload_read (chunk inside bytes) at start text rest is =
     let len : length is.size + length bytes ≡ length text = sym (ap length is.text_is ∙ length-append is.size bytes) in
     ap (chunk_at at start) regroup ∙ rw (sized, cut, room, front, len, is.inside_is) refl
 
-pub field_read : (fits : ℕ → WireType → Bool) (e : FieldAt) (at : ℕ) (text : List ℕ) → IsField e at text → field_fits fits e ≡ true → Reads (field_at fits) e at text
+pub field_read : (fits : ℕ → WireType → Bool) (e : FieldAt) (at : ℕ) (text : List ℕ) → IsField e at text → field_fits fits e ≡ true
+    → Reads (field_at fits) e at text
 unfolding field_at
 field_read fits e at text is fit = record {
   filled =
@@ -67,9 +71,11 @@ field_read fits e at text is fit = record {
   reads = λ rest.
       let kind : WireType = wire_type_of e.payload in
       let small = wire_code_small kind in
-      let regroup : text ++ rest ≡ is.tag ++ (is.payload ++ rest) = ap (λ (x : List ℕ). x ++ rest) is.text_is ∙ append_assoc is.tag is.payload rest in
+      let regroup : text ++ rest ≡ is.tag ++ (is.payload ++ rest) = ap (λ (x : List ℕ). x ++ rest) is.text_is
+      ∙ append_assoc is.tag is.payload rest in
       let tag = varint_read at (e.number * 8 + wire_code kind) is.tag (is.payload ++ rest) is.tag_is in
-      let cut : drop (length is.tag) (is.tag ++ (is.payload ++ rest)) ≡ is.payload ++ rest = drop_at is.tag (is.payload ++ rest) (length is.tag) refl in
+      let cut : drop (length is.tag) (is.tag ++ (is.payload ++ rest)) ≡ is.payload ++ rest =
+      drop_at is.tag (is.payload ++ rest) (length is.tag) refl in
       let number = tag_number_is at e.number (wire_code kind) is.above_none is.below_all small in
       let payload = payload_read e.payload at (at + length is.tag) is.payload rest is.payload_is in
       let len : length is.tag + length is.payload ≡ length text = sym (ap length is.text_is ∙ length-append is.tag is.payload) in

@@ -1,13 +1,16 @@
 -- A moment that is written is read again, by itself and inside a message.
-use Rattle.std.proofs.Common.{◌≡◌, ℕ, ◌/◌, ◌%◌, ◌^◌, ◌<◌, ◌≤◌, Bool, ltb, true, cond, List, [], ◌∷◌, length, Some, None, Ok, refl, ap, ◌∙◌, arith}
+use Rattle.std.proofs.Common.{◌≡◌, ℕ, ◌/◌, ◌%◌, ◌^◌, ◌<◌, ◌≤◌, Bool, ltb, true, cond, List, [], ◌∷◌, length, Some, None, Ok, refl, ap, ◌∙◌}
+use Rattle.std.proofs.Common.{arith}
 use Rattle.std.proofs.lemmas.Bool.{lt-ltb, and_from}
 use Rattle.am_version_order.specs.Moments.{greatest}
 use Rattle.am_wire.specs.declared.error.WireError.TheVariants as errors
 use Rattle.am_wire.specs.Fields.{FieldAt}
 use Rattle.am_wire.specs.Reading.{Row, varint_row, last_number, last_place, joined}
-use Rattle.am_wire.specs.Timestamps.{timestamp, timestamp_tests, moment, moment_of, moment_test, seconds_since_least, low_half, seconds_number, reads_moment, writes_moment}
+use Rattle.am_wire.specs.Timestamps.{timestamp, timestamp_tests, moment, moment_of, moment_test, seconds_since_least, low_half}
+use Rattle.am_wire.specs.Timestamps.{seconds_number, reads_moment, writes_moment}
 use Rattle.am_wire.specs.Again.Slots.{part, Slot, written, fields_at, content_at}
-use Rattle.am_wire.specs.Again.Written.{Means, ReadsAs, read_by-reads, IsWritten, written_nothing, written_number, number_again, given_again, part_again, reads_whole}
+use Rattle.am_wire.specs.Again.Written.{Means, ReadsAs, read_by-reads, IsWritten, written_nothing, written_number, number_again}
+use Rattle.am_wire.specs.Again.Written.{given_again, part_again, reads_whole}
 
 seconds_again : (m : ℕ) → m ≤ greatest → seconds_since_least (seconds_number m) ≡ m / 1_000_000_000
 seconds_again m h = omega arith
@@ -24,7 +27,8 @@ moment_reads m h small =
     let both = written_number one 2 (m % 1_000_000_000) (omega arith) refl refl in
     reads_whole both small (λ at. whole (number_again both at 1 refl) (number_again both at 2 refl))
   where
-    whole : {es : List FieldAt} → last_number 1 es ≡ seconds_number m → last_number 2 es ≡ m % 1_000_000_000 → Means timestamp_tests moment es m
+    whole : {es : List FieldAt} → last_number 1 es ≡ seconds_number m → last_number 2 es ≡ m % 1_000_000_000
+        → Means timestamp_tests moment es m
     whole {es} one two =
         let seconds : seconds_since_least (last_number 1 es) ≡ m / 1_000_000_000 = ap seconds_since_least one ∙ seconds_again m h in
         let nanos : low_half (last_number 2 es) ≡ m % 1_000_000_000 = ap low_half two ∙ nanos_again m in

@@ -1,5 +1,6 @@
 -- Pieces that come one after the other.
-use Rattle.std.proofs.Common.{◌≡◌, ℕ, zero, suc, ◌+◌, ◌-◌, ◌<◌, ◌≤◌, List, [], ◌∷◌, ◌++◌, length, map, drop, Result, Ok, refl, sym, ap, ◌∙◌, length-append, arith}
+use Rattle.std.proofs.Common.{◌≡◌, ℕ, zero, suc, ◌+◌, ◌-◌, ◌<◌, ◌≤◌, List, [], ◌∷◌, ◌++◌, length, map, drop, Result, Ok, refl, sym, ap, ◌∙◌}
+use Rattle.std.proofs.Common.{length-append, arith}
 use Rattle.std.proofs.lemmas.List.{drop_at}
 use Rattle.std.proofs.Math.Seq.{drop-nil}
 use Rattle.am_wire.specs.declared.error.WireError.{WireError}
@@ -28,7 +29,8 @@ module _ {A : Type 0} (front : ℕ → List ℕ → Result (A × ℕ) WireError)
       let two = pieces-skip (x.1 - 1) (at + 1) bytes in
       let place : at + 1 + (x.1 - 1) ≡ at + x.1 = omega arith in
       let rest : drop (x.1 - 1) bytes ≡ drop x.1 (b ∷ bytes) = sym (ap (λ (n : ℕ). drop n (b ∷ bytes)) k) in
-      one ∙ ap (λ (r : List (Result A WireError)). Ok x.0 ∷ r) (two ∙ ap (λ (n : ℕ). pieces front 0 n (drop (x.1 - 1) bytes)) place ∙ ap (λ (r : List ℕ). pieces front 0 (at + x.1) r) rest)
+      one ∙ ap (λ (r : List (Result A WireError)). Ok x.0 ∷ r) (two ∙ ap (λ (n : ℕ). pieces front 0 n (drop (x.1 - 1) bytes)) place
+      ∙ ap (λ (r : List ℕ). pieces front 0 (at + x.1) r) rest)
 
 -- `front` reads what is spelled, whatever follows
 pub record Reads {A : Type 0} (front : ℕ → List ℕ → Result (A × ℕ) WireError) (x : A) (at : ℕ) (text : List ℕ) : Type 0 where
@@ -36,7 +38,8 @@ pub record Reads {A : Type 0} (front : ℕ → List ℕ → Result (A × ℕ) Wi
   pub reads : (rest : List ℕ) → front at (text ++ rest) ≡ Ok (x, length text)
 
 module _ {A : Type 0} (front : ℕ → List ℕ → Result (A × ℕ) WireError) where
-  pub pieces-reads : (at : ℕ) (text rest : List ℕ) (x : A) → Reads front x at text → pieces front 0 at (text ++ rest) ≡ Ok x ∷ pieces front 0 (at + length text) rest
+  pub pieces-reads : (at : ℕ) (text rest : List ℕ) (x : A) → Reads front x at text
+      → pieces front 0 at (text ++ rest) ≡ Ok x ∷ pieces front 0 (at + length text) rest
   pieces-reads at text rest x r =
       pieces-first front at (text ++ rest) (x, length text) (r.reads rest) r.filled (omega (arith, length-append text rest))
       ∙ ap (λ (bytes : List ℕ). Ok x ∷ pieces front 0 (at + length text) bytes) (drop_at text rest (length text) refl)

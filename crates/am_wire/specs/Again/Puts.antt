@@ -1,5 +1,6 @@
 -- Fields that were written are read again, whatever follows them.
-use Rattle.std.proofs.Common.{◌≡◌, ℕ, ◌+◌, ◌*◌, ◌^◌, ◌<◌, ◌≤◌, Bool, eqb, true, false, cond, List, [], ◌∷◌, ◌++◌, length, map, Option, None, Result, refl, sym, ap, ◌∙◌, append_assoc, length-append, arith}
+use Rattle.std.proofs.Common.{◌≡◌, ℕ, ◌+◌, ◌*◌, ◌^◌, ◌<◌, ◌≤◌, Bool, eqb, true, false, cond, List, [], ◌∷◌, ◌++◌, length, map, Option, None}
+use Rattle.std.proofs.Common.{Result, refl, sym, ap, ◌∙◌, append_assoc, length-append, arith}
 use Rattle.std.specs.List.{flat_map}
 use Rattle.std.proofs.lemmas.List.{append-nil, map-append}
 use Rattle.am_wire.specs.declared.error.WireError.{WireError}
@@ -39,13 +40,15 @@ chunk_fields n [] at = []
 chunk_fields n (t ∷ texts) at = chunk_field n t at ∷ chunk_fields n texts (at + length (put_chunk n t))
 
 pub length-put_chunk : (n : ℕ) (bytes : List ℕ) → length bytes ≤ length (put_chunk n bytes)
-length-put_chunk n bytes = omega (arith, length-append (tag n 2) (shortest (length bytes) ++ bytes), length-append (shortest (length bytes)) bytes)
+length-put_chunk n bytes =
+    omega (arith, length-append (tag n 2) (shortest (length bytes) ++ bytes), length-append (shortest (length bytes)) bytes)
 
 module _ (fits : ℕ → WireType → Bool) where
   pub Puts-nil : (at : ℕ) → Puts fits at [] []
   Puts-nil at = record { reads = λ rest. ap (λ (n : ℕ). fields_of fits n rest) (omega arith) }
 
-  pub Puts-then : (at : ℕ) (t u : List ℕ) (es fs : List FieldAt) → Puts fits at t es → Puts fits (at + length t) u fs → Puts fits at (t ++ u) (es ++ fs)
+  pub Puts-then : (at : ℕ) (t u : List ℕ) (es fs : List FieldAt) → Puts fits at t es → Puts fits (at + length t) u fs
+      → Puts fits at (t ++ u) (es ++ fs)
   Puts-then at t u es fs first second = record {
     reads = λ rest.
         let place : at + length t + length u ≡ at + length (t ++ u) = omega (arith, length-append t u) in
@@ -58,7 +61,8 @@ module _ (fits : ℕ → WireType → Bool) where
   }
 
   module _ (n : ℕ) (pos : 0 < n) (lt : n < 2 ^ 29) where
-    put_number_field : (v at : ℕ) → v < 2 ^ 64 → fits n kinds.Varint ≡ true → Puts fits at (tag n 0 ++ shortest v) (number_field n v at ∷ [])
+    put_number_field : (v at : ℕ) → v < 2 ^ 64 → fits n kinds.Varint ≡ true
+        → Puts fits at (tag n 0 ++ shortest v) (number_field n v at ∷ [])
     put_number_field v at small fit =
         let field : IsField (number_field n v at) at (tag n 0 ++ shortest v) = record {
           tag = tag n 0;
@@ -70,7 +74,10 @@ module _ (fits : ℕ → WireType → Bool) where
           tag_is = shortest_spells (n * 8 + 0) (omega arith);
           payload_is = shortest_spells v small;
         } in
-        record { reads = λ rest. pieces-reads (field_at fits) at (tag n 0 ++ shortest v) rest (number_field n v at) (field_read fits (number_field n v at) at (tag n 0 ++ shortest v) field fit) }
+        record {
+          reads = λ rest. pieces-reads (field_at fits) at (tag n 0 ++ shortest v) rest (number_field n v at)
+              (field_read fits (number_field n v at) at (tag n 0 ++ shortest v) field fit);
+        }
 
     pub Puts-number : (v at : ℕ) → v < 2 ^ 64 → fits n kinds.Varint ≡ true → Puts fits at (put_number n v) (number_fields n v at)
     Puts-number v at small fit =
@@ -79,7 +86,8 @@ module _ (fits : ℕ → WireType → Bool) where
           | false ↦ put_number_field v at small fit
         ]
 
-    pub Puts-chunk : (bytes : List ℕ) (at : ℕ) → length bytes < 2 ^ 64 → fits n kinds.Bytes ≡ true → Puts fits at (put_chunk n bytes) (chunk_field n bytes at ∷ [])
+    pub Puts-chunk : (bytes : List ℕ) (at : ℕ) → length bytes < 2 ^ 64 → fits n kinds.Bytes ≡ true
+        → Puts fits at (put_chunk n bytes) (chunk_field n bytes at ∷ [])
     Puts-chunk bytes at small fit =
         let size : List ℕ = shortest (length bytes) in
         let field : IsField (chunk_field n bytes at) at (put_chunk n bytes) = record {
@@ -92,16 +100,21 @@ module _ (fits : ℕ → WireType → Bool) where
           tag_is = shortest_spells (n * 8 + 2) (omega arith);
           payload_is = record { size = size; size_is = shortest_spells (length bytes) small; text_is = refl; inside_is = refl };
         } in
-        record { reads = λ rest. pieces-reads (field_at fits) at (put_chunk n bytes) rest (chunk_field n bytes at) (field_read fits (chunk_field n bytes at) at (put_chunk n bytes) field fit) }
+        record {
+          reads = λ rest. pieces-reads (field_at fits) at (put_chunk n bytes) rest (chunk_field n bytes at)
+              (field_read fits (chunk_field n bytes at) at (put_chunk n bytes) field fit);
+        }
 
-    pub Puts-text : (bytes : List ℕ) (at : ℕ) → length bytes < 2 ^ 64 → fits n kinds.Bytes ≡ true → Puts fits at (put_text n bytes) (text_fields n bytes at)
+    pub Puts-text : (bytes : List ℕ) (at : ℕ) → length bytes < 2 ^ 64 → fits n kinds.Bytes ≡ true
+        → Puts fits at (put_text n bytes) (text_fields n bytes at)
     Puts-text bytes at small fit =
         elim (eqb (length bytes) 0) as (λ b. Puts fits at (cond b [] (put_chunk n bytes)) (cond b [] (chunk_field n bytes at ∷ []))) [
           | true ↦ Puts-nil at
           | false ↦ Puts-chunk bytes at small fit
         ]
 
-    pub Puts-chunks : (texts : List (List ℕ)) (at : ℕ) → length (put_chunks n texts) < 2 ^ 64 → fits n kinds.Bytes ≡ true → Puts fits at (put_chunks n texts) (chunk_fields n texts at)
+    pub Puts-chunks : (texts : List (List ℕ)) (at : ℕ) → length (put_chunks n texts) < 2 ^ 64 → fits n kinds.Bytes ≡ true
+        → Puts fits at (put_chunks n texts) (chunk_fields n texts at)
     Puts-chunks [] at small fit = Puts-nil at
     Puts-chunks (t ∷ texts) at small fit =
         let whole = length-append (put_chunk n t) (put_chunks n texts) in
@@ -111,7 +124,8 @@ module _ (fits : ℕ → WireType → Bool) where
         (Puts-chunks texts (at + length (put_chunk n t)) (omega (arith, whole)) fit)
 
 -- ---- a whole text
-pub Puts-whole : (fits : ℕ → WireType → Bool) (at : ℕ) (text : List ℕ) (es : List FieldAt) → Puts fits at text es → fields_of fits at text ≡ map done es
+pub Puts-whole : (fits : ℕ → WireType → Bool) (at : ℕ) (text : List ℕ) (es : List FieldAt) → Puts fits at text es
+    → fields_of fits at text ≡ map done es
 unfolding pieces
 Puts-whole fits at text es p =
     ap (λ (x : List ℕ). fields_of fits at x) (sym (append-nil text)) ∙ p.reads [] ∙ append-nil (map done es)
@@ -129,6 +143,7 @@ pub scan-done : (inside : FieldAt → Option WireError) (es : List FieldAt) → 
 scan-done inside [] h = refl
 scan-done inside (e ∷ es) h = ap (λ (f : Option WireError). f then scan inside (map done es)) h.0 ∙ scan-done inside es h.1
 
-pub AllClean-append : (inside : FieldAt → Option WireError) (es fs : List FieldAt) → AllClean inside es → AllClean inside fs → AllClean inside (es ++ fs)
+pub AllClean-append : (inside : FieldAt → Option WireError) (es fs : List FieldAt) → AllClean inside es → AllClean inside fs
+    → AllClean inside (es ++ fs)
 AllClean-append inside [] fs h k = k
 AllClean-append inside (e ∷ es) fs h k = (h.0, AllClean-append inside es fs h.1 k)

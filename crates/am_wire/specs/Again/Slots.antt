@@ -1,5 +1,6 @@
 -- What a message writes at each of its numbers, and what is seen in the fields that are read of it.
-use Rattle.std.proofs.Common.{◌≡◌, ℕ, ◌+◌, ◌^◌, ◌<◌, ◌≤◌, Bool, ltb, eqb, true, false, cond, ◌&&◌, List, [], ◌∷◌, ◌++◌, length, None, refl, sym, ap, ◌∙◌, length-append, arith}
+use Rattle.std.proofs.Common.{◌≡◌, ℕ, ◌+◌, ◌^◌, ◌<◌, ◌≤◌, Bool, ltb, eqb, true, false, cond, ◌&&◌, List, [], ◌∷◌, ◌++◌, length, None, refl}
+use Rattle.std.proofs.Common.{sym, ap, ◌∙◌, length-append, arith}
 use Rattle.std.specs.List.{flat_map}
 use Rattle.std.proofs.lemmas.Bool.{eqb-true, ltb-true, and_parts}
 use Rattle.std.proofs.lemmas.List.{append-nil}
@@ -108,7 +109,8 @@ module _ {A : Type 0} (view : FieldAt → List A) (n : ℕ) where
   picked-numbered m [] h = elim (eqb m n) as (λ b. [] ≡ cond b (flat_map view []) []) [ true ↦ refl | false ↦ refl ]
   picked-numbered m (e ∷ es) h =
       let both : cond (eqb m n) (view e) [] ++ cond (eqb m n) (flat_map view es) [] ≡ cond (eqb m n) (view e ++ flat_map view es) [] =
-      elim (eqb m n) as (λ b. cond b (view e) [] ++ cond b (flat_map view es) [] ≡ cond b (view e ++ flat_map view es) []) [ true ↦ refl | false ↦ refl ] in
+      elim (eqb m n) as (λ b. cond b (view e) [] ++ cond b (flat_map view es) [] ≡ cond b
+      (view e ++ flat_map view es) []) [ true ↦ refl | false ↦ refl ] in
       ap (λ (k : ℕ). cond (eqb k n) (view e) [] ++ picked view n es) h.0
       ∙ ap (λ (x : List A). cond (eqb m n) (view e) [] ++ x) (picked-numbered m es h.1)
       ∙ both
@@ -120,7 +122,8 @@ module _ {A : Type 0} (view : FieldAt → List A) (n : ℕ) where
   picked-new at (s ∷ before) h =
       let p : ℕ = at + length (written before) in
       let es : List FieldAt = slot_fields s.slot_number s.content p in
-      elim (eqb s.slot_number n) as (λ b. eqb s.slot_number n ≡ b → cond b false (is_new n before) ≡ true → picked view n (fields_at at before ++ es) ≡ []) [
+      elim (eqb s.slot_number n) as (λ b. eqb s.slot_number n ≡ b → cond b false (is_new n before) ≡ true
+      → picked view n (fields_at at before ++ es) ≡ []) [
         | true ↦ λ e f. absurd cc
         | false ↦ λ e f.
             picked-append (fields_at at before) es
@@ -129,7 +132,8 @@ module _ {A : Type 0} (view : FieldAt → List A) (n : ℕ) where
             ∙ ap (λ (b : Bool). cond b (flat_map view es) []) e
       ] refl h
 
-  pub picked-slots : (at : ℕ) (slots : List Slot) → AreDistinct slots → picked view n (fields_at at slots) ≡ flat_map view (slot_fields n (content_at n slots) (place_at n at slots))
+  pub picked-slots : (at : ℕ) (slots : List Slot) → AreDistinct slots
+      → picked view n (fields_at at slots) ≡ flat_map view (slot_fields n (content_at n slots) (place_at n at slots))
   unfolding fields_at slot_fields
   picked-slots at [] h = refl
   picked-slots at (s ∷ before) h =
@@ -137,7 +141,9 @@ module _ {A : Type 0} (view : FieldAt → List A) (n : ℕ) where
       let es : List FieldAt = slot_fields s.slot_number s.content p in
       let here = picked-numbered s.slot_number es (slot_fields_numbered s.slot_number s.content p) in
       let split = picked-append (fields_at at before) es in
-      elim (eqb s.slot_number n) as (λ b. eqb s.slot_number n ≡ b → picked view n (fields_at at before ++ es) ≡ flat_map view (slot_fields n (cond b s.content (content_at n before)) (cond b p (place_at n at before)))) [
+      elim (eqb s.slot_number n) as (λ b. eqb s.slot_number n ≡ b
+      → picked view n (fields_at at before ++ es) ≡ flat_map view
+      (slot_fields n (cond b s.content (content_at n before)) (cond b p (place_at n at before)))) [
         | true ↦ λ e.
             let same : s.slot_number ≡ n = eqb-true _ _ e in
             split
@@ -158,7 +164,8 @@ length-content_at n [] = omega arith
 length-content_at n (s ∷ before) =
     let whole = length-append (written before) (put s.slot_number s.content) in
     let more = length-content_at n before in
-    elim (eqb s.slot_number n) as (λ b. eqb s.slot_number n ≡ b → length (put n (cond b s.content (content_at n before))) ≤ length (written (s ∷ before))) [
+    elim (eqb s.slot_number n) as (λ b. eqb s.slot_number n ≡ b
+    → length (put n (cond b s.content (content_at n before))) ≤ length (written (s ∷ before))) [
       | true ↦ λ e.
           let same : s.slot_number ≡ n = eqb-true _ _ e in
           let one : length (put n s.content) ≡ length (put s.slot_number s.content) = ap (λ (m : ℕ). length (put m s.content)) (sym same) in
@@ -178,14 +185,19 @@ row_at (row ∷ rows) n = cond (eqb n row.row_number) row (row_at rows n)
 pub fits_by-row : (rows : List Row) (n : ℕ) (kind : WireType) → fits_by rows n kind ≡ (row_at rows n).takes kind
 fits_by-row [] n kind = refl
 fits_by-row (row ∷ rows) n kind =
-    elim (eqb n row.row_number) as (λ b. cond b (row.takes kind) (fits_by rows n kind) ≡ (cond b row (row_at rows n)).takes kind) [ true ↦ refl | false ↦ fits_by-row rows n kind ]
+    elim (eqb n row.row_number) as
+    (λ b. cond b (row.takes kind) (fits_by rows n kind) ≡
+    (cond b row (row_at rows n)).takes kind) [ true ↦ refl | false ↦ fits_by-row rows n kind ]
 
 pub inside_by-row : (rows : List Row) (e : FieldAt) → inside_by rows e ≡ (row_at rows e.number).row_inside e
 inside_by-row [] e = refl
 inside_by-row (row ∷ rows) e =
-    elim (eqb e.number row.row_number) as (λ b. cond b (row.row_inside e) (inside_by rows e) ≡ (cond b row (row_at rows e.number)).row_inside e) [ true ↦ refl | false ↦ inside_by-row rows e ]
+    elim (eqb e.number row.row_number) as
+    (λ b. cond b (row.row_inside e) (inside_by rows e) ≡
+    (cond b row (row_at rows e.number)).row_inside e) [ true ↦ refl | false ↦ inside_by-row rows e ]
 
-pub AllClean-row : (rows : List Row) (n : ℕ) (es : List FieldAt) → AllNumbered n es → AllClean (row_at rows n).row_inside es → AllClean (inside_by rows) es
+pub AllClean-row : (rows : List Row) (n : ℕ) (es : List FieldAt) → AllNumbered n es → AllClean (row_at rows n).row_inside es
+    → AllClean (inside_by rows) es
 AllClean-row rows n [] h c = tt
 AllClean-row rows n (e ∷ es) h c =
     let inside : (row_at rows e.number).row_inside e ≡ None = ap (λ (m : ℕ). (row_at rows m).row_inside e) h.0 ∙ c.0 in

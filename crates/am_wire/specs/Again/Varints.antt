@@ -1,5 +1,6 @@
 -- A number that is spelled is read, and the shortest spelling is one.
-use Rattle.std.proofs.Common.{◌≡◌, ℕ, zero, suc, ◌+◌, ◌*◌, ◌/◌, ◌%◌, ◌^◌, ◌<◌, ◌≤◌, ltb, cond, true, false, List, [], ◌∷◌, ◌++◌, length, Result, Ok, sym, ap, ◌∙◌, arith, inl, inr}
+use Rattle.std.proofs.Common.{◌≡◌, ℕ, zero, suc, ◌+◌, ◌*◌, ◌/◌, ◌%◌, ◌^◌, ◌<◌, ◌≤◌, ltb, cond, true, false, List, [], ◌∷◌, ◌++◌, length}
+use Rattle.std.proofs.Common.{Result, Ok, sym, ap, ◌∙◌, arith, inl, inr}
 use Rattle.std.proofs.lemmas.Bool.{lt-ltb, le-ltb, cases_lt}
 use Rattle.am_wire.specs.declared.error.WireError.{WireError}
 use Rattle.am_wire.specs.Varint.{total, IsChain, varint_within, groups, IsVarint, shortest}
@@ -13,7 +14,8 @@ bound zero = 2
 bound (suc room) = 128 * bound room
 
 -- what is spelled is read, whatever follows
-pub spelled : (at room : ℕ) (text rest : List ℕ) → IsChain text → length text ≤ room + 1 → total text < bound room → varint_within at room (text ++ rest) ≡ Ok (total text, length text)
+pub spelled : (at room : ℕ) (text rest : List ℕ) → IsChain text → length text ≤ room + 1 → total text < bound room
+    → varint_within at room (text ++ rest) ≡ Ok (total text, length text)
 unfolding varint_within
 spelled at room [] rest chain len fits = absurd chain
 spelled at zero (b ∷ []) rest chain len fits =
@@ -85,4 +87,6 @@ shortest_spells n fits =
 
 pub shortest_filled : (n : ℕ) → 0 < length (shortest n)
 unfolding groups
-shortest_filled n = elim (ltb n 128) as (λ b. 0 < length (cond b (n ∷ []) ((128 + n % 128) ∷ groups 8 (n / 128)))) [ true ↦ omega arith | false ↦ omega arith ]
+shortest_filled n =
+    elim (ltb n 128) as
+    (λ b. 0 < length (cond b (n ∷ []) ((128 + n % 128) ∷ groups 8 (n / 128)))) [ true ↦ omega arith | false ↦ omega arith ]

@@ -2,7 +2,8 @@
 --
 -- Build `IsWritten rows slots` by one call for each slot, in rising number; then take each value back by one
 -- call for its number; last, join them by `reads_whole`.
-use Rattle.std.proofs.Common.{◌≡◌, ℕ, ◌+◌, ◌^◌, ◌<◌, Bool, eqb, true, false, cond, List, [], ◌∷◌, ◌++◌, length, map, Option, Some, None, Result, Ok, refl, sym, ap, subst, ◌∙◌, length-append, arith}
+use Rattle.std.proofs.Common.{◌≡◌, ℕ, ◌+◌, ◌^◌, ◌<◌, Bool, eqb, true, false, cond, List, [], ◌∷◌, ◌++◌, length, map, Option, Some, None}
+use Rattle.std.proofs.Common.{Result, Ok, refl, sym, ap, subst, ◌∙◌, length-append, arith}
 use Rattle.std.specs.List.{All, flat_map}
 use Rattle.std.specs.Str.{IsUtf8, is_utf8}
 use Rattle.std.proofs.lemmas.Bool.{eqb-true}
@@ -16,28 +17,39 @@ use Rattle.am_wire.specs.declared.value.WireType.{WireType}
 use Rattle.am_wire.specs.declared.value.WireType.TheVariants as kinds
 use Rattle.am_wire.specs.Varint.{shortest, varint_at}
 use Rattle.am_wire.specs.Fields.{FieldAt, fields_of, pieces}
-use Rattle.am_wire.specs.Reading.{Table, Row, scan, sound_fields, table_of, fits_by, inside_by, varint_row, text_row, blob_row, part_row, item_row, numbers_row, item_fault, fields_in, faults_in, judged, read_by, ◌then◌, picked, last_or, varint_in, chunk_in, chunk_given, message_in, parts_in, last_number, last_text, messages, joined, is_given, numbers_in, all_numbers, kept, first_fault}
+use Rattle.am_wire.specs.Reading.{Table, Row, scan, sound_fields, table_of, fits_by, inside_by, varint_row, text_row, blob_row, part_row}
+use Rattle.am_wire.specs.Reading.{item_row, numbers_row, item_fault, fields_in, faults_in, judged, read_by, ◌then◌, picked, last_or}
+use Rattle.am_wire.specs.Reading.{varint_in, chunk_in, chunk_given, message_in, parts_in, last_number, last_text, messages, joined}
+use Rattle.am_wire.specs.Reading.{is_given, numbers_in, all_numbers, kept, first_fault}
 use Rattle.am_wire.specs.Writing.{tag, put_text, put_chunk, put_messages}
-use Rattle.am_wire.specs.Again.Puts.{Puts, Puts-nil, Puts-then, Puts-number, Puts-text, Puts-chunk, Puts-chunks, Puts-whole, length-put_chunk, put_chunks, AllClean, AllClean-append, sound_fields-done, scan-done, number_field, number_fields, text_fields, chunk_field, chunk_fields}
+use Rattle.am_wire.specs.Again.Puts.{Puts, Puts-nil, Puts-then, Puts-number, Puts-text, Puts-chunk, Puts-chunks, Puts-whole}
+use Rattle.am_wire.specs.Again.Puts.{length-put_chunk, put_chunks, AllClean, AllClean-append, sound_fields-done, scan-done, number_field}
+use Rattle.am_wire.specs.Again.Puts.{number_fields, text_fields, chunk_field, chunk_fields}
 use Rattle.am_wire.specs.Again.Pieces.{done, Reads, pieces-reads}
 use Rattle.am_wire.specs.Again.Varints.{varint_again, shortest_filled}
-use Rattle.am_wire.specs.Again.Slots.{Content, number, text, part, items, Slot, slot, put, written, slot_fields, fields_at, content_at, place_at, is_next, IsNext, IsNext-from, AreDistinct, slot_fields_numbered, picked-slots, length-content_at, row_at, fits_by-row, AllClean-row}
+use Rattle.am_wire.specs.Again.Slots.{Content, number, text, part, items, Slot, slot, put, written, slot_fields, fields_at, content_at}
+use Rattle.am_wire.specs.Again.Slots.{place_at, is_next, IsNext, IsNext-from, AreDistinct, slot_fields_numbered, picked-slots}
+use Rattle.am_wire.specs.Again.Slots.{length-content_at, row_at, fits_by-row, AllClean-row}
 
 -- the fields pass a message's tests, and are the value
-pub record Means {A : Type 0} (tests : ℕ → List FieldAt → Option WireError) (value : List FieldAt → A) (es : List FieldAt) (v : A) : Type 0 where
+pub record Means {A : Type 0} (tests : ℕ → List FieldAt → Option WireError)
+    (value : List FieldAt → A) (es : List FieldAt) (v : A) : Type 0 where
   pub passes : (place : ℕ) → tests place es ≡ None
   pub value_is : value es ≡ v
 
 -- wherever the text stands, nothing in it is at fault, and it is read as the value
-pub record ReadsAs {A : Type 0} (table : Table) (tests : ℕ → List FieldAt → Option WireError) (value : List FieldAt → A) (bytes : List ℕ) (v : A) : Type 0 where
+pub record ReadsAs {A : Type 0} (table : Table) (tests : ℕ → List FieldAt → Option WireError)
+    (value : List FieldAt → A) (bytes : List ℕ) (v : A) : Type 0 where
   pub clean : (at : ℕ) → faults_in table at bytes ≡ None
   pub means : (at : ℕ) → Means tests value (fields_in table at bytes) v
 
 -- each of these values is read so of its own text
-pub record EachReads {A : Type 0} (table : Table) (tests : ℕ → List FieldAt → Option WireError) (value : List FieldAt → A) (writes : A → List ℕ) (xs : List A) : Type 0 where
+pub record EachReads {A : Type 0} (table : Table) (tests : ℕ → List FieldAt → Option WireError) (value : List FieldAt → A)
+    (writes : A → List ℕ) (xs : List A) : Type 0 where
   pub each : All (λ x. length (writes x) < 2 ^ 64 → ReadsAs table tests value (writes x) x) xs
 
-pub read_by-reads : {A : Type 0} {table : Table} {tests : ℕ → List FieldAt → Option WireError} {value : List FieldAt → A} {bytes : List ℕ} {v : A}
+pub read_by-reads : {A : Type 0} {table : Table} {tests : ℕ → List FieldAt → Option WireError}
+    {value : List FieldAt → A} {bytes : List ℕ} {v : A}
     → ReadsAs table tests value bytes v → (place at : ℕ) → read_by table tests value place at bytes ≡ Ok v
 read_by-reads {A} {table} {tests} {value} {bytes} {v} r place at =
     ap (λ (f : Option WireError). judged (f then tests place (fields_in table at bytes)) (value (fields_in table at bytes))) (r.clean at)
@@ -67,7 +79,8 @@ chunk_small n bytes small = let h = length-put_chunk n bytes in omega (arith, h)
 -- a text that is left out is empty
 text_small : (n : ℕ) (bytes : List ℕ) → length (put_text n bytes) < 2 ^ 64 → length bytes < 2 ^ 64
 text_small n bytes =
-    elim (eqb (length bytes) 0) as (λ b. eqb (length bytes) 0 ≡ b → length (cond b [] (put_chunk n bytes)) < 2 ^ 64 → length bytes < 2 ^ 64) [
+    elim (eqb (length bytes) 0) as (λ b. eqb (length bytes) 0 ≡ b → length (cond b [] (put_chunk n bytes)) < 2 ^ 64
+    → length bytes < 2 ^ 64) [
       | true ↦ λ e _. let h = eqb-true _ _ e in omega (arith, h)
       | false ↦ λ e small. chunk_small n bytes small
     ] refl
@@ -100,7 +113,8 @@ module _ {rows : List Row} {before : List Slot} (w : IsWritten rows before) (n :
   cleaned : (row : Row) (es : List FieldAt) → row_at rows n ≡ row → AllClean row.row_inside es → AllClean (row_at rows n).row_inside es
   cleaned row es is h = subst (λ (r : Row). AllClean r.row_inside es) (sym is) h
 
-  pub written_number : (v : ℕ) → v < 2 ^ 64 → is_next n before ≡ true → row_at rows n ≡ varint_row n → IsWritten rows (slot n (number v) ∷ before)
+  pub written_number : (v : ℕ) → v < 2 ^ 64 → is_next n before ≡ true → row_at rows n ≡ varint_row n
+      → IsWritten rows (slot n (number v) ∷ before)
   unfolding slot_fields
   written_number v small next row =
       let order = IsNext-from n before next in
@@ -118,7 +132,8 @@ module _ {rows : List Row} {before : List Slot} (w : IsWritten rows before) (n :
       (λ at small. Puts-text (fits_by rows) n order.low order.high bytes at (text_small n bytes small) (taken row kinds.Bytes is takes))
       (λ at _. cleaned row (text_fields n bytes at) is (clean_if row.row_inside (eqb (length bytes) 0) (chunk_field n bytes at) (clean at)))
 
-  pub written_text : (bytes : List ℕ) → IsUtf8 bytes → is_next n before ≡ true → row_at rows n ≡ text_row n → IsWritten rows (slot n (text bytes) ∷ before)
+  pub written_text : (bytes : List ℕ) → IsUtf8 bytes → is_next n before ≡ true → row_at rows n ≡ text_row n
+      → IsWritten rows (slot n (text bytes) ∷ before)
   written_text bytes utf8 next row = written_bytes bytes (text_row n) (λ at. text_is_clean at bytes utf8) refl next row
 
   -- bytes that need not be a text
@@ -133,12 +148,14 @@ module _ {rows : List Row} {before : List Slot} (w : IsWritten rows before) (n :
     written_part {bytes} {v} inner next row =
         let order = IsNext-from n before next in
         one_more (part bytes) order
-        (λ at small. Puts-chunk (fits_by rows) n order.low order.high bytes at (chunk_small n bytes small) (taken (part_row n table) kinds.Bytes row refl))
+        (λ at small. Puts-chunk (fits_by rows) n order.low order.high bytes at (chunk_small n bytes small)
+        (taken (part_row n table) kinds.Bytes row refl))
         (λ at small. cleaned (part_row n table) (chunk_field n bytes at ∷ []) row ((inner (chunk_small n bytes small)).clean _, tt))
 
     -- messages, each of them a field; a message x is written as `writes x`
     module _ {writes : A → List ℕ} where
-      items_clean : (xs : List A) (at : ℕ) → EachReads table tests value writes xs → length (put_chunks n (map writes xs)) < 2 ^ 64 → AllClean (item_fault table tests) (chunk_fields n (map writes xs) at)
+      items_clean : (xs : List A) (at : ℕ) → EachReads table tests value writes xs → length (put_chunks n (map writes xs)) < 2 ^ 64
+          → AllClean (item_fault table tests) (chunk_fields n (map writes xs) at)
       items_clean [] at inner small = tt
       items_clean (x ∷ xs) at inner small =
           let P : A → Type 0 = λ y. length (writes y) < 2 ^ 64 → ReadsAs table tests value (writes y) y in
@@ -150,7 +167,8 @@ module _ {rows : List Row} {before : List Slot} (w : IsWritten rows before) (n :
             items_clean xs (at + length (put_chunk n (writes x))) (record { each = All-tail P x xs inner.each }) (omega (arith, len)),
           )
 
-      pub written_items : {xs : List A} → EachReads table tests value writes xs → is_next n before ≡ true → row_at rows n ≡ item_row n table tests
+      pub written_items : {xs : List A} → EachReads table tests value writes xs → is_next n before ≡ true
+          → row_at rows n ≡ item_row n table tests
           → IsWritten rows (slot n (items (put_messages writes n xs) (map writes xs)) ∷ before)
       unfolding slot_fields
       written_items {xs} inner next row =
@@ -159,8 +177,10 @@ module _ {rows : List Row} {before : List Slot} (w : IsWritten rows before) (n :
           let len : length (put_chunks n (map writes xs)) ≡ length (put_messages writes n xs) = ap length same in
           one_more (items (put_messages writes n xs) (map writes xs)) order
           (λ at small. subst (λ (bytes : List ℕ). Puts (fits_by rows) at bytes (chunk_fields n (map writes xs) at)) same
-          (Puts-chunks (fits_by rows) n order.low order.high (map writes xs) at (omega (arith, len)) (taken (item_row n table tests) kinds.Bytes row refl)))
-          (λ at small. cleaned (item_row n table tests) (chunk_fields n (map writes xs) at) row (items_clean xs at inner (omega (arith, len))))
+          (Puts-chunks (fits_by rows) n order.low order.high (map writes xs) at (omega (arith, len))
+          (taken (item_row n table tests) kinds.Bytes row refl)))
+          (λ at small. cleaned (item_row n table tests) (chunk_fields n (map writes xs) at) row
+          (items_clean xs at inner (omega (arith, len))))
 
 -- ---- numbers packed in one field
 abbrev one_number : ℕ → ℕ → List ℕ → Result (ℕ × ℕ) WireError
@@ -188,16 +208,19 @@ first_fault-done (x ∷ xs) = first_fault-done xs
 pub written_numbers : {rows : List Row} {before : List Slot} (w : IsWritten rows before) (n : ℕ) (xs : List ℕ) → All (λ x. x < 2 ^ 64) xs
     → is_next n before ≡ true → row_at rows n ≡ numbers_row n → IsWritten rows (slot n (text (flat_map shortest xs)) ∷ before)
 written_numbers w n xs small next row =
-    written_bytes w n (flat_map shortest xs) (numbers_row n) (λ at. ap first_fault (unpacked_from at 0 xs small) ∙ first_fault-done xs) refl next row
+    written_bytes w n (flat_map shortest xs) (numbers_row n) (λ at. ap first_fault (unpacked_from at 0 xs small)
+    ∙ first_fault-done xs) refl next row
 
 -- ---- what is read of it
-last_chunk_or : {A : Type 0} (view : FieldAt → List A) (d : A) (x : A) (b : Bool) (e : FieldAt) → view e ≡ x ∷ [] → (b ≡ true → x ≡ d) → last_or d (flat_map view (cond b [] (e ∷ []))) ≡ x
+last_chunk_or : {A : Type 0} (view : FieldAt → List A) (d : A) (x : A) (b : Bool) (e : FieldAt) → view e ≡ x ∷ [] → (b ≡ true → x ≡ d)
+    → last_or d (flat_map view (cond b [] (e ∷ []))) ≡ x
 last_chunk_or {A} view d x true e is none = sym (none refl)
 last_chunk_or {A} view d x false e is none = ap (λ (xs : List A). last_or d (xs ++ [])) is
 
 module _ {rows : List Row} {slots : List Slot} (w : IsWritten rows slots) (at n : ℕ) where
   -- what is seen in the fields of the number
-  seen : {A : Type 0} (view : FieldAt → List A) (c : Content) → content_at n slots ≡ c → picked view n (fields_at at slots) ≡ flat_map view (slot_fields n c (place_at n at slots))
+  seen : {A : Type 0} (view : FieldAt → List A) (c : Content) → content_at n slots ≡ c
+      → picked view n (fields_at at slots) ≡ flat_map view (slot_fields n c (place_at n at slots))
   seen view c is = picked-slots view n at slots w.distinct ∙ ap (λ (x : Content). flat_map view (slot_fields n x (place_at n at slots))) is
 
   -- nothing is written at the number
@@ -215,9 +238,11 @@ module _ {rows : List Row} {slots : List Slot} (w : IsWritten rows slots) (at n 
   unfolding slot_fields
   text_again {bytes} is =
       ap (last_or []) (seen chunk_in (text bytes) is)
-      ∙ last_chunk_or chunk_in [] bytes (eqb (length bytes) 0) (chunk_field n bytes (place_at n at slots)) refl (λ e. nil_from_length bytes (eqb-true (length bytes) 0 e))
+      ∙ last_chunk_or chunk_in [] bytes (eqb (length bytes) 0) (chunk_field n bytes (place_at n at slots)) refl
+      (λ e. nil_from_length bytes (eqb-true (length bytes) 0 e))
 
-  pub numbers_again : (xs : List ℕ) → All (λ x. x < 2 ^ 64) xs → content_at n slots ≡ text (flat_map shortest xs) → all_numbers n (fields_at at slots) ≡ xs
+  pub numbers_again : (xs : List ℕ) → All (λ x. x < 2 ^ 64) xs → content_at n slots ≡ text (flat_map shortest xs)
+      → all_numbers n (fields_at at slots) ≡ xs
   unfolding slot_fields
   numbers_again xs small is =
       let bytes : List ℕ = flat_map shortest xs in
@@ -239,43 +264,53 @@ module _ {rows : List Row} {slots : List Slot} (w : IsWritten rows slots) (at n 
 
   -- the message's fields, read where its text stands
   module _ (table : Table) where
-    joined_again : {bytes : List ℕ} → content_at n slots ≡ part bytes → (p : ℕ) × (joined table n (fields_at at slots) ≡ fields_in table p bytes)
+    joined_again : {bytes : List ℕ} → content_at n slots ≡ part bytes
+        → (p : ℕ) × (joined table n (fields_at at slots) ≡ fields_in table p bytes)
     unfolding slot_fields
     joined_again {bytes} is =
         let p : ℕ = place_at n at slots + length (tag n 2) + length (shortest (length bytes)) in
         (p, seen (parts_in table) (part bytes) is ∙ append-nil (fields_in table p bytes))
 
-  module _ {A : Type 0} {table : Table} {tests : ℕ → List FieldAt → Option WireError} {value : List FieldAt → A} (small : length (written slots) < 2 ^ 64) where
-    pub part_again : {bytes : List ℕ} {v : A} → (length bytes < 2 ^ 64 → ReadsAs table tests value bytes v) → content_at n slots ≡ part bytes → Means tests value (joined table n (fields_at at slots)) v
+  module _ {A : Type 0} {table : Table} {tests : ℕ → List FieldAt → Option WireError}
+      {value : List FieldAt → A} (small : length (written slots) < 2 ^ 64) where
+    pub part_again : {bytes : List ℕ} {v : A} → (length bytes < 2 ^ 64 → ReadsAs table tests value bytes v)
+        → content_at n slots ≡ part bytes → Means tests value (joined table n (fields_at at slots)) v
     part_again {bytes} {v} inner is =
         let len = length-content_at n slots in
         let whole : length (put n (content_at n slots)) ≡ length (put_chunk n bytes) = ap (λ (c : Content). length (put n c)) is in
         let j = joined_again table is in
-        subst (λ (es : List FieldAt). Means tests value es v) (sym j.1) ((inner (chunk_small n bytes (omega (arith, len, whole)))).means j.0)
+        subst (λ (es : List FieldAt). Means tests value es v) (sym j.1)
+        ((inner (chunk_small n bytes (omega (arith, len, whole)))).means j.0)
 
     module _ {writes : A → List ℕ} where
-      values : (xs : List A) (p : ℕ) → EachReads table tests value writes xs → length (put_chunks n (map writes xs)) < 2 ^ 64 → map value (flat_map (message_in table) (chunk_fields n (map writes xs) p)) ≡ xs
+      values : (xs : List A) (p : ℕ) → EachReads table tests value writes xs → length (put_chunks n (map writes xs)) < 2 ^ 64
+          → map value (flat_map (message_in table) (chunk_fields n (map writes xs) p)) ≡ xs
       values [] p inner lt = refl
       values (x ∷ xs) p inner lt =
           let P : A → Type 0 = λ y. length (writes y) < 2 ^ 64 → ReadsAs table tests value (writes y) y in
           let len = length-append (put_chunk n (writes x)) (put_chunks n (map writes xs)) in
           let q : ℕ = p + length (tag n 2) + length (shortest (length (writes x))) in
           let one = ((All-head P x xs inner.each (chunk_small n (writes x) (omega (arith, lt, len)))).means q).value_is in
-          let more = values xs (p + length (put_chunk n (writes x))) (record { each = All-tail P x xs inner.each }) (omega (arith, lt, len)) in
-          ap (λ (y : A). y ∷ map value (flat_map (message_in table) (chunk_fields n (map writes xs) (p + length (put_chunk n (writes x)))))) one
+          let more = values xs (p + length (put_chunk n (writes x))) (record { each = All-tail P x xs inner.each })
+          (omega (arith, lt, len)) in
+          ap (λ (y : A). y ∷ map value
+          (flat_map (message_in table) (chunk_fields n (map writes xs) (p + length (put_chunk n (writes x)))))) one
           ∙ ap (λ (ys : List A). x ∷ ys) more
 
-      pub items_again : {xs : List A} → EachReads table tests value writes xs → content_at n slots ≡ items (put_messages writes n xs) (map writes xs) → map value (messages table n (fields_at at slots)) ≡ xs
+      pub items_again : {xs : List A} → EachReads table tests value writes xs
+          → content_at n slots ≡ items (put_messages writes n xs) (map writes xs) → map value (messages table n (fields_at at slots)) ≡ xs
       unfolding slot_fields
       items_again {xs} inner is =
           let len = length-content_at n slots in
           let whole : length (put n (content_at n slots)) ≡ length (put_messages writes n xs) = ap (λ (c : Content). length (put n c)) is in
-          let same : length (put_chunks n (map writes xs)) ≡ length (put_messages writes n xs) = ap length (flat_map-map (put_chunk n) writes xs) in
+          let same : length (put_chunks n (map writes xs)) ≡ length (put_messages writes n xs) =
+          ap length (flat_map-map (put_chunk n) writes xs) in
           ap (λ (fs : List (List FieldAt)). map value fs) (seen (message_in table) (items (put_messages writes n xs) (map writes xs)) is)
           ∙ values xs (place_at n at slots) inner (omega (arith, len, whole, same))
 
 -- ---- the whole message
-pub reads_whole : {A : Type 0} {rows : List Row} {slots : List Slot} {tests : ℕ → List FieldAt → Option WireError} {value : List FieldAt → A} {v : A}
+pub reads_whole : {A : Type 0} {rows : List Row} {slots : List Slot} {tests : ℕ → List FieldAt → Option WireError}
+    {value : List FieldAt → A} {v : A}
     → IsWritten rows slots → length (written slots) < 2 ^ 64
     → ((at : ℕ) → Means tests value (fields_at at slots) v) → ReadsAs (table_of rows) tests value (written slots) v
 reads_whole {A} {rows} {slots} {tests} {value} {v} w small means = record {
