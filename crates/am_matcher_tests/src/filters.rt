@@ -5,35 +5,44 @@ use crate::matchers::{answer, verdict_on};
 use am_matcher::{BuildError, Filter, FilterError};
 use am_silence::{MatcherKind, Silence, Verdict};
 use std::alloc::{AllocError, Global};
-use std::test::Fail;
 
 /// Why a text is refused as a filter.
 fn refusal(alloc: Global, text: &str) -> Option<FilterError> {
     Filter::parse(alloc, text).err()
 }
 
+const REFUSED: [(&str, FilterError); 15] = [
+    ("1a=x", FilterError::Syntax),
+    ("a=\"x", FilterError::Syntax),
+    ("a=x\"", FilterError::Syntax),
+    ("a==\"x\"", FilterError::Syntax),
+    ("a=\"x\\\"", FilterError::Syntax),
+    ("a=\"", FilterError::Syntax),
+    ("", FilterError::Syntax),
+    ("=x", FilterError::Syntax),
+    ("a b=x", FilterError::Syntax),
+    ("a!x", FilterError::Syntax),
+    ("a=~(", FilterError::BadPattern),
+    ("a!~(", FilterError::BadPattern),
+    ("a!~\"a)|(b\"", FilterError::BadPattern),
+    ("a=~[", FilterError::BadPattern),
+    ("a!~x{999999999}", FilterError::BadPattern),
+];
+
+/// The first of the rows that isn't refused so.
+fn wrong_refusal(alloc: Global) -> Option<usize> {
+    for (i, &(text, want)) in REFUSED.iter().enumerate() {
+        if refusal(alloc, text) != Some(want) {
+            return Some(i);
+        }
+    }
+    None
+}
+
 #[test]
 fn bad_filters_are_refused(rt: HostRuntime) {
-    for (text, want) in [
-        ("1a=x", FilterError::Syntax),
-        ("a=\"x", FilterError::Syntax),
-        ("a=x\"", FilterError::Syntax),
-        ("a==\"x\"", FilterError::Syntax),
-        ("a=\"x\\\"", FilterError::Syntax),
-        ("a=\"", FilterError::Syntax),
-        ("", FilterError::Syntax),
-        ("=x", FilterError::Syntax),
-        ("a b=x", FilterError::Syntax),
-        ("a!x", FilterError::Syntax),
-        ("a=~(", FilterError::BadPattern),
-        ("a!~(", FilterError::BadPattern),
-        ("a!~\"a)|(b\"", FilterError::BadPattern),
-        ("a=~[", FilterError::BadPattern),
-        ("a!~x{999999999}", FilterError::BadPattern),
-    ] {
-        let refused = refusal(rt.alloc(), text);
-        assert_eq!(rt; refused, Some(want), "{text}");
-    }
+    let wrong = wrong_refusal(rt.alloc());
+    assert_eq!(rt; wrong, None);
 }
 
 fn passed(alloc: Global, text: &str, silence: &Silence) -> Result<bool, FilterError> {
@@ -98,16 +107,19 @@ const OF_NODE: [(&str, bool); 8] = [
     ),
 ];
 
+/// The first row of one of the tables that doesn't hold.
+fn wrong_filters(alloc: Global) -> Option<usize> {
+    let last = (MatcherKind::NotRegexp, "job", "a\"\\\nb");
+    let node = (MatcherKind::Equal, "job", "node_1234");
+    wrong_filter(alloc, &OF_JOB_X, &[JOB_IS_X])
+        .or(wrong_filter(alloc, &OF_TWO, &[JOB_IS_X, last]))
+        .or(wrong_filter(alloc, &OF_NODE, &[node]))
+}
+
 #[test]
 fn filters_pass_silences(rt: HostRuntime) {
-    let of_one = wrong_filter(rt.alloc(), &OF_JOB_X, &[JOB_IS_X]);
-    assert_eq!(rt; of_one, None);
-    let last = (MatcherKind::NotRegexp, "job", "a\"\\\nb");
-    let of_two = wrong_filter(rt.alloc(), &OF_TWO, &[JOB_IS_X, last]);
-    assert_eq!(rt; of_two, None);
-    let node = (MatcherKind::Equal, "job", "node_1234");
-    let of_node = wrong_filter(rt.alloc(), &OF_NODE, &[node]);
-    assert_eq!(rt; of_node, None);
+    let wrong = wrong_filters(rt.alloc());
+    assert_eq!(rt; wrong, None);
 }
 
 /// Whether the answers are right, or want of memory.

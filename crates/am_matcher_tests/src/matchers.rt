@@ -4,7 +4,6 @@ use crate::fixtures::{BROKEN, JOB_IS_X, MatcherRow, PATTERNS, matcher, matchers}
 use am_matcher::{BuildError, Compiled, verdict};
 use am_silence::{Matcher, MatcherKind, Verdict};
 use std::alloc::{AllocError, Global};
-use std::test::Fail;
 
 fn asked(alloc: Global, matcher: &Matcher, value: &str) -> Result<bool, BuildError> {
     let mut compiled = Compiled::build(alloc, matcher)?;
@@ -61,14 +60,17 @@ const FROM_END_TO_END: [(&str, &str, bool); 8] = [
 
 const WHOLE: [(&str, &str, bool); 3] = [("x", "x", true), ("x", "", false), ("x", "xx", false)];
 
+/// The first row of one of the tables that doesn't hold.
+fn wrong_answers(alloc: Global) -> Option<usize> {
+    wrong_answer(alloc, REGEXPS, &FROM_END_TO_END)
+        .or(wrong_answer(alloc, TEXTS, &WHOLE))
+        .or(wrong_answer(alloc, REGEXPS, &PATTERNS))
+}
+
 #[test]
 fn matchers_say_whether_a_value_matches(rt: HostRuntime) {
-    let from_end_to_end = wrong_answer(rt.alloc(), REGEXPS, &FROM_END_TO_END);
-    assert_eq!(rt; from_end_to_end, None);
-    let whole = wrong_answer(rt.alloc(), TEXTS, &WHOLE);
-    assert_eq!(rt; whole, None);
-    let patterns = wrong_answer(rt.alloc(), REGEXPS, &PATTERNS);
-    assert_eq!(rt; patterns, None);
+    let wrong = wrong_answers(rt.alloc());
+    assert_eq!(rt; wrong, None);
 }
 
 /// The pattern is refused, and the text that it is too matches itself.
@@ -79,12 +81,20 @@ fn is_refused(alloc: Global, pattern: &'static str) -> bool {
         && answer(alloc, (MatcherKind::Equal, "job", pattern), pattern) == Ok(true)
 }
 
+/// The first of the broken patterns that isn't refused.
+fn wrong_refusal(alloc: Global) -> Option<usize> {
+    for (i, &pattern) in BROKEN.iter().enumerate() {
+        if !is_refused(alloc, pattern) {
+            return Some(i);
+        }
+    }
+    None
+}
+
 #[test]
 fn a_broken_pattern_is_refused(rt: HostRuntime) {
-    for pattern in BROKEN {
-        let refused = is_refused(rt.alloc(), pattern);
-        assert!(rt; refused, "{pattern}");
-    }
+    let wrong = wrong_refusal(rt.alloc());
+    assert_eq!(rt; wrong, None);
 }
 
 /// Whether a compiled matcher has these parts.
@@ -94,13 +104,15 @@ fn keeps(alloc: Global, matcher: &Matcher, row: MatcherRow) -> Result<bool, Buil
     Ok(kept.kind == row.0 && kept.name.as_str() == row.1 && kept.pattern.as_str() == row.2)
 }
 
+fn keeps_row(alloc: Global, row: MatcherRow) -> Result<bool, BuildError> {
+    let given = matcher(alloc, row)?;
+    keeps(alloc, &given, row)
+}
+
 #[test]
-fn a_compiled_matcher_keeps_its_parts(rt: HostRuntime) -> Result<(), Fail> {
-    let row = (MatcherKind::Regexp, "job", "x|y");
-    let given = matcher(rt.alloc(), row)?;
-    let kept = keeps(rt.alloc(), &given, row);
+fn a_compiled_matcher_keeps_its_parts(rt: HostRuntime) {
+    let kept = keeps_row(rt.alloc(), (MatcherKind::Regexp, "job", "x|y"));
     assert_eq!(rt; kept, Ok(true));
-    Ok(())
 }
 
 /// The verdict on the matchers of these rows.
@@ -114,23 +126,32 @@ fn is_verdict(alloc: Global, kind: MatcherKind, pattern: &'static str, want: Ver
     verdict_on(alloc, &[(kind, "job", pattern)]) == Ok(want)
 }
 
+const VERDICTS: [(MatcherKind, &str, Verdict); 4] = [
+    (MatcherKind::Regexp, ".*", Verdict::AllEmpty),
+    (MatcherKind::Regexp, "(", Verdict::Bad),
+    (MatcherKind::Equal, "x", Verdict::Fine),
+    (MatcherKind::NotEqual, "x", Verdict::AllEmpty),
+];
+
+/// The first of the rows that doesn't hold.
+fn wrong_verdict(alloc: Global) -> Option<usize> {
+    for (i, &(kind, pattern, want)) in VERDICTS.iter().enumerate() {
+        if !is_verdict(alloc, kind, pattern, want) {
+            return Some(i);
+        }
+    }
+    None
+}
+
 /// A broken pattern is told, also where another matcher doesn't match the empty text.
 #[test]
 fn matchers_have_a_verdict(rt: HostRuntime) {
     let broken_alone = (MatcherKind::NotRegexp, "env", "a)|(b");
     let of_none = verdict_on(rt.alloc(), &[]);
-    assert_eq!(rt; of_none, Ok(Verdict::AllEmpty));
     let of_two = verdict_on(rt.alloc(), &[JOB_IS_X, broken_alone]);
-    assert_eq!(rt; of_two, Ok(Verdict::Bad));
-    for (kind, pattern, want) in [
-        (MatcherKind::Regexp, ".*", Verdict::AllEmpty),
-        (MatcherKind::Regexp, "(", Verdict::Bad),
-        (MatcherKind::Equal, "x", Verdict::Fine),
-        (MatcherKind::NotEqual, "x", Verdict::AllEmpty),
-    ] {
-        let is_so = is_verdict(rt.alloc(), kind, pattern, want);
-        assert!(rt; is_so, "{pattern}");
-    }
+    let wrong = wrong_verdict(rt.alloc());
+    assert!(rt; of_none == Ok(Verdict::AllEmpty) && of_two == Ok(Verdict::Bad));
+    assert_eq!(rt; wrong, None);
 }
 
 /// The verdicts on the two kinds of regular expressions.
@@ -140,14 +161,28 @@ fn are_verdicts(alloc: Global, pattern: &'static str, wants: [Verdict; 2]) -> bo
         && is_verdict(alloc, MatcherKind::NotRegexp, pattern, not_regexp)
 }
 
+/// The first of the patterns that hasn't these verdicts.
+fn wrong_pattern(alloc: Global) -> Option<usize> {
+    for (i, &(pattern, _, _)) in PATTERNS.iter().enumerate() {
+        if !are_verdicts(alloc, pattern, [Verdict::Fine, Verdict::AllEmpty]) {
+            return Some(i);
+        }
+    }
+    None
+}
+
+/// The first of the broken patterns that isn't bad.
+fn wrong_broken(alloc: Global) -> Option<usize> {
+    for (i, &pattern) in BROKEN.iter().enumerate() {
+        if !are_verdicts(alloc, pattern, [Verdict::Bad, Verdict::Bad]) {
+            return Some(i);
+        }
+    }
+    None
+}
+
 #[test]
 fn patterns_have_a_verdict(rt: HostRuntime) {
-    for (pattern, _, _) in PATTERNS {
-        let are_so = are_verdicts(rt.alloc(), pattern, [Verdict::Fine, Verdict::AllEmpty]);
-        assert!(rt; are_so, "{pattern}");
-    }
-    for pattern in BROKEN {
-        let are_so = are_verdicts(rt.alloc(), pattern, [Verdict::Bad, Verdict::Bad]);
-        assert!(rt; are_so, "{pattern}");
-    }
+    let wrong = wrong_pattern(rt.alloc()).or(wrong_broken(rt.alloc()));
+    assert_eq!(rt; wrong, None);
 }

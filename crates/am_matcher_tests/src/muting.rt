@@ -6,7 +6,6 @@ use am_merge::Held;
 use am_silence::{MatcherKind, MeshSilence};
 use am_wire::{Text, WireError};
 use std::alloc::{AllocError, Global};
-use std::test::Fail;
 
 /// Name and value of a label.
 type LabelRow = (&'static str, &'static str);
@@ -87,34 +86,6 @@ fn is_muted(
     mutes_are(alloc, held, &labels, seconds, want)
 }
 
-/// The first of the rows, a job, a moment in seconds and what mutes it then, that doesn't hold.
-fn wrong_job(
-    alloc: Global,
-    held: &Held<MeshSilence>,
-    rows: &[(&'static str, i64, Wanted)],
-) -> Option<usize> {
-    for (i, &(job, seconds, want)) in rows.iter().enumerate() {
-        if is_muted(alloc, held, &[("job", job)], seconds, want) != Ok(true) {
-            return Some(i);
-        }
-    }
-    None
-}
-
-/// The first of the rows, two labels and what mutes an alert with them at 50 s, that doesn't hold.
-fn wrong_pair(
-    alloc: Global,
-    held: &Held<MeshSilence>,
-    rows: &[(LabelRow, LabelRow, Wanted)],
-) -> Option<usize> {
-    for (i, &(first, second, want)) in rows.iter().enumerate() {
-        if is_muted(alloc, held, &[first, second], 50, want) != Ok(true) {
-            return Some(i);
-        }
-    }
-    None
-}
-
 /// p wants job `x`, q has a broken pattern beside that, r has no matchers, and s wants `x` or `z`.
 fn hold_four(alloc: Global, held: &mut Held<MeshSilence>) -> Result<(), WireError> {
     let open = (MatcherKind::Regexp, "env", "(");
@@ -125,6 +96,7 @@ fn hold_four(alloc: Global, held: &mut Held<MeshSilence>) -> Result<(), WireErro
     hold(alloc, held, "p", &[JOB_IS_X])
 }
 
+/// A job, a moment in seconds, and what mutes it then.
 const JOBS: [(&str, i64, Wanted); 5] = [
     ("y", 50, ("r", "q")),
     ("x", 50, ("prs", "q")),
@@ -133,42 +105,26 @@ const JOBS: [(&str, i64, Wanted); 5] = [
     ("x", 100, ("", "")),
 ];
 
-#[test]
-fn active_silences_mute_labels(rt: HostRuntime) -> Result<(), Fail> {
-    let mut held = Held::new(rt.alloc());
-    hold_four(rt.alloc(), &mut held)?;
-    let wrong = wrong_job(rt.alloc(), &held, &JOBS);
-    assert_eq!(rt; wrong, None);
-    Ok(())
+/// The first of the rows that doesn't hold.
+fn wrong_job(alloc: Global, held: &Held<MeshSilence>) -> Option<usize> {
+    for (i, &(job, seconds, want)) in JOBS.iter().enumerate() {
+        if is_muted(alloc, held, &[("job", job)], seconds, want) != Ok(true) {
+            return Some(i);
+        }
+    }
+    None
 }
 
-/// NOT_EQUAL `x` matches an absent label.
-#[test]
-fn an_absent_label_is_the_empty_text(rt: HostRuntime) -> Result<(), Fail> {
-    let mut held = Held::new(rt.alloc());
-    hold(
-        rt.alloc(),
-        &mut held,
-        "p",
-        &[(MatcherKind::NotEqual, "job", "x")],
-    )?;
-    let so = is_muted(rt.alloc(), &held, &[], 50, ("p", ""));
-    assert_eq!(rt; so, Ok(true));
-    Ok(())
+fn wrong_of_four(alloc: Global) -> Result<Option<usize>, WireError> {
+    let mut held = Held::new(alloc);
+    hold_four(alloc, &mut held)?;
+    Ok(wrong_job(alloc, &held))
 }
 
-/// A silence that is no longer in view mutes nothing, though it hasn't ended.
 #[test]
-fn only_silences_in_view_mute(rt: HostRuntime) -> Result<(), Fail> {
-    let mut held = Held::new(rt.alloc());
-    held.take(version(rt.alloc(), "p", &[], 50)?, at(10))?;
-    let wrong = wrong_job(
-        rt.alloc(),
-        &held,
-        &[("x", 49, ("p", "")), ("x", 50, ("", ""))],
-    );
-    assert_eq!(rt; wrong, None);
-    Ok(())
+fn active_silences_mute_labels(rt: HostRuntime) {
+    let wrong = wrong_of_four(rt.alloc());
+    assert_eq!(rt; wrong, Ok(None));
 }
 
 /// a wants job `x`, c wants job `z`, h wants job `x` and env `prod`, and b wants env `prod` where the job
@@ -192,7 +148,7 @@ fn hold_eight(alloc: Global, held: &mut Held<MeshSilence>) -> Result<(), WireErr
     hold(alloc, held, "a", &[JOB_IS_X])
 }
 
-/// Of labels with one name the last one counts.
+/// Two labels, of which the last counts where they have one name, and what mutes them at 50 s.
 const PAIRS: [(LabelRow, LabelRow, Wanted); 11] = [
     (("job", "x"), ("env", "prod"), ("abdeh", "g")),
     (("env", "prod"), ("job", "x"), ("abdeh", "g")),
@@ -207,25 +163,73 @@ const PAIRS: [(LabelRow, LabelRow, Wanted); 11] = [
     (("", ""), ("job", "x"), ("adef", "g")),
 ];
 
-#[test]
-fn silences_of_all_buckets_mute(rt: HostRuntime) -> Result<(), Fail> {
-    let mut held = Held::new(rt.alloc());
-    hold_eight(rt.alloc(), &mut held)?;
-    let wrong = wrong_pair(rt.alloc(), &held, &PAIRS);
-    assert_eq!(rt; wrong, None);
-    Ok(())
+/// The first of the rows that doesn't hold.
+fn wrong_pair(alloc: Global, held: &Held<MeshSilence>) -> Option<usize> {
+    for (i, &(first, second, want)) in PAIRS.iter().enumerate() {
+        if is_muted(alloc, held, &[first, second], 50, want) != Ok(true) {
+            return Some(i);
+        }
+    }
+    None
 }
 
-/// Whether a silence with this matcher alone mutes an alert of the job so.
+fn wrong_of_eight(alloc: Global) -> Result<Option<usize>, WireError> {
+    let mut held = Held::new(alloc);
+    hold_eight(alloc, &mut held)?;
+    Ok(wrong_pair(alloc, &held))
+}
+
+#[test]
+fn silences_of_all_buckets_mute(rt: HostRuntime) {
+    let wrong = wrong_of_eight(rt.alloc());
+    assert_eq!(rt; wrong, Ok(None));
+}
+
+/// Whether the silence p, which expires after so many seconds, mutes an alert so at a moment.
 fn one_mutes(
     alloc: Global,
-    row: MatcherRow,
-    value: &'static str,
+    rows: &[MatcherRow],
+    expires_at: i64,
+    labels: &[LabelRow],
+    seconds: i64,
     want: Wanted,
 ) -> Result<bool, WireError> {
     let mut held = Held::new(alloc);
-    hold(alloc, &mut held, "p", &[row])?;
-    Ok(is_muted(alloc, &held, &[("job", value)], 50, want)?)
+    held.take(version(alloc, "p", rows, expires_at)?, at(10))?;
+    Ok(is_muted(alloc, &held, labels, seconds, want)?)
+}
+
+/// NOT_EQUAL `x` matches an absent label.
+#[test]
+fn an_absent_label_is_the_empty_text(rt: HostRuntime) {
+    let not_x = (MatcherKind::NotEqual, "job", "x");
+    let so = one_mutes(rt.alloc(), &[not_x], 200, &[], 50, ("p", ""));
+    assert_eq!(rt; so, Ok(true));
+}
+
+/// Whether a silence without matchers, which expires after 50 s, mutes job `x` so.
+fn in_view_mutes(alloc: Global, seconds: i64, want: Wanted) -> Result<bool, WireError> {
+    one_mutes(alloc, &[], 50, &[("job", "x")], seconds, want)
+}
+
+/// A silence that is no longer in view mutes nothing, though it hasn't ended.
+#[test]
+fn only_silences_in_view_mute(rt: HostRuntime) {
+    let before = in_view_mutes(rt.alloc(), 49, ("p", ""));
+    let after = in_view_mutes(rt.alloc(), 50, ("", ""));
+    assert!(rt; before == Ok(true) && after == Ok(true));
+}
+
+/// Whether a silence with this matcher of the job alone mutes a job so.
+fn pattern_mutes(
+    alloc: Global,
+    kind: MatcherKind,
+    pattern: &'static str,
+    job: &'static str,
+    want: Wanted,
+) -> bool {
+    let rows = [(kind, "job", pattern)];
+    one_mutes(alloc, &rows, 200, &[("job", job)], 50, want) == Ok(true)
 }
 
 /// The first of the patterns with which a silence of the kind mutes otherwise than where it matches, or
@@ -233,7 +237,7 @@ fn one_mutes(
 fn wrong_pattern(alloc: Global, kind: MatcherKind, mutes_where: bool) -> Option<usize> {
     for (i, &(pattern, value, matches)) in PATTERNS.iter().enumerate() {
         let ids = if matches == mutes_where { "p" } else { "" };
-        if one_mutes(alloc, (kind, "job", pattern), value, (ids, "")) != Ok(true) {
+        if !pattern_mutes(alloc, kind, pattern, value, (ids, "")) {
             return Some(i);
         }
     }
@@ -242,16 +246,18 @@ fn wrong_pattern(alloc: Global, kind: MatcherKind, mutes_where: bool) -> Option<
 
 #[test]
 fn silences_with_patterns_mute(rt: HostRuntime) {
-    let regexp = wrong_pattern(rt.alloc(), MatcherKind::Regexp, true);
-    assert_eq!(rt; regexp, None);
-    let not_regexp = wrong_pattern(rt.alloc(), MatcherKind::NotRegexp, false);
-    assert_eq!(rt; not_regexp, None);
+    let wrong = wrong_pattern(rt.alloc(), MatcherKind::Regexp, true).or(wrong_pattern(
+        rt.alloc(),
+        MatcherKind::NotRegexp,
+        false,
+    ));
+    assert_eq!(rt; wrong, None);
 }
 
 /// The first of the broken patterns with which a silence of the kind isn't told as broken.
 fn wrong_broken(alloc: Global, kind: MatcherKind) -> Option<usize> {
     for (i, &pattern) in BROKEN.iter().enumerate() {
-        if one_mutes(alloc, (kind, "job", pattern), "x", ("", "p")) != Ok(true) {
+        if !pattern_mutes(alloc, kind, pattern, "x", ("", "p")) {
             return Some(i);
         }
     }
@@ -260,25 +266,31 @@ fn wrong_broken(alloc: Global, kind: MatcherKind) -> Option<usize> {
 
 #[test]
 fn silences_with_broken_patterns_are_told(rt: HostRuntime) {
-    let regexp = wrong_broken(rt.alloc(), MatcherKind::Regexp);
-    assert_eq!(rt; regexp, None);
-    let not_regexp = wrong_broken(rt.alloc(), MatcherKind::NotRegexp);
-    assert_eq!(rt; not_regexp, None);
+    let wrong = wrong_broken(rt.alloc(), MatcherKind::Regexp).or(wrong_broken(
+        rt.alloc(),
+        MatcherKind::NotRegexp,
+    ));
+    assert_eq!(rt; wrong, None);
+}
+
+/// How many labels there are in the list, and in what it gives back.
+fn label_counts(alloc: Global) -> Result<[usize; 2], AllocError> {
+    let labels = labels_of(alloc, &[("job", "x")])?;
+    let count = labels.as_slice().len();
+    Ok([count, labels.into_vec().len()])
+}
+
+fn id_counts(alloc: Global) -> Result<[usize; 2], AllocError> {
+    let mut texts = Vec::new(alloc);
+    texts.push(Text::copied(alloc, "p")?)?;
+    let ids = Ids::new(texts);
+    let count = ids.as_slice().len();
+    Ok([count, ids.into_vec().len()])
 }
 
 #[test]
-fn labels_keep_their_list(rt: HostRuntime) -> Result<(), Fail> {
-    let labels = labels_of(rt.alloc(), &[("job", "x")])?;
-    assert_eq!(rt; labels.as_slice().len(), 1);
-    assert_eq!(rt; labels.into_vec().len(), 1);
-    Ok(())
-}
-
-#[test]
-fn ids_keep_their_list(rt: HostRuntime) -> Result<(), Fail> {
-    let id = Text::copied(rt.alloc(), "p")?;
-    let ids = Ids::new(vec![in rt.alloc(); id]?);
-    assert_eq!(rt; ids.as_slice().len(), 1);
-    assert_eq!(rt; ids.into_vec().len(), 1);
-    Ok(())
+fn lists_are_kept(rt: HostRuntime) {
+    let labels = label_counts(rt.alloc());
+    let ids = id_counts(rt.alloc());
+    assert!(rt; labels == Ok([1, 1]) && ids == Ok([1, 1]));
 }
