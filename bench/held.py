@@ -1,8 +1,9 @@
-"""What sweeping a held map takes, where nothing, ten or all of its versions have expired, and asking for the next expiry.
+"""What sweeping a held map takes, where nothing, ten or all of its versions have expired, asking for the next expiry, and walking a bucket.
 
     python3 bench/held.py [--rounds N]
 
-For 1,000, 10,000 and 100,000 silences: the least time of the rounds in nanoseconds, and for each version that went.
+For 1,000, 10,000 and 100,000 silences in 100 buckets: the least time of the rounds in nanoseconds, and for each version that went
+or was walked over.
 """
 import tempfile
 
@@ -13,11 +14,11 @@ def main():
     rounds = building.rounds_wanted(__doc__, 5)
     with tempfile.TemporaryDirectory() as folder:
         ours = building.rows(building.ours("time_held", folder), rounds)
-    print("%-12s %9s %6s %14s %12s" % ("call", "silences", "gone", "ns", "each"))
+    print("%-12s %9s %7s %14s %12s" % ("call", "silences", "expired", "ns", "each"))
     for (key, answer), nanoseconds in ours.items():
         call, count, words = key.split()
-        each = "%.0f" % (nanoseconds / int(answer)) if call == "sweep" and answer != "0" else ""
-        print("%-12s %9s %6s %14d %12s" % (call, count, words, nanoseconds, each))
+        each = "%.0f" % (nanoseconds / int(answer)) if call != "next_expiry" and answer != "0" else ""
+        print("%-12s %9s %7s %14d %12s" % (call, count, words, nanoseconds, each))
 
 
 if __name__ == "__main__":

@@ -198,6 +198,7 @@ pub fn merge_in<V: Version>(
     ensures stopped { IfErr result (λ e.
         IsJoin V.seen V.Key.cmp (versions shelf.old) (take e.taken (versions other.now)) (versions shelf.new)) }
 {
+    // Neither count below goes past this one, so no sum is too large.
     let _size = other.table.len();
     let mut changed = 0;
     let mut taken = 0;

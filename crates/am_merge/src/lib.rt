@@ -10,6 +10,3 @@ mod shelf;
 
 pub use held::{FromVersionsError, Held, MergeError, Taken};
 pub use iter::{InBucket, Iter};
-
-#[cfg(test)]
-mod tests;

@@ -53,7 +53,7 @@ pub enum Plan {
     /// A new silence, and the one of the posted identifier, which ends. The new one is put in first.
     Replace {
         new: MeshSilence,
-        ended: MeshSilence,
+        old: MeshSilence,
     },
 }
 
@@ -156,7 +156,7 @@ fn plan_new(
             check_ended(held, now, retention)?;
             let new = new_version(alloc, posted, now, bits, retention)?;
             let ended = ended_version(alloc, held, now, retention)?;
-            Ok(Plan::Replace { new, ended })
+            Ok(Plan::Replace { new, old: ended })
         }
         _ => {
             let new = new_version(alloc, posted, now, bits, retention)?;

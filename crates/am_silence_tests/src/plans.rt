@@ -159,9 +159,9 @@ fn answer_over(alloc: Global, prev: Option<&MeshSilence>, row: PostRow) -> Answe
     match planned(alloc, prev, row) {
         Ok(Plan::Update(version)) => Answer::Updated(moments_of(&version)),
         Ok(Plan::Create(version)) => Answer::Created(moments_of(&version)),
-        Ok(Plan::Replace { new, ended }) => Answer::Replaced {
+        Ok(Plan::Replace { new, old }) => Answer::Replaced {
             new: moments_of(&new),
-            ended: moments_of(&ended),
+            ended: moments_of(&old),
         },
         Err(error) => Answer::Refused(error),
     }
@@ -243,10 +243,10 @@ fn an_update_keeps_the_identifier(rt: HostRuntime) -> Result<(), Fail> {
 // The plan is a new silence of this identifier, and a greater version of the silence `a`.
 fn replaces_as(alloc: Global, prev: &MeshSilence, row: PostRow, id: &str) -> bool {
     match planned(alloc, Some(prev), row) {
-        Ok(Plan::Replace { new, ended }) => {
+        Ok(Plan::Replace { new, old }) => {
             new.key().as_str() == id
-                && ended.key().as_str() == "a"
-                && ended.compare(prev) == Ordering::Greater
+                && old.key().as_str() == "a"
+                && old.compare(prev) == Ordering::Greater
         }
         _ => false,
     }

@@ -103,7 +103,7 @@ fn length_of(plan: &Plan, part: Part) -> usize {
     match (plan, part) {
         (Plan::Update(version), Part::Updated) => version.canonical().len(),
         (Plan::Replace { new, .. }, Part::New) => new.canonical().len(),
-        (Plan::Replace { ended, .. }, Part::Ended) => ended.canonical().len(),
+        (Plan::Replace { old, .. }, Part::Ended) => old.canonical().len(),
         _ => 0,
     }
 }
