@@ -51,10 +51,7 @@ pub enum Plan {
     /// A new silence.
     Create(MeshSilence),
     /// A new silence, and the one of the posted identifier, which ends. The new one is put in first.
-    Replace {
-        new: MeshSilence,
-        old: MeshSilence,
-    },
+    Replace { new: MeshSilence, old: MeshSilence },
 }
 
 /// The versions that a post at `now` makes, where `held` is the version of the posted identifier in the
