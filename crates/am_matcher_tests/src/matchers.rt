@@ -16,27 +16,18 @@ pub fn answer(alloc: Global, row: MatcherRow, value: &str) -> Result<bool, Build
     asked(alloc, &matcher, value)
 }
 
-/// A matcher of the first kind says this of the value, and one of the second kind the opposite.
-fn are_answers(
-    alloc: Global,
-    kinds: [MatcherKind; 2],
-    pattern: &'static str,
-    value: &str,
-    want: bool,
-) -> bool {
-    let [first, second] = kinds;
-    answer(alloc, (first, "job", pattern), value) == Ok(want)
-        && answer(alloc, (second, "job", pattern), value) == Ok(!want)
-}
-
-/// The first of the rows of which matchers of the two kinds say something else.
+/// The first of the rows of which a matcher of the first kind says something else, or one of the second
+/// kind not the opposite.
 fn wrong_answer(
     alloc: Global,
     kinds: [MatcherKind; 2],
     rows: &[(&'static str, &'static str, bool)],
 ) -> Option<usize> {
+    let [first, second] = kinds;
     for (i, &(pattern, value, want)) in rows.iter().enumerate() {
-        if !are_answers(alloc, kinds, pattern, value, want) {
+        let found = answer(alloc, (first, "job", pattern), value);
+        let opposite = answer(alloc, (second, "job", pattern), value);
+        if found != Ok(want) || opposite != Ok(!want) {
             return Some(i);
         }
     }
@@ -73,18 +64,14 @@ fn matchers_say_whether_a_value_matches(rt: HostRuntime) {
     assert_eq!(rt; wrong, None);
 }
 
-/// The pattern is refused, and the text that it is too matches itself.
-fn is_refused(alloc: Global, pattern: &'static str) -> bool {
-    let bad = Err(BuildError::BadPattern);
-    answer(alloc, (MatcherKind::Regexp, "job", pattern), "a") == bad
-        && answer(alloc, (MatcherKind::NotRegexp, "job", pattern), "a") == bad
-        && answer(alloc, (MatcherKind::Equal, "job", pattern), pattern) == Ok(true)
-}
-
-/// The first of the broken patterns that isn't refused.
+/// The first of the broken patterns that isn't refused, or as a text doesn't match itself.
 fn wrong_refusal(alloc: Global) -> Option<usize> {
+    let bad = Err(BuildError::BadPattern);
     for (i, &pattern) in BROKEN.iter().enumerate() {
-        if !is_refused(alloc, pattern) {
+        let regexp = answer(alloc, (MatcherKind::Regexp, "job", pattern), "a");
+        let not_regexp = answer(alloc, (MatcherKind::NotRegexp, "job", pattern), "a");
+        let text = answer(alloc, (MatcherKind::Equal, "job", pattern), pattern);
+        if regexp != bad || not_regexp != bad || text != Ok(true) {
             return Some(i);
         }
     }
@@ -154,17 +141,10 @@ fn matchers_have_a_verdict(rt: HostRuntime) {
     assert_eq!(rt; wrong, None);
 }
 
-/// The verdicts on the two kinds of regular expressions.
-fn are_verdicts(alloc: Global, pattern: &'static str, wants: [Verdict; 2]) -> bool {
-    let [regexp, not_regexp] = wants;
-    is_verdict(alloc, MatcherKind::Regexp, pattern, regexp)
-        && is_verdict(alloc, MatcherKind::NotRegexp, pattern, not_regexp)
-}
-
-/// The first of the patterns that hasn't these verdicts.
-fn wrong_pattern(alloc: Global) -> Option<usize> {
+/// The first of the patterns on which a matcher of the kind hasn't this verdict.
+fn wrong_pattern(alloc: Global, kind: MatcherKind, want: Verdict) -> Option<usize> {
     for (i, &(pattern, _, _)) in PATTERNS.iter().enumerate() {
-        if !are_verdicts(alloc, pattern, [Verdict::Fine, Verdict::AllEmpty]) {
+        if !is_verdict(alloc, kind, pattern, want) {
             return Some(i);
         }
     }
@@ -172,9 +152,9 @@ fn wrong_pattern(alloc: Global) -> Option<usize> {
 }
 
 /// The first of the broken patterns that isn't bad.
-fn wrong_broken(alloc: Global) -> Option<usize> {
+fn wrong_broken(alloc: Global, kind: MatcherKind) -> Option<usize> {
     for (i, &pattern) in BROKEN.iter().enumerate() {
-        if !are_verdicts(alloc, pattern, [Verdict::Bad, Verdict::Bad]) {
+        if !is_verdict(alloc, kind, pattern, Verdict::Bad) {
             return Some(i);
         }
     }
@@ -183,6 +163,9 @@ fn wrong_broken(alloc: Global) -> Option<usize> {
 
 #[test]
 fn patterns_have_a_verdict(rt: HostRuntime) {
-    let wrong = wrong_pattern(rt.alloc()).or(wrong_broken(rt.alloc()));
+    let wrong = wrong_pattern(rt.alloc(), MatcherKind::Regexp, Verdict::Fine)
+        .or(wrong_pattern(rt.alloc(), MatcherKind::NotRegexp, Verdict::AllEmpty))
+        .or(wrong_broken(rt.alloc(), MatcherKind::Regexp))
+        .or(wrong_broken(rt.alloc(), MatcherKind::NotRegexp));
     assert_eq!(rt; wrong, None);
 }

@@ -164,8 +164,12 @@ const PAIRS: [(LabelRow, LabelRow, Wanted); 11] = [
 ];
 
 /// The first of the rows that doesn't hold.
-fn wrong_pair(alloc: Global, held: &Held<MeshSilence>) -> Option<usize> {
-    for (i, &(first, second, want)) in PAIRS.iter().enumerate() {
+fn wrong_pair(
+    alloc: Global,
+    held: &Held<MeshSilence>,
+    rows: &[(LabelRow, LabelRow, Wanted)],
+) -> Option<usize> {
+    for (i, &(first, second, want)) in rows.iter().enumerate() {
         if is_muted(alloc, held, &[first, second], 50, want) != Ok(true) {
             return Some(i);
         }
@@ -173,10 +177,14 @@ fn wrong_pair(alloc: Global, held: &Held<MeshSilence>) -> Option<usize> {
     None
 }
 
+fn wrong_of_pairs(alloc: Global, held: &Held<MeshSilence>) -> Option<usize> {
+    wrong_pair(alloc, held, &PAIRS)
+}
+
 fn wrong_of_eight(alloc: Global) -> Result<Option<usize>, WireError> {
     let mut held = Held::new(alloc);
     hold_eight(alloc, &mut held)?;
-    Ok(wrong_pair(alloc, &held))
+    Ok(wrong_of_pairs(alloc, &held))
 }
 
 #[test]
