@@ -13,6 +13,3 @@ pub use blocks::Blocks;
 pub use probe::Probe;
 pub use spot::Spot;
 pub use walk::Walk;
-
-#[cfg(test)]
-mod tests;

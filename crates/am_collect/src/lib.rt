@@ -6,6 +6,3 @@ mod keeper;
 pub mod laws;
 
 pub use keeper::{Keeper, KeeperError, Step, Stepped};
-
-#[cfg(test)]
-mod tests;

@@ -7,6 +7,3 @@ mod wait;
 
 pub use decision::{Decision, Reason, decide};
 pub use wait::due;
-
-#[cfg(test)]
-mod tests;

@@ -21,7 +21,7 @@ fn is_told(alloc: Global, bytes: &[u8], fault: Option<FrameError>) -> Result<boo
 fn are_told(rt: &impl Abort, alloc: Global, rows: &[Row]) {
     for (bytes, fault) in rows {
         let is_told = is_told(alloc, bytes, *fault);
-        assert!(rt; is_told == Ok(true), "{bytes:?}");
+        assert!(rt; is_told == Ok(true), "{bytes:?}: {is_told:?}");
     }
 }
 

@@ -70,6 +70,10 @@ fn are_brought(alloc: Global, rows: &[PieceRow]) -> Result<bool, FrameError> {
 
 /// Sees that each of these pieces of one stream brings this.
 pub fn bring(rt: &impl Abort, alloc: Global, rows: &[PieceRow]) {
-    let are_brought = are_brought(alloc, rows);
-    assert_eq!(rt; are_brought, Ok(true));
+    holds(rt, are_brought(alloc, rows));
+}
+
+/// Sees that it holds.
+pub fn holds(rt: &impl Abort, answer: Result<bool, FrameError>) {
+    assert_eq!(rt; answer, Ok(true));
 }

@@ -1,6 +1,6 @@
 //! Frames as they are read, in any cut.
 
-use crate::feeding::{bring, fed, is_ended, seen, without_fault};
+use crate::feeding::{bring, fed, holds, is_ended, seen, without_fault};
 use crate::texts::{DELTA, LOG_TWICE, PUSH, STREAM, V1};
 use am_gossip::{Feeder, Frame, FrameError, FrameKind, Part, StateKey, encode_frame};
 use std::alloc::Global;
@@ -74,8 +74,7 @@ const FRAMES: [FrameRow; 4] = [
 
 #[test]
 fn frames_are_read(rt: HostRuntime) {
-    let are_read = are_read(rt.alloc(), &FRAMES);
-    assert!(rt; are_read == Ok(true));
+    holds(&rt, are_read(rt.alloc(), &FRAMES));
 }
 
 // Writes the frame behind the bytes.
@@ -138,7 +137,7 @@ fn each_cut_in_two_gives_the_same_frames(rt: HostRuntime) {
     for cut in 0..=STREAM.len() {
         let (front, rest) = STREAM.split_at(cut);
         let is_same = is_same_in_two(rt.alloc(), front, rest);
-        assert!(rt; is_same == Ok(true), "{cut}");
+        assert!(rt; is_same == Ok(true), "{cut}: {is_same:?}");
     }
 }
 
@@ -159,8 +158,7 @@ fn is_same_by_bytes(alloc: Global) -> Result<bool, FrameError> {
 
 #[test]
 fn single_bytes_give_the_same_frames(rt: HostRuntime) {
-    let is_same = is_same_by_bytes(rt.alloc());
-    assert!(rt; is_same == Ok(true));
+    holds(&rt, is_same_by_bytes(rt.alloc()));
 }
 
 #[test]
@@ -204,6 +202,8 @@ fn is_answered_before(alloc: Global, bytes: &[u8], fault: FrameError) -> Result<
 
 #[test]
 fn frames_before_a_fault_are_answered(rt: HostRuntime) {
-    let is_answered = is_answered_before(rt.alloc(), &[0x04, 0x00, 0x05], FrameError::Kind);
-    assert!(rt; is_answered == Ok(true));
+    holds(
+        &rt,
+        is_answered_before(rt.alloc(), &[0x04, 0x00, 0x05], FrameError::Kind),
+    );
 }

@@ -1,5 +1,6 @@
 //! Frames as they are written.
 
+use crate::feeding::holds;
 use crate::texts::{DELTA, PUSH, V1};
 use am_gossip::{Bytes, Frame, FrameError, FullState, Part, StateKey, encode_frame};
 use std::alloc::{AllocError, Global};
@@ -30,8 +31,7 @@ fn is_written(alloc: Global, frame: &Frame, bytes: &[u8]) -> Result<bool, FrameE
 
 #[test]
 fn a_tick_is_two_bytes(rt: HostRuntime) {
-    let is_written = is_written(rt.alloc(), &Frame::Tick, &[0x04, 0x00]);
-    assert!(rt; is_written == Ok(true));
+    holds(&rt, is_written(rt.alloc(), &Frame::Tick, &[0x04, 0x00]));
 }
 
 // A Delta of silences is written so.
@@ -42,8 +42,7 @@ fn is_delta_written(alloc: Global, bytes: &[u8], text: &[u8]) -> Result<bool, Fr
 
 #[test]
 fn a_delta_is_written(rt: HostRuntime) {
-    let is_written = is_delta_written(rt.alloc(), &V1, &DELTA);
-    assert!(rt; is_written == Ok(true));
+    holds(&rt, is_delta_written(rt.alloc(), &V1, &DELTA));
 }
 
 // A Push of two empty states is written so.
@@ -54,8 +53,7 @@ fn is_empty_push_written(alloc: Global, text: &[u8]) -> Result<bool, FrameError>
 
 #[test]
 fn a_push_of_two_empty_states_is_written(rt: HostRuntime) {
-    let is_written = is_empty_push_written(rt.alloc(), &PUSH);
-    assert!(rt; is_written == Ok(true));
+    holds(&rt, is_empty_push_written(rt.alloc(), &PUSH));
 }
 
 // The same, where the first call may find no memory.
@@ -68,8 +66,10 @@ fn is_written_again(alloc: Global, frame: &Frame, bytes: &[u8]) -> Result<bool, 
 
 #[test]
 fn a_frame_that_found_no_memory_is_written_again(rt: HostRuntime) {
-    let is_written = is_written_again(rt.alloc(), &Frame::Tick, &[0x04, 0x00]);
-    assert!(rt; is_written == Ok(true));
+    holds(
+        &rt,
+        is_written_again(rt.alloc(), &Frame::Tick, &[0x04, 0x00]),
+    );
 }
 
 // How many bytes a frame is written as.
@@ -95,12 +95,11 @@ fn delta_len(alloc: Global, size: usize) -> Result<usize, FrameError> {
 fn a_payload_over_its_limit_is_not_written(rt: HostRuntime) {
     let most = delta_len(rt.alloc(), 4_194_294);
     let over = delta_len(rt.alloc(), 4_194_295);
-    let are_told = most == Ok(4_194_309) && over == Err(FrameError::Length);
-    assert!(rt; are_told);
+    assert_eq!(rt; [most, over], [Ok(4_194_309), Err(FrameError::Length)]);
 }
 
 // The copy equals its source, and gives back as many bytes.
-fn is_copied(alloc: Global, bytes: &Bytes) -> Result<bool, AllocError> {
+fn is_copied(alloc: Global, bytes: &Bytes) -> Result<bool, FrameError> {
     let copy = bytes.try_clone(alloc)?;
     let is_same = copy == *bytes;
     let given = copy.into_vec();
@@ -108,24 +107,23 @@ fn is_copied(alloc: Global, bytes: &Bytes) -> Result<bool, AllocError> {
 }
 
 // A copy of a copy of these bytes equals the first, and gives back as many.
-fn are_copied(alloc: Global, bytes: &[u8]) -> Result<bool, AllocError> {
+fn are_copied(alloc: Global, bytes: &[u8]) -> Result<bool, FrameError> {
     let bytes = Bytes::copied(alloc, bytes)?;
     is_copied(alloc, &bytes)
 }
 
 #[test]
 fn bytes_are_copied(rt: HostRuntime) {
-    let are_copied = are_copied(rt.alloc(), &V1);
-    assert!(rt; are_copied == Ok(true));
+    holds(&rt, are_copied(rt.alloc(), &V1));
 }
 
-fn given_back(alloc: Global) -> Result<usize, AllocError> {
+// The two parts of a state are given back.
+fn are_given_back(alloc: Global) -> Result<bool, FrameError> {
     let parts = empty_states(alloc)?.into_vec();
-    Ok(parts.len())
+    Ok(parts.len() == 2)
 }
 
 #[test]
 fn parts_are_given_back(rt: HostRuntime) {
-    let count = given_back(rt.alloc());
-    assert!(rt; count == Ok(2));
+    holds(&rt, are_given_back(rt.alloc()));
 }

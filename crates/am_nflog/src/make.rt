@@ -1,6 +1,7 @@
 //! The entry that a notification leaves.
 
 ghost use Rattle.std.specs.Prelude.{◌≡◌, ◌<◌, ◌≤◌, ◌↔◌, ◌⊎◌, length, Err, IfOk, IfErr, OnErr, IfSome, IsNone};
+ghost use Rattle.am_wire.specs.Limits.{most};
 ghost use Rattle.am_wire.specs.declared.error.WireError.TheVariants as errors;
 ghost use Rattle.am_nflog.specs.Mesh.{writes_mesh_entry};
 ghost use Rattle.am_nflog.specs.Made.{made_entry, expiry};
@@ -35,7 +36,7 @@ pub fn make_entry(
     ensures none { IfOk result (λ made. IsNone made ↔ (expiry repeat retention now ≤ now)) }
     ensures wanted { OnErr result (now < expiry repeat retention now) }
     ensures too_large { (result ≡ Err errors.TooLarge) ↔ ((now < expiry repeat retention now) ×
-        (67108864 < length (writes_mesh_entry (made_entry group_key receiver firing resolved repeat retention now)))) }
+        (most < length (writes_mesh_entry (made_entry group_key receiver firing resolved repeat retention now)))) }
     ensures refused { IfErr result (λ e. (e ≡ errors.Memory) ⊎ (e ≡ errors.TooLarge)) }
 {
     let by_retention = now.capped_add(retention);

@@ -1,6 +1,7 @@
 //! Entries as instances pass them on.
 
 ghost use Rattle.std.specs.Prelude.{◌≡◌, ℕ, ◌<◌, ◌≤◌, List, [], ◌∷◌, ◌++◌, length, Err, OnOk, IfOk, IfErr, ◌⊎◌, ◌↔◌};
+ghost use Rattle.am_wire.specs.Limits.{most};
 ghost use Rattle.am_wire.specs.declared.error.WireError.TheVariants as errors;
 ghost use Rattle.am_wire.specs.Sizes.{counted};
 ghost use Rattle.am_nflog.specs.Entries.{writes_entry};
@@ -49,9 +50,9 @@ impl MeshEntry {
     /// [`WireError::Memory`] where memory runs out.
     pub fn new(alloc: Global, entry: Entry, expires_at: Moment) -> Result<MeshEntry, WireError>
         ensures parts { IfOk result (λ m. m ≡ record { entry = entry; expires_at = expires_at }) }
-        ensures within { IfOk result (λ m. length (writes_mesh_entry m) ≤ 67108864) }
+        ensures within { IfOk result (λ m. length (writes_mesh_entry m) ≤ most) }
         ensures too_large { (result ≡ Err errors.TooLarge) ↔
-            (67108864 < length (writes_mesh_entry (record { entry = entry; expires_at = expires_at }))) }
+            (most < length (writes_mesh_entry (record { entry = entry; expires_at = expires_at }))) }
         ensures refused { IfErr result (λ e. (e ≡ errors.Memory) ⊎ (e ≡ errors.TooLarge)) }
     {
         let size = entry.size();

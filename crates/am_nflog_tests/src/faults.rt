@@ -16,7 +16,7 @@ fn fault_of(alloc: Global, bytes: &[u8]) -> Option<WireError> {
 fn are_told(rt: &impl Abort, alloc: Global, rows: &[Row]) {
     for (bytes, wanted) in rows {
         let told = fault_of(alloc, bytes);
-        assert!(rt; told == Some(*wanted), "{bytes:?}");
+        assert!(rt; told == Some(*wanted), "{bytes:?}: {told:?}");
     }
 }
 

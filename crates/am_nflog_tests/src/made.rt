@@ -69,7 +69,7 @@ fn makes(
         panic!(rt; "no intervals");
     };
     let seen = seen(alloc, size, repeat, retention, now);
-    assert!(rt; seen == wanted);
+    assert_eq!(rt; seen, wanted);
 }
 
 #[test]

@@ -8,9 +8,9 @@ use std::alloc::{AllocError, Global};
 use std::cmp::Ordering;
 use std::process::Abort;
 
-// Sees that it holds, and no memory was wanting.
+// Sees that it holds.
 fn holds(rt: &impl Abort, answer: Result<bool, WireError>) {
-    assert!(rt; answer == Ok(true));
+    assert_eq!(rt; answer, Ok(true));
 }
 
 fn is_key(key: &LogKey) -> bool {
@@ -73,7 +73,7 @@ fn version_len(alloc: Global, size: usize) -> Result<usize, WireError> {
 fn a_version_that_is_too_long_is_refused(rt: HostRuntime) {
     let longest = version_len(rt.alloc(), LONGEST_KEY);
     let over = version_len(rt.alloc(), LONGEST_KEY + 1);
-    assert!(rt; longest == Ok(67_108_864) && over == Err(WireError::TooLarge));
+    assert_eq!(rt; [longest, over], [Ok(67_108_864), Err(WireError::TooLarge)]);
 }
 
 fn is_key_copied(alloc: Global, version: &MeshEntry) -> Result<bool, AllocError> {

@@ -44,7 +44,7 @@ fn fault_of_joined(
 fn are_told(rt: &impl Abort, alloc: Global, begin: &str, lines: &[&str], end: &str, wanted: Told) {
     for line in lines {
         let told = fault_of_joined(alloc, begin, line, 1, end);
-        assert!(rt; told == Ok(wanted), "{line}");
+        assert!(rt; told == Ok(wanted), "{line}: {told:?}");
     }
 }
 
@@ -56,14 +56,14 @@ fn are_at_fault(rt: &impl Abort, alloc: Global, lines: &[&str], kind: FaultKind)
 fn long_rows_are_told(rt: &impl Abort, alloc: Global, rows: &[LongRow]) {
     for (begin, more, times, end, wanted) in rows {
         let told = fault_of_joined(alloc, begin, more, *times, end);
-        assert!(rt; told == Ok(*wanted), "{begin}");
+        assert!(rt; told == Ok(*wanted), "{begin}: {told:?}");
     }
 }
 
 fn texts_are_told(rt: &impl Abort, alloc: Global, rows: &[TextRow]) {
     for (text, wanted) in rows {
         let told = fault_of(alloc, text);
-        assert!(rt; told == *wanted, "{text:?}");
+        assert!(rt; told == *wanted, "{text:?}: {told:?}");
     }
 }
 

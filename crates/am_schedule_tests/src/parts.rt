@@ -5,6 +5,12 @@ use crate::lines::interval;
 use crate::texts::FORMS;
 use am_schedule::{FaultKind, Items, Schedule, ScheduleError, Word, parse};
 use std::alloc::{AllocError, Global};
+use std::process::Abort;
+
+// Sees that it holds.
+fn holds(rt: &impl Abort, answer: Result<bool, AllocError>) {
+    assert_eq!(rt; answer, Ok(true));
+}
 
 // The names are these two.
 fn are_names(names: &[Word], first: &str, second: &str) -> bool {
@@ -22,17 +28,15 @@ fn is_cluster(schedule: &Schedule, retention: u32, peer_timeout: u32) -> bool {
         && schedule.lines.as_slice().is_empty()
 }
 
-fn is_read(alloc: Global, text: &[u8], retention: u32, peer_timeout: u32) -> bool {
-    match parse(alloc, text) {
-        Ok(schedule) => is_cluster(&schedule, retention, peer_timeout),
-        Err(_) => false,
-    }
+fn is_read(alloc: Global, text: &[u8]) -> Result<bool, ScheduleError> {
+    let schedule = parse(alloc, text)?;
+    Ok(is_cluster(&schedule, 100, 15))
 }
 
 #[test]
 fn the_cluster_is_read(rt: HostRuntime) {
-    let is_read = is_read(rt.alloc(), b"#\n\ncluster 100 15 b a\n", 100, 15);
-    assert!(rt; is_read);
+    let is_read = is_read(rt.alloc(), b"#\n\ncluster 100 15 b a\n");
+    assert_eq!(rt; is_read, Ok(true));
 }
 
 // The numbers are seen in the list, and given back.
@@ -45,8 +49,7 @@ fn are_listed(alloc: Global, numbers: &[u32]) -> Result<bool, AllocError> {
 
 #[test]
 fn items_are_a_list(rt: HostRuntime) {
-    let are_listed = are_listed(rt.alloc(), &[1, 2]);
-    assert!(rt; are_listed == Ok(true));
+    holds(&rt, are_listed(rt.alloc(), &[1, 2]));
 }
 
 fn is_printed(alloc: Global, error: ScheduleError, text: &str) -> Result<bool, AllocError> {
@@ -61,8 +64,7 @@ fn an_error_names_its_line(rt: HostRuntime) {
         kind: FaultKind::Words,
     };
     let text = "line 7: the verb is unknown or the number of words is wrong";
-    let is_printed = is_printed(rt.alloc(), error, text);
-    assert!(rt; is_printed == Ok(true));
+    holds(&rt, is_printed(rt.alloc(), error, text));
 }
 
 #[test]

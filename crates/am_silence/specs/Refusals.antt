@@ -2,6 +2,7 @@
 use Rattle.std.specs.Prelude.{◌≡◌, ℕ, Bool, ◌&&◌, ◌==◌, nat_lt, nat_le, List, [], ◌∷◌}
 use Rattle.std.specs.Prelude.{length, not, Option, Some, None, is_some, is_none, Result, MatchResult, if◌then◌else◌}
 use Rattle.std.specs.List.{list_any}
+use Rattle.am_wire.specs.Limits.{most}
 use Rattle.am_silence.specs.declared.matcher.Matcher.{Matcher}
 use Rattle.am_silence.specs.declared.silence.Silence.{Silence}
 use Rattle.am_silence.specs.declared.plan.Posted.{Posted}
@@ -62,7 +63,7 @@ held_refusal (Some held) now = if has_expired held now then None else newer_refu
 
 -- the canonical text of a version has over 67,108,864 bytes
 abbrev pub is_too_large : Mesh → Bool
-is_too_large version = nat_lt 67108864 (length (writes_mesh_silence version))
+is_too_large version = nat_lt most (length (writes_mesh_silence version))
 
 -- a version's canonical text is too large
 unfoldable pub size_refusal : List Mesh → Option SilenceError

@@ -1,6 +1,7 @@
 //! Silences as instances pass them on.
 
 ghost use Rattle.std.specs.Prelude.{◌≡◌, ◌<◌, ◌≤◌, length, Err, IfOk, IfErr, false, ◌⊎◌, ◌↔◌};
+ghost use Rattle.am_wire.specs.Limits.{most};
 ghost use Rattle.am_wire.specs.declared.error.WireError.TheVariants as errors;
 ghost use Rattle.am_version_order.specs.Moments.{greatest};
 ghost use Rattle.am_wire.specs.Sizes.{counted};
@@ -63,9 +64,9 @@ impl MeshSilence {
     ) -> Result<MeshSilence, WireError>
         ensures parts { IfOk result (λ m. m ≡ record { silence = silence; expires_at = expires_at }) }
         ensures value { IfOk result IsMesh }
-        ensures within { IfOk result (λ m. length (writes_mesh_silence m) ≤ 67108864) }
+        ensures within { IfOk result (λ m. length (writes_mesh_silence m) ≤ most) }
         ensures too_large { (result ≡ Err errors.TooLarge) ↔
-            (67108864 < length (writes_mesh_silence (record { silence = silence; expires_at = expires_at }))) }
+            (most < length (writes_mesh_silence (record { silence = silence; expires_at = expires_at }))) }
         ensures refused { IfErr result (λ e. (e ≡ errors.Memory) ⊎ (e ≡ errors.TooLarge)) }
     {
         let size = silence.size();

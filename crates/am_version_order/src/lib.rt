@@ -9,6 +9,3 @@ mod version;
 pub use heads::head_of_text;
 pub use moment::{Interval, Moment};
 pub use version::Version;
-
-#[cfg(test)]
-mod tests;

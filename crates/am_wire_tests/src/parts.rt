@@ -14,6 +14,11 @@ const SAMPLE: [u8; 22] = [
     0x22, 0x02, 0x08, 0x0A, 0x22, 0x00,
 ];
 
+/// Sees that it holds.
+pub fn holds(rt: &impl Abort, answer: Result<bool, WireError>) {
+    assert_eq!(rt; answer, Ok(true));
+}
+
 fn ten() -> Moment {
     Moment::from_parts(10, 0).unwrap_or(Moment::LEAST)
 }
@@ -30,7 +35,7 @@ fn push_sample(bytes: &mut Vec<u8>) -> Result<(), AllocError> {
     push_chunk(bytes, 4, &[])
 }
 
-fn is_sample_written(alloc: Global) -> Result<bool, AllocError> {
+fn is_sample_written(alloc: Global) -> Result<bool, WireError> {
     let mut bytes = Vec::new(alloc);
     push_sample(&mut bytes)?;
     Ok(bytes.as_slice() == SAMPLE.as_slice())
@@ -38,8 +43,7 @@ fn is_sample_written(alloc: Global) -> Result<bool, AllocError> {
 
 #[test]
 fn parts_are_written(rt: HostRuntime) {
-    let is_written = is_sample_written(rt.alloc());
-    assert!(rt; is_written == Ok(true));
+    holds(&rt, is_sample_written(rt.alloc()));
 }
 
 fn text_in(bytes: &[u8]) -> Result<&str, WireError> {
@@ -123,7 +127,7 @@ fn moment_parts(alloc: Global, bytes: &[u8]) -> Result<(i64, u32), WireError> {
 fn are_moments(rt: &impl Abort, alloc: Global, rows: &[MomentRow]) {
     for (bytes, wanted) in rows {
         let found = moment_parts(alloc, bytes);
-        assert!(rt; found == *wanted, "{bytes:?}");
+        assert!(rt; found == *wanted, "{bytes:?}: {found:?}");
     }
 }
 
@@ -152,8 +156,7 @@ fn are_items(alloc: Global, bytes: &[u8], seconds: &[i64]) -> Result<bool, WireE
 
 #[test]
 fn each_item_stands_by_itself(rt: HostRuntime) {
-    let are_items = are_items(rt.alloc(), &SAMPLE, &[10, 0]);
-    assert!(rt; are_items == Ok(true));
+    holds(&rt, are_items(rt.alloc(), &SAMPLE, &[10, 0]));
 }
 
 fn push_behind(bytes: &mut Vec<u8>) -> Result<(), WireError> {
@@ -170,6 +173,8 @@ fn is_behind(alloc: Global, wanted: &[u8]) -> Result<bool, WireError> {
 
 #[test]
 fn chunks_and_texts_are_put_at_the_end(rt: HostRuntime) {
-    let is_behind = is_behind(rt.alloc(), &[7, 0x12, 0x03, 0x08, 0xAC, 0x02, 0x61]);
-    assert!(rt; is_behind == Ok(true));
+    holds(
+        &rt,
+        is_behind(rt.alloc(), &[7, 0x12, 0x03, 0x08, 0xAC, 0x02, 0x61]),
+    );
 }

@@ -87,7 +87,7 @@ fn second() -> Answer {
 // Sees that a reader over the bytes, which gives so many a call and fails at a call, brings these answers.
 fn answer(rt: &impl Abort, alloc: Global, reader: &mut Fitful<'_>, wanted: [Answer; 4]) {
     let found = answers(alloc, reader);
-    assert!(rt; found == wanted, "{wanted:?}");
+    assert!(rt; found == wanted, "{found:?}");
 }
 
 // The answers where both rows are read.

@@ -49,7 +49,7 @@ fn is_spelled(alloc: Global, (seconds, nanos): Time, text: &[u8]) -> Result<bool
 fn timestamps_are_spelled(rt: HostRuntime) {
     for (time, text) in SPELLED {
         let is_spelled = is_spelled(rt.alloc(), time, text);
-        assert!(rt; is_spelled == Ok(true), "{text:?}");
+        assert!(rt; is_spelled == Ok(true), "{text:?}: {is_spelled:?}");
     }
 }
 
@@ -88,7 +88,7 @@ fn read(alloc: Global, bytes: &[u8], at: u32) -> Result<Time, WireError> {
 fn are_read(rt: &impl Abort, alloc: Global, rows: &[Row], at: u32) {
     for (bytes, wanted) in rows {
         let found = read(alloc, bytes, at);
-        assert!(rt; found == *wanted, "{bytes:?}");
+        assert!(rt; found == *wanted, "{bytes:?}: {found:?}");
     }
 }
 

@@ -1,9 +1,11 @@
+//! Keepers, step by step.
+
 ghost use Rattle.std.specs.Prelude.{◌≡◌};
 ghost use Rattle.std.proofs.Common.{refl, sym};
 ghost use Rattle.std.specs.declared.cmp.Ordering.TheVariants.{Equal};
 ghost use Rattle.std.specs.Cmp.{ranked};
 
-use super::*;
+use am_collect::{Keeper, KeeperError, Step, Stepped};
 use am_merge::{Held, MergeError, Taken};
 use am_version_order::{Moment, Version};
 use std::alloc::{AllocError, Global};
@@ -119,68 +121,75 @@ fn in_view(keeper: &Keeper<Note>, key: u8, now: Moment) -> Option<Moment> {
 #[test]
 fn a_collection_drops_what_is_not_live(rt: HostRuntime) {
     let mut keeper = Keeper::of(holding(rt.alloc(), first()), at(10));
-    assert!(rt; keeper.collect(last_live()) == Ok(0), "before the expiry");
-    assert!(rt; keeper.held().len() == 1, "held");
-    assert!(rt;
-        keeper.step(Step::Collect, at(200)) == Ok(Stepped::Swept(1)),
-        "at the expiry"
-    );
-    assert!(rt; keeper.held().is_empty(), "not held");
+    let before = keeper.collect(last_live());
+    let held = keeper.held().len();
+    let swept = keeper.step(Step::Collect, at(200));
+    let is_swept = swept == Ok(Stepped::Swept(1)) && keeper.held().is_empty();
+    assert!(rt; before == Ok(0) && held == 1 && is_swept);
 }
 
 #[test]
 fn a_late_version_is_held_until_collected(rt: HostRuntime) {
     let mut keeper = Keeper::of(Held::new(rt.alloc()), at(10));
-    let expired = keeper.step(Step::Take(first()), at(200));
-    assert!(rt; expired == Ok(Stepped::Took(Taken::Expired)), "taken");
-    assert!(rt; keeper.held().len() == 1, "held");
-    assert!(rt; in_view(&keeper, b'a', at(200)) == None, "not in view");
-    assert!(rt; keeper.collect(at(200)) == Ok(1), "collected");
-    assert!(rt; keeper.held().is_empty(), "not held");
+    let taken = keeper.step(Step::Take(first()), at(200));
+    let held = keeper.held().len();
+    let seen = in_view(&keeper, b'a', at(200));
+    let is_collected = keeper.collect(at(200)) == Ok(1) && keeper.held().is_empty();
+    let is_held = taken == Ok(Stepped::Took(Taken::Expired)) && held == 1 && seen.is_none();
+    assert!(rt; is_held && is_collected);
 }
 
 #[test]
 fn a_live_version_is_in_view(rt: HostRuntime) {
     let mut keeper = Keeper::of(Held::new(rt.alloc()), at(10));
-    let changed = keeper.step(Step::Take(first()), last_live());
-    assert!(rt; changed == Ok(Stepped::Took(Taken::Changed)), "taken");
-    assert!(rt;
-        in_view(&keeper, b'a', last_live()) == Some(at(10)),
-        "in view"
-    );
+    let taken = keeper.step(Step::Take(first()), last_live());
+    let seen = in_view(&keeper, b'a', last_live());
+    assert!(rt; taken == Ok(Stepped::Took(Taken::Changed)) && seen == Some(at(10)));
 }
 
-/// Merges a map with the second version into one with the first.
+// Merges a map with the second version into one with the first.
 fn merged(alloc: Global, held: &mut Held<Note>, now: Moment) -> Result<usize, MergeError> {
     let other = holding(alloc, second());
     held.merge(&other, now)
 }
 
+// What was merged into the first version is the second one, and is held until it is collected.
+fn is_held_until_collected(alloc: Global, now: Moment) -> bool {
+    let mut held = holding(alloc, first());
+    let merged = merged(alloc, &mut held, now);
+    let mut keeper = Keeper::of(held, now);
+    let winner = updated(keeper.held(), b'a');
+    let is_collected = keeper.collect(at(200)) == Ok(1) && keeper.held().is_empty();
+    merged == Ok(1) && winner == Some(at(20)) && is_collected
+}
+
 #[test]
 fn what_a_merge_took_is_held_until_collected(rt: HostRuntime) {
-    for seconds in [11, 200] {
-        let mut held = holding(rt.alloc(), first());
-        assert!(rt;
-            merged(rt.alloc(), &mut held, at(seconds)) == Ok(1),
-            "{seconds}"
-        );
-        let mut keeper = Keeper::of(held, at(seconds));
-        assert!(rt; updated(keeper.held(), b'a') == Some(at(20)), "{seconds}");
-        assert!(rt; keeper.collect(at(200)) == Ok(1), "{seconds}");
-        assert!(rt; keeper.held().is_empty(), "{seconds}");
+    let is_live_held = is_held_until_collected(rt.alloc(), at(11));
+    let is_late_held = is_held_until_collected(rt.alloc(), at(200));
+    assert!(rt; is_live_held && is_late_held);
+}
+
+#[test]
+fn a_start_has_no_key_twice(rt: HostRuntime) {
+    let twice = starting(rt.alloc(), &[first(), second()], at(10)).err();
+    assert!(rt; twice == Some(KeeperError::DuplicateKey));
+}
+
+fn started(alloc: Global, versions: &[Note], key: u8) -> Option<Moment> {
+    match starting(alloc, versions, at(10)) {
+        Ok(keeper) => updated(keeper.held(), key),
+        Err(_) => None,
     }
 }
 
 #[test]
-fn a_start_has_a_key_once(rt: HostRuntime) {
-    let twice = starting(rt.alloc(), &[first(), second()], at(10)).err();
-    assert!(rt; twice == Some(KeeperError::DuplicateKey), "twice");
-    let once = starting(rt.alloc(), &[first()], at(10));
-    let winner = once.ok().and_then(|keeper| updated(keeper.held(), b'a'));
-    assert!(rt; winner == Some(at(10)), "once");
+fn a_start_holds_a_key_once(rt: HostRuntime) {
+    let winner = started(rt.alloc(), &[first()], b'a');
+    assert!(rt; winner == Some(at(10)));
 }
 
-/// Runs two steps, of which the first takes a version.
+// Runs two steps, of which the first takes a version.
 fn ran(
     keeper: &mut Keeper<Note>,
     version: Note,
@@ -195,9 +204,9 @@ fn ran(
 fn a_run_stops_at_its_first_refusal(rt: HostRuntime) {
     let mut keeper = Keeper::of(holding(rt.alloc(), first()), at(10));
     let stop = ran(&mut keeper, second(), at(20), Step::Collect, at(15));
-    let last = at(20);
-    assert!(rt; stop == Err((1, KeeperError::MomentBack { last })), "stop");
-    assert!(rt; updated(keeper.held(), b'a') == Some(at(20)), "held");
+    let winner = updated(keeper.held(), b'a');
+    let fault = KeeperError::MomentBack { last: at(20) };
+    assert!(rt; stop == Err((1, fault)) && winner == Some(at(20)));
 }
 
 #[test]
@@ -206,14 +215,14 @@ fn a_view_is_the_greatest_where_it_is_live(rt: HostRuntime) {
     let lesser = make_note(b'k', 3, 100);
     let greater = make_note(b'k', 6, 10);
     let done = ran(&mut keeper, lesser, at(7), Step::Take(greater), at(7));
-    assert!(rt; done == Ok(()), "done");
-    assert!(rt; in_view(&keeper, b'k', at(9)) == Some(at(6)), "live");
-    assert!(rt; in_view(&keeper, b'k', at(12)) == None, "not live");
+    let seen = in_view(&keeper, b'k', at(9));
+    let later = in_view(&keeper, b'k', at(12));
+    assert!(rt; done == Ok(()) && seen == Some(at(6)) && later.is_none());
 }
 
 #[test]
 fn a_pair_is_taken_in_order(rt: HostRuntime) {
     let mut keeper = Keeper::of(holding(rt.alloc(), second()), at(20));
     let taken = keeper.take_pair(make_note(b'b', 20, 200), first(), at(30));
-    assert!(rt; taken == Ok((Taken::Changed, Taken::Kept)), "taken");
+    assert!(rt; taken == Ok((Taken::Changed, Taken::Kept)));
 }

@@ -1,14 +1,13 @@
-//! Random runs against a plain sorted list.
+//! Lists in blocks: random runs against a plain sorted list.
 
 ghost use Rattle.std.specs.Prelude.{◌<◌};
 ghost use Rattle.std.specs.List.{AllPairs};
 ghost use Rattle.std.specs.Ordering.{nat_cmp};
 ghost use Rattle.am_blocks.specs.Rows.{entries};
 
-use crate::{Blocks, Probe, Walk};
+use am_blocks::{Blocks, Probe, Walk};
 use std::alloc::{AllocError, Global};
 use std::cmp::Ordering;
-use std::test::Fail;
 
 // A number that is looked for.
 #[derive(Clone, Copy)]
@@ -138,40 +137,53 @@ fn run(
     Ok(agreed)
 }
 
-#[test]
-fn random_runs_agree_with_a_plain_list(rt: HostRuntime) -> Result<(), Fail> {
-    let mut twins = Twins::new(rt.alloc());
-    // It grows to some thousand numbers, stays, and shrinks to few.
-    for (seed, steps, puts) in [(1, 3000, 15), (2, 2000, 8), (3, 6000, 1)] {
-        let agreed = run(&mut twins, seed, steps, 2000, puts)?;
-        assert!(rt; agreed, "after the run of {seed}");
+// Puts and takes numbers in runs, and says whether both lists agreed all along.
+fn runs_agree(alloc: Global, runs: &[(u32, usize, u32)]) -> Result<bool, AllocError> {
+    let mut twins = Twins::new(alloc);
+    for (seed, steps, puts) in runs {
+        let agreed = run(&mut twins, *seed, *steps, 2000, *puts)?;
+        if !agreed {
+            return Ok(false);
+        }
     }
-    Ok(())
+    Ok(true)
 }
 
 #[test]
-fn rising_and_falling_numbers_keep_their_order(rt: HostRuntime) -> Result<(), Fail> {
-    let mut twins = Twins::new(rt.alloc());
-    for number in 0..500 {
+fn random_runs_agree_with_a_plain_list(rt: HostRuntime) {
+    // It grows to some thousand numbers, stays, and shrinks to few.
+    let agreed = runs_agree(rt.alloc(), &[(1, 3000, 15), (2, 2000, 8), (3, 6000, 1)]);
+    assert_eq!(rt; agreed, Ok(true));
+}
+
+// Puts so many numbers on both sides of 1000.
+fn put_around(twins: &mut Twins, count: u32) -> Result<(), AllocError> {
+    for number in 0..count.min(1000) {
         twins.put(1000 + number)?;
         twins.put(1000 - number)?;
     }
-    let agreed = twins.agree(0);
-    assert!(rt; agreed);
-    let first = twins.blocks.first();
-    assert_eq!(rt; first, Some(501));
     Ok(())
 }
 
+// The first of so many numbers on both sides of 1000, where both lists agree.
+fn first_around(alloc: Global, count: u32) -> Result<Option<u32>, AllocError> {
+    let mut twins = Twins::new(alloc);
+    put_around(&mut twins, count)?;
+    if !twins.agree(0) {
+        return Ok(None);
+    }
+    Ok(twins.blocks.first())
+}
+
 #[test]
-fn an_empty_list_has_nothing(rt: HostRuntime) -> Result<(), Fail> {
+fn rising_and_falling_numbers_keep_their_order(rt: HostRuntime) {
+    let first = first_around(rt.alloc(), 500);
+    assert_eq!(rt; first, Ok(Some(501)));
+}
+
+#[test]
+fn an_empty_list_has_nothing(rt: HostRuntime) {
     let blocks: Blocks<u32> = Blocks::new(rt.alloc());
-    let first = blocks.first();
-    assert_eq!(rt; first, None);
-    let end = blocks.end();
-    let walked = is_walk_of(blocks.walk_from(end), &[]);
-    assert!(rt; walked);
-    let none = is_walk_of(Walk::none(), &[]);
-    assert!(rt; none);
-    Ok(())
+    let is_empty = blocks.first().is_none() && is_walk_of(blocks.walk_from(blocks.end()), &[]);
+    assert!(rt; is_empty && is_walk_of(Walk::none(), &[]));
 }
