@@ -29,6 +29,11 @@ pub record HasRooms {X : Type 0} (shelf : Shelf X) (n m : ℕ) : Type 0 where
   pub expiries : HasRoom shelf.expiries m
   pub buckets : HasRoom shelf.buckets m
 
+-- v can go in the place of the version at the spot without memory
+pub record HasRoomOver {X : Type 0} (bucket_of : X → List ℕ) (shelf : Shelf X) (spot : Spot) (v : X) : Type 0 where
+  pub expiries : HasRoom shelf.expiries 1
+  pub buckets : HoldsAt (λ w. bucket_of w ≢ bucket_of v) (versions shelf) (place shelf.keys spot) → HasRoom shelf.buckets 1
+
 -- new has what old has, under the same slots and in the same places
 pub record IsSame {X : Type 0} (old new : Shelf X) : Type 0 where
   pub slots : new.table.slots ≡ old.table.slots

@@ -8,7 +8,9 @@ ghost use Rattle.am_merge.specs.Takings.{IsPut, new_keys, new_versions, taken_by
 
 use crate::held::{MergeError, Taken};
 use crate::iter::walk_shelf;
-use crate::shelf::{Shelf, add, drop_at, empty_shelf, find, replace, reserve, version_at};
+use crate::shelf::{
+    Shelf, add, drop_at, empty_shelf, find, replace, reserve, reserve_over, version_at,
+};
 use am_blocks::Spot;
 use am_version_order::{Moment, Version};
 use std::alloc::{AllocError, Global};
@@ -38,7 +40,7 @@ fn put_over<V: Version>(shelf: &mut Shelf<V>, spot: Spot, version: V) -> Result<
     ensures succeeds { HasRooms shelf.old 0 1 → IsOk result }
     ensures room { (n m : ℕ) → HasRooms shelf.old n (m + 1) → HasRooms shelf.new n m }
 {
-    reserve(shelf, 0, 1)?;
+    reserve_over(shelf, spot, &version)?;
     replace(shelf, spot, version);
     Ok(())
 }

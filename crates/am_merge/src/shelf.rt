@@ -10,7 +10,7 @@ ghost use Rattle.am_merge.specs.Entries.{key_slot, expiry_slot, by_time, time_cm
 ghost use Rattle.am_merge.specs.Buckets.{bucket_slot, bucket_entry, bucket_order, bucket_cmp, by_bucket, number_of};
 ghost use Rattle.am_merge.specs.Indexes.{filed};
 ghost use Rattle.am_merge.specs.Places.{IsGapFor};
-ghost use Rattle.am_merge.specs.Shelves.{versions, HasRooms, IsSame, IsShelf, IsAbsent, IsBucketIndex, IsExpiryIndex, IsKeySpot, IsGapSpot, IsSlotAt, IsWithout, HasSlot};
+ghost use Rattle.am_merge.specs.Shelves.{versions, HasRooms, HasRoomOver, IsSame, IsShelf, IsAbsent, IsBucketIndex, IsExpiryIndex, IsKeySpot, IsGapSpot, IsSlotAt, IsWithout, HasSlot};
 
 use crate::entry::{
     BucketEntry, BucketProbe, ExpiryEntry, ExpiryProbe, FrontProbe, KeyEntry, KeyProbe,
@@ -245,7 +245,7 @@ pub fn add<V: Version>(shelf: &mut Shelf<V>, spot: Spot, version: V)
 pub fn replace<V: Version>(shelf: &mut Shelf<V>, spot: Spot, version: V)
     requires shelf { IsShelf V.seen V.head_of V.Key.cmp V.bucket_of shelf.old }
     requires spot { IsKeySpot V.seen V.Key.cmp shelf.old (V.seen version).key spot }
-    requires room { HasRooms shelf.old 0 1 }
+    requires room { HasRoomOver V.bucket_of shelf.old spot version }
     ensures shelf { IsShelf V.seen V.head_of V.Key.cmp V.bucket_of shelf.new }
     ensures replaced { versions shelf.new ≡ slice_set (versions shelf.old) (place shelf.old.keys spot) version }
     ensures room { (n m : ℕ) → HasRooms shelf.old n (m + 1) → HasRooms shelf.new n m }
@@ -282,7 +282,8 @@ fn replace_across<V: Version>(shelf: &mut Shelf<V>, spot: Spot, slot: usize, ver
     requires spot { IsKeySpot V.seen V.Key.cmp shelf.old (V.seen version).key spot }
     requires slot { IsSlotAt shelf.old.keys spot slot }
     requires there { HasSlot shelf.old.table slot }
-    requires room { HasRooms shelf.old 0 1 }
+    requires expiries { HasRoom shelf.old.expiries 1 }
+    requires buckets { HasRoom shelf.old.buckets 1 }
     ensures shelf { IsShelf V.seen V.head_of V.Key.cmp V.bucket_of shelf.new }
     ensures replaced { versions shelf.new ≡ slice_set (versions shelf.old) (place shelf.old.keys spot) version }
     ensures room { (n m : ℕ) → HasRooms shelf.old n (m + 1) → HasRooms shelf.new n m }
@@ -305,10 +306,10 @@ pub fn drop_at<V: Version>(shelf: &mut Shelf<V>, slot: usize)
         IsWithout v (versions shelf.old) (versions shelf.new) }
 {
     let spot = key_spot(shelf, slot);
-    let left = bucket_spot(shelf, slot);
+    let place = bucket_spot(shelf, slot);
     let _gone = take_out(shelf, slot);
     shelf.keys.remove(spot);
-    shelf.buckets.remove(left);
+    shelf.buckets.remove(place);
 }
 
 /// Where the entry by key is of what is in a slot.
@@ -349,4 +350,28 @@ pub fn reserve<V: Version>(
     shelf.keys.reserve(keys)?;
     shelf.expiries.reserve(changes)?;
     shelf.buckets.reserve(changes)
+}
+
+/// Makes room for a version that goes in the place of another one. Where it stays in its bucket the index
+/// by bucket isn't asked.
+pub fn reserve_over<V: Version>(
+    shelf: &mut Shelf<V>,
+    spot: Spot,
+    version: &V,
+) -> Result<(), AllocError>
+    requires shelf { IsShelf V.seen V.head_of V.Key.cmp V.bucket_of shelf.old }
+    requires spot { IsKeySpot V.seen V.Key.cmp shelf.old (V.seen version.now).key spot }
+    ensures shelf { IsShelf V.seen V.head_of V.Key.cmp V.bucket_of shelf.new }
+    ensures room { OnOk result (HasRoomOver V.bucket_of shelf.new spot version.now) }
+    ensures same { IsSame shelf.old shelf.new }
+    ensures versions { versions shelf.new ≡ versions shelf.old }
+    ensures kept { (n m : ℕ) → HasRooms shelf.old n m → HasRooms shelf.new n m }
+    ensures succeeds { HasRooms shelf.old 0 1 → IsOk result }
+{
+    let leaves = version_at(shelf, spot).bucket() != version.bucket();
+    shelf.expiries.reserve(1)?;
+    if leaves {
+        shelf.buckets.reserve(1)?;
+    }
+    Ok(())
 }

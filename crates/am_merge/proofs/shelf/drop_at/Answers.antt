@@ -5,7 +5,7 @@ use Rattle.am_merge.proofs.shelf.drop_at.Goals as goal
 pub returns-clause-shelf : goal.returns-clause-shelf
 returns-clause-shelf g c =
     dropped g.V.Version.seen g.V.Version.head_of g.V.Key.Ord.cmp (order_of_keys g.met.V.Key.Ord.total g.met.V.Version.exact_keys) g.V.Version.bucket_of c.args.shelf.now c.take_out-gone.new.shelf c.remove.new.self c.args.slot c.take_out-gone.result c.key_spot-spot.result c.requires.shelf c.key_spot-spot.ensures.item c.key_spot-spot.ensures.own c.take_out-gone.ensures.own c.take_out-gone.ensures.updates c.take_out-gone.ensures.keys c.remove.ensures.items c.remove-2.new.self c.take_out-gone.ensures.index
-    (filed_taken g.V.Version.seen g.V.Version.head_of g.V.Key.Ord.cmp (order_of_keys g.met.V.Key.Ord.total g.met.V.Version.exact_keys) g.V.Version.bucket_of c.args.shelf.now.table c.take_out-gone.new.shelf.table c.args.shelf.now.buckets c.take_out-gone.new.shelf.buckets c.remove-2.new.self c.args.slot c.take_out-gone.result c.bucket_spot-left.result c.take_out-gone.ensures.own c.take_out-gone.ensures.updates c.requires.shelf.buckets c.bucket_spot-left.ensures.item c.bucket_spot-left.ensures.own c.take_out-gone.ensures.buckets c.remove-2.ensures.items)
+    (filed_taken g.V.Version.seen g.V.Version.head_of g.V.Key.Ord.cmp (order_of_keys g.met.V.Key.Ord.total g.met.V.Version.exact_keys) g.V.Version.bucket_of c.args.shelf.now.table c.take_out-gone.new.shelf.table c.args.shelf.now.buckets c.take_out-gone.new.shelf.buckets c.remove-2.new.self c.args.slot c.take_out-gone.result c.bucket_spot-place.result c.take_out-gone.ensures.own c.take_out-gone.ensures.updates c.requires.shelf.buckets c.bucket_spot-place.ensures.item c.bucket_spot-place.ensures.own c.take_out-gone.ensures.buckets c.remove-2.ensures.items)
     c.take_out-gone.ensures.len
 
 pub returns-clause-gone : goal.returns-clause-gone

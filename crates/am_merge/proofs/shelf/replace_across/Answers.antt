@@ -16,11 +16,11 @@ bucket_gap-place-requires-clause-absent g c =
     c.take_out-replaced.ensures.updates
 
 pub put_in-requires-clause-expiries : goal.put_in-requires-clause-expiries
-put_in-requires-clause-expiries g c = c.take_out-replaced.ensures.expiries 1 c.requires.room.expiries
+put_in-requires-clause-expiries g c = c.take_out-replaced.ensures.expiries 1 c.requires.expiries
 
 pub insert-requires-clause-room : goal.insert-requires-clause-room
 insert-requires-clause-room g c =
-    subst (λ rows. HasRoom rows 1) (sym c.put_in.ensures.buckets) (c.remove.ensures.room 1 (subst (λ rows. HasRoom rows 1) (sym c.take_out-replaced.ensures.buckets) c.requires.room.buckets))
+    subst (λ rows. HasRoom rows 1) (sym c.put_in.ensures.buckets) (c.remove.ensures.room 1 (subst (λ rows. HasRoom rows 1) (sym c.take_out-replaced.ensures.buckets) c.requires.buckets))
 
 pub returns-clause-shelf : goal.returns-clause-shelf
 returns-clause-shelf g c =
