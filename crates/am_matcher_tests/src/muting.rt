@@ -96,19 +96,19 @@ fn hold_four(alloc: Global, held: &mut Held<MeshSilence>) -> Result<(), WireErro
     hold(alloc, held, "p", &[JOB_IS_X])
 }
 
-/// A job, a moment in seconds, and what mutes it then.
-const JOBS: [(&str, i64, Wanted); 5] = [
-    ("y", 50, ("r", "q")),
-    ("x", 50, ("prs", "q")),
-    ("z", 10, ("rs", "q")),
-    ("x", 9, ("", "")),
-    ("x", 100, ("", "")),
+/// A job, a moment in seconds, and the ids that mute it then, and the broken ones.
+const JOBS: [(&str, i64, &str, &str); 5] = [
+    ("y", 50, "r", "q"),
+    ("x", 50, "prs", "q"),
+    ("z", 10, "rs", "q"),
+    ("x", 9, "", ""),
+    ("x", 100, "", ""),
 ];
 
 /// The first of the rows that doesn't hold.
 fn wrong_job(alloc: Global, held: &Held<MeshSilence>) -> Option<usize> {
-    for (i, &(job, seconds, want)) in JOBS.iter().enumerate() {
-        if is_muted(alloc, held, &[("job", job)], seconds, want) != Ok(true) {
+    for (i, &(job, seconds, ids, broken)) in JOBS.iter().enumerate() {
+        if is_muted(alloc, held, &[("job", job)], seconds, (ids, broken)) != Ok(true) {
             return Some(i);
         }
     }
@@ -148,29 +148,35 @@ fn hold_eight(alloc: Global, held: &mut Held<MeshSilence>) -> Result<(), WireErr
     hold(alloc, held, "a", &[JOB_IS_X])
 }
 
-/// Two labels, of which the last counts where they have one name, and what mutes them at 50 s.
-const PAIRS: [(LabelRow, LabelRow, Wanted); 11] = [
-    (("job", "x"), ("env", "prod"), ("abdeh", "g")),
-    (("env", "prod"), ("job", "x"), ("abdeh", "g")),
-    (("job", "x"), ("zone", "1"), ("adef", "g")),
-    (("zone", "1"), ("env", "prod"), ("be", "g")),
-    (("job", "z"), ("env", "prod"), ("bcde", "g")),
-    (("job", "y"), ("env", "prod"), ("e", "g")),
-    (("job", "y"), ("env", ""), ("ef", "g")),
-    (("job", "x"), ("job", "z"), ("cdef", "g")),
-    (("job", "z"), ("job", "x"), ("adef", "g")),
-    (("job", "x"), ("job", "x"), ("adef", "g")),
-    (("", ""), ("job", "x"), ("adef", "g")),
+/// Names and values of two labels, of which the last counts where they have one name, and the ids that
+/// mute them at 50 s.
+type PairRow = (
+    &'static str,
+    &'static str,
+    &'static str,
+    &'static str,
+    &'static str,
+);
+
+const PAIRS: [PairRow; 11] = [
+    ("job", "x", "env", "prod", "abdeh"),
+    ("env", "prod", "job", "x", "abdeh"),
+    ("job", "x", "zone", "1", "adef"),
+    ("zone", "1", "env", "prod", "be"),
+    ("job", "z", "env", "prod", "bcde"),
+    ("job", "y", "env", "prod", "e"),
+    ("job", "y", "env", "", "ef"),
+    ("job", "x", "job", "z", "cdef"),
+    ("job", "z", "job", "x", "adef"),
+    ("job", "x", "job", "x", "adef"),
+    ("", "", "job", "x", "adef"),
 ];
 
-/// The first of the rows that doesn't hold.
-fn wrong_pair(
-    alloc: Global,
-    held: &Held<MeshSilence>,
-    rows: &[(LabelRow, LabelRow, Wanted)],
-) -> Option<usize> {
-    for (i, &(first, second, want)) in rows.iter().enumerate() {
-        if is_muted(alloc, held, &[first, second], 50, want) != Ok(true) {
+/// The first of the rows that doesn't hold; g is told as broken in each.
+fn wrong_pair(alloc: Global, held: &Held<MeshSilence>, rows: &[PairRow]) -> Option<usize> {
+    for (i, &(first, value, second, other, ids)) in rows.iter().enumerate() {
+        let labels = [(first, value), (second, other)];
+        if is_muted(alloc, held, &labels, 50, (ids, "g")) != Ok(true) {
             return Some(i);
         }
     }
