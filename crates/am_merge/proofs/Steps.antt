@@ -6,7 +6,7 @@ use Rattle.std.proofs.lemmas.List.{set_split, take_all, drop_all}
 use Rattle.std.proofs.lemmas.List.Elements.{All-from_recursion, All-nil}
 use Rattle.std.specs.List.{All}
 use Rattle.std.specs.declared.cmp.Ordering.TheVariants.{Less}
-use Rattle.std.specs.Ordering.{is_lt}
+use Rattle.std.specs.Ordering.{is_lt, eq_by_cmp}
 use Rattle.std.proofs.lemmas.List.Edits.{length-insert, length-remove}
 use Rattle.std.specs.declared.cmp.Ordering.{Ordering}
 use Rattle.slab.specs.Slab.{Slab, get, slab_len, Updates}
@@ -14,7 +14,6 @@ use Rattle.am_blocks.specs.declared.spot.Spot.{Spot}
 use Rattle.am_blocks.specs.Rows.{Rows, joined, entries, HasRoom}
 use Rattle.am_blocks.specs.Spots.{IsItem, place, place_in, block_at}
 use Rattle.am_version_order.specs.Versions.{Version, is_below, rank_cmp}
-use Rattle.am_version_order.proofs.Ranks.{below_trans}
 use Rattle.am_merge.specs.Maps.{IsMap, at, replaces, greater_of, is_above}
 use Rattle.am_merge.specs.Takings.{IsPut, new_keys, new_versions}
 use Rattle.am_merge.specs.Places.{IsPlaceOf, IsGapFor}
@@ -26,7 +25,7 @@ use Rattle.am_merge.specs.declared.entry.KeyEntry.{KeyEntry}
 use Rattle.am_merge.specs.declared.entry.BucketEntry.{BucketEntry}
 use Rattle.am_merge.specs.declared.entry.ExpiryEntry.{ExpiryEntry}
 use Rattle.am_merge.specs.declared.shelf.Shelf.{Shelf}
-use Rattle.am_merge.proofs.Keys.{IsKeyOrder, IsMap-without, both_parts}
+use Rattle.am_merge.proofs.Keys.{IsKeyOrder, IsMap-without, both_parts, eq_itself}
 use Rattle.am_merge.proofs.Puts.{cut_at, place_over, place_nowhere, at-member, at_found, at_absent}
 use Rattle.am_merge.proofs.Firsts.{version_inside}
 use Rattle.am_merge.proofs.Buckets.{bucket_put, bucket_taken, bucket_swapped}
@@ -270,33 +269,47 @@ module _ {K X : Type 0} (seen : X → Version K) (cmp : K → K → Ordering) (k
   abbrev one_if : Bool → ℕ
   one_if b = if b then 1 else 0
 
-  at_most_one : (b : Bool) → one_if b ≤ 1
-  at_most_one true = omega arith
-  at_most_one false = omega arith
+  -- what comes with a version once another was taken, of another key or of its own
+  module _ (map new : List X) (v w : X) (put : IsPut seen cmp map v new) where
+    apart_is : (o : Option X) (b : Bool) → b ≡ false → greater_of seen o (cond b (Some v) None) ≡ o
+    apart_is o true e = cc
+    apart_is None false e = refl
+    apart_is (Some u) false e = refl
 
-  below_up : (u v w : X) (b : Bool) → is_below (seen u) (seen v) ≡ true → is_below (seen v) (seen w) ≡ b → one_if b ≤ one_if (is_below (seen u) (seen w))
-  below_up u v w false first second = omega arith
-  below_up u v w true first second = let further = below_trans (seen u) (seen v) (seen w) first second in rw further (omega arith)
+    same_at : eq_by_cmp cmp (seen v).key (seen w).key ≡ false → at seen cmp new (seen w).key ≡ at seen cmp map (seen w).key
+    same_at apart = put.joined (seen w).key ∙ apart_is (at seen cmp map (seen w).key) (eq_by_cmp cmp (seen v).key (seen w).key) apart
 
-  over_by : (u v w : X) (b : Bool) → is_below (seen u) (seen v) ≡ b → (one_if (is_none (cond b (Some v) (Some u))) ≤ 0) × (one_if (is_above seen (cond b (Some v) (Some u)) w) ≤ one_if (is_below (seen u) (seen w)))
-  over_by u v w true less = (omega arith, below_up u v w (is_below (seen v) (seen w)) less refl)
-  over_by u v w false less = (omega arith, omega arith)
+    pub keys_apart : eq_by_cmp cmp (seen v).key (seen w).key ≡ false → new_keys seen cmp map w ≡ new_keys seen cmp new w
+    keys_apart apart = ap (λ o. one_if (is_none o)) (sym (same_at apart))
 
-  fewer_by : (w : X) (o p : Option X) → (one_if (is_none (greater_of seen o p)) ≤ one_if (is_none o)) × (one_if (is_above seen (greater_of seen o p) w) ≤ one_if (is_above seen o w))
-  fewer_by w None None = (omega arith, omega arith)
-  fewer_by w None (Some v) = (omega arith, at_most_one (is_below (seen v) (seen w)))
-  fewer_by w (Some u) None = (omega arith, omega arith)
-  fewer_by w (Some u) (Some v) = over_by u v w (is_below (seen u) (seen v)) refl
+    pub versions_apart : eq_by_cmp cmp (seen v).key (seen w).key ≡ false → new_versions seen cmp map w ≡ new_versions seen cmp new w
+    versions_apart apart = ap (λ o. one_if (is_above seen o w)) (sym (same_at apart))
 
-  -- once another version was taken, as many come with a version, or fewer
-  pub fewer_after : (map new : List X) (v w : X) → IsPut seen cmp map v new → (new_keys seen cmp new w ≤ new_keys seen cmp map w) × (new_versions seen cmp new w ≤ new_versions seen cmp map w)
-  fewer_after map new v w put =
-      let parts = fewer_by w (at seen cmp map (seen w).key) (at seen cmp (v ∷ []) (seen w).key) in
-      let here = put.joined (seen w).key in
-      rw here parts
+    greater_is : (o : Option X) (b : Bool) → is_above seen o v ≡ b → greater_of seen o (Some v) ≡ cond b (Some v) o
+    greater_is None b above = ap (λ c. cond c (Some v) None) above
+    greater_is (Some u) b above = ap (λ c. cond c (Some v) (Some u)) above
 
-  pub few_keys : (map : List X) (v : X) → new_keys seen cmp map v ≤ 1
-  few_keys map v = at_most_one (is_none (at seen cmp map (seen v).key))
+    own_at : (seen v).key ≡ (seen w).key → (b : Bool) → replaces seen cmp map v ≡ b → at seen cmp new (seen w).key ≡ cond b (Some v) (at seen cmp map (seen w).key)
+    own_at key b came =
+        put.joined (seen w).key
+        ∙ ap (λ c. greater_of seen (at seen cmp map (seen w).key) (cond c (Some v) None)) (ap (λ k. eq_by_cmp cmp (seen v).key k) (sym key) ∙ eq_itself seen cmp keys (seen v).key)
+        ∙ greater_is (at seen cmp map (seen w).key) b (ap (λ k. is_above seen (at seen cmp map k) v) (sym key) ∙ came)
 
-  pub few_versions : (map : List X) (v : X) → new_versions seen cmp map v ≤ 1
-  few_versions map v = at_most_one (replaces seen cmp map v)
+    pub versions_kept : (seen v).key ≡ (seen w).key → replaces seen cmp map v ≡ false → new_versions seen cmp map w ≡ new_versions seen cmp new w
+    versions_kept key stays = ap (λ o. one_if (is_above seen o w)) (sym (own_at key false stays))
+
+    pub versions_over : (seen v).key ≡ (seen w).key → replaces seen cmp map v ≡ true → one_if (is_below (seen v) (seen w)) ≡ new_versions seen cmp new w
+    versions_over key comes = ap (λ o. one_if (is_above seen o w)) (sym (own_at key true comes))
+
+    some_key : (o : Option X) → one_if (is_none (greater_of seen o (Some v))) ≡ 0
+    some_key None = refl
+    some_key (Some u) = by (is_below (seen u) (seen v)) where
+      by : (b : Bool) → one_if (is_none (cond b (Some v) (Some u))) ≡ 0
+      by true = refl
+      by false = refl
+
+    pub keys_own : (seen v).key ≡ (seen w).key → 0 ≡ new_keys seen cmp new w
+    keys_own key =
+        sym (ap (λ o. one_if (is_none o)) (put.joined (seen w).key)
+        ∙ ap (λ c. one_if (is_none (greater_of seen (at seen cmp map (seen w).key) (cond c (Some v) None)))) (ap (λ k. eq_by_cmp cmp (seen v).key k) (sym key) ∙ eq_itself seen cmp keys (seen v).key)
+        ∙ some_key (at seen cmp map (seen w).key))

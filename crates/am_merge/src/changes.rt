@@ -1,6 +1,6 @@
 //! What taking, merging and sweeping do to a shelf.
 
-ghost use Rattle.std.specs.Prelude.{◌≡◌, ℕ, ◌+◌, ◌<◌, ◌++◌, [], ◌∷◌, length, take, count_by, IfErr, IfOk, IfSome, IfNone, IsOk, OnOk, OnErr, IsTrue, IsPermutation, true, false, ◌↔◌, insert, slice_set};
+ghost use Rattle.std.specs.Prelude.{◌≡◌, ℕ, List, ◌+◌, ◌<◌, ◌≤◌, ◌++◌, [], ◌∷◌, length, take, count_by, IfErr, IfOk, IfSome, IfNone, IsOk, OnOk, OnErr, IsTrue, IsPermutation, true, false, ◌↔◌, insert, slice_set};
 ghost use Rattle.am_merge.specs.Maps.{IsMap, IsJoin, HasTwice, replaces, swept};
 ghost use Rattle.am_merge.specs.Shelves.{versions, HasRooms, IsShelf, IsKeySpot, IsGapSpot, IsExpiredAt};
 ghost use Rattle.am_blocks.specs.Spots.{place};
@@ -73,6 +73,27 @@ pub fn needs<V: Version>(shelf: &Shelf<V>, version: &V) -> (usize, usize)
         Ok(spot) => (0, usize::from(is_greater(shelf, spot, version))),
         Err(_) => (1, 1),
     }
+}
+
+/// How many keys come with a version once another one was taken, and how many versions.
+pub fn needs_after<V: Version>(shelf: &Shelf<V>, before: &V, version: &V) -> (usize, usize)
+    requires { IsShelf V.seen V.head_of V.Key.cmp V.bucket_of shelf.now }
+    ensures keys { (map : List V) → IsPut V.seen V.Key.cmp (versions shelf.now) before.now map →
+        result.0 ≡ new_keys V.seen V.Key.cmp map version.now }
+    ensures versions { (map : List V) → IsPut V.seen V.Key.cmp (versions shelf.now) before.now map →
+        result.1 ≡ new_versions V.seen V.Key.cmp map version.now }
+    ensures few_keys { result.0 ≤ 1 }
+    ensures few_versions { result.1 ≤ 1 }
+{
+    let (keys, versions) = needs(shelf, version);
+    if before.key().cmp(version.key()).is_ne() {
+        return (keys, versions);
+    }
+    let (_, came) = needs(shelf, before);
+    if came == 0 {
+        return (0, versions);
+    }
+    (0, usize::from(before.compare(version).is_lt()))
 }
 
 /// Puts a version in where it is greater than the one that its key has, and says whether it did. Where

@@ -5,7 +5,8 @@ ghost use Rattle.std.specs.Option.{option_copied};
 ghost use Rattle.am_merge.specs.Maps.{IsMap, IsJoin, IsLeastExpiry, HasTwice, at, if_live, in_bucket, replaces, swept};
 
 use crate::changes::{
-    copy_shelf, drop_expired, merge_in, needs, order_by_key, put, put_new, shelve, taken_as,
+    copy_shelf, drop_expired, merge_in, needs, needs_after, order_by_key, put, put_new, shelve,
+    taken_as,
 };
 use crate::iter::{InBucket, Iter, walk_bucket, walk_shelf};
 use crate::shelf::{Shelf, empty_shelf, find, reserve, version_at};
@@ -196,7 +197,7 @@ impl<V: Version> Held<V> {
         let is_first_live = now < first.expires();
         let is_second_live = now < second.expires();
         let (first_keys, first_versions) = needs(&self.shelf, &first);
-        let (second_keys, second_versions) = needs(&self.shelf, &second);
+        let (second_keys, second_versions) = needs_after(&self.shelf, &first, &second);
         reserve(
             &mut self.shelf,
             first_keys + second_keys,

@@ -1,25 +1,23 @@
 use Rattle.std.proofs.Common.{◌+◌, sym, ap, ◌∙◌, subst, arith}
 use Rattle.std.specs.Prelude.{IsOk}
 use Rattle.am_merge.specs.Shelves.{versions}
-use Rattle.am_merge.specs.Takings.{new_keys, new_versions}
-use Rattle.am_merge.proofs.Keys.{key_order}
-use Rattle.am_merge.proofs.Steps.{fewer_after, fewer_rooms}
+use Rattle.am_merge.specs.Takings.{IsPut, new_keys, new_versions}
+use Rattle.am_merge.proofs.Steps.{fewer_rooms}
 use Rattle.am_merge.proofs.held.Held.take_pair.Goals as goal
 
 pub returns-in_err-is_second_new-clause-err : goal.returns-in_err-is_second_new-clause-err
 returns-in_err-is_second_new-clause-err g c =
     let before = versions c.reserve.new.shelf in
+    let after = versions c.put.new.shelf in
     let same = sym c.reserve.ensures.versions in
     let first_keys = c.needs-first_keys.ensures.keys ∙ ap (λ map. new_keys g.V.Version.seen g.V.Key.Ord.cmp map c.args.first) same in
     let first_versions = c.needs-first_keys.ensures.versions ∙ ap (λ map. new_versions g.V.Version.seen g.V.Key.Ord.cmp map c.args.first) same in
-    let second_keys = c.needs-second_keys.ensures.keys ∙ ap (λ map. new_keys g.V.Version.seen g.V.Key.Ord.cmp map c.args.second) same in
-    let second_versions = c.needs-second_keys.ensures.versions ∙ ap (λ map. new_versions g.V.Version.seen g.V.Key.Ord.cmp map c.args.second) same in
-    let k = c.needs-second_keys.result.0 in
-    let l = c.needs-second_keys.result.1 in
+    let taken = subst (λ map. IsPut g.V.Version.seen g.V.Key.Ord.cmp map c.args.first after) (sym same) c.in_ok-is_first_new.ensures.put in
+    let second_keys = c.needs_after-second_keys.ensures.keys after taken in
+    let second_versions = c.needs_after-second_keys.ensures.versions after taken in
+    let k = c.needs_after-second_keys.result.0 in
+    let l = c.needs_after-second_keys.result.1 in
     let wide = fewer_rooms c.reserve.new.shelf (c.needs-first_keys.result.0 + k) (c.needs-first_keys.result.1 + l) (k + new_keys g.V.Version.seen g.V.Key.Ord.cmp before c.args.first) (l + new_versions g.V.Version.seen g.V.Key.Ord.cmp before c.args.first) (omega arith) (omega arith) c.in_ok-reserve.ensures.room in
     let left = c.put.ensures.room k l wide in
-    let fewer = fewer_after g.V.Version.seen g.V.Key.Ord.cmp (key_order g.met.V.Key.Ord.total g.met.V.Version.exact_keys) before (versions c.put.new.shelf) c.args.first c.args.second c.in_ok-is_first_new.ensures.put in
-    let fewer_keys = fewer.0 in
-    let fewer_versions = fewer.1 in
-    let never = subst IsOk c.in_err-is_second_new.was (c.put-2.ensures.succeeds (fewer_rooms c.put.new.shelf k l (new_keys g.V.Version.seen g.V.Key.Ord.cmp (versions c.put.new.shelf) c.args.second) (new_versions g.V.Version.seen g.V.Key.Ord.cmp (versions c.put.new.shelf) c.args.second) (omega arith) (omega arith) left)) in
+    let never = subst IsOk c.in_err-is_second_new.was (c.put-2.ensures.succeeds (fewer_rooms c.put.new.shelf k l (new_keys g.V.Version.seen g.V.Key.Ord.cmp after c.args.second) (new_versions g.V.Version.seen g.V.Key.Ord.cmp after c.args.second) (omega arith) (omega arith) left)) in
     absurd cc
