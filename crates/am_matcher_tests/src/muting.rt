@@ -287,6 +287,13 @@ fn silences_with_broken_patterns_are_told(rt: HostRuntime) {
     assert_eq!(rt; wrong, None);
 }
 
+/// Where memory runs out there is no other answer.
+#[test]
+fn want_of_memory_mutes_nothing_else(rt: HostRuntime) {
+    let so = one_mutes(rt.alloc(), &[JOB_IS_X], 200, &[("job", "x")], 50, ("p", ""));
+    assert!(rt; so != Ok(false));
+}
+
 /// How many labels there are in the list, and in what it gives back.
 fn label_counts(alloc: Global) -> Result<[usize; 2], AllocError> {
     let labels = labels_of(alloc, &[("job", "x")])?;
