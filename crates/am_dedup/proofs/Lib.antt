@@ -1,2 +1,3 @@
 mod Decides
+mod Marks
 mod Sets

@@ -8,7 +8,9 @@ use Rattle.std.proofs.lemmas.Cmp.{nat_cmp_total}
 use Rattle.std.proofs.lemmas.List.Elements.{All-contains}
 use Rattle.std.proofs.lemmas.List.{take-append-drop, length-drop, length-take-le}
 use Rattle.std.proofs.Math.Seq.{take-length}
-use Rattle.std.proofs.lemmas.List.Folds.{list_any-append, list_any-from_Any, list_all_at}
+use Rattle.std.proofs.lemmas.List.Folds.{list_any-append, list_all-append, list_any-from_Any, list_all_at}
+use Rattle.std.specs.List.Sorted.{IsPermutation}
+use Rattle.std.proofs.lemmas.List.Sorted.{Contains-permutation, IsPermutation-sym}
 use Rattle.std.proofs.lemmas.List.Sums.{AllPass-from_list_all}
 use Rattle.std.proofs.lemmas.Map.Views.{Contains-from_any}
 use Rattle.am_dedup.specs.Decisions.{set_of, has_none}
@@ -26,9 +28,13 @@ is_itself q = search rules
 pub member_of : (hashes : List ℕ) (hash : ℕ) → is_among hashes hash ≡ true → Contains hashes hash
 member_of hashes hash = Contains-from_any {eq = λ q y. nat_eq y q} (λ q y e. sym (is_same y q e)) hash hashes
 
-or_true : (b : Bool) → (b || true) ≡ true
+pub or_true : (b : Bool) → (b || true) ≡ true
 or_true true = refl
 or_true false = refl
+
+pub or_false : (b : Bool) → (b || false) ≡ b
+or_false true = refl
+or_false false = refl
 
 -- what holds of each hash that is among them holds of all
 pub all_of : (p : ℕ → Bool) (hashes : List ℕ) → ((hash : ℕ) → is_among hashes hash ≡ true → p hash ≡ true) → list_all p hashes ≡ true
@@ -105,3 +111,25 @@ alike hashes others same =
 -- all that were looked for were found
 pub all_within : (hashes others : List ℕ) (count : ℕ) → count ≡ length hashes → list_all (is_among others) (take count hashes) ≡ true → is_subset (set_of hashes) (set_of others) ≡ true
 all_within hashes others count all found = subset_is hashes others ∙ ap (list_all (is_among others)) (sym (ap (λ n. take n hashes) all ∙ take-length hashes)) ∙ found
+
+-- a set is within another where each part of its list is
+pub parts_within : (hashes others : List ℕ) (count : ℕ) → is_subset (set_of hashes) (set_of others) ≡ (is_subset (set_of (take count hashes)) (set_of others) && is_subset (set_of (drop count hashes)) (set_of others))
+parts_within hashes others count =
+    subset_is hashes others
+    ∙ ap (list_all (is_among others)) (sym (take-append-drop count hashes))
+    ∙ list_all-append (is_among others) (take count hashes) (drop count hashes)
+    ∙ sym (ap (λ b. b && is_subset (set_of (drop count hashes)) (set_of others)) (subset_is (take count hashes) others) ∙ ap (λ b. list_all (is_among others) (take count hashes) && b) (subset_is (drop count hashes) others))
+
+-- an order of the hashes makes the same set
+pub any_order : (hashes others : List ℕ) → IsPermutation hashes others → set_of hashes ≡ set_of others
+any_order hashes others moved = alike hashes others (λ hash. (Contains-permutation hashes others hash moved, Contains-permutation others hashes hash (IsPermutation-sym hashes others moved)))
+
+-- where a list has no hash, its set is within any
+pub none_within : (hashes others : List ℕ) → length hashes ≡ 0 → is_subset (set_of hashes) (set_of others) ≡ true
+none_within hashes others none = all_within hashes others 0 (sym none) refl
+
+-- what is within another set is left to its last part, where the first is
+pub last_part : (hashes others : List ℕ) (count : ℕ) → list_all (is_among others) (take count hashes) ≡ true → is_subset (set_of (take (length hashes - count) (drop count hashes))) (set_of others) ≡ is_subset (set_of hashes) (set_of others)
+last_part hashes others count first =
+    ap (λ l. is_subset (set_of l) (set_of others)) (to_end hashes count)
+    ∙ sym (parts_within hashes others count ∙ ap (λ b. b && is_subset (set_of (drop count hashes)) (set_of others)) (subset_is (take count hashes) others ∙ first))

@@ -1,13 +1,20 @@
 //! Whether a group of alerts is notified.
 
-ghost use Rattle.std.specs.Prelude.{◌≡◌, ◌+◌, ◌<◌, ◌≤◌, length, option_map, nat_eq, nat_lt, true, false, IfSome, IfNone};
+ghost use Rattle.std.specs.Prelude.{◌≡◌, ◌+◌, ◌<◌, ◌≤◌, length, option_map, nat_eq, ℕ, Some, get_or, nat_lt, true, false, IfSome, IfNone};
 ghost use Rattle.std.specs.FinSet.{is_subset};
-ghost use Rattle.std.specs.List.{list_any};
+ghost use Rattle.std.specs.List.{list_any, position};
+ghost use Rattle.std.specs.List.Sorted.{IsNonDecreasing};
 ghost use Rattle.std.specs.Option.{option_copied};
 ghost use Rattle.am_dedup.specs.Decisions.{decision, decision_after, has_none, logged, set_of};
 
 use am_nflog::Entry;
 use am_version_order::{Interval, Moment};
+
+// So many hashes are looked for at a time where they come in no order.
+const GROUP: usize = 1_024;
+
+// So many hashes may be found before the place behind the last one, until it counts as no order.
+const TURNS: usize = 8;
 
 /// Why a group is notified.
 #[derive(Clone, Copy, Debug, PartialEq, Eq)]
@@ -94,14 +101,24 @@ fn has_none(hashes: &[u64]) -> bool
     hashes.is_empty()
 }
 
-// Whether each of the hashes is listed. Each is looked for first behind the one found before it.
+// Whether each of the hashes is listed. Each is looked for first behind the one found before it. Where some were found
+// before that place, the hashes come in no order, and the rest of them is looked for in groups.
 fn is_within(hashes: &[u64], listed: &[u64]) -> bool
     ensures { result ≡ is_subset (set_of hashes.now) (set_of listed.now) }
 {
     let mut behind = 0;
-    for hash in hashes {
+    let mut turns_left = TURNS;
+    for (count, hash) in hashes.iter().enumerate() {
+        if turns_left == 0 {
+            return are_groups_within(&hashes[count..], listed);
+        }
         match place_of(*hash, listed, behind) {
-            Some(place) => behind = place + 1,
+            Some(place) => {
+                if place < behind {
+                    turns_left -= 1;
+                }
+                behind = place + 1;
+            }
             None => return false,
         }
     }
@@ -130,4 +147,78 @@ fn first_place_of(hash: u64, hashes: &[u64]) -> Option<usize>
         }
     }
     None
+}
+
+// Whether each of the hashes is listed, by groups of them.
+fn are_groups_within(hashes: &[u64], listed: &[u64]) -> bool
+    ensures { result ≡ is_subset (set_of hashes.now) (set_of listed.now) }
+{
+    let mut rest = hashes;
+    while !rest.is_empty() {
+        let (group, behind) = rest.split_at(rest.len().min(GROUP));
+        if !is_group_within(group, listed) {
+            return false;
+        }
+        rest = behind;
+    }
+    true
+}
+
+// Whether each hash of a group is listed. The group is sorted in an array, so that no memory is taken.
+fn is_group_within(group: &[u64], listed: &[u64]) -> bool
+    requires { length group.now ≤ 1024 }
+    ensures { result ≡ is_subset (set_of group.now) (set_of listed.now) }
+{
+    let mut room = [0; GROUP];
+    let sorted = &mut room[..group.len()];
+    sorted.copy_from_slice(group);
+    sorted.sort_unstable();
+    is_sorted_within(sorted, listed)
+}
+
+// Whether each of the sorted hashes is listed.
+fn is_sorted_within(sorted: &[u64], listed: &[u64]) -> bool
+    requires fits { length sorted.now ≤ 1024 }
+    requires sorted { IsNonDecreasing sorted.now }
+    ensures { result ≡ is_subset (set_of sorted.now) (set_of listed.now) }
+{
+    let marks = marks_of(sorted, listed);
+    for hash in sorted {
+        let Some(place) = sorted_place_of(*hash, sorted) else {
+            return false;
+        };
+        if !marks[place] {
+            return false;
+        }
+    }
+    true
+}
+
+// Which of the sorted hashes are listed, by their first places.
+fn marks_of(sorted: &[u64], listed: &[u64]) -> [bool; GROUP]
+    requires fits { length sorted.now ≤ 1024 }
+    requires sorted { IsNonDecreasing sorted.now }
+    ensures { (hash place : ℕ) → position (λ y. nat_eq y hash) sorted.now ≡ Some place →
+        get_or result place false ≡ list_any (λ y. nat_eq y hash) listed.now }
+{
+    let mut marks = [false; GROUP];
+    for hash in listed {
+        if let Some(place) = sorted_place_of(*hash, sorted) {
+            marks[place] = true;
+        }
+    }
+    marks
+}
+
+// The first place of a hash among sorted ones.
+fn sorted_place_of(hash: u64, sorted: &[u64]) -> Option<usize>
+    requires { IsNonDecreasing sorted.now }
+    ensures { result ≡ position (λ y. nat_eq y hash) sorted.now }
+{
+    let place = sorted.partition_point(|other| *other < hash);
+    if place < sorted.len() && sorted[place] == hash {
+        Some(place)
+    } else {
+        None
+    }
 }
