@@ -3,7 +3,7 @@
     python3 bench/decide.py [--rounds N]
 
 For each order and length: the least time of the rounds in nanoseconds, and the ratio to the plain program. `same` is
-the order of the entry, `reversed` the worst one.
+the order of the entry, `reversed` the opposite one, and `scrambled` none.
 """
 import building
 

@@ -116,6 +116,107 @@ fn a_group_without_an_entry_is_notified_where_something_fires(rt: HostRuntime) {
     assert!(rt; quiet == Decision::Skip && firing == Decision::Notify(Reason::First));
 }
 
+const MOST: usize = 4_096;
+
+/// How many hashes the entry lists as firing and how many fire, how far apart in the entry's order, and the place of one
+/// that isn't listed.
+type Long = (usize, usize, u64, Option<usize>);
+
+// The hash at a place of the entry's order; those of different places differ.
+fn nth(place: u64) -> u64 {
+    place.wrapping_mul(0x9E37_79B9_7F4A_7C15)
+}
+
+// Hashes of so many places, so far apart, and from the front again behind the last.
+fn spread(hashes: &mut [u64], places: u64, step: u64) {
+    for (place, hash) in hashes.iter_mut().enumerate() {
+        *hash = nth((place as u64).wrapping_mul(step) % places.max(1));
+    }
+}
+
+// The decision over a row's long lists.
+fn long_decided(alloc: Global, row: Long) -> Result<Decision, AllocError> {
+    let (listed_count, firing_count, step, missing) = row;
+    let mut listed = [0; MOST];
+    spread(&mut listed, MOST as u64, 1);
+    let mut firing = [0; MOST];
+    spread(&mut firing, listed_count as u64, step);
+    if let Some(hash) = missing.and_then(|place| firing.get_mut(place)) {
+        *hash = nth(listed_count as u64);
+    }
+    let entry = entry(alloc, &listed[..listed_count.min(MOST)])?;
+    let firing = &firing[..firing_count.min(MOST)];
+    Ok(decide(Some(&entry), firing, &[], minute(), true, at(160, 0)))
+}
+
+// Sees that each row is skipped, and notified where a hash isn't listed.
+fn are_long_decided(rt: &impl Abort, alloc: Global, rows: &[Long]) {
+    for row in rows {
+        let decision = long_decided(alloc, *row);
+        let expected = match row.3 {
+            Some(_) => Decision::Notify(Reason::NewFiring),
+            None => Decision::Skip,
+        };
+        assert!(rt; decision == Ok(expected), "{row:?} {decision:?}");
+    }
+}
+
+// The first ten are looked for one by one, the others by 1,024.
+const REVERSED: [Long; 14] = [
+    (9, 9, 8, None),
+    (12, 12, 11, Some(11)),
+    (1_033, 1_033, 1_032, None),
+    (1_033, 1_033, 1_032, Some(1_032)),
+    (1_034, 1_034, 1_033, None),
+    (1_034, 1_034, 1_033, Some(1_033)),
+    (1_035, 1_035, 1_034, None),
+    (1_035, 1_035, 1_034, Some(1_034)),
+    (2_059, 2_059, 2_058, None),
+    (2_059, 2_059, 2_058, Some(2_058)),
+    (4_000, 4_000, 3_999, None),
+    (4_000, 4_000, 3_999, Some(10)),
+    (4_000, 4_000, 3_999, Some(2_000)),
+    (4_000, 4_000, 3_999, Some(3_999)),
+];
+
+#[test]
+fn reversed_hashes_are_found(rt: HostRuntime) {
+    are_long_decided(&rt, rt.alloc(), &REVERSED);
+}
+
+const SCRAMBLED: [Long; 12] = [
+    (1_023, 1_023, 787, None),
+    (1_024, 1_024, 787, Some(1_023)),
+    (1_025, 1_025, 787, Some(512)),
+    (2_049, 2_049, 787, None),
+    (2_049, 2_049, 787, Some(1_034)),
+    (4_000, 4_000, 787, None),
+    (4_000, 4_000, 787, Some(0)),
+    (4_000, 4_000, 787, Some(2_000)),
+    (4_000, 4_000, 787, Some(3_999)),
+    (4_000, 20, 787, None),
+    (4_000, 20, 787, Some(19)),
+    (20, 4_000, 19, Some(3_999)),
+];
+
+#[test]
+fn scrambled_hashes_are_found(rt: HostRuntime) {
+    are_long_decided(&rt, rt.alloc(), &SCRAMBLED);
+}
+
+const REPEATED: [Long; 5] = [
+    (1, 4_000, 0, None),
+    (20, 4_000, 19, None),
+    (20, 4_000, 19, Some(2_000)),
+    (2_048, 4_000, 1_022, None),
+    (2_048, 4_000, 1_022, Some(3_999)),
+];
+
+#[test]
+fn repeated_hashes_are_found(rt: HostRuntime) {
+    are_long_decided(&rt, rt.alloc(), &REPEATED);
+}
+
 #[test]
 fn instances_are_due_in_turn(rt: HostRuntime) {
     let timeout = Interval::from_nanos(15_000_000_000).unwrap();

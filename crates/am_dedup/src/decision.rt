@@ -10,10 +10,10 @@ ghost use Rattle.am_dedup.specs.Decisions.{decision, decision_after, has_none, l
 use am_nflog::Entry;
 use am_version_order::{Interval, Moment};
 
-// So many hashes are looked for at a time where they come in no order.
+// So many hashes are looked for in one walk over the entry's, where they come in no order.
 const GROUP: usize = 1_024;
 
-// So many hashes may be found before the place behind the last one, until it counts as no order.
+// Where so many hashes were found before the place behind the last one, they come in no order.
 const TURNS: usize = 8;
 
 /// Why a group is notified.
@@ -39,8 +39,8 @@ pub enum Decision {
 }
 
 /// Whether a group is notified at `now`, of which the view of the log has this entry or none. The lists of alert
-/// hashes count as sets. It takes no memory; lists in the order of the entry's take linear time, others at most the
-/// product of the lengths.
+/// hashes count as sets. It takes no memory. Lists in the order of the entry's take linear time; in any other order each
+/// 1,024 hashes take one walk over the entry's, with a search by halving among the 1,024 at each.
 #[tactic(auto, unfolding(crate::specs::Decisions::decision))]
 pub fn decide(
     entry: Option<&Entry>,
@@ -101,8 +101,8 @@ fn has_none(hashes: &[u64]) -> bool
     hashes.is_empty()
 }
 
-// Whether each of the hashes is listed. Each is looked for first behind the one found before it. Where some were found
-// before that place, the hashes come in no order, and the rest of them is looked for in groups.
+// Whether each of the hashes is listed. Each is looked for first behind the one found before it, and the rest of those
+// that come in no order by groups.
 fn is_within(hashes: &[u64], listed: &[u64]) -> bool
     ensures { result ≡ is_subset (set_of hashes.now) (set_of listed.now) }
 {
