@@ -1,5 +1,5 @@
 -- Sorted hashes, their first places, and the marks at these.
-use Rattle.std.proofs.Common.{arith, ◌≡◌, ℕ, ◌+◌, ◌<◌, ◌≤◌, take, Bool, true, false, refl, sym, ◌∙◌, ap, cond, List, length, get_or, Option, Some, None, nat_eq, nat_lt, ◌||◌, set}
+use Rattle.std.proofs.Common.{arith, ◌≡◌, ℕ, ◌+◌, ◌<◌, ◌≤◌, ◌%◌, take, Bool, true, false, refl, sym, ◌∙◌, ap, cond, List, length, get_or, Option, Some, None, nat_eq, nat_lt, ◌||◌, set}
 use Rattle.std.specs.List.{position, position_or_len}
 use Rattle.std.specs.List.Sorted.{IsNonDecreasing}
 use Rattle.std.proofs.lemmas.Bool.Decides.{nat_tests}
@@ -87,4 +87,36 @@ marks_same sorted listed marks i within none marked hash place first =
     elim (nat_eq (get_or listed i 0) hash) as (λ b. nat_eq (get_or listed i 0) hash ≡ b → get_or marks place false ≡ is_among (take (i + 1) listed) hash) [
       | true ↦ λ e. absurd (cc (sym none ∙ ap (first_place sorted) (is_same _ _ e) ∙ first))
       | false ↦ λ e. marked hash place first ∙ sym (list_any_more (λ y. nat_eq y hash) listed i 0 within ∙ ap (λ b. is_among (take i listed) hash || b) e ∙ or_false _)
+    ] refl
+
+-- a table that has each hash's remainder
+abbrev pub HasRemainders : List ℕ → List Bool → Type 0
+HasRemainders hashes met = (i : ℕ) → i < length hashes → get_or met (get_or hashes i 0 % 8192) false ≡ true
+
+-- a hash of another remainder is nowhere
+pub unmet : (hashes : List ℕ) (met : List Bool) (hash : ℕ) → HasRemainders hashes met → get_or met (hash % 8192) false ≡ false → None ≡ first_place hashes hash
+unmet hashes met hash has none =
+    elim (first_place hashes hash) as (λ o. first_place hashes hash ≡ o → None ≡ o) [
+      | None ↦ λ e. refl
+      | Some place ↦ λ e.
+          let is : get_or hashes place 0 ≡ hash = is_same _ _ (position-Some (λ y. nat_eq y hash) hashes place 0 e).1 in
+          absurd (cc (sym none ∙ ap (λ h. get_or met (h % 8192) false) (sym is) ∙ has place (is_within hashes hash place e)))
+    ] refl
+
+-- the table of one more hash
+pub met_more : (hashes : List ℕ) (met : List Bool) (n : ℕ) → length met ≡ 8192 → ((i : ℕ) → i < n → get_or met (get_or hashes i 0 % 8192) false ≡ true) → (i : ℕ) → i < n + 1 → get_or (set met (get_or hashes n 0 % 8192) true) (get_or hashes i 0 % 8192) false ≡ true
+met_more hashes met n long has i below =
+    let at : ℕ → ℕ = λ (k : ℕ). get_or hashes k 0 % 8192 in
+    let fits : at n < length met = omega (arith, long) in
+    elim (nat_eq (at i) (at n)) as (λ b. nat_eq (at i) (at n) ≡ b → get_or (set met (at n) true) (at i) false ≡ true) [
+      | true ↦ λ e. ap (λ k. get_or (set met (at n) true) k false) (is_same (at i) (at n) e) ∙ get_or-set_same met (at n) true false fits
+      | false ↦ λ e.
+          let other : at i ≡ at n → ⊥ = λ one. absurd (cc (sym e ∙ ap (λ k. nat_eq k (at n)) one ∙ is_itself (at n))) in
+          let before : i < n = elim (nat_lt i n) as (λ b. nat_lt i n ≡ b → i < n) [
+            | true ↦ λ f. grind (arith, nat_tests)
+            | false ↦ λ f.
+                let last : i ≡ n = grind (arith, nat_tests) in
+                absurd (other (ap at last))
+          ] refl in
+          get_or-set_other met (at n) (at i) true false other ∙ has i before
     ] refl

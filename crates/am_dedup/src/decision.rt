@@ -1,6 +1,6 @@
 //! Whether a group of alerts is notified.
 
-ghost use Rattle.std.specs.Prelude.{◌≡◌, ◌+◌, ◌<◌, ◌≤◌, length, option_map, nat_eq, ℕ, Some, get_or, nat_lt, true, false, IfSome, IfNone};
+ghost use Rattle.std.specs.Prelude.{◌≡◌, ◌+◌, ◌%◌, ◌<◌, ◌≤◌, length, option_map, nat_eq, ℕ, Some, get_or, nat_lt, true, false, IfSome, IfNone};
 ghost use Rattle.std.specs.FinSet.{is_subset};
 ghost use Rattle.std.specs.List.{list_any, position};
 ghost use Rattle.std.specs.List.Sorted.{IsNonDecreasing};
@@ -15,6 +15,9 @@ const GROUP: usize = 1_024;
 
 // Where so many hashes were found before the place behind the last one, they come in no order.
 const TURNS: usize = 8;
+
+// By so many remainders hashes are told apart, before one is searched for.
+const REMAINDERS: u64 = 8_192;
 
 /// Why a group is notified.
 #[derive(Clone, Copy, Debug, PartialEq, Eq)]
@@ -201,13 +204,39 @@ fn marks_of(sorted: &[u64], listed: &[u64]) -> [bool; GROUP]
     ensures { (hash place : ℕ) → position (λ y. nat_eq y hash) sorted.now ≡ Some place →
         get_or result place false ≡ list_any (λ y. nat_eq y hash) listed.now }
 {
+    let met = remainders_of(sorted);
     let mut marks = [false; GROUP];
     for hash in listed {
-        if let Some(place) = sorted_place_of(*hash, sorted) {
+        if let Some(place) = met_place_of(*hash, sorted, &met) {
             marks[place] = true;
         }
     }
     marks
+}
+
+// Which remainders the hashes have.
+fn remainders_of(hashes: &[u64]) -> [bool; REMAINDERS as usize]
+    ensures { (i : ℕ) → i < length hashes.now → get_or result (get_or hashes.now i 0 % 8192) false ≡ true }
+{
+    let mut met = [false; REMAINDERS as usize];
+    for hash in hashes {
+        met[(*hash % REMAINDERS) as usize] = true;
+    }
+    met
+}
+
+// The first place of a hash among sorted ones with these remainders. Most hashes that are not among them are told by
+// their remainder.
+fn met_place_of(hash: u64, sorted: &[u64], met: &[bool; REMAINDERS as usize]) -> Option<usize>
+    requires sorted { IsNonDecreasing sorted.now }
+    requires met { (i : ℕ) → i < length sorted.now → get_or met.now (get_or sorted.now i 0 % 8192) false ≡ true }
+    ensures { result ≡ position (λ y. nat_eq y hash) sorted.now }
+{
+    if met[(hash % REMAINDERS) as usize] {
+        sorted_place_of(hash, sorted)
+    } else {
+        None
+    }
 }
 
 // The first place of a hash among sorted ones.

@@ -16,9 +16,9 @@ loop-hash-init c = (
 
 pub loop-hash-preserved : goal.loop-hash-preserved
 loop-hash-preserved c =
-    elim c.match-sorted_place_of.branch [
+    elim c.match-met_place_of.branch [
       | in-Some w ↦
-          let first = sym c.sorted_place_of.ensures ∙ w.in-Some.is in
+          let first = sym c.met_place_of.ensures ∙ w.in-Some.is in
           let within = is_within c.args.sorted.now _ w.in-Some.place first in
           let fits : w.in-Some.place < length c.loop-hash.marks = omega (arith, within, c.requires.fits, c.loop-hash.invariant.0) in (
             ap length w.marks-is ∙ length-set c.loop-hash.marks w.in-Some.place true ∙ c.loop-hash.invariant.0,
@@ -26,7 +26,7 @@ loop-hash-preserved c =
           )
       | in_default w ↦ (
         ap length w.marks-is ∙ c.loop-hash.invariant.0,
-        rw w.marks-is (marks_same c.args.sorted.now c.args.listed.now c.loop-hash.marks c.loop-hash.hash-index c.loop-hash-test.true (sym c.sorted_place_of.ensures ∙ w.in_default.is) c.loop-hash.invariant.1),
+        rw w.marks-is (marks_same c.args.sorted.now c.args.listed.now c.loop-hash.marks c.loop-hash.hash-index c.loop-hash-test.true (sym c.met_place_of.ensures ∙ w.in_default.is) c.loop-hash.invariant.1),
       )
     ]
 
