@@ -4,12 +4,18 @@ use am_silence::{Matcher, MatcherKind, Matchers, MeshSilence, Silence};
 use am_version_order::{Interval, Moment};
 use am_wire::{Text, WireError};
 use std::alloc::{AllocError, Global};
+use std::process::Abort;
 
 /// Kind, name and pattern of a matcher.
 pub type MatcherRow = (MatcherKind, &'static str, &'static str);
 
 /// EQUAL job `x`.
 pub const JOB_IS_X: [MatcherRow; 1] = [(MatcherKind::Equal, "job", "x")];
+
+/// Sees that it holds.
+pub fn holds(rt: &impl Abort, answer: Result<bool, WireError>) {
+    assert_eq!(rt; answer, Ok(true));
+}
 
 /// The moment of so many milliseconds since 1970.
 pub fn at(millis: u64) -> Moment {

@@ -1,9 +1,11 @@
 //! What posts and ends of silences make.
 
-use crate::fixtures::{JOB_IS_X, at, matchers, retention, version};
+use crate::fixtures::{JOB_IS_X, at, holds, matchers, retention, version};
 use am_silence::SilenceError::{
-    AllMatchEmpty, BadPattern, EmptyName, EndInPast, EndNotAfterStart, IdInUse, NoMatcher, NotFound,
+    AllMatchEmpty, AlreadyExpired, BadPattern, EmptyName, EndInPast, EndNotAfterStart, IdInUse,
+    NoMatcher, NotFound,
 };
+use am_silence::Verdict::{AllEmpty, Bad, Fine};
 use am_silence::{
     MatcherKind, Matchers, MeshSilence, Plan, Posted, Silence, SilenceError, State, Verdict,
     plan_expire, plan_post, state_at,
@@ -12,7 +14,7 @@ use am_version_order::{Moment, Version};
 use am_wire::{Message, WireError};
 use std::alloc::{AllocError, Global};
 use std::cmp::Ordering;
-use std::test::Fail;
+use std::process::Abort;
 
 /// The silence `a` by `ops` with the comment `hi`, and nothing else.
 const TEXTS: [u8; 12] = [
@@ -31,12 +33,25 @@ const PENDING: Option<Held> = Some([50_000, 100_000, 10_000]);
 
 const EXPIRED: Option<Held> = Some([10_000, 15_000, 10_000]);
 
+const ENDING: Option<Held> = Some([10_000, 20_000, 20_000]);
+
 const NEWER: Option<Held> = Some([10_000, 100_000, 20_000]);
 
 const JUST_ENDED: Option<Held> = Some([10_000, 15_000, 20_000]);
 
+/// How a post names its silence.
+#[derive(Clone, Copy, Debug)]
+enum Named {
+    /// Not at all.
+    Anew,
+    /// By the identifier `a`.
+    Again,
+    /// By the identifier `a`, where the fresh identifier is held.
+    InUse,
+}
+
 /// The matchers of a post.
-#[derive(Clone, Copy)]
+#[derive(Clone, Copy, Debug)]
 enum PostedMatchers {
     None,
     Unnamed,
@@ -44,44 +59,41 @@ enum PostedMatchers {
     JobIsY,
 }
 
-/// A post by `ops` with the comment `hi`.
-#[derive(Clone, Copy)]
-struct PostRow {
-    /// Under the identifier `a`, or under none.
-    again: bool,
-    matchers: PostedMatchers,
-    starts_at: u64,
-    ends_at: u64,
-    verdict: Verdict,
-    bits: u128,
-    id_held: bool,
-}
+/// A post by `ops` with the comment `hi`: how it names its silence, its matchers and what is known of them, and
+/// its start and end.
+type Post = (Named, PostedMatchers, Verdict, u64, u64);
 
-fn post(again: bool, starts_at: u64, ends_at: u64, id_held: bool) -> PostRow {
-    PostRow {
-        again,
-        matchers: PostedMatchers::JobIsX,
-        starts_at,
-        ends_at,
-        verdict: Verdict::Fine,
-        bits: 0,
-        id_held,
-    }
-}
+/// Seconds and nanoseconds since 1970.
+type Time = (i64, u32);
 
-// A post of job `x` under the identifier `a`, with its start and its end.
-fn again(starts_at: u64, ends_at: u64) -> PostRow {
-    post(true, starts_at, ends_at, false)
-}
+/// Start, end, update moment and expiry.
+type Moments = [Time; 4];
 
-// The same, where the fresh identifier is held.
-fn fresh_id_held(starts_at: u64, ends_at: u64) -> PostRow {
-    post(true, starts_at, ends_at, true)
-}
+/// A version that a post makes at 20 s, and that ends at 200 s.
+const FROM_10_9: Moments = [(10, 900_000_000), (200, 0), (20, 0), (300, 0)];
 
-// The same without an identifier.
-fn anew(starts_at: u64, ends_at: u64) -> PostRow {
-    post(false, starts_at, ends_at, false)
+const FROM_20: Moments = [(20, 0), (200, 0), (20, 0), (300, 0)];
+
+const FROM_30: Moments = [(30, 0), (200, 0), (20, 0), (300, 0)];
+
+/// A version that is ended at 20 s.
+const ENDED_FROM_10: Moments = [(10, 0), (20, 0), (20, 0), (120, 0)];
+
+const ENDED_FROM_20: Moments = [(20, 0), (20, 0), (20, 0), (120, 0)];
+
+/// What comes of a post or an end.
+#[derive(Clone, Copy, Debug, PartialEq, Eq)]
+enum Answer {
+    Updated(Moments),
+    Created(Moments),
+    Replaced { new: Moments, ended: Moments },
+    Ended(Moments),
+    /// A silence is ended under another identifier.
+    Renamed,
+    /// The version that is held was updated then.
+    Newer(Time),
+    /// Another refusal.
+    Refused(SilenceError),
 }
 
 fn held(alloc: Global, moments: Held) -> Result<MeshSilence, WireError> {
@@ -98,8 +110,9 @@ fn posted_matchers(alloc: Global, posted: PostedMatchers) -> Result<Matchers, Al
     }
 }
 
-fn posted(alloc: Global, row: PostRow) -> Result<Posted, WireError> {
-    let matchers = posted_matchers(alloc, row.matchers)?;
+fn posted(alloc: Global, post: Post) -> Result<Posted, WireError> {
+    let (named, posted, _, starts_at, ends_at) = post;
+    let matchers = posted_matchers(alloc, posted)?;
     let texts = Silence::decode(alloc, &TEXTS)?;
     let Silence {
         id,
@@ -108,285 +121,360 @@ fn posted(alloc: Global, row: PostRow) -> Result<Posted, WireError> {
         ..
     } = texts;
     Ok(Posted {
-        id: if row.again { Some(id) } else { None },
+        id: match named {
+            Named::Anew => None,
+            _ => Some(id),
+        },
         matchers,
-        starts_at: at(row.starts_at),
-        ends_at: at(row.ends_at),
+        starts_at: at(starts_at),
+        ends_at: at(ends_at),
         created_by,
         comment,
     })
 }
 
-fn planned(alloc: Global, prev: Option<&MeshSilence>, row: PostRow) -> Result<Plan, SilenceError> {
-    let Ok(posted) = posted(alloc, row) else {
+// The plan of a post over the version that is there, where the bits are random.
+fn planned(
+    alloc: Global,
+    prev: Option<&MeshSilence>,
+    post: Post,
+    bits: u128,
+) -> Result<Plan, SilenceError> {
+    let (named, _, verdict, _, _) = post;
+    let id_held = match named {
+        Named::InUse => true,
+        _ => false,
+    };
+    let Ok(posted) = posted(alloc, post) else {
         return Err(SilenceError::Memory);
     };
     plan_post(
         alloc,
         prev,
         posted,
-        row.verdict,
+        verdict,
         at(NOW),
-        row.bits,
-        row.id_held,
+        bits,
+        id_held,
         retention(),
     )
 }
 
-/// Start, end, update moment and expiry.
-#[derive(Clone, Copy, PartialEq, Eq)]
-struct Moments([Moment; 4]);
-
 fn moments_of(version: &MeshSilence) -> Moments {
     let silence = version.silence();
-    Moments([
-        silence.starts_at,
-        silence.ends_at,
-        version.updated(),
-        version.expires(),
-    ])
+    [
+        silence.starts_at.parts(),
+        silence.ends_at.parts(),
+        version.updated().parts(),
+        version.expires().parts(),
+    ]
 }
 
-#[derive(Clone, Copy, PartialEq, Eq)]
-enum Answer {
-    Updated(Moments),
-    Created(Moments),
-    Replaced { new: Moments, ended: Moments },
-    Refused(SilenceError),
-}
-
-fn answer_over(alloc: Global, prev: Option<&MeshSilence>, row: PostRow) -> Answer {
-    match planned(alloc, prev, row) {
-        Ok(Plan::Update(version)) => Answer::Updated(moments_of(&version)),
-        Ok(Plan::Create(version)) => Answer::Created(moments_of(&version)),
-        Ok(Plan::Replace { new, old }) => Answer::Replaced {
-            new: moments_of(&new),
-            ended: moments_of(&old),
+fn answer_of(plan: &Plan) -> Answer {
+    match plan {
+        Plan::Update(version) => Answer::Updated(moments_of(version)),
+        Plan::Create(version) => Answer::Created(moments_of(version)),
+        Plan::Replace { new, old } => Answer::Replaced {
+            new: moments_of(new),
+            ended: moments_of(old),
         },
-        Err(error) => Answer::Refused(error),
     }
 }
 
-// What is planned over the version that is there, if one is.
-fn answer_for(alloc: Global, there: Option<Held>, row: PostRow) -> Result<Answer, WireError> {
+fn refused(error: SilenceError) -> Answer {
+    match error {
+        SilenceError::Newer { held } => Answer::Newer(held.parts()),
+        _ => Answer::Refused(error),
+    }
+}
+
+fn post_over(alloc: Global, prev: Option<&MeshSilence>, post: Post) -> Answer {
+    match planned(alloc, prev, post, 0) {
+        Ok(plan) => answer_of(&plan),
+        Err(error) => refused(error),
+    }
+}
+
+// What comes of a post over the version that is there, if one is.
+fn post_answer(alloc: Global, there: Option<Held>, post: Post) -> Result<Answer, WireError> {
     let Some(moments) = there else {
-        return Ok(answer_over(alloc, None, row));
+        return Ok(post_over(alloc, None, post));
     };
     let prev = held(alloc, moments)?;
-    Ok(answer_over(alloc, Some(&prev), row))
+    Ok(post_over(alloc, Some(&prev), post))
 }
 
-// A version that is made at 20 s, and ends at 200 s.
-fn made(starts_at: u64) -> Moments {
-    Moments([at(starts_at), at(200_000), at(NOW), at(300_000)])
-}
+/// What is there, the post, and what comes of it.
+type PostRow = (Option<Held>, Post, Answer);
 
-fn updated(starts_at: u64) -> Answer {
-    Answer::Updated(made(starts_at))
-}
-
-fn created(starts_at: u64) -> Answer {
-    Answer::Created(made(starts_at))
-}
-
-// A new silence that starts at 20 s, and the one that is held ended with this start.
-fn replaced(starts_at: u64) -> Answer {
-    Answer::Replaced {
-        new: made(NOW),
-        ended: Moments([at(starts_at), at(NOW), at(NOW), at(120_000)]),
+// Sees that this comes of the posts.
+fn are_answered(rt: &impl Abort, alloc: Global, rows: &[PostRow]) {
+    for (there, post, wanted) in rows {
+        let found = post_answer(alloc, *there, *post);
+        assert!(rt; found == Ok(*wanted), "{there:?} {post:?}: {found:?}");
     }
 }
+
+const PLANNED: [PostRow; 9] = [
+    // the start stays in its second, or doesn't; an update needs no fresh identifier
+    (
+        ACTIVE,
+        (Named::Again, PostedMatchers::JobIsX, Fine, 10_900, 200_000),
+        Answer::Updated(FROM_10_9),
+    ),
+    (
+        ACTIVE,
+        (Named::InUse, PostedMatchers::JobIsX, Fine, 10_900, 200_000),
+        Answer::Updated(FROM_10_9),
+    ),
+    (
+        ACTIVE,
+        (Named::Again, PostedMatchers::JobIsX, Fine, 11_000, 200_000),
+        Answer::Replaced {
+            new: FROM_20,
+            ended: ENDED_FROM_10,
+        },
+    ),
+    // one that hasn't begun may start at another time, and not before now
+    (
+        PENDING,
+        (Named::Again, PostedMatchers::JobIsX, Fine, 30_000, 200_000),
+        Answer::Updated(FROM_30),
+    ),
+    (
+        PENDING,
+        (Named::Again, PostedMatchers::JobIsX, Fine, 19_000, 200_000),
+        Answer::Replaced {
+            new: FROM_20,
+            ended: ENDED_FROM_20,
+        },
+    ),
+    // one that has ended stays as it is, whenever it was updated
+    (
+        EXPIRED,
+        (Named::Again, PostedMatchers::JobIsX, Fine, 10_000, 200_000),
+        Answer::Created(FROM_20),
+    ),
+    (
+        JUST_ENDED,
+        (Named::Again, PostedMatchers::JobIsX, Fine, 10_000, 200_000),
+        Answer::Created(FROM_20),
+    ),
+    // without a posted identifier a new silence is made, whatever is there
+    (
+        None,
+        (Named::Anew, PostedMatchers::JobIsX, Fine, 30_000, 200_000),
+        Answer::Created(FROM_30),
+    ),
+    (
+        ACTIVE,
+        (Named::Anew, PostedMatchers::JobIsX, Fine, 30_000, 200_000),
+        Answer::Created(FROM_30),
+    ),
+];
 
 #[test]
-fn posts_are_planned(rt: HostRuntime) -> Result<(), Fail> {
-    let rows = [
-        // the start stays in its second, or doesn't; an update needs no fresh identifier
-        (ACTIVE, again(10_900, 200_000), updated(10_900)),
-        (ACTIVE, fresh_id_held(10_900, 200_000), updated(10_900)),
-        (ACTIVE, again(11_000, 200_000), replaced(10_000)),
-        // one that hasn't begun may start at another time, and not before now
-        (PENDING, again(30_000, 200_000), updated(30_000)),
-        (PENDING, again(19_000, 200_000), replaced(20_000)),
-        // one that has ended stays as it is, whenever it was updated
-        (EXPIRED, again(10_000, 200_000), created(NOW)),
-        (JUST_ENDED, again(10_000, 200_000), created(NOW)),
-        // without a posted identifier a new silence is made, whatever is there
-        (None, anew(30_000, 200_000), created(30_000)),
-        (ACTIVE, anew(30_000, 200_000), created(30_000)),
-    ];
-    for (i, (there, row, want)) in rows.into_iter().enumerate() {
-        let planned = answer_for(rt.alloc(), there, row)?;
-        assert!(rt; planned == want, "row {i}");
-    }
-    Ok(())
+fn posts_are_planned(rt: HostRuntime) {
+    are_answered(&rt, rt.alloc(), &PLANNED);
 }
 
-// The plan is an update with this identifier, author and comment.
-fn updates_as(alloc: Global, prev: &MeshSilence, row: PostRow, texts: [&str; 3]) -> bool {
-    let Ok(Plan::Update(version)) = planned(alloc, Some(prev), row) else {
-        return false;
-    };
+const REFUSED: [PostRow; 13] = [
+    // each of these is the one before with its cause taken away
+    (
+        None,
+        (Named::InUse, PostedMatchers::None, Bad, 5_000, 5_000),
+        Answer::Refused(NotFound),
+    ),
+    (
+        NEWER,
+        (Named::InUse, PostedMatchers::None, Bad, 5_000, 5_000),
+        Answer::Refused(NoMatcher),
+    ),
+    (
+        NEWER,
+        (Named::InUse, PostedMatchers::Unnamed, Bad, 5_000, 5_000),
+        Answer::Refused(EmptyName),
+    ),
+    (
+        NEWER,
+        (Named::InUse, PostedMatchers::JobIsX, Bad, 5_000, 5_000),
+        Answer::Refused(BadPattern),
+    ),
+    (
+        NEWER,
+        (Named::InUse, PostedMatchers::JobIsX, AllEmpty, 5_000, 5_000),
+        Answer::Refused(AllMatchEmpty),
+    ),
+    (
+        NEWER,
+        (Named::InUse, PostedMatchers::JobIsX, Fine, 5_000, 5_000),
+        Answer::Refused(EndNotAfterStart),
+    ),
+    (
+        NEWER,
+        (Named::InUse, PostedMatchers::JobIsX, Fine, 4_000, 5_000),
+        Answer::Refused(EndInPast),
+    ),
+    (
+        NEWER,
+        (Named::InUse, PostedMatchers::JobIsX, Fine, 4_000, 200_000),
+        Answer::Newer((20, 0)),
+    ),
+    (
+        ACTIVE,
+        (Named::InUse, PostedMatchers::JobIsX, Fine, 4_000, 200_000),
+        Answer::Refused(IdInUse),
+    ),
+    (
+        ACTIVE,
+        (Named::InUse, PostedMatchers::JobIsX, Fine, 11_000, 200_000),
+        Answer::Refused(IdInUse),
+    ),
+    // where the fresh identifier is not held
+    (
+        None,
+        (Named::Again, PostedMatchers::JobIsX, Fine, 10_000, 200_000),
+        Answer::Refused(NotFound),
+    ),
+    (
+        ACTIVE,
+        (Named::Again, PostedMatchers::JobIsX, Fine, 10_000, 20_000),
+        Answer::Refused(EndInPast),
+    ),
+    (
+        NEWER,
+        (Named::Again, PostedMatchers::JobIsX, Fine, 10_000, 200_000),
+        Answer::Newer((20, 0)),
+    ),
+];
+
+#[test]
+fn the_first_refusal_counts(rt: HostRuntime) {
+    are_answered(&rt, rt.alloc(), &REFUSED);
+}
+
+// The version is of this identifier, by `ops`, with the comment `hi`.
+fn is_posted(version: &MeshSilence, id: &str) -> bool {
     let silence = version.silence();
-    silence.id.as_str() == texts[0]
-        && silence.created_by.as_str() == texts[1]
-        && silence.comment.as_str() == texts[2]
+    version.key().as_str() == id
+        && silence.id.as_str() == id
+        && silence.created_by.as_str() == "ops"
+        && silence.comment.as_str() == "hi"
+}
+
+// The version ends the silence `a`, and is greater than the one that is there.
+fn is_end(version: &MeshSilence, prev: &MeshSilence) -> bool {
+    version.key().as_str() == "a" && version.compare(prev) == Ordering::Greater
+}
+
+// The post is put in under this identifier: in place of what is there where the identifier is `a`, and else
+// beside the end of it.
+fn puts_in(plan: &Plan, prev: &MeshSilence, id: &str) -> bool {
+    match plan {
+        Plan::Update(version) => id == "a" && is_posted(version, id),
+        Plan::Create(_) => false,
+        Plan::Replace { new, old } => id != "a" && is_posted(new, id) && is_end(old, prev),
+    }
+}
+
+fn is_put_over(
+    alloc: Global,
+    prev: &MeshSilence,
+    matchers: PostedMatchers,
+    id: &str,
+) -> Result<bool, SilenceError> {
+    let post = (Named::Again, matchers, Fine, 10_000, 200_000);
+    let plan = planned(alloc, Some(prev), post, u128::MAX)?;
+    Ok(puts_in(&plan, prev, id))
+}
+
+// A post of these matchers over an active silence is put in under this identifier.
+fn is_put(alloc: Global, matchers: PostedMatchers, id: &str) -> Result<bool, WireError> {
+    let prev = held(alloc, [10_000, 100_000, 10_000])?;
+    Ok(is_put_over(alloc, &prev, matchers, id) == Ok(true))
 }
 
 #[test]
-fn an_update_keeps_the_identifier(rt: HostRuntime) -> Result<(), Fail> {
-    let prev = held(rt.alloc(), [10_000, 100_000, 10_000])?;
-    let row = again(10_000, 200_000);
-    assert!(rt; updates_as(rt.alloc(), &prev, row, ["a", "ops", "hi"]));
-    Ok(())
-}
-
-// The plan is a new silence of this identifier, and a greater version of the silence `a`.
-fn replaces_as(alloc: Global, prev: &MeshSilence, row: PostRow, id: &str) -> bool {
-    match planned(alloc, Some(prev), row) {
-        Ok(Plan::Replace { new, old }) => {
-            new.key().as_str() == id
-                && old.key().as_str() == "a"
-                && old.compare(prev) == Ordering::Greater
-        }
-        _ => false,
-    }
+fn an_update_keeps_the_identifier(rt: HostRuntime) {
+    holds(&rt, is_put(rt.alloc(), PostedMatchers::JobIsX, "a"));
 }
 
 // Another matcher makes a new silence, under the identifier of the bits.
 #[test]
-fn other_matchers_make_a_new_silence(rt: HostRuntime) -> Result<(), Fail> {
-    let prev = held(rt.alloc(), [10_000, 100_000, 10_000])?;
-    let mut row = again(10_000, 200_000);
-    row.matchers = PostedMatchers::JobIsY;
-    row.bits = u128::MAX;
+fn other_matchers_make_a_new_silence(rt: HostRuntime) {
     let id = "ffffffff-ffff-4fff-bfff-ffffffffffff";
-    assert!(rt; replaces_as(rt.alloc(), &prev, row, id));
-    Ok(())
+    holds(&rt, is_put(rt.alloc(), PostedMatchers::JobIsY, id));
 }
 
-fn refusal_over(alloc: Global, prev: Option<&MeshSilence>, row: PostRow) -> Option<SilenceError> {
-    planned(alloc, prev, row).err()
+// The end of the silence `a`.
+fn ended_as(version: &MeshSilence) -> Answer {
+    if version.key().as_str() == "a" {
+        Answer::Ended(moments_of(version))
+    } else {
+        Answer::Renamed
+    }
 }
 
-// Why a post over the version that is there is refused, if it is.
-fn refusal(
-    alloc: Global,
-    there: Option<Held>,
-    row: PostRow,
-) -> Result<Option<SilenceError>, WireError> {
+fn end_over(alloc: Global, prev: Option<&MeshSilence>) -> Answer {
+    match plan_expire(alloc, prev, at(NOW), retention()) {
+        Ok(version) => ended_as(&version),
+        Err(error) => refused(error),
+    }
+}
+
+// What comes of an end of the silence that is there, if one is.
+fn end_answer(alloc: Global, there: Option<Held>) -> Result<Answer, WireError> {
     let Some(moments) = there else {
-        return Ok(refusal_over(alloc, None, row));
+        return Ok(end_over(alloc, None));
     };
     let prev = held(alloc, moments)?;
-    Ok(refusal_over(alloc, Some(&prev), row))
+    Ok(end_over(alloc, Some(&prev)))
 }
 
-// A post under the identifier `a` of these matchers, where the fresh identifier is held.
-fn in_use(matchers: PostedMatchers, verdict: Verdict, starts_at: u64, ends_at: u64) -> PostRow {
-    let mut row = fresh_id_held(starts_at, ends_at);
-    row.matchers = matchers;
-    row.verdict = verdict;
-    row
-}
-
-fn newer() -> SilenceError {
-    SilenceError::Newer { held: at(NOW) }
+// Sees that this comes of an end.
+fn ends(rt: &impl Abort, alloc: Global, there: Option<Held>, wanted: Answer) {
+    let found = end_answer(alloc, there);
+    assert_eq!(rt; found, Ok(wanted), "{there:?}");
 }
 
 #[test]
-fn the_first_refusal_counts(rt: HostRuntime) -> Result<(), Fail> {
-    let (none, unnamed) = (PostedMatchers::None, PostedMatchers::Unnamed);
-    let job = PostedMatchers::JobIsX;
-    let (bad, empty, fine) = (Verdict::Bad, Verdict::AllEmpty, Verdict::Fine);
-    let rows = [
-        // each of these is the one before with its cause taken away
-        (None, in_use(none, bad, 5_000, 5_000), NotFound),
-        (NEWER, in_use(none, bad, 5_000, 5_000), NoMatcher),
-        (NEWER, in_use(unnamed, bad, 5_000, 5_000), EmptyName),
-        (NEWER, in_use(job, bad, 5_000, 5_000), BadPattern),
-        (NEWER, in_use(job, empty, 5_000, 5_000), AllMatchEmpty),
-        (NEWER, in_use(job, fine, 5_000, 5_000), EndNotAfterStart),
-        (NEWER, in_use(job, fine, 4_000, 5_000), EndInPast),
-        (NEWER, in_use(job, fine, 4_000, 200_000), newer()),
-        (ACTIVE, in_use(job, fine, 4_000, 200_000), IdInUse),
-        (ACTIVE, in_use(job, fine, 11_000, 200_000), IdInUse),
-        // where the fresh identifier is not held
-        (None, again(10_000, 200_000), NotFound),
-        (ACTIVE, again(10_000, 20_000), EndInPast),
-        (NEWER, again(10_000, 200_000), newer()),
-    ];
-    for (i, (there, row, want)) in rows.into_iter().enumerate() {
-        let refused = refusal(rt.alloc(), there, row)?;
-        assert!(rt; refused == Some(want), "row {i}");
-    }
-    Ok(())
-}
-
-// What ending the silence makes: its moments, where the identifier is kept, or why it is refused.
-fn ended_over(alloc: Global, prev: Option<&MeshSilence>) -> Result<Moments, SilenceError> {
-    let ended = plan_expire(alloc, prev, at(NOW), retention())?;
-    if ended.key().as_str() == "a" {
-        Ok(moments_of(&ended))
-    } else {
-        Err(SilenceError::Memory)
-    }
-}
-
-fn ended(alloc: Global, moments: Held) -> Result<Result<Moments, SilenceError>, WireError> {
-    let prev = held(alloc, moments)?;
-    Ok(ended_over(alloc, Some(&prev)))
+fn silences_are_ended(rt: HostRuntime) {
+    ends(&rt, rt.alloc(), ACTIVE, Answer::Ended(ENDED_FROM_10));
+    // one that hasn't begun starts and ends at once
+    ends(&rt, rt.alloc(), PENDING, Answer::Ended(ENDED_FROM_20));
 }
 
 #[test]
-fn silences_are_ended(rt: HostRuntime) -> Result<(), Fail> {
-    let rows = [
-        ([10_000, 100_000, 10_000], 10_000),
-        // one that hasn't begun starts and ends at once
-        ([50_000, 100_000, 10_000], 20_000),
-    ];
-    for (there, starts_at) in rows {
-        let want = Moments([at(starts_at), at(NOW), at(NOW), at(120_000)]);
-        let ended = ended(rt.alloc(), there)?;
-        assert!(rt; ended == Ok(want));
-    }
-    Ok(())
-}
-
-#[test]
-fn silences_are_not_ended_twice(rt: HostRuntime) -> Result<(), Fail> {
-    let rows = [
-        ([10_000, 20_000, 20_000], SilenceError::AlreadyExpired),
-        (
-            [10_000, 100_000, 20_000],
-            SilenceError::Newer { held: at(NOW) },
-        ),
-    ];
-    for (there, want) in rows {
-        let ended = ended(rt.alloc(), there)?;
-        assert!(rt; ended == Err(want));
-    }
-    Ok(())
+fn silences_are_not_ended_twice(rt: HostRuntime) {
+    ends(&rt, rt.alloc(), ENDING, Answer::Refused(AlreadyExpired));
+    ends(&rt, rt.alloc(), NEWER, Answer::Newer((20, 0)));
 }
 
 #[test]
 fn a_silence_that_is_not_there_is_not_ended(rt: HostRuntime) {
-    let ended = ended_over(rt.alloc(), None);
-    assert!(rt; ended == Err(SilenceError::NotFound));
+    ends(&rt, rt.alloc(), None, Answer::Refused(NotFound));
+}
+
+/// When a silence from 10 s to 100 s is looked at, and its state then.
+const STATES: [(Time, State); 4] = [
+    ((9, 999_999_999), State::Pending),
+    ((10, 0), State::Active),
+    ((99, 999_999_999), State::Active),
+    ((100, 0), State::Expired),
+];
+
+fn state_then(alloc: Global, (seconds, nanos): Time) -> Result<Option<State>, WireError> {
+    let Some(now) = Moment::from_parts(seconds, nanos) else {
+        return Ok(None);
+    };
+    let version = held(alloc, [10_000, 100_000, 10_000])?;
+    Ok(Some(state_at(version.silence(), now)))
 }
 
 #[test]
-fn states_begin_at_their_moments(rt: HostRuntime) -> Result<(), Fail> {
-    let version = held(rt.alloc(), [10_000, 100_000, 10_000])?;
-    let rows = [
-        (9, 999_999_999, State::Pending),
-        (10, 0, State::Active),
-        (99, 999_999_999, State::Active),
-        (100, 0, State::Expired),
-    ];
-    for (seconds, nanos, want) in rows {
-        let now = Moment::from_parts(seconds, nanos);
-        let state = now.map(|now| state_at(version.silence(), now));
-        assert_eq!(rt; state, Some(want));
+fn states_begin_at_their_moments(rt: HostRuntime) {
+    for (time, wanted) in STATES {
+        let state = state_then(rt.alloc(), time);
+        assert!(rt; state == Ok(Some(wanted)), "{time:?}: {state:?}");
     }
-    Ok(())
 }

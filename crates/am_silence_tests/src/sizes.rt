@@ -7,7 +7,6 @@ use am_silence::{
 use am_version_order::{Moment, Version};
 use am_wire::{Text, WireError};
 use std::alloc::{AllocError, Global};
-use std::test::Fail;
 
 /// The greatest length of a canonical text.
 const MOST: usize = 67_108_864;
@@ -42,17 +41,18 @@ fn length_held(alloc: Global, len: usize) -> Result<usize, WireError> {
     Ok(version.canonical().len())
 }
 
-// Beside its comment the version has 40 bytes.
+/// The lengths of comments, and how long the version is then: beside its comment it has 40 bytes.
+const MADE: [(usize, Result<usize, WireError>); 3] = [
+    (MOST - 40, Ok(MOST)),
+    (MOST - 39, Err(WireError::TooLarge)),
+    (MOST, Err(WireError::TooLarge)),
+];
+
 #[test]
 fn a_version_over_the_greatest_length_is_too_large(rt: HostRuntime) {
-    let rows = [
-        (MOST - 40, Ok(MOST)),
-        (MOST - 39, Err(WireError::TooLarge)),
-        (MOST, Err(WireError::TooLarge)),
-    ];
-    for (len, want) in rows {
+    for (len, wanted) in MADE {
         let made = length_held(rt.alloc(), len);
-        assert!(rt; made == want, "{len}");
+        assert!(rt; made == wanted, "{len}: {made:?}");
     }
 }
 
@@ -113,38 +113,52 @@ fn length_posted(
     prev: &MeshSilence,
     starts_at: u64,
     len: usize,
+    now: Moment,
     part: Part,
 ) -> Result<usize, SilenceError> {
-    let plan = planned(alloc, prev, starts_at, len, at(20_000))?;
+    let plan = planned(alloc, prev, starts_at, len, now)?;
     Ok(length_of(&plan, part))
 }
 
-// Beside its comment the new version has 76 bytes, and the updated one 41.
-#[test]
-fn a_new_version_alone_may_be_too_large(rt: HostRuntime) -> Result<(), Fail> {
-    let rows = [
-        (11_000, MOST - 76, Part::New, Ok(MOST)),
-        (11_000, MOST - 75, Part::New, Err(SilenceError::TooLarge)),
-        (10_000, MOST - 41, Part::Updated, Ok(MOST)),
-        (
-            10_000,
-            MOST - 40,
-            Part::Updated,
-            Err(SilenceError::TooLarge),
-        ),
-    ];
-    let prev = version(rt.alloc(), &JOB_IS_X, ACTIVE, 200_000)?;
-    for (i, (starts_at, len, part, want)) in rows.into_iter().enumerate() {
-        let made = length_posted(rt.alloc(), &prev, starts_at, len, part);
-        assert!(rt; made == want, "row {i}");
-    }
-    Ok(())
+/// The start of a post, the length of its comment, and how long a version of its plan is then.
+type PostRow = (u64, usize, Part, Result<usize, SilenceError>);
+
+/// Beside its comment the new version has 76 bytes, and the updated one 41.
+const POSTED: [PostRow; 4] = [
+    (11_000, MOST - 76, Part::New, Ok(MOST)),
+    (11_000, MOST - 75, Part::New, Err(SilenceError::TooLarge)),
+    (10_000, MOST - 41, Part::Updated, Ok(MOST)),
+    (
+        10_000,
+        MOST - 40,
+        Part::Updated,
+        Err(SilenceError::TooLarge),
+    ),
+];
+
+type Length = Result<Result<usize, SilenceError>, WireError>;
+
+// The part of a plan over the version of an active silence that has no comment.
+fn length_new(alloc: Global, starts_at: u64, len: usize, part: Part) -> Length {
+    let prev = version(alloc, &JOB_IS_X, ACTIVE, 200_000)?;
+    Ok(length_posted(alloc, &prev, starts_at, len, at(20_000), part))
 }
+
+#[test]
+fn a_new_version_alone_may_be_too_large(rt: HostRuntime) {
+    for (starts_at, len, part, wanted) in POSTED {
+        let made = length_new(rt.alloc(), starts_at, len, part);
+        assert!(rt; made == Ok(wanted), "{starts_at} {len}: {made:?}");
+    }
+}
+
+/// The length of a comment, nanoseconds, and the length of a version.
+type EndRow = (usize, u32, Result<usize, SilenceError>);
 
 /// The lengths of comments of an active silence, when it is ended, and how long the version is then. Beside
 /// its comment that has 39 bytes, and where its three moments have nanoseconds 45, so that a silence which is
 /// held may be too large to be ended.
-const ENDED: [(usize, u32, Result<usize, SilenceError>); 3] = [
+const ENDED: [EndRow; 3] = [
     (MOST - 40, 0, Ok(MOST - 1)),
     (MOST - 45, 1, Ok(MOST)),
     (MOST - 44, 1, Err(SilenceError::TooLarge)),
@@ -155,19 +169,19 @@ fn after_twenty(nanos: u32) -> Moment {
     Moment::from_parts(20, nanos).unwrap_or(Moment::LEAST)
 }
 
-fn length_replaced(alloc: Global, prev: &MeshSilence, now: Moment) -> Result<usize, SilenceError> {
-    let plan = planned(alloc, prev, 11_000, 0, now)?;
-    Ok(length_of(&plan, Part::Ended))
+// The version by which a post ends a silence with a comment of so many bytes.
+fn length_replaced(alloc: Global, len: usize, nanos: u32) -> Length {
+    let prev = held(alloc, len)?;
+    let now = after_twenty(nanos);
+    Ok(length_posted(alloc, &prev, 11_000, 0, now, Part::Ended))
 }
 
 #[test]
-fn the_version_that_ends_the_held_silence_may_be_too_large(rt: HostRuntime) -> Result<(), Fail> {
-    for (len, nanos, want) in ENDED {
-        let prev = held(rt.alloc(), len)?;
-        let made = length_replaced(rt.alloc(), &prev, after_twenty(nanos));
-        assert!(rt; made == want, "{len}");
+fn the_version_that_ends_the_held_silence_may_be_too_large(rt: HostRuntime) {
+    for (len, nanos, wanted) in ENDED {
+        let made = length_replaced(rt.alloc(), len, nanos);
+        assert!(rt; made == Ok(wanted), "{len}: {made:?}");
     }
-    Ok(())
 }
 
 fn length_expired(alloc: Global, prev: &MeshSilence, now: Moment) -> Result<usize, SilenceError> {
@@ -175,12 +189,16 @@ fn length_expired(alloc: Global, prev: &MeshSilence, now: Moment) -> Result<usiz
     Ok(ended.canonical().len())
 }
 
+// The version by which such a silence is ended.
+fn length_ended(alloc: Global, len: usize, nanos: u32) -> Length {
+    let prev = held(alloc, len)?;
+    Ok(length_expired(alloc, &prev, after_twenty(nanos)))
+}
+
 #[test]
-fn a_silence_may_be_too_large_to_be_ended(rt: HostRuntime) -> Result<(), Fail> {
-    for (len, nanos, want) in ENDED {
-        let prev = held(rt.alloc(), len)?;
-        let made = length_expired(rt.alloc(), &prev, after_twenty(nanos));
-        assert!(rt; made == want, "{len}");
+fn a_silence_may_be_too_large_to_be_ended(rt: HostRuntime) {
+    for (len, nanos, wanted) in ENDED {
+        let made = length_ended(rt.alloc(), len, nanos);
+        assert!(rt; made == Ok(wanted), "{len}: {made:?}");
     }
-    Ok(())
 }

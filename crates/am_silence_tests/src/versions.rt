@@ -1,12 +1,12 @@
 //! How silences are written, read, compared and copied.
 
-use crate::fixtures::{JOB_IS_X, MatcherRow, at, version};
+use crate::fixtures::{JOB_IS_X, MatcherRow, at, holds, matchers, version};
 use am_silence::{Matcher, MatcherKind, Matchers, MeshSilence, fresh_id};
 use am_version_order::{Moment, Version};
 use am_wire::{Message, WireError};
 use std::alloc::{AllocError, Global};
 use std::cmp::Ordering;
-use std::test::Fail;
+use std::process::Abort;
 
 /// Id `a`, EQUAL job `x`, start 10 s, end 100 s, update 10 s, expiry 200 s.
 const FIRST: [u8; 32] = [
@@ -40,13 +40,14 @@ fn is_written_as<M: Message>(alloc: Global, message: &M, text: &[u8]) -> Result<
     Ok(first == text && second == text)
 }
 
-#[test]
-fn parts_are_written(rt: HostRuntime) -> Result<(), Fail> {
-    let alloc = rt.alloc();
+fn is_version_written(alloc: Global, text: &[u8]) -> Result<bool, WireError> {
     let made = version(alloc, &JOB_IS_X, [10_000, 100_000, 10_000], 200_000)?;
-    let is_first = is_written_as(alloc, &made, &FIRST)?;
-    assert!(rt; is_first);
-    Ok(())
+    is_written_as(alloc, &made, text)
+}
+
+#[test]
+fn parts_are_written(rt: HostRuntime) {
+    holds(&rt, is_version_written(rt.alloc(), &FIRST));
 }
 
 // Update moment and expiry, the expiry of the message, start and end of the silence, and its update moment.
@@ -75,26 +76,33 @@ fn has_words(version: &MeshSilence, id: &str, author: &str, comment: &str) -> bo
         && silence.comment.as_str() == comment
 }
 
-// These are the matchers.
-fn are_matchers(matchers: &[Matcher], rows: &[MatcherRow]) -> bool {
-    let is_row = |(matcher, row): (&Matcher, &MatcherRow)| {
-        matcher.kind == row.0 && matcher.name.as_str() == row.1 && matcher.pattern.as_str() == row.2
-    };
-    matchers.len() == rows.len() && matchers.iter().zip(rows).all(is_row)
+// There is one matcher, and it is this one.
+fn is_matcher(matchers: &[Matcher], row: MatcherRow) -> bool {
+    match matchers {
+        [matcher] => {
+            matcher.kind == row.0
+                && matcher.name.as_str() == row.1
+                && matcher.pattern.as_str() == row.2
+        }
+        _ => false,
+    }
 }
 
 fn is_first(version: &MeshSilence) -> bool {
     let (ten, end, expiry) = (at(10_000), at(100_000), at(200_000));
     has_texts(version, "a", &FIRST, &JOB_IS_X_TEXT)
         && moments_of(version) == [ten, expiry, expiry, ten, end, ten]
-        && are_matchers(version.silence().matchers.as_slice(), &JOB_IS_X)
+        && is_matcher(version.silence().matchers.as_slice(), JOB_IS_X[0])
+}
+
+fn is_first_read(alloc: Global, bytes: &[u8]) -> Result<bool, WireError> {
+    let read = MeshSilence::decode(alloc, bytes)?;
+    Ok(is_first(&read))
 }
 
 #[test]
-fn parts_are_read(rt: HostRuntime) -> Result<(), Fail> {
-    let read = MeshSilence::decode(rt.alloc(), &FIRST)?;
-    assert!(rt; is_first(&read));
-    Ok(())
+fn parts_are_read(rt: HostRuntime) {
+    holds(&rt, is_first_read(rt.alloc(), &FIRST));
 }
 
 fn copied_key_is(alloc: Global, version: &MeshSilence, key: &str) -> Result<bool, AllocError> {
@@ -108,18 +116,20 @@ fn compared_with_copy(alloc: Global, version: &MeshSilence) -> Result<Ordering, 
 }
 
 // The copies of the key and of the version are what they are copied from.
-fn copies_are_equal(alloc: Global, version: &MeshSilence, key: &str) -> Result<bool, AllocError> {
-    let is_key = copied_key_is(alloc, version, key)?;
-    let order = compared_with_copy(alloc, version)?;
-    Ok(is_key && order == Ordering::Equal)
+fn copies_are_equal(alloc: Global, version: &MeshSilence, key: &str) -> bool {
+    let is_key = copied_key_is(alloc, version, key);
+    let order = compared_with_copy(alloc, version);
+    is_key == Ok(true) && order == Ok(Ordering::Equal)
+}
+
+fn is_copied(alloc: Global, bytes: &[u8], key: &str) -> Result<bool, WireError> {
+    let read = MeshSilence::decode(alloc, bytes)?;
+    Ok(copies_are_equal(alloc, &read, key))
 }
 
 #[test]
-fn copies_equal_their_source(rt: HostRuntime) -> Result<(), Fail> {
-    let read = MeshSilence::decode(rt.alloc(), &FIRST)?;
-    let are_equal = copies_are_equal(rt.alloc(), &read, "a")?;
-    assert!(rt; are_equal);
-    Ok(())
+fn copies_equal_their_source(rt: HostRuntime) {
+    holds(&rt, is_copied(rt.alloc(), &FIRST, "a"));
 }
 
 /// A silence that is given twice, first its id, then its comment; and a number that the message doesn't know.
@@ -138,26 +148,30 @@ fn is_joined(version: &MeshSilence) -> bool {
         && version.bucket().is_empty()
 }
 
+fn is_joined_read(alloc: Global, bytes: &[u8]) -> Result<bool, WireError> {
+    let read = MeshSilence::decode(alloc, bytes)?;
+    Ok(is_joined(&read))
+}
+
 #[test]
-fn payloads_are_joined(rt: HostRuntime) -> Result<(), Fail> {
-    let read = MeshSilence::decode(rt.alloc(), &GIVEN_TWICE)?;
-    assert!(rt; is_joined(&read));
-    Ok(())
+fn payloads_are_joined(rt: HostRuntime) {
+    holds(&rt, is_joined_read(rt.alloc(), &GIVEN_TWICE));
 }
 
 // The silence has the comment `hi` by `o`, in the new form.
-fn has_comment(alloc: Global, bytes: &[u8]) -> Result<bool, WireError> {
+fn has_comment(version: &MeshSilence) -> bool {
+    has_texts(version, "a", &WITH_COMMENT, &JOB_IS_X_TEXT) && has_words(version, "a", "o", "hi")
+}
+
+fn is_comment_read(alloc: Global, bytes: &[u8]) -> Result<bool, WireError> {
     let read = MeshSilence::decode(alloc, bytes)?;
-    Ok(has_texts(&read, "a", &WITH_COMMENT, &JOB_IS_X_TEXT) && has_words(&read, "a", "o", "hi"))
+    Ok(has_comment(&read))
 }
 
 #[test]
-fn an_old_comment_is_moved(rt: HostRuntime) -> Result<(), Fail> {
-    for bytes in [WITH_OLD_COMMENT.as_slice(), WITH_COMMENT.as_slice()] {
-        let is_moved = has_comment(rt.alloc(), bytes)?;
-        assert!(rt; is_moved);
-    }
-    Ok(())
+fn an_old_comment_is_moved(rt: HostRuntime) {
+    holds(&rt, is_comment_read(rt.alloc(), &WITH_OLD_COMMENT));
+    holds(&rt, is_comment_read(rt.alloc(), &WITH_COMMENT));
 }
 
 /// End, update moment and expiry of a version.
@@ -182,22 +196,30 @@ fn order_of(alloc: Global, first: VersionRow, second: VersionRow) -> Result<Orde
     compared_with(alloc, &first, second)
 }
 
-// Each of these is greater than the one before: by its text, by expiry, by update moment.
-#[test]
-fn the_greater_version_wins(rt: HostRuntime) -> Result<(), Fail> {
-    let rising = [
-        [100_000, 10_000, 200_000],
-        [101_000, 10_000, 200_000],
-        [100_000, 10_000, 300_000],
-        [100_000, 20_000, 200_000],
-    ];
-    for (i, &first) in rising.iter().enumerate() {
-        for (k, &second) in rising.iter().enumerate() {
-            let order = order_of(rt.alloc(), first, second)?;
-            assert_eq!(rt; order, i.cmp(&k), "{i} {k}");
-        }
+/// Each of these is greater than the one before: by its text, by expiry, by update moment.
+const RISING: [(u32, VersionRow); 4] = [
+    (0, [100_000, 10_000, 200_000]),
+    (1, [101_000, 10_000, 200_000]),
+    (2, [100_000, 10_000, 300_000]),
+    (3, [100_000, 20_000, 200_000]),
+];
+
+// Sees that the row compares with each of the rising ones as their places do.
+fn stands_at(rt: &impl Abort, alloc: Global, place: u32, row: VersionRow) {
+    for (other, second) in RISING {
+        let order = order_of(alloc, row, second);
+        assert!(rt;
+            order == Ok(place.cmp(&other)),
+            "{place} {other}: {order:?}"
+        );
     }
-    Ok(())
+}
+
+#[test]
+fn the_greater_version_wins(rt: HostRuntime) {
+    for (place, row) in RISING {
+        stands_at(&rt, rt.alloc(), place, row);
+    }
 }
 
 fn bucket_is(alloc: Global, rows: &[MatcherRow], bucket: &[u8]) -> Result<bool, WireError> {
@@ -221,48 +243,21 @@ const BESIDE_NOT_REGEXP: [MatcherRow; 2] = [
     (MatcherKind::NotRegexp, "env", "("),
 ];
 
-// It is the first matcher that wants a label; with a regular expression there is none.
-#[test]
-fn buckets_are_matchers_that_want_a_label(rt: HostRuntime) -> Result<(), Fail> {
-    let rows = [
-        (WANTED_LAST.as_slice(), JOB_IS_X_TEXT.as_slice()),
-        (&BESIDE_REGEXP, &[]),
-        (&BESIDE_NOT_REGEXP, &[]),
-    ];
-    for (i, (matchers, bucket)) in rows.into_iter().enumerate() {
-        let is_bucket = bucket_is(rt.alloc(), matchers, bucket)?;
-        assert!(rt; is_bucket, "row {i}");
-    }
-    Ok(())
-}
+/// Matchers, and the bucket of a version of them.
+type BucketRow = (&'static [MatcherRow], &'static [u8]);
+
+/// It is the first matcher that wants a label; with a regular expression there is none.
+const BUCKETS: [BucketRow; 3] = [
+    (&WANTED_LAST, &JOB_IS_X_TEXT),
+    (&BESIDE_REGEXP, &[]),
+    (&BESIDE_NOT_REGEXP, &[]),
+];
 
 #[test]
-fn the_first_fault_is_told(rt: HostRuntime) {
-    let alloc = rt.alloc();
-    let mut longer = FIRST;
-    longer[1] = 0x1A;
-    let faults = [
-        ([0x00, 0x00].as_slice(), WireError::FieldNumber { at: 0 }),
-        (&[0x0B, 0x00], WireError::WireType { at: 0 }),
-        (&[0x08, 0x00], WireError::WrongType { at: 0 }),
-        (&[], WireError::MissingMessage { field: 1 }),
-        // a version without its silence, before an expiry that is none
-        (&NO_SILENCE, WireError::MissingMessage { field: 1 }),
-        // a second past the last one
-        (&SECOND_PAST_THE_LAST, WireError::Timestamp { at: 2 }),
-        // a number that is cut off by the end of its message, though the input goes on
-        (&NUMBER_CUT_OFF, WireError::Truncated { at: 4 }),
-        // a bad start waits for the end of the whole, so the wrong type of field 2 comes first
-        (&BAD_START, WireError::WrongType { at: 6 }),
-        // a matcher's type is told at the matcher's end, an unknown one at its last tag
-        (&UNKNOWN_KIND, WireError::MatcherType { at: 6 }),
-        // a text that a later one overrides is at fault all the same
-        (&TEXT_OVERRIDDEN, WireError::NotUtf8 { at: 2 }),
-        (&longer, WireError::Truncated { at: 27 }),
-    ];
-    for (bytes, fault) in faults {
-        let found = MeshSilence::decode(alloc, bytes).err();
-        assert_eq!(rt; found, Some(fault), "{bytes:?}");
+fn buckets_are_matchers_that_want_a_label(rt: HostRuntime) {
+    for (matchers, bucket) in BUCKETS {
+        let is_bucket = bucket_is(rt.alloc(), matchers, bucket);
+        assert!(rt; is_bucket == Ok(true), "{bucket:?}: {is_bucket:?}");
     }
 }
 
@@ -280,13 +275,57 @@ const UNKNOWN_KIND: [u8; 8] = [0x0A, 0x06, 0x12, 0x04, 0x08, 0x00, 0x08, 0x04];
 
 const TEXT_OVERRIDDEN: [u8; 8] = [0x0A, 0x06, 0x0A, 0x01, 0xFF, 0x0A, 0x01, 0x61];
 
+/// The first version, where the silence reaches a byte further: into the next field.
+const LONGER: [u8; 32] = [
+    0x0A, 0x1A, 0x0A, 0x01, 0x61, 0x12, 0x08, 0x12, 0x03, 0x6A, 0x6F, 0x62, 0x1A, 0x01, 0x78, 0x1A,
+    0x02, 0x08, 0x0A, 0x22, 0x02, 0x08, 0x64, 0x2A, 0x02, 0x08, 0x0A, 0x12, 0x03, 0x08, 0xC8, 0x01,
+];
+
+/// The bytes of a version, and the fault that is told of them.
+type FaultRow = (&'static [u8], WireError);
+
+const FAULTS: [FaultRow; 11] = [
+    (&[0x00, 0x00], WireError::FieldNumber { at: 0 }),
+    (&[0x0B, 0x00], WireError::WireType { at: 0 }),
+    (&[0x08, 0x00], WireError::WrongType { at: 0 }),
+    (&[], WireError::MissingMessage { field: 1 }),
+    // a version without its silence, before an expiry that is none
+    (&NO_SILENCE, WireError::MissingMessage { field: 1 }),
+    // a second past the last one
+    (&SECOND_PAST_THE_LAST, WireError::Timestamp { at: 2 }),
+    // a number that is cut off by the end of its message, though the input goes on
+    (&NUMBER_CUT_OFF, WireError::Truncated { at: 4 }),
+    // a bad start waits for the end of the whole, so the wrong type of field 2 comes first
+    (&BAD_START, WireError::WrongType { at: 6 }),
+    // a matcher's type is told at the matcher's end, an unknown one at its last tag
+    (&UNKNOWN_KIND, WireError::MatcherType { at: 6 }),
+    // a text that a later one overrides is at fault all the same
+    (&TEXT_OVERRIDDEN, WireError::NotUtf8 { at: 2 }),
+    (&LONGER, WireError::Truncated { at: 27 }),
+];
+
+fn fault_of(alloc: Global, bytes: &[u8]) -> Option<WireError> {
+    MeshSilence::decode(alloc, bytes).err()
+}
+
 #[test]
-fn a_matcher_is_written_as_it_is_read(rt: HostRuntime) -> Result<(), Fail> {
-    let job = Matcher::decode(rt.alloc(), &JOB_IS_X_TEXT)?;
-    let is_same = is_written_as(rt.alloc(), &job, &JOB_IS_X_TEXT)?;
-    assert!(rt; is_same);
-    assert!(rt; job.wants_label() && !job.kind.is_regexp());
-    Ok(())
+fn the_first_fault_is_told(rt: HostRuntime) {
+    for (bytes, fault) in FAULTS {
+        let told = fault_of(rt.alloc(), bytes);
+        assert!(rt; told == Some(fault), "{bytes:?}: {told:?}");
+    }
+}
+
+// The matcher, read and written again, is this text, and it wants a label.
+fn is_matcher_kept(alloc: Global, text: &[u8]) -> Result<bool, WireError> {
+    let job = Matcher::decode(alloc, text)?;
+    let is_same = is_written_as(alloc, &job, text);
+    Ok(is_same == Ok(true) && job.wants_label() && !job.kind.is_regexp())
+}
+
+#[test]
+fn a_matcher_is_written_as_it_is_read(rt: HostRuntime) {
+    holds(&rt, is_matcher_kept(rt.alloc(), &JOB_IS_X_TEXT));
 }
 
 fn copied(alloc: Global, matchers: &Matchers) -> Result<Vec<Matcher>, AllocError> {
@@ -294,30 +333,35 @@ fn copied(alloc: Global, matchers: &Matchers) -> Result<Vec<Matcher>, AllocError
     Ok(copy.into_vec())
 }
 
-fn copies_are(alloc: Global, matchers: &Matchers, rows: &[MatcherRow]) -> Result<bool, AllocError> {
+fn is_given_back(alloc: Global, matchers: &Matchers, row: MatcherRow) -> Result<bool, AllocError> {
     let copies = copied(alloc, matchers)?;
-    Ok(are_matchers(&copies, rows))
+    Ok(is_matcher(&copies, row))
+}
+
+fn are_given_back(alloc: Global, rows: &[MatcherRow; 1]) -> Result<bool, WireError> {
+    let matchers = matchers(alloc, rows)?;
+    Ok(is_given_back(alloc, &matchers, rows[0]) == Ok(true))
 }
 
 #[test]
-fn matchers_are_given_back(rt: HostRuntime) -> Result<(), Fail> {
-    let matchers = crate::fixtures::matchers(rt.alloc(), &JOB_IS_X)?;
-    let are_same = copies_are(rt.alloc(), &matchers, &JOB_IS_X)?;
-    assert!(rt; are_same);
-    Ok(())
+fn matchers_are_given_back(rt: HostRuntime) {
+    holds(&rt, are_given_back(rt.alloc(), &JOB_IS_X));
 }
+
+/// Bits, and the identifier that they give.
+const FRESH: [(u128, &str); 3] = [
+    (0, "00000000-0000-4000-8000-000000000000"),
+    (
+        0x0011_2233_4455_6677_8899_aabb_ccdd_eeff,
+        "00112233-4455-4677-8899-aabbccddeeff",
+    ),
+    (u128::MAX, "ffffffff-ffff-4fff-bfff-ffffffffffff"),
+];
 
 #[test]
 fn fresh_identifiers_have_version_and_variant(rt: HostRuntime) {
-    let rows = [
-        (0, "00000000-0000-4000-8000-000000000000"),
-        (
-            0x0011_2233_4455_6677_8899_aabb_ccdd_eeff,
-            "00112233-4455-4677-8899-aabbccddeeff",
-        ),
-        (u128::MAX, "ffffffff-ffff-4fff-bfff-ffffffffffff"),
-    ];
-    for (bits, want) in rows {
-        assert_eq!(rt; fresh_id(bits).as_str(), want);
+    for (bits, wanted) in FRESH {
+        let id = fresh_id(bits);
+        assert_eq!(rt; id.as_str(), wanted);
     }
 }
