@@ -1,6 +1,6 @@
 //! What posts and ends of silences make.
 
-use crate::fixtures::{JOB_IS_X, at, holds, matchers, retention, version};
+use crate::fixtures::{JOB_IS_X, at, matchers, retention, version};
 use am_silence::SilenceError::{
     AllMatchEmpty, AlreadyExpired, BadPattern, EmptyName, EndInPast, EndNotAfterStart, IdInUse,
     NoMatcher, NotFound,
@@ -63,6 +63,13 @@ enum PostedMatchers {
 /// its start and end.
 type Post = (Named, PostedMatchers, Verdict, u64, u64);
 
+/// Random bits, and the identifier that they give a new silence.
+type Fresh = (u128, &'static str);
+
+const ZEROS: Fresh = (0, "00000000-0000-4000-8000-000000000000");
+
+const ONES: Fresh = (u128::MAX, "ffffffff-ffff-4fff-bfff-ffffffffffff");
+
 /// Seconds and nanoseconds since 1970.
 type Time = (i64, u32);
 
@@ -70,6 +77,8 @@ type Time = (i64, u32);
 type Moments = [Time; 4];
 
 /// A version that a post makes at 20 s, and that ends at 200 s.
+const FROM_10: Moments = [(10, 0), (200, 0), (20, 0), (300, 0)];
+
 const FROM_10_9: Moments = [(10, 900_000_000), (200, 0), (20, 0), (300, 0)];
 
 const FROM_20: Moments = [(20, 0), (200, 0), (20, 0), (300, 0)];
@@ -88,8 +97,8 @@ enum Answer {
     Created(Moments),
     Replaced { new: Moments, ended: Moments },
     Ended(Moments),
-    /// A silence is ended under another identifier.
-    Renamed,
+    /// A version of another identifier or other words, or an ended one that isn't greater than what is there.
+    Wrong,
     /// The version that is held was updated then.
     Newer(Time),
     /// Another refusal.
@@ -133,7 +142,7 @@ fn posted(alloc: Global, post: Post) -> Result<Posted, WireError> {
     })
 }
 
-// The plan of a post over the version that is there, where the bits are random.
+// The plan of a post over the version that is there.
 fn planned(
     alloc: Global,
     prev: Option<&MeshSilence>,
@@ -170,14 +179,35 @@ fn moments_of(version: &MeshSilence) -> Moments {
     ]
 }
 
-fn answer_of(plan: &Plan) -> Answer {
+// The version is of this identifier, by `ops`, with the comment `hi`.
+fn is_posted(version: &MeshSilence, id: &str) -> bool {
+    let silence = version.silence();
+    version.key().as_str() == id
+        && silence.id.as_str() == id
+        && silence.created_by.as_str() == "ops"
+        && silence.comment.as_str() == "hi"
+}
+
+// It is a version of the silence `a`, and greater than the one that is there.
+fn succeeds(version: &MeshSilence, prev: Option<&MeshSilence>) -> bool {
+    match prev {
+        Some(prev) => version.key().as_str() == "a" && version.compare(prev) == Ordering::Greater,
+        None => false,
+    }
+}
+
+// What a plan makes, where a new silence is to have this identifier.
+fn answer_of(plan: &Plan, prev: Option<&MeshSilence>, id: &str) -> Answer {
     match plan {
-        Plan::Update(version) => Answer::Updated(moments_of(version)),
-        Plan::Create(version) => Answer::Created(moments_of(version)),
-        Plan::Replace { new, old } => Answer::Replaced {
-            new: moments_of(new),
-            ended: moments_of(old),
-        },
+        Plan::Update(version) if is_posted(version, "a") => Answer::Updated(moments_of(version)),
+        Plan::Create(version) if is_posted(version, id) => Answer::Created(moments_of(version)),
+        Plan::Replace { new, old } if is_posted(new, id) && succeeds(old, prev) => {
+            Answer::Replaced {
+                new: moments_of(new),
+                ended: moments_of(old),
+            }
+        }
+        _ => Answer::Wrong,
     }
 }
 
@@ -188,29 +218,35 @@ fn refused(error: SilenceError) -> Answer {
     }
 }
 
-fn post_over(alloc: Global, prev: Option<&MeshSilence>, post: Post) -> Answer {
-    match planned(alloc, prev, post, 0) {
-        Ok(plan) => answer_of(&plan),
+fn post_over(alloc: Global, prev: Option<&MeshSilence>, post: Post, fresh: Fresh) -> Answer {
+    let (bits, id) = fresh;
+    match planned(alloc, prev, post, bits) {
+        Ok(plan) => answer_of(&plan, prev, id),
         Err(error) => refused(error),
     }
 }
 
 // What comes of a post over the version that is there, if one is.
-fn post_answer(alloc: Global, there: Option<Held>, post: Post) -> Result<Answer, WireError> {
+fn post_answer(
+    alloc: Global,
+    there: Option<Held>,
+    post: Post,
+    fresh: Fresh,
+) -> Result<Answer, WireError> {
     let Some(moments) = there else {
-        return Ok(post_over(alloc, None, post));
+        return Ok(post_over(alloc, None, post, fresh));
     };
     let prev = held(alloc, moments)?;
-    Ok(post_over(alloc, Some(&prev), post))
+    Ok(post_over(alloc, Some(&prev), post, fresh))
 }
 
 /// What is there, the post, and what comes of it.
 type PostRow = (Option<Held>, Post, Answer);
 
 // Sees that this comes of the posts.
-fn are_answered(rt: &impl Abort, alloc: Global, rows: &[PostRow]) {
+fn are_answered(rt: &impl Abort, alloc: Global, rows: &[PostRow], fresh: Fresh) {
     for (there, post, wanted) in rows {
-        let found = post_answer(alloc, *there, *post);
+        let found = post_answer(alloc, *there, *post, fresh);
         assert!(rt; found == Ok(*wanted), "{there:?} {post:?}: {found:?}");
     }
 }
@@ -275,7 +311,7 @@ const PLANNED: [PostRow; 9] = [
 
 #[test]
 fn posts_are_planned(rt: HostRuntime) {
-    are_answered(&rt, rt.alloc(), &PLANNED);
+    are_answered(&rt, rt.alloc(), &PLANNED, ZEROS);
 }
 
 const REFUSED: [PostRow; 13] = [
@@ -350,60 +386,34 @@ const REFUSED: [PostRow; 13] = [
 
 #[test]
 fn the_first_refusal_counts(rt: HostRuntime) {
-    are_answered(&rt, rt.alloc(), &REFUSED);
+    are_answered(&rt, rt.alloc(), &REFUSED, ZEROS);
 }
 
-// The version is of this identifier, by `ops`, with the comment `hi`.
-fn is_posted(version: &MeshSilence, id: &str) -> bool {
-    let silence = version.silence();
-    version.key().as_str() == id
-        && silence.id.as_str() == id
-        && silence.created_by.as_str() == "ops"
-        && silence.comment.as_str() == "hi"
-}
-
-// The version ends the silence `a`, and is greater than the one that is there.
-fn is_end(version: &MeshSilence, prev: &MeshSilence) -> bool {
-    version.key().as_str() == "a" && version.compare(prev) == Ordering::Greater
-}
-
-// The post is put in under this identifier: in place of what is there where the identifier is `a`, and else
-// beside the end of it.
-fn puts_in(plan: &Plan, prev: &MeshSilence, id: &str) -> bool {
-    match plan {
-        Plan::Update(version) => id == "a" && is_posted(version, id),
-        Plan::Create(_) => false,
-        Plan::Replace { new, old } => id != "a" && is_posted(new, id) && is_end(old, prev),
-    }
-}
-
-fn is_put_over(
-    alloc: Global,
-    prev: &MeshSilence,
-    matchers: PostedMatchers,
-    id: &str,
-) -> Result<bool, SilenceError> {
-    let post = (Named::Again, matchers, Fine, 10_000, 200_000);
-    let plan = planned(alloc, Some(prev), post, u128::MAX)?;
-    Ok(puts_in(&plan, prev, id))
-}
-
-// A post of these matchers over an active silence is put in under this identifier.
-fn is_put(alloc: Global, matchers: PostedMatchers, id: &str) -> Result<bool, WireError> {
-    let prev = held(alloc, [10_000, 100_000, 10_000])?;
-    Ok(is_put_over(alloc, &prev, matchers, id) == Ok(true))
-}
+/// A post of the same start and matcher, with a later end.
+const SAME_MATCHER: PostRow = (
+    ACTIVE,
+    (Named::Again, PostedMatchers::JobIsX, Fine, 10_000, 200_000),
+    Answer::Updated(FROM_10),
+);
 
 #[test]
 fn an_update_keeps_the_identifier(rt: HostRuntime) {
-    holds(&rt, is_put(rt.alloc(), PostedMatchers::JobIsX, "a"));
+    are_answered(&rt, rt.alloc(), &[SAME_MATCHER], ONES);
 }
 
-// Another matcher makes a new silence, under the identifier of the bits.
+/// The same of another matcher.
+const OTHER_MATCHER: PostRow = (
+    ACTIVE,
+    (Named::Again, PostedMatchers::JobIsY, Fine, 10_000, 200_000),
+    Answer::Replaced {
+        new: FROM_20,
+        ended: ENDED_FROM_10,
+    },
+);
+
 #[test]
 fn other_matchers_make_a_new_silence(rt: HostRuntime) {
-    let id = "ffffffff-ffff-4fff-bfff-ffffffffffff";
-    holds(&rt, is_put(rt.alloc(), PostedMatchers::JobIsY, id));
+    are_answered(&rt, rt.alloc(), &[OTHER_MATCHER], ONES);
 }
 
 // The end of the silence `a`.
@@ -411,7 +421,7 @@ fn ended_as(version: &MeshSilence) -> Answer {
     if version.key().as_str() == "a" {
         Answer::Ended(moments_of(version))
     } else {
-        Answer::Renamed
+        Answer::Wrong
     }
 }
 

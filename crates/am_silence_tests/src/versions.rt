@@ -116,15 +116,15 @@ fn compared_with_copy(alloc: Global, version: &MeshSilence) -> Result<Ordering, 
 }
 
 // The copies of the key and of the version are what they are copied from.
-fn copies_are_equal(alloc: Global, version: &MeshSilence, key: &str) -> bool {
-    let is_key = copied_key_is(alloc, version, key);
-    let order = compared_with_copy(alloc, version);
-    is_key == Ok(true) && order == Ok(Ordering::Equal)
+fn copies_are_equal(alloc: Global, version: &MeshSilence, key: &str) -> Result<bool, WireError> {
+    let is_key = copied_key_is(alloc, version, key)?;
+    let order = compared_with_copy(alloc, version)?;
+    Ok(is_key && order == Ordering::Equal)
 }
 
 fn is_copied(alloc: Global, bytes: &[u8], key: &str) -> Result<bool, WireError> {
     let read = MeshSilence::decode(alloc, bytes)?;
-    Ok(copies_are_equal(alloc, &read, key))
+    copies_are_equal(alloc, &read, key)
 }
 
 #[test]
@@ -333,14 +333,14 @@ fn copied(alloc: Global, matchers: &Matchers) -> Result<Vec<Matcher>, AllocError
     Ok(copy.into_vec())
 }
 
-fn is_given_back(alloc: Global, matchers: &Matchers, row: MatcherRow) -> Result<bool, AllocError> {
+fn is_given_back(alloc: Global, matchers: &Matchers, row: MatcherRow) -> Result<bool, WireError> {
     let copies = copied(alloc, matchers)?;
     Ok(is_matcher(&copies, row))
 }
 
 fn are_given_back(alloc: Global, rows: &[MatcherRow; 1]) -> Result<bool, WireError> {
     let matchers = matchers(alloc, rows)?;
-    Ok(is_given_back(alloc, &matchers, rows[0]) == Ok(true))
+    is_given_back(alloc, &matchers, rows[0])
 }
 
 #[test]
