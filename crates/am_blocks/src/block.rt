@@ -28,7 +28,7 @@ impl<T: Copy> Model for Block<T> {
 }
 
 impl<T: Copy> Block<T> {
-    /// An empty block, or want of memory.
+    /// An empty block, or [`AllocError`] where memory runs out.
     pub fn new(alloc: Global) -> Result<Self, AllocError>
         ensures { IfOk result (λ block. block ≡ []) }
     {

@@ -64,7 +64,7 @@ impl<T: Copy> Blocks<T> {
     ///
     /// # Errors
     ///
-    /// Want of memory: the items stay as they are.
+    /// Out of memory: the items stay as they are.
     pub fn reserve(&mut self, additional: usize) -> Result<(), AllocError>
         ensures room { OnOk result (HasRoom self.new additional) }
         ensures items { self.new.blocks ≡ self.old.blocks }

@@ -22,7 +22,7 @@ pub enum Step<V> {
 }
 
 impl<V: Version> Step<V> {
-    /// A copy, or want of memory.
+    /// A copy, or [`AllocError`] where memory runs out.
     fn try_clone(&self, alloc: Global) -> Result<Self, AllocError>
         ensures copy { IfOk result (λ copy. copy ≡ self.now) }
         ensures none_taken { self.now ≡ Step.Collect → IsOk result }
@@ -141,7 +141,7 @@ impl<V: Version> Keeper<V> {
         Ok(went)
     }
 
-    /// Takes two versions in order, or for want of memory neither.
+    /// Takes two versions in order, or neither where memory runs out.
     pub fn take_pair(
         &mut self,
         first: V,

@@ -1,11 +1,11 @@
--- What a call answers, want of memory aside.
+-- What a call answers, out of memory aside.
 use Rattle.std.specs.Prelude.{◌≡◌, ◌≢◌, Result, Ok, Err}
 use Rattle.am_wire.specs.declared.error.WireError.{WireError}
 use Rattle.am_wire.specs.declared.error.WireError.TheVariants as wire
 use Rattle.am_gossip.specs.declared.error.FrameError.{FrameError}
 use Rattle.am_gossip.specs.declared.error.FrameError.TheVariants.{Wire, Memory}
 
--- a fault in a payload; want of memory is no fault of its bytes
+-- a fault in a payload; out of memory is no fault of its bytes
 abbrev pub frame_fault : WireError → FrameError
 frame_fault wire.Memory = Memory
 frame_fault e = Wire e

@@ -5,7 +5,7 @@ use Rattle.am_wire.specs.declared.error.WireError.{WireError}
 use Rattle.am_wire.specs.declared.value.WireType.{WireType}
 use Rattle.am_wire.specs.Fields.{FieldAt, chunk, fields_of}
 use Rattle.am_wire.specs.Reading.{Table, table_of, text_row, blob_row, last_text, read_by, is_bytes}
-use Rattle.am_wire.specs.Writing.{put_text, put_messages}
+use Rattle.am_wire.specs.Writing.{writes_text, writes_messages}
 use Rattle.am_gossip.specs.declared.error.FrameError.{FrameError}
 use Rattle.am_gossip.specs.declared.error.FrameError.TheVariants.{Wire, UnknownState}
 use Rattle.am_gossip.specs.declared.frame.Part.{Part}
@@ -35,7 +35,7 @@ unfoldable pub reads_part : ℕ → List ℕ → Result Part FrameError
 reads_part at bytes = known (read_by part_table part_tests part_value at at bytes)
 
 unfoldable pub writes_part : Part → List ℕ
-writes_part p = put_text 1 (key_text p.key) ++ put_text 2 p.bytes
+writes_part p = writes_text 1 (key_text p.key) ++ writes_text 2 p.bytes
 
 -- ---- a full state
 -- number 1 is a part, which is bytes; other numbers are passed over
@@ -57,4 +57,4 @@ unfoldable pub reads_parts : List ℕ → Result (List Part) FrameError
 reads_parts bytes = parts_of (fields_of parts_fit 0 bytes)
 
 unfoldable pub writes_parts : List Part → List ℕ
-writes_parts parts = put_messages writes_part 1 parts
+writes_parts parts = writes_messages writes_part 1 parts

@@ -2,14 +2,15 @@
 
 ghost use Rattle.std.specs.Prelude.{◌≡◌, ℕ, List, ◌++◌, ◌+◌, ◌<◌, ◌≤◌, ◌^◌, ◌⊎◌, ◌↔◌, Err, length, OnOk, IfOk, IfErr};
 ghost use Rattle.am_wire.specs.Varint.{shortest};
-ghost use Rattle.am_wire.specs.Writing.{put_chunk, put_text};
+ghost use Rattle.am_wire.specs.Writing.{writes_delimited, writes_text};
 ghost use Rattle.am_gossip.specs.Kinds.{limit};
 ghost use Rattle.am_gossip.specs.Parts.{writes_part, writes_parts};
 ghost use Rattle.am_gossip.specs.Frames.{frame_text, kind_of, payload_text};
 
 use crate::error::FrameError;
 use crate::frame::{Frame, Part};
-use am_wire::{push_bytes, push_text, write_varint};
+use am_wire::write_varint;
+use am_wire::writing::{write_bytes, write_text};
 use std::alloc::{AllocError, Global};
 
 /// The tag of a part in a full state: bytes under the number 1.
@@ -27,7 +28,7 @@ fn varint_len(value: u64) -> u64
 fn chunk_len(number: u32, size: u64) -> u64
     requires number { number < 2 ^ 29 }
     requires size { size + 20 < 2 ^ 64 }
-    ensures exact { (bytes : List ℕ) → length bytes ≡ size → result ≡ length (put_chunk number bytes) }
+    ensures exact { (bytes : List ℕ) → length bytes ≡ size → result ≡ length (writes_delimited number bytes) }
     ensures bounded { result ≤ size + 20 }
 {
     varint_len(u64::from(number) * 8 + 2) + varint_len(size) + size
@@ -36,7 +37,7 @@ fn chunk_len(number: u32, size: u64) -> u64
 /// How many bytes a field of these bytes has; where there are none, it is left out.
 fn bytes_len(number: u32, bytes: &[u8]) -> u64
     requires { number < 2 ^ 29 }
-    ensures exact { result ≡ length (put_text number bytes.now) }
+    ensures exact { result ≡ length (writes_text number bytes.now) }
     ensures bounded { result ≤ length bytes.now + 20 }
 {
     if bytes.is_empty() {
@@ -76,7 +77,7 @@ fn payload_len(frame: &Frame) -> u128
     }
 }
 
-fn push_varint(out: &mut Vec<u8>, value: u64) -> Result<(), AllocError>
+fn append_varint(out: &mut Vec<u8>, value: u64) -> Result<(), AllocError>
     ensures ok { OnOk result (out.new.items ≡ out.old.items ++ shortest value) }
 {
     out.extend_from_slice(write_varint(value).as_slice())?;
@@ -87,16 +88,16 @@ fn push_varint(out: &mut Vec<u8>, value: u64) -> Result<(), AllocError>
 fn push_part(out: &mut Vec<u8>, part: &Part) -> Result<(), AllocError>
     ensures ok { OnOk result (out.new.items ≡ out.old.items ++ writes_part part.now) }
 {
-    push_text(out, 1, part.key.as_str())?;
-    push_bytes(out, 2, part.bytes.as_slice())
+    write_text(out, 1, part.key.as_str())?;
+    write_bytes(out, 2, part.bytes.as_slice())
 }
 
 /// Writes a part as a field of a full state.
-fn push_item(out: &mut Vec<u8>, part: &Part) -> Result<(), AllocError>
-    ensures ok { OnOk result (out.new.items ≡ out.old.items ++ put_chunk 1 (writes_part part.now)) }
+fn take_item(out: &mut Vec<u8>, part: &Part) -> Result<(), AllocError>
+    ensures ok { OnOk result (out.new.items ≡ out.old.items ++ writes_delimited 1 (writes_part part.now)) }
 {
-    push_varint(out, PART_TAG)?;
-    push_varint(out, part_len(part))?;
+    append_varint(out, PART_TAG)?;
+    append_varint(out, part_len(part))?;
     push_part(out, part)
 }
 
@@ -105,7 +106,7 @@ fn push_parts(out: &mut Vec<u8>, parts: &[Part]) -> Result<(), AllocError>
     ensures ok { OnOk result (out.new.items ≡ out.old.items ++ writes_parts parts.now) }
 {
     for part in parts {
-        push_item(out, part)?;
+        take_item(out, part)?;
     }
     Ok(())
 }
@@ -141,7 +142,7 @@ pub fn encode_frame(alloc: Global, frame: &Frame) -> Result<Vec<u8>, FrameError>
     let size = size as u64;
     let mut out = Vec::with_capacity(alloc, 1 + (varint_len(size) + size) as usize)?;
     out.push(kind.code())?;
-    push_varint(&mut out, size)?;
+    append_varint(&mut out, size)?;
     push_payload(&mut out, frame)?;
     Ok(out)
 }

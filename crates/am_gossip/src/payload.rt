@@ -11,10 +11,8 @@ ghost use Rattle.am_gossip.specs.Frames.{reads_payload};
 use crate::error::FrameError;
 use crate::frame::{Frame, FullState, Part, StateKey};
 use crate::kind::FrameKind;
-use am_wire::{
-    Bytes, Draft, Field, LastBytes, LastText, Scan, Schema, Value, WireError, WireType,
-    read_message,
-};
+use am_wire::reading::{Draft, LastBytes, LastText, Scan, Schema, read_message};
+use am_wire::{Bytes, Field, Value, WireError, WireType};
 use std::alloc::Global;
 
 /// A part as it is read.
@@ -61,8 +59,8 @@ impl<'a> Draft<'a> for PartDraft<'a> {
 
     fn take(&mut self, field: Field<'a>) -> Result<(), WireError> {
         match field.number {
-            1 => self.key.put(field)?,
-            2 => self.bytes.put(field),
+            1 => self.key.take(field)?,
+            2 => self.bytes.take(field),
             _ => {}
         }
         Ok(())

@@ -1,4 +1,4 @@
--- What an error becomes: want of memory stays that, and all else that is refused is a bad pattern.
+-- What an error becomes: out of memory stays that, and all else that is refused is a bad pattern.
 use Rattle.regex_syntax.specs.declared.error.ErrorKind.{ErrorKind}
 use Rattle.regex_syntax.specs.declared.error.ErrorKind.TheVariants as parser
 use Rattle.regex.specs.declared.error.Error.{Error}

@@ -25,7 +25,7 @@ fn bucket_of(alloc: Global, label: &Label) -> Result<Bytes, AllocError>
         pattern: label.value.try_clone(alloc)?,
     };
     let mut bucket = Vec::new(alloc);
-    wanted.put(&mut bucket)?;
+    wanted.write(&mut bucket)?;
     Ok(Bytes::new(bucket))
 }
 

@@ -1,4 +1,4 @@
-//! Filters of queries, and want of memory in all calls.
+//! Filters of queries, and out of memory in all calls.
 
 use crate::fixtures::{JOB_IS_X, MatcherRow, silence};
 use crate::matchers::{answer, verdict_on};
@@ -122,7 +122,7 @@ fn filters_pass_silences(rt: HostRuntime) {
     assert_eq!(rt; wrong, None);
 }
 
-/// Whether the answers are right, or want of memory.
+/// Whether the answers are right, or [`AllocError`] where memory runs out.
 fn answers(alloc: Global) -> Result<bool, AllocError> {
     let row = (MatcherKind::Regexp, "job", "x|[y-z]+");
     let found = answer(alloc, row, "yz");
@@ -134,7 +134,7 @@ fn answers(alloc: Global) -> Result<bool, AllocError> {
     }
 }
 
-/// Want of memory is told as such, and the call can be made again.
+/// Out of memory is told as such, and the call can be made again.
 #[test]
 fn want_of_memory_is_no_bad_pattern(rt: HostRuntime) {
     let first = answers(rt.alloc());

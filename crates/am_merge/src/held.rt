@@ -25,7 +25,7 @@ pub enum Taken {
     Expired,
 }
 
-/// Want of memory in a merge, after this many versions of the other map were taken.
+/// Memory ran out in a merge, after this many versions of the other map were taken.
 #[derive(Clone, Copy, Debug, PartialEq, Eq)]
 pub struct MergeError {
     pub taken: usize,
@@ -90,7 +90,7 @@ impl<V: Version> Held<V> {
         }
     }
 
-    /// A copy, or want of memory.
+    /// A copy, or [`AllocError`] where memory runs out.
     pub fn try_clone(&self) -> Result<Self, AllocError>
         ensures { IfOk result (λ copy. copy ≡ self.now) }
     {
@@ -184,7 +184,7 @@ impl<V: Version> Held<V> {
         }
     }
 
-    /// Takes two versions in order, or for want of memory neither.
+    /// Takes two versions in order, or neither where memory runs out.
     pub fn take_pair(
         &mut self,
         first: V,
@@ -216,7 +216,7 @@ impl<V: Version> Held<V> {
     ///
     /// # Errors
     ///
-    /// Where it stops for want of memory, the versions before that one were taken.
+    /// Where memory runs out, the versions before that one were taken.
     pub fn merge(&mut self, other: &Held<V>, _now: Moment) -> Result<usize, MergeError>
         ensures order { IsMap V.seen V.Key.cmp self.new }
         ensures joined { OnOk result (IsJoin V.seen V.Key.cmp self.old other.now self.new) }

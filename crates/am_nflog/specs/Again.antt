@@ -5,7 +5,7 @@ use Rattle.am_version_order.specs.Versions.{Version}
 use Rattle.am_wire.specs.declared.error.WireError.{WireError}
 use Rattle.am_wire.specs.declared.error.WireError.TheVariants as errors
 use Rattle.am_wire.specs.Fields.{FieldAt}
-use Rattle.am_wire.specs.Reading.{Row, varint_row, text_row, blob_row, part_row, numbers_row, last_number, last_text, last_place, all_numbers, joined, is_given, ◌then◌}
+use Rattle.am_wire.specs.Reading.{Row, varint_row, text_row, blob_row, part_row, numbers_row, last_number, last_text, last_place, all_numbers, merged, is_given, ◌then◌}
 use Rattle.am_wire.specs.Timestamps.{timestamp, low_half, moment_test}
 use Rattle.am_wire.specs.Again.Written.{Means, ReadsAs, read_by-reads, written_nothing, written_number, written_text, written_blob, written_numbers, written_part, number_again, text_again, numbers_again, given_again, part_again, reads_whole}
 use Rattle.am_wire.specs.Again.Moments.{MeansMoment, moment_reads, moment_part_again}
@@ -68,7 +68,7 @@ entry_reads e is small =
     (text_again all at 3 refl) (number_again all at 4 refl) (moment_part_again all at 5 small is.timestamp refl)
     (numbers_again all at 6 e.firing_alerts is.firing_alerts refl) (numbers_again all at 7 e.resolved_alerts is.resolved_alerts refl))
   where
-    whole : {es : List FieldAt} → last_text 1 es ≡ e.key.group_key → is_given 2 es ≡ true → Means receiver_tests receiver_value (joined receiver 2 es) e.key.receiver
+    whole : {es : List FieldAt} → last_text 1 es ≡ e.key.group_key → is_given 2 es ≡ true → Means receiver_tests receiver_value (merged receiver 2 es) e.key.receiver
         → last_text 3 es ≡ e.group_hash → last_number 4 es ≡ cond e.resolved 1 0 → MeansMoment 5 es e.timestamp
         → all_numbers 6 es ≡ e.firing_alerts → all_numbers 7 es ≡ e.resolved_alerts → Means entry_tests entry_value es e
     whole {es} group_key given inner hash flag made firing resolved_alerts =
@@ -98,10 +98,10 @@ mesh_reads m is small =
     let all = written_part one 2 (moment_reads m.expires_at is.expires_at) refl refl in
     reads_whole all small (λ at. whole (given_again all at 1 refl) (part_again all at 1 small (entry_reads m.entry is.entry) refl) (moment_part_again all at 2 small is.expires_at refl))
   where
-    whole : {es : List FieldAt} → is_given 1 es ≡ true → Means entry_tests entry_value (joined entry 1 es) m.entry → MeansMoment 2 es m.expires_at → Means mesh_entry_tests mesh_entry_value es m
+    whole : {es : List FieldAt} → is_given 1 es ≡ true → Means entry_tests entry_value (merged entry 1 es) m.entry → MeansMoment 2 es m.expires_at → Means mesh_entry_tests mesh_entry_value es m
     whole {es} given inner expires = record {
       passes = λ place.
-          ap (λ (b : Bool). cond b (entry_tests (last_place 1 es) (joined entry 1 es) then moment_test 2 es) (Some (errors.MissingMessage 1))) given
+          ap (λ (b : Bool). cond b (entry_tests (last_place 1 es) (merged entry 1 es) then moment_test 2 es) (Some (errors.MissingMessage 1))) given
           ∙ ap (λ (f : Option WireError). f then moment_test 2 es) (inner.passes (last_place 1 es)) ∙ expires.passes;
       value_is = λ i. record { entry = inner.value_is i; expires_at = expires.value_is i };
     }

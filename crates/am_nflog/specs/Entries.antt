@@ -6,9 +6,9 @@ use Rattle.am_wire.specs.declared.error.WireError.{WireError}
 use Rattle.am_wire.specs.declared.error.WireError.TheVariants as errors
 use Rattle.am_wire.specs.Fields.{FieldAt}
 use Rattle.am_wire.specs.Reading.{Table, table_of, varint_row, blob_row, part_row, numbers_row}
-use Rattle.am_wire.specs.Reading.{last_number, last_text, all_numbers, joined, is_given, read_by}
+use Rattle.am_wire.specs.Reading.{last_number, last_text, all_numbers, merged, is_given, read_by}
 use Rattle.am_wire.specs.Timestamps.{timestamp, moment_of, moment_test, writes_moment}
-use Rattle.am_wire.specs.Writing.{put_number, put_text, put_chunk, put_numbers}
+use Rattle.am_wire.specs.Writing.{writes_number, writes_text, writes_delimited, writes_numbers}
 use Rattle.am_nflog.specs.declared.entry.Entry.{Entry}
 use Rattle.am_nflog.specs.declared.entry.LogKey.{LogKey}
 use Rattle.am_nflog.specs.Receivers.{receiver, receiver_value, writes_receiver, IsReceiver}
@@ -19,7 +19,7 @@ entry = table_of (blob_row 1 ∷ part_row 2 receiver ∷ blob_row 3 ∷ varint_r
 
 -- the key of an entry of these fields
 abbrev pub key_value : List FieldAt → LogKey
-key_value es = record { group_key = last_text 1 es; receiver = receiver_value (joined receiver 2 es) }
+key_value es = record { group_key = last_text 1 es; receiver = receiver_value (merged receiver 2 es) }
 
 -- the entry of these fields
 abbrev pub entry_value : List FieldAt → Entry
@@ -43,8 +43,8 @@ reads_entry at bytes = read_by entry entry_tests entry_value at at bytes
 -- the one text of an entry
 unfoldable pub writes_entry : Entry → List ℕ
 writes_entry e =
-    put_text 1 e.key.group_key ++ put_chunk 2 (writes_receiver e.key.receiver) ++ put_text 3 e.group_hash
-    ++ put_number 4 (if e.resolved then 1 else 0) ++ put_chunk 5 (writes_moment e.timestamp) ++ put_numbers 6 e.firing_alerts ++ put_numbers 7 e.resolved_alerts
+    writes_text 1 e.key.group_key ++ writes_delimited 2 (writes_receiver e.key.receiver) ++ writes_text 3 e.group_hash
+    ++ writes_number 4 (if e.resolved then 1 else 0) ++ writes_delimited 5 (writes_moment e.timestamp) ++ writes_numbers 6 e.firing_alerts ++ writes_numbers 7 e.resolved_alerts
 
 -- the values of an entry
 pub record IsEntry (e : Entry) : Type 0 where

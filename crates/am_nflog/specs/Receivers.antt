@@ -5,7 +5,7 @@ use Rattle.am_wire.specs.declared.error.WireError.{WireError}
 use Rattle.am_wire.specs.Fields.{FieldAt}
 use Rattle.am_wire.specs.Reading.{Table, table_of, varint_row, text_row, last_number, last_text, read_by}
 use Rattle.am_wire.specs.Timestamps.{low_half}
-use Rattle.am_wire.specs.Writing.{put_number, put_text}
+use Rattle.am_wire.specs.Writing.{writes_number, writes_text}
 use Rattle.am_nflog.specs.declared.receiver.Receiver.{Receiver}
 
 -- which wire types a receiver's fields have, and what is at fault inside them
@@ -26,7 +26,7 @@ reads_receiver at bytes = read_by receiver receiver_tests receiver_value at at b
 
 -- the one text of a receiver
 unfoldable pub writes_receiver : Receiver → List ℕ
-writes_receiver r = put_text 1 r.group_name ++ put_text 2 r.integration ++ put_number 3 r.idx
+writes_receiver r = writes_text 1 r.group_name ++ writes_text 2 r.integration ++ writes_number 3 r.idx
 
 -- the values of a receiver
 pub record IsReceiver (r : Receiver) : Type 0 where

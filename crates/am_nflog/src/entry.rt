@@ -11,11 +11,15 @@ ghost use Rattle.am_nflog.specs.Keys.{key_cmp};
 use crate::hashes::Hashes;
 use crate::receiver::{Receiver, ReceiverDraft};
 use am_version_order::Moment;
-use am_wire::{
-    Bytes, Draft, Field, LastBytes, LastNumber, Message, Part, Schema, TimestampDraft, WireError,
-    WireType, bytes_size, message_size, moment_in, number_size, numbers_size, pack_numbers,
-    push_bytes, push_message, push_number, push_numbers, read_message,
+use am_wire::reading::{
+    Draft, LastBytes, LastNumber, Schema, Submessage, TimestampDraft, moment_in, read_message,
+    take_numbers,
 };
+use am_wire::writing::{
+    bytes_size, message_size, number_size, numbers_size, write_bytes, write_message, write_number,
+    write_numbers,
+};
+use am_wire::{Bytes, Field, Message, WireError, WireType};
 use std::alloc::{AllocError, Global};
 use std::cmp::Ordering;
 
@@ -116,10 +120,10 @@ impl Entry {
 #[derive(Drop)]
 pub struct EntryDraft<'a> {
     group_key: LastBytes<'a>,
-    receiver: Part<ReceiverDraft<'a>>,
+    receiver: Submessage<ReceiverDraft<'a>>,
     group_hash: LastBytes<'a>,
     resolved: LastNumber,
-    timestamp: Part<TimestampDraft>,
+    timestamp: Submessage<TimestampDraft>,
     firing_alerts: Vec<u64>,
     resolved_alerts: Vec<u64>,
 }
@@ -156,10 +160,10 @@ impl<'a> Draft<'a> for EntryDraft<'a> {
     fn start(alloc: Global) -> Self {
         EntryDraft {
             group_key: LastBytes::none(),
-            receiver: Part::none(alloc),
+            receiver: Submessage::none(alloc),
             group_hash: LastBytes::none(),
             resolved: LastNumber::none(),
-            timestamp: Part::none(alloc),
+            timestamp: Submessage::none(alloc),
             firing_alerts: Vec::new(alloc),
             resolved_alerts: Vec::new(alloc),
         }
@@ -167,13 +171,13 @@ impl<'a> Draft<'a> for EntryDraft<'a> {
 
     fn take(&mut self, field: Field<'a>) -> Result<(), WireError> {
         match field.number {
-            1 => self.group_key.put(field),
-            2 => self.receiver.put(field)?,
-            3 => self.group_hash.put(field),
-            4 => self.resolved.put(field),
-            5 => self.timestamp.put(field)?,
-            6 => push_numbers(&mut self.firing_alerts, field)?,
-            7 => push_numbers(&mut self.resolved_alerts, field)?,
+            1 => self.group_key.take(field),
+            2 => self.receiver.take(field)?,
+            3 => self.group_hash.take(field),
+            4 => self.resolved.take(field),
+            5 => self.timestamp.take(field)?,
+            6 => take_numbers(&mut self.firing_alerts, field)?,
+            7 => take_numbers(&mut self.resolved_alerts, field)?,
             _ => {}
         }
         Ok(())
@@ -228,14 +232,14 @@ impl Message for Entry {
     }
 
     #[tactic(auto, unfolding(crate::specs::Entries::writes_entry))]
-    fn put(&self, out: &mut Vec<u8>) -> Result<(), AllocError> {
-        push_bytes(out, 1, self.key.group_key.as_slice())?;
-        push_message(out, 2, &self.key.receiver)?;
-        push_bytes(out, 3, self.group_hash.as_slice())?;
-        push_number(out, 4, u64::from(self.resolved))?;
-        push_message(out, 5, &self.timestamp)?;
-        pack_numbers(out, 6, self.firing_alerts.as_slice())?;
-        pack_numbers(out, 7, self.resolved_alerts.as_slice())?;
+    fn write(&self, out: &mut Vec<u8>) -> Result<(), AllocError> {
+        write_bytes(out, 1, self.key.group_key.as_slice())?;
+        write_message(out, 2, &self.key.receiver)?;
+        write_bytes(out, 3, self.group_hash.as_slice())?;
+        write_number(out, 4, u64::from(self.resolved))?;
+        write_message(out, 5, &self.timestamp)?;
+        write_numbers(out, 6, self.firing_alerts.as_slice())?;
+        write_numbers(out, 7, self.resolved_alerts.as_slice())?;
         Ok(())
     }
 

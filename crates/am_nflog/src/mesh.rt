@@ -10,10 +10,11 @@ ghost use Rattle.am_nflog.specs.MeshTable.{mesh_entry};
 
 use crate::entry::{Entry, EntryDraft, LogKey};
 use am_version_order::{Moment, Version, head_of_text};
-use am_wire::{
-    Draft, Field, MOST_MESSAGE_BYTES, Message, Part, Schema, TimestampDraft, WireError, WireType,
-    append_text, chunk_size, message_size, moment_in, push_message, push_sized, read_message,
+use am_wire::reading::{Draft, Schema, Submessage, TimestampDraft, moment_in, read_message};
+use am_wire::writing::{
+    append_text, delimited_size, message_size, write_message, write_sized_message,
 };
+use am_wire::{Field, MOST_MESSAGE_BYTES, Message, WireError, WireType};
 use std::alloc::{AllocError, Global};
 use std::marker::Model;
 
@@ -76,8 +77,8 @@ impl MeshEntry {
     {
         let room = version_size(size, expires_at) as usize;
         let mut canonical = Vec::with_capacity(alloc, room)?;
-        push_sized(&mut canonical, 1, size, &entry)?;
-        push_message(&mut canonical, 2, &expires_at)?;
+        write_sized_message(&mut canonical, 1, size, &entry)?;
+        write_message(&mut canonical, 2, &expires_at)?;
         Ok(MeshEntry {
             entry,
             expires_at,
@@ -104,14 +105,14 @@ fn version_size(entry_size: u64, expires_at: Moment) -> u64
     ensures { (m : Mesh) → entry_size ≡ counted (length (writes_entry m.entry)) → expires_at ≡ m.expires_at →
         result ≡ counted (length (writes_mesh_entry m)) }
 {
-    chunk_size(1, entry_size).saturating_add(message_size(2, &expires_at))
+    delimited_size(1, entry_size).saturating_add(message_size(2, &expires_at))
 }
 
 /// An entry that is passed on as it is read.
 #[derive(Drop)]
 pub struct MeshEntryDraft<'a> {
-    entry: Part<EntryDraft<'a>>,
-    expires_at: Part<TimestampDraft>,
+    entry: Submessage<EntryDraft<'a>>,
+    expires_at: Submessage<TimestampDraft>,
 }
 
 impl Schema for MeshEntryDraft<'_> {
@@ -143,15 +144,15 @@ impl<'a> Draft<'a> for MeshEntryDraft<'a> {
 
     fn start(alloc: Global) -> Self {
         MeshEntryDraft {
-            entry: Part::none(alloc),
-            expires_at: Part::none(alloc),
+            entry: Submessage::none(alloc),
+            expires_at: Submessage::none(alloc),
         }
     }
 
     fn take(&mut self, field: Field<'a>) -> Result<(), WireError> {
         match field.number {
-            1 => self.entry.put(field)?,
-            2 => self.expires_at.put(field)?,
+            1 => self.entry.take(field)?,
+            2 => self.expires_at.take(field)?,
             _ => {}
         }
         Ok(())
@@ -186,7 +187,7 @@ impl Message for MeshEntry {
         self.canonical().len() as u64
     }
 
-    fn put(&self, out: &mut Vec<u8>) -> Result<(), AllocError> {
+    fn write(&self, out: &mut Vec<u8>) -> Result<(), AllocError> {
         out.extend_from_slice(self.canonical())
     }
 

@@ -3,10 +3,9 @@
 ghost use Rattle.std.specs.Prelude.{◌≡◌, ℕ, List, [], ◌∷◌, ◌++◌, OnOk, IfOk, IfErr};
 ghost use Rattle.am_nflog.specs.Receivers.{receiver};
 
-use am_wire::{
-    Draft, Field, LastNumber, LastText, Message, Schema, Text, WireError, WireType, number_size,
-    push_number, push_text, read_message, text_size,
-};
+use am_wire::reading::{Draft, LastNumber, LastText, Schema, read_message};
+use am_wire::writing::{number_size, text_size, write_number, write_text};
+use am_wire::{Field, Message, Text, WireError, WireType};
 use std::alloc::{AllocError, Global};
 
 /// One integration of a receiver. Receivers are ordered by group name, integration and index.
@@ -80,9 +79,9 @@ impl<'a> Draft<'a> for ReceiverDraft<'a> {
 
     fn take(&mut self, field: Field<'a>) -> Result<(), WireError> {
         match field.number {
-            1 => self.group_name.put(field)?,
-            2 => self.integration.put(field)?,
-            3 => self.idx.put(field),
+            1 => self.group_name.take(field)?,
+            2 => self.integration.take(field)?,
+            3 => self.idx.take(field),
             _ => {}
         }
         Ok(())
@@ -119,10 +118,10 @@ impl Message for Receiver {
     }
 
     #[tactic(auto, unfolding(crate::specs::Receivers::writes_receiver))]
-    fn put(&self, out: &mut Vec<u8>) -> Result<(), AllocError> {
-        push_text(out, 1, self.group_name.as_str())?;
-        push_text(out, 2, self.integration.as_str())?;
-        push_number(out, 3, u64::from(self.idx))?;
+    fn write(&self, out: &mut Vec<u8>) -> Result<(), AllocError> {
+        write_text(out, 1, self.group_name.as_str())?;
+        write_text(out, 2, self.integration.as_str())?;
+        write_number(out, 3, u64::from(self.idx))?;
         Ok(())
     }
 

@@ -57,7 +57,7 @@ impl Word {
         Ok(word)
     }
 
-    /// A copy, or want of memory.
+    /// A copy, or [`AllocError`] where memory runs out.
     pub(crate) fn try_clone(&self, alloc: Global) -> Result<Word, AllocError>
         ensures { IfOk result (λ copy. copy ≡ self.now) }
     {

@@ -9,7 +9,7 @@ use Rattle.std.proofs.lemmas.List.Folds.{find_at}
 use Rattle.std.proofs.lemmas.Grind.{flat_map-append}
 use Rattle.std.proofs.Math.Seq.{drop-append_seam, take-append_seam}
 use Rattle.am_wire.specs.Varint.{shortest}
-use Rattle.am_wire.specs.Writing.{tag, put_chunk, put_text, put_messages}
+use Rattle.am_wire.specs.Writing.{tag, writes_delimited, writes_text, writes_messages}
 use Rattle.am_wire.specs.Sizes.{counted}
 use Rattle.am_wire.specs.Timestamps.{writes_moment}
 use Rattle.am_silence.specs.declared.bucket.Place.{Place}
@@ -77,45 +77,45 @@ ends_stands {end} {part} {text} place h start len =
 
 -- ---- a matcher in its silence
 module _ (s : Silence) (i : ℕ) (m : Matcher) (lt : i < length s.matchers) (is : slice_get s.matchers i ≡ Some m) where
-  messages_end : Ends (length (put_messages writes_matcher 2 (take (i + 1) s.matchers))) (writes_matcher m) (put_messages writes_matcher 2 s.matchers)
+  messages_end : Ends (length (writes_messages writes_matcher 2 (take (i + 1) s.matchers))) (writes_matcher m) (writes_messages writes_matcher 2 s.matchers)
   messages_end =
       let ms = s.matchers in
       let first : take (i + 1) ms ≡ take i ms ++ m ∷ [] = take_more ms i m lt ∙ ap (λ (x : Matcher). take i ms ++ x ∷ []) (get_or_from_slice_get ms i m m is) in
-      let field = put_chunk 2 (writes_matcher m) in
-      let up_to : put_messages writes_matcher 2 (take i ms) ++ field ≡ put_messages writes_matcher 2 (take (i + 1) ms) =
-      flat_map_more (λ (x : Matcher). put_chunk 2 (writes_matcher x)) [] (take i ms) m ∙ ap (λ (x : List Matcher). put_messages writes_matcher 2 x) (sym first) in
-      let all : put_messages writes_matcher 2 (take (i + 1) ms) ++ put_messages writes_matcher 2 (drop (i + 1) ms) ≡ put_messages writes_matcher 2 ms =
-      sym (flat_map-append (λ (x : Matcher). put_chunk 2 (writes_matcher x)) (take (i + 1) ms) (drop (i + 1) ms)) ∙ ap (λ (x : List Matcher). put_messages writes_matcher 2 x) (take-append-drop (i + 1) ms) in
-      let own = ends_behind (put_messages writes_matcher 2 (take i ms)) (ends_behind (tag 2 2) (ends_behind (shortest (length (writes_matcher m))) (ends_whole (writes_matcher m)))) in
-      let own_length : length (put_messages writes_matcher 2 (take (i + 1) ms)) ≡ length (put_messages writes_matcher 2 (take i ms)) + (length (tag 2 2) + (length (shortest (length (writes_matcher m))) + length (writes_matcher m))) =
-      ap length (sym up_to) ∙ length-append (put_messages writes_matcher 2 (take i ms)) field
-      ∙ ap (λ (n : ℕ). length (put_messages writes_matcher 2 (take i ms)) + n) (length-append (tag 2 2) (shortest (length (writes_matcher m)) ++ writes_matcher m) ∙ ap (λ (n : ℕ). length (tag 2 2) + n) (length-append (shortest (length (writes_matcher m))) (writes_matcher m))) in
-      ends_as (sym own_length) all (ends_before (ends_as refl up_to own) (put_messages writes_matcher 2 (drop (i + 1) ms)))
+      let field = writes_delimited 2 (writes_matcher m) in
+      let up_to : writes_messages writes_matcher 2 (take i ms) ++ field ≡ writes_messages writes_matcher 2 (take (i + 1) ms) =
+      flat_map_more (λ (x : Matcher). writes_delimited 2 (writes_matcher x)) [] (take i ms) m ∙ ap (λ (x : List Matcher). writes_messages writes_matcher 2 x) (sym first) in
+      let all : writes_messages writes_matcher 2 (take (i + 1) ms) ++ writes_messages writes_matcher 2 (drop (i + 1) ms) ≡ writes_messages writes_matcher 2 ms =
+      sym (flat_map-append (λ (x : Matcher). writes_delimited 2 (writes_matcher x)) (take (i + 1) ms) (drop (i + 1) ms)) ∙ ap (λ (x : List Matcher). writes_messages writes_matcher 2 x) (take-append-drop (i + 1) ms) in
+      let own = ends_behind (writes_messages writes_matcher 2 (take i ms)) (ends_behind (tag 2 2) (ends_behind (shortest (length (writes_matcher m))) (ends_whole (writes_matcher m)))) in
+      let own_length : length (writes_messages writes_matcher 2 (take (i + 1) ms)) ≡ length (writes_messages writes_matcher 2 (take i ms)) + (length (tag 2 2) + (length (shortest (length (writes_matcher m))) + length (writes_matcher m))) =
+      ap length (sym up_to) ∙ length-append (writes_messages writes_matcher 2 (take i ms)) field
+      ∙ ap (λ (n : ℕ). length (writes_messages writes_matcher 2 (take i ms)) + n) (length-append (tag 2 2) (shortest (length (writes_matcher m)) ++ writes_matcher m) ∙ ap (λ (n : ℕ). length (tag 2 2) + n) (length-append (shortest (length (writes_matcher m))) (writes_matcher m))) in
+      ends_as (sym own_length) all (ends_before (ends_as refl up_to own) (writes_messages writes_matcher 2 (drop (i + 1) ms)))
 
   -- how many bytes of the version's text the matcher ends behind
   abbrev pub matcher_end : ℕ
-  matcher_end = (length (put_chunk 1 (writes_silence s)) - length (writes_silence s)) + (length (put_text 1 s.id) + length (put_messages writes_matcher 2 (take (i + 1) s.matchers)))
+  matcher_end = (length (writes_delimited 1 (writes_silence s)) - length (writes_silence s)) + (length (writes_text 1 s.id) + length (writes_messages writes_matcher 2 (take (i + 1) s.matchers)))
 
-  silence_end : Ends (length (put_text 1 s.id) + length (put_messages writes_matcher 2 (take (i + 1) s.matchers))) (writes_matcher m) (writes_silence s)
+  silence_end : Ends (length (writes_text 1 s.id) + length (writes_messages writes_matcher 2 (take (i + 1) s.matchers))) (writes_matcher m) (writes_silence s)
   unfolding writes_silence
   silence_end =
-      ends_before (ends_before (ends_before (ends_before (ends_before (ends_behind (put_text 1 s.id) messages_end) (put_chunk 3 (writes_moment s.starts_at))) (put_chunk 4 (writes_moment s.ends_at)))
-      (put_chunk 5 (writes_moment s.updated_at))) (put_text 8 s.created_by)) (put_text 9 s.comment)
+      ends_before (ends_before (ends_before (ends_before (ends_before (ends_behind (writes_text 1 s.id) messages_end) (writes_delimited 3 (writes_moment s.starts_at))) (writes_delimited 4 (writes_moment s.ends_at)))
+      (writes_delimited 5 (writes_moment s.updated_at))) (writes_text 8 s.created_by)) (writes_text 9 s.comment)
 
   pub version_end : (v : Mesh) → v.silence ≡ s → Ends matcher_end (writes_matcher m) (writes_mesh_silence v)
   unfolding writes_mesh_silence
   version_end v same =
       let text = writes_silence s in
       let inner = ends_behind (tag 1 2) (ends_behind (shortest (length text)) silence_end) in
-      let front : length (put_chunk 1 text) ≡ length (tag 1 2) + (length (shortest (length text)) + length text) =
+      let front : length (writes_delimited 1 text) ≡ length (tag 1 2) + (length (shortest (length text)) + length text) =
       length-append (tag 1 2) (shortest (length text) ++ text) ∙ ap (λ (n : ℕ). length (tag 1 2) + n) (length-append (shortest (length text)) text) in
-      let at : length (tag 1 2) + (length (shortest (length text)) + (length (put_text 1 s.id) + length (put_messages writes_matcher 2 (take (i + 1) s.matchers)))) ≡ matcher_end = omega (arith, front) in
-      rw same (ends_as at refl (ends_before inner (put_chunk 2 (writes_moment v.expires_at))))
+      let at : length (tag 1 2) + (length (shortest (length text)) + (length (writes_text 1 s.id) + length (writes_messages writes_matcher 2 (take (i + 1) s.matchers)))) ≡ matcher_end = omega (arith, front) in
+      rw same (ends_as at refl (ends_before inner (writes_delimited 2 (writes_moment v.expires_at))))
 
-  pub matcher_end-within : matcher_end ≤ length (put_chunk 1 (writes_silence s))
+  pub matcher_end-within : matcher_end ≤ length (writes_delimited 1 (writes_silence s))
   matcher_end-within =
       let text = writes_silence s in
-      let front : length (put_chunk 1 text) ≡ length (tag 1 2) + (length (shortest (length text)) + length text) =
+      let front : length (writes_delimited 1 text) ≡ length (tag 1 2) + (length (shortest (length text)) + length text) =
       length-append (tag 1 2) (shortest (length text) ++ text) ∙ ap (λ (n : ℕ). length (tag 1 2) + n) (length-append (shortest (length text)) text) in
       omega (arith, front, whole_length silence_end)
 
@@ -123,17 +123,17 @@ module _ (s : Silence) (i : ℕ) (m : Matcher) (lt : i < length s.matchers) (is 
   matcher-within_end = omega (arith, silence_end.at)
 
   -- the end, counted part by part
-  pub end_counted : (size chunk front id text before end : ℕ) → size ≡ length (writes_silence s) → length (put_chunk 1 (writes_silence s)) < 2 ^ 32
-      → chunk ≡ counted (length (put_chunk 1 (writes_silence s))) → front ≡ chunk - size → id ≡ counted (length (put_text 1 s.id)) → text ≡ min (front + id) (2 ^ 64 - 1)
-      → before ≡ counted (length (put_messages writes_matcher 2 (take (i + 1) s.matchers))) → end ≡ min (text + before) (2 ^ 64 - 1) → end ≡ matcher_end
+  pub end_counted : (size chunk front id text before end : ℕ) → size ≡ length (writes_silence s) → length (writes_delimited 1 (writes_silence s)) < 2 ^ 32
+      → chunk ≡ counted (length (writes_delimited 1 (writes_silence s))) → front ≡ chunk - size → id ≡ counted (length (writes_text 1 s.id)) → text ≡ min (front + id) (2 ^ 64 - 1)
+      → before ≡ counted (length (writes_messages writes_matcher 2 (take (i + 1) s.matchers))) → end ≡ min (text + before) (2 ^ 64 - 1) → end ≡ matcher_end
   end_counted size chunk front id text before end h1 h2 h3 h4 h5 h6 h7 h8 = omega (arith, h1, h2, h3, h4, h5, h6, h7, h8, matcher_end-within)
 
 -- ---- a version of under 2^32 bytes
-pub small_chunk : (m : Mesh) → length (writes_mesh_silence m) < 2 ^ 32 → length (put_chunk 1 (writes_silence m.silence)) < 2 ^ 32
+pub small_chunk : (m : Mesh) → length (writes_mesh_silence m) < 2 ^ 32 → length (writes_delimited 1 (writes_silence m.silence)) < 2 ^ 32
 unfolding writes_mesh_silence
-small_chunk m h = omega (arith, h, length-append (put_chunk 1 (writes_silence m.silence)) (put_chunk 2 (writes_moment m.expires_at)))
+small_chunk m h = omega (arith, h, length-append (writes_delimited 1 (writes_silence m.silence)) (writes_delimited 2 (writes_moment m.expires_at)))
 
-pub small_inside : (text : List ℕ) → length (put_chunk 1 text) < 2 ^ 32 → length text < 2 ^ 32
+pub small_inside : (text : List ℕ) → length (writes_delimited 1 text) < 2 ^ 32 → length text < 2 ^ 32
 small_inside text h = omega (arith, h, length-append (tag 1 2) (shortest (length text) ++ text), length-append (shortest (length text)) text)
 
 pub small_silence : (m : Mesh) → length (writes_mesh_silence m) < 2 ^ 32 → length (writes_silence m.silence) < 2 ^ 32

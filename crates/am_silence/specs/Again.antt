@@ -8,7 +8,7 @@ use Rattle.am_version_order.specs.Versions.{Version}
 use Rattle.am_wire.specs.declared.error.WireError.{WireError}
 use Rattle.am_wire.specs.declared.error.WireError.TheVariants as errors
 use Rattle.am_wire.specs.Fields.{FieldAt}
-use Rattle.am_wire.specs.Reading.{Row, varint_row, text_row, part_row, item_row, last_number, last_number_place, last_text, last_place, messages, joined, is_given, message_in, ◌then◌}
+use Rattle.am_wire.specs.Reading.{Row, varint_row, text_row, part_row, item_row, last_number, last_number_place, last_text, last_place, messages, merged, is_given, message_in, ◌then◌}
 use Rattle.am_wire.specs.Timestamps.{timestamp, low_half, moment_test}
 use Rattle.am_wire.specs.Again.Written.{Means, ReadsAs, EachReads, read_by-reads, written_nothing, written_number, written_text, written_part, written_items, number_again, text_again, given_again, part_again, items_again, nothing_again, reads_whole}
 use Rattle.am_wire.specs.Again.Moments.{MeansMoment, moment_reads, moment_part_again}
@@ -119,10 +119,10 @@ mesh_reads m is small =
     let all = written_part one 2 (moment_reads m.expires_at is.expires_at) refl refl in
     reads_whole all small (λ at. whole (given_again all at 1 refl) (part_again all at 1 small (silence_reads m.silence is.silence) refl) (moment_part_again all at 2 small is.expires_at refl))
   where
-    whole : {es : List FieldAt} → is_given 1 es ≡ true → Means silence_tests silence_value (joined silence 1 es) m.silence → MeansMoment 2 es m.expires_at → Means mesh_silence_tests mesh_silence_value es m
+    whole : {es : List FieldAt} → is_given 1 es ≡ true → Means silence_tests silence_value (merged silence 1 es) m.silence → MeansMoment 2 es m.expires_at → Means mesh_silence_tests mesh_silence_value es m
     whole {es} given inner expires = record {
       passes = λ place.
-          ap (λ (b : Bool). cond b (silence_tests (last_place 1 es) (joined silence 1 es) then moment_test 2 es) (Some (errors.MissingMessage 1))) given
+          ap (λ (b : Bool). cond b (silence_tests (last_place 1 es) (merged silence 1 es) then moment_test 2 es) (Some (errors.MissingMessage 1))) given
           ∙ ap (λ (f : Option WireError). f then moment_test 2 es) (inner.passes (last_place 1 es)) ∙ expires.passes;
       value_is = λ i. record { silence = inner.value_is i; expires_at = expires.value_is i };
     }

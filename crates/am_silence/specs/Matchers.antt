@@ -6,7 +6,7 @@ use Rattle.am_wire.specs.declared.error.WireError.TheVariants as errors
 use Rattle.am_wire.specs.Fields.{FieldAt}
 use Rattle.am_wire.specs.Reading.{Table, table_of, varint_row, text_row, last_number, last_number_place, last_text, read_by}
 use Rattle.am_wire.specs.Timestamps.{low_half}
-use Rattle.am_wire.specs.Writing.{put_number, put_text}
+use Rattle.am_wire.specs.Writing.{writes_number, writes_text}
 use Rattle.am_silence.specs.declared.matcher.Matcher.{Matcher}
 use Rattle.am_silence.specs.declared.matcher.MatcherKind.TheVariants as kinds
 use Rattle.am_silence.specs.Kinds.{kind_code, kind_of}
@@ -29,7 +29,7 @@ reads_matcher at bytes = read_by matcher matcher_tests matcher_value at at bytes
 
 -- the one text of a matcher
 unfoldable pub writes_matcher : Matcher → List ℕ
-writes_matcher m = put_number 1 (kind_code m.kind) ++ put_text 2 m.name ++ put_text 3 m.pattern
+writes_matcher m = writes_number 1 (kind_code m.kind) ++ writes_text 2 m.name ++ writes_text 3 m.pattern
 
 -- the values of a matcher
 pub record IsMatcher (m : Matcher) : Type 0 where

@@ -8,7 +8,7 @@ use Rattle.am_wire.specs.declared.error.WireError.{WireError}
 use Rattle.am_wire.specs.Fields.{FieldAt}
 use Rattle.am_wire.specs.Reading.{Table, table_of, text_row, part_row, item_row, ◌then◌, last_text, messages, read_by}
 use Rattle.am_wire.specs.Timestamps.{timestamp, moment_of, moment_test, writes_moment}
-use Rattle.am_wire.specs.Writing.{put_chunk, put_text, put_messages}
+use Rattle.am_wire.specs.Writing.{writes_delimited, writes_text, writes_messages}
 use Rattle.am_silence.specs.declared.silence.Silence.{Silence}
 use Rattle.am_silence.specs.Matchers.{matcher, matcher_value, matcher_tests, writes_matcher, IsMatcher}
 use Rattle.am_silence.specs.Comments.{comment, comment_tests}
@@ -56,8 +56,8 @@ reads_silence at bytes = read_by silence silence_tests silence_value at at bytes
 -- the one text of a silence
 unfoldable pub writes_silence : Silence → List ℕ
 writes_silence s =
-    put_text 1 s.id ++ put_messages writes_matcher 2 s.matchers ++ put_chunk 3 (writes_moment s.starts_at)
-    ++ put_chunk 4 (writes_moment s.ends_at) ++ put_chunk 5 (writes_moment s.updated_at) ++ put_text 8 s.created_by ++ put_text 9 s.comment
+    writes_text 1 s.id ++ writes_messages writes_matcher 2 s.matchers ++ writes_delimited 3 (writes_moment s.starts_at)
+    ++ writes_delimited 4 (writes_moment s.ends_at) ++ writes_delimited 5 (writes_moment s.updated_at) ++ writes_text 8 s.created_by ++ writes_text 9 s.comment
 
 -- the values of a silence
 pub record IsSilence (s : Silence) : Type 0 where

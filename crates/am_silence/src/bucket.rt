@@ -2,7 +2,7 @@
 
 ghost use Rattle.std.specs.Prelude.{◌≡◌, ◌+◌, ◌<◌, ◌≤◌, ◌^◌, length, slice_get, MatchOption};
 ghost use Rattle.std.specs.List.{list_any, position};
-ghost use Rattle.am_wire.specs.Writing.{put_chunk};
+ghost use Rattle.am_wire.specs.Writing.{writes_delimited};
 ghost use Rattle.am_silence.specs.Kinds.{is_regexp};
 ghost use Rattle.am_silence.specs.Matchers.{wants_label};
 ghost use Rattle.am_silence.specs.Silences.{writes_silence};
@@ -12,7 +12,8 @@ ghost use Rattle.am_silence.specs.Places.{part_at, StandsAt};
 use crate::matcher::Matcher;
 use crate::silence::Silence;
 use crate::sizes::matchers_size;
-use am_wire::{Message, chunk_size, text_size};
+use am_wire::Message;
+use am_wire::writing::{delimited_size, text_size};
 
 /// Where a part of a text stands that has fewer than 2^32 bytes.
 #[derive(Clone, Copy)]
@@ -34,7 +35,7 @@ impl Place {
 /// Where the bucket stands in the canonical text of a version whose silence has so many bytes.
 pub fn bucket_place(silence: &Silence, size: u64) -> Place
     requires size { size ≡ length (writes_silence silence.now) }
-    requires small { length (put_chunk 1 (writes_silence silence.now)) < 2 ^ 32 }
+    requires small { length (writes_delimited 1 (writes_silence silence.now)) < 2 ^ 32 }
     ensures { (m : Mesh) → m.silence ≡ silence.now →
         StandsAt (bucket_of silence.now.matchers) result (writes_mesh_silence m) }
 {
@@ -43,7 +44,7 @@ pub fn bucket_place(silence: &Silence, size: u64) -> Place
         return Place { start: 0, len: 0 };
     };
     let len = matchers[index].size();
-    let end = chunk_size(1, size)
+    let end = delimited_size(1, size)
         .saturating_sub(size)
         .saturating_add(text_size(1, silence.id.as_str()))
         .saturating_add(matchers_size(&matchers[..=index]));

@@ -5,10 +5,10 @@ ghost use Rattle.am_wire.specs.Fields.{FieldAt, field_of};
 ghost use Rattle.am_wire.specs.Reading.{Fails, item_fault};
 ghost use Rattle.am_silence.specs.Comments.{comment, comment_tests};
 
-use am_wire::{
-    Draft, Field, LastText, Part, Schema, TimestampDraft, Value, WireError, WireType, moment_in,
-    take_fields,
+use am_wire::reading::{
+    Draft, LastText, Schema, Submessage, TimestampDraft, moment_in, take_fields,
 };
+use am_wire::{Field, Value, WireError, WireType};
 use std::alloc::Global;
 
 /// A comment as it is read.
@@ -16,7 +16,7 @@ use std::alloc::Global;
 pub struct CommentDraft<'a> {
     author: LastText<'a>,
     text: LastText<'a>,
-    written_at: Part<TimestampDraft>,
+    written_at: Submessage<TimestampDraft>,
 }
 
 impl Schema for CommentDraft<'_> {
@@ -51,15 +51,15 @@ impl<'a> Draft<'a> for CommentDraft<'a> {
         CommentDraft {
             author: LastText::none(),
             text: LastText::none(),
-            written_at: Part::none(alloc),
+            written_at: Submessage::none(alloc),
         }
     }
 
     fn take(&mut self, field: Field<'a>) -> Result<(), WireError> {
         match field.number {
-            1 => self.author.put(field)?,
-            2 => self.text.put(field)?,
-            3 => self.written_at.put(field)?,
+            1 => self.author.take(field)?,
+            2 => self.text.take(field)?,
+            3 => self.written_at.take(field)?,
             _ => {}
         }
         Ok(())
@@ -94,7 +94,7 @@ impl<'a> FirstComment<'a> {
     }
 
     /// Reads a comment, and keeps it where it is the first.
-    pub fn put(&mut self, alloc: Global, field: Field<'a>) -> Result<(), WireError>
+    pub fn take(&mut self, alloc: Global, field: Field<'a>) -> Result<(), WireError>
         ensures held { OnOk result ((es : List FieldAt) → (field_of field.entry).number ≡ 7 → IsFirstComment es self.old → IsFirstComment (es ++ field_of field.entry ∷ []) self.new) }
         ensures clean { OnOk result (item_fault comment comment_tests (field_of field.entry) ≡ None) }
         ensures fault { IfErr result (λ e. Fails e (item_fault comment comment_tests (field_of field.entry))) }

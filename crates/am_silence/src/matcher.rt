@@ -6,10 +6,9 @@ ghost use Rattle.am_wire.specs.declared.error.WireError.TheVariants as WireError
 ghost use Rattle.am_silence.specs.Kinds.{kind_code, is_regexp};
 ghost use Rattle.am_silence.specs.Matchers.{matcher, wants_label};
 
-use am_wire::{
-    Draft, Field, LastNumber, LastText, Message, Schema, Text, WireError, WireType, number_size,
-    push_number, push_text, read_message, text_size,
-};
+use am_wire::reading::{Draft, LastNumber, LastText, Schema, read_message};
+use am_wire::writing::{number_size, text_size, write_number, write_text};
+use am_wire::{Field, Message, Text, WireError, WireType};
 use std::alloc::{AllocError, Global};
 use std::marker::Model;
 
@@ -197,9 +196,9 @@ impl<'a> Draft<'a> for MatcherDraft<'a> {
 
     fn take(&mut self, field: Field<'a>) -> Result<(), WireError> {
         match field.number {
-            1 => self.kind.put(field),
-            2 => self.name.put(field)?,
-            3 => self.pattern.put(field)?,
+            1 => self.kind.take(field),
+            2 => self.name.take(field)?,
+            3 => self.pattern.take(field)?,
             _ => {}
         }
         Ok(())
@@ -237,10 +236,10 @@ impl Message for Matcher {
     }
 
     #[tactic(auto, unfolding(crate::specs::Matchers::writes_matcher))]
-    fn put(&self, out: &mut Vec<u8>) -> Result<(), AllocError> {
-        push_number(out, 1, self.kind.number())?;
-        push_text(out, 2, self.name.as_str())?;
-        push_text(out, 3, self.pattern.as_str())
+    fn write(&self, out: &mut Vec<u8>) -> Result<(), AllocError> {
+        write_number(out, 1, self.kind.number())?;
+        write_text(out, 2, self.name.as_str())?;
+        write_text(out, 3, self.pattern.as_str())
     }
 
     #[tactic(auto, unfolding(crate::specs::Matchers::reads_matcher))]

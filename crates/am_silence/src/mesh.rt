@@ -15,10 +15,9 @@ use crate::silence::{Silence, SilenceDraft};
 use crate::sizes::version_size;
 use crate::state::{State, state_at};
 use am_version_order::{Moment, Version, head_of_text};
-use am_wire::{
-    Draft, Field, MOST_MESSAGE_BYTES, Message, Part, Schema, Text, TimestampDraft, WireError,
-    WireType, append_text, moment_in, push_message, push_sized, read_message,
-};
+use am_wire::reading::{Draft, Schema, Submessage, TimestampDraft, moment_in, read_message};
+use am_wire::writing::{append_text, write_message, write_sized_message};
+use am_wire::{Field, MOST_MESSAGE_BYTES, Message, Text, WireError, WireType};
 use std::alloc::{AllocError, Global};
 use std::marker::Model;
 
@@ -92,8 +91,8 @@ impl MeshSilence {
             return Err(AllocError);
         };
         let mut canonical = Vec::with_capacity(alloc, room as usize)?;
-        push_sized(&mut canonical, 1, size, &silence)?;
-        push_message(&mut canonical, 2, &expires_at)?;
+        write_sized_message(&mut canonical, 1, size, &silence)?;
+        write_message(&mut canonical, 2, &expires_at)?;
         let bucket = bucket_place(&silence, size);
         Ok(MeshSilence {
             silence,
@@ -127,8 +126,8 @@ impl MeshSilence {
 /// A silence that is passed on as it is read.
 #[derive(Drop)]
 pub struct MeshSilenceDraft<'a> {
-    silence: Part<SilenceDraft<'a>>,
-    expires_at: Part<TimestampDraft>,
+    silence: Submessage<SilenceDraft<'a>>,
+    expires_at: Submessage<TimestampDraft>,
 }
 
 impl Schema for MeshSilenceDraft<'_> {
@@ -160,15 +159,15 @@ impl<'a> Draft<'a> for MeshSilenceDraft<'a> {
 
     fn start(alloc: Global) -> Self {
         MeshSilenceDraft {
-            silence: Part::none(alloc),
-            expires_at: Part::none(alloc),
+            silence: Submessage::none(alloc),
+            expires_at: Submessage::none(alloc),
         }
     }
 
     fn take(&mut self, field: Field<'a>) -> Result<(), WireError> {
         match field.number {
-            1 => self.silence.put(field)?,
-            2 => self.expires_at.put(field)?,
+            1 => self.silence.take(field)?,
+            2 => self.expires_at.take(field)?,
             _ => {}
         }
         Ok(())
@@ -203,7 +202,7 @@ impl Message for MeshSilence {
         self.canonical().len() as u64
     }
 
-    fn put(&self, out: &mut Vec<u8>) -> Result<(), AllocError> {
+    fn write(&self, out: &mut Vec<u8>) -> Result<(), AllocError> {
         out.extend_from_slice(self.canonical())
     }
 

@@ -3,17 +3,18 @@
 ghost use Rattle.std.specs.Prelude.{◌≡◌, ℕ, List, [], ◌∷◌, ◌++◌, OnOk, IfOk, IfErr};
 ghost use Rattle.std.specs.Prelude.{All, if◌then◌else◌};
 ghost use Rattle.am_silence.specs.Matchers.{IsMatcher, writes_matcher};
-ghost use Rattle.am_wire.specs.Writing.{put_messages};
+ghost use Rattle.am_wire.specs.Writing.{writes_messages};
 ghost use Rattle.am_silence.specs.Silences.{silence};
 
 use crate::comment::FirstComment;
 use crate::matcher::{Matcher, MatcherDraft, Matchers};
 use crate::sizes::SilenceFields;
 use am_version_order::Moment;
-use am_wire::{
-    Draft, Field, LastText, Message, Part, Schema, Text, TimestampDraft, WireError, WireType,
-    moment_in, push_item, push_message, push_text, read_message,
+use am_wire::reading::{
+    Draft, LastText, Schema, Submessage, TimestampDraft, moment_in, read_message, take_item,
 };
+use am_wire::writing::{write_message, write_text};
+use am_wire::{Field, Message, Text, WireError, WireType};
 use std::alloc::{AllocError, Global};
 
 /// A silence: from `starts_at` until `ends_at`, alerts whose labels pass all matchers are muted.
@@ -55,9 +56,9 @@ pub struct SilenceDraft<'a> {
     alloc: Global,
     id: LastText<'a>,
     matchers: Vec<Matcher>,
-    starts_at: Part<TimestampDraft>,
-    ends_at: Part<TimestampDraft>,
-    updated_at: Part<TimestampDraft>,
+    starts_at: Submessage<TimestampDraft>,
+    ends_at: Submessage<TimestampDraft>,
+    updated_at: Submessage<TimestampDraft>,
     first_comment: FirstComment<'a>,
     created_by: LastText<'a>,
     comment: LastText<'a>,
@@ -109,9 +110,9 @@ impl<'a> Draft<'a> for SilenceDraft<'a> {
             alloc,
             id: LastText::none(),
             matchers: Vec::new(alloc),
-            starts_at: Part::none(alloc),
-            ends_at: Part::none(alloc),
-            updated_at: Part::none(alloc),
+            starts_at: Submessage::none(alloc),
+            ends_at: Submessage::none(alloc),
+            updated_at: Submessage::none(alloc),
             first_comment: FirstComment::none(),
             created_by: LastText::none(),
             comment: LastText::none(),
@@ -120,14 +121,14 @@ impl<'a> Draft<'a> for SilenceDraft<'a> {
 
     fn take(&mut self, field: Field<'a>) -> Result<(), WireError> {
         match field.number {
-            1 => self.id.put(field)?,
-            2 => push_item::<MatcherDraft>(self.alloc, &mut self.matchers, field)?,
-            3 => self.starts_at.put(field)?,
-            4 => self.ends_at.put(field)?,
-            5 => self.updated_at.put(field)?,
-            7 => self.first_comment.put(self.alloc, field)?,
-            8 => self.created_by.put(field)?,
-            9 => self.comment.put(field)?,
+            1 => self.id.take(field)?,
+            2 => take_item::<MatcherDraft>(self.alloc, &mut self.matchers, field)?,
+            3 => self.starts_at.take(field)?,
+            4 => self.ends_at.take(field)?,
+            5 => self.updated_at.take(field)?,
+            7 => self.first_comment.take(self.alloc, field)?,
+            8 => self.created_by.take(field)?,
+            9 => self.comment.take(field)?,
             _ => {}
         }
         Ok(())
@@ -157,11 +158,11 @@ impl<'a> Draft<'a> for SilenceDraft<'a> {
 
 /// Writes each matcher as a field.
 fn push_matchers(out: &mut Vec<u8>, matchers: &[Matcher]) -> Result<(), AllocError>
-    ensures written { OnOk result (out.new.items ≡ out.old.items ++ put_messages writes_matcher 2 matchers.now) }
+    ensures written { OnOk result (out.new.items ≡ out.old.items ++ writes_messages writes_matcher 2 matchers.now) }
     ensures value { OnOk result (All IsMatcher matchers.now) }
 {
     for matcher in matchers {
-        push_message(out, 2, matcher)?;
+        write_message(out, 2, matcher)?;
     }
     Ok(())
 }
@@ -183,14 +184,14 @@ impl Message for Silence {
     }
 
     #[tactic(auto, unfolding(crate::specs::Silences::writes_silence))]
-    fn put(&self, out: &mut Vec<u8>) -> Result<(), AllocError> {
-        push_text(out, 1, self.id.as_str())?;
+    fn write(&self, out: &mut Vec<u8>) -> Result<(), AllocError> {
+        write_text(out, 1, self.id.as_str())?;
         push_matchers(out, self.matchers.as_slice())?;
-        push_message(out, 3, &self.starts_at)?;
-        push_message(out, 4, &self.ends_at)?;
-        push_message(out, 5, &self.updated_at)?;
-        push_text(out, 8, self.created_by.as_str())?;
-        push_text(out, 9, self.comment.as_str())?;
+        write_message(out, 3, &self.starts_at)?;
+        write_message(out, 4, &self.ends_at)?;
+        write_message(out, 5, &self.updated_at)?;
+        write_text(out, 8, self.created_by.as_str())?;
+        write_text(out, 9, self.comment.as_str())?;
         Ok(())
     }
 

@@ -2,7 +2,7 @@
 
 ghost use Rattle.std.specs.Prelude.{◌≡◌, length};
 ghost use Rattle.am_wire.specs.Sizes.{counted};
-ghost use Rattle.am_wire.specs.Writing.{put_messages};
+ghost use Rattle.am_wire.specs.Writing.{writes_messages};
 ghost use Rattle.am_silence.specs.Fields.{silence_in};
 ghost use Rattle.am_silence.specs.Matchers.{writes_matcher};
 ghost use Rattle.am_silence.specs.Mesh.{Mesh, writes_mesh_silence};
@@ -11,7 +11,7 @@ ghost use Rattle.am_silence.specs.Silences.{writes_silence};
 use crate::matcher::Matcher;
 use crate::silence::Silence;
 use am_version_order::Moment;
-use am_wire::{chunk_size, message_size, text_size};
+use am_wire::writing::{delimited_size, message_size, text_size};
 
 /// The fields of a silence, whose texts and matchers are another's.
 #[derive(Clone, Copy)]
@@ -58,7 +58,7 @@ impl<'a> SilenceFields<'a> {
 
 /// How many bytes the matchers have, each as a field.
 pub fn matchers_size(matchers: &[Matcher]) -> u64
-    ensures { result ≡ counted (length (put_messages writes_matcher 2 matchers.now)) }
+    ensures { result ≡ counted (length (writes_messages writes_matcher 2 matchers.now)) }
 {
     let mut size: u64 = 0;
     for matcher in matchers {
@@ -73,5 +73,5 @@ pub fn version_size(silence_size: u64, expires_at: Moment) -> u64
     ensures { (m : Mesh) → silence_size ≡ counted (length (writes_silence m.silence)) → expires_at ≡ m.expires_at →
         result ≡ counted (length (writes_mesh_silence m)) }
 {
-    chunk_size(1, silence_size).saturating_add(message_size(2, &expires_at))
+    delimited_size(1, silence_size).saturating_add(message_size(2, &expires_at))
 }

@@ -67,12 +67,12 @@ impl From<WriteFault> for FoldError {
 /// The first fault of the input, with nothing written. [`FoldError::Write`] where a write fails or takes
 /// nothing: exactly the first `written` bytes of the row went out, and it is not tried again.
 /// [`FoldError::TooLarge`] also where the row would have over
-/// [`MOST_MESSAGE_BYTES`](am_wire::MOST_MESSAGE_BYTES), with nothing written, and [`FoldError::Memory`] for want of memory.
+/// [`MOST_MESSAGE_BYTES`](am_wire::MOST_MESSAGE_BYTES), with nothing written, and [`FoldError::Memory`] where memory runs out.
 pub fn fold<V: Version + Message, R: Read, W: Write>(
     alloc: Global,
     reader: &mut R,
     writer: &mut W,
-    now: Moment,
+    _now: Moment,
 ) -> Result<u64, FoldError>
     ensures row { IfOk result (λ written. (row : List ℕ) × (written ≡ length row) ×
         Appends (W.contents writer.old) (W.contents writer.new) row ×
@@ -82,6 +82,6 @@ pub fn fold<V: Version + Message, R: Read, W: Write>(
 
     ensures stopped { IfErr result (StopsFold V.seen V.Key.cmp V.reads (R.remaining reader.old) (R.remaining reader.new) W.contents writer.old writer.new) }
 {
-    let held: Held<V> = take_row(alloc, reader, now)?;
+    let held: Held<V> = take_row(alloc, reader)?;
     Ok(write_row(alloc, &held, writer)?)
 }

@@ -61,7 +61,7 @@ impl Outgoing {
 
     /// Gathers a part. Where there is no room, what was gathered is written first, and a part that is
     /// larger than the room is written by itself.
-    pub fn put<W: Write>(&mut self, writer: &mut W, part: &[u8]) -> Result<(), Stopped>
+    pub fn send<W: Write>(&mut self, writer: &mut W, part: &[u8]) -> Result<(), Stopped>
         requires { self.old.written + vec_len self.old.gathered + length part.now < 2 ^ 64 }
         ensures passed { OnOk result (Passes (W.contents writer.old) (W.contents writer.new) self.old.gathered.items part.now self.new.gathered.items self.old.written self.new.written) }
         ensures stopped { IfErr result (λ e. TakesPart (W.contents writer.old) (W.contents writer.new) (self.old.gathered.items ++ part.now) self.old.written e.written) }

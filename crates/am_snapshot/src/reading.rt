@@ -13,7 +13,7 @@ use am_wire::{Message, RowFault, RowReader};
 use std::alloc::Global;
 use std::io::Read;
 
-/// Reads every version of a row and takes each, live or not. The moment makes no difference.
+/// Reads every version of a row and takes each, live or not.
 ///
 /// It holds the version that is being read and the winners.
 ///
@@ -23,7 +23,6 @@ use std::io::Read;
 pub fn take_row<V: Version + Message, R: Read>(
     alloc: Global,
     reader: &mut R,
-    now: Moment,
 ) -> Result<Held<V>, RowFault>
     ensures order { IfOk result (IsMap V.seen V.Key.cmp) }
     ensures best { IfOk result (λ held. IfSome (R.remaining reader.old) (λ input.
@@ -37,7 +36,7 @@ pub fn take_row<V: Version + Message, R: Read>(
     let mut held = Held::new(alloc);
     let mut rows = RowReader::new(alloc);
     while let Some(version) = rows.next(reader)? {
-        held.take(version, now)?;
+        held.take(version, Moment::LEAST)?;
     }
     Ok(held)
 }

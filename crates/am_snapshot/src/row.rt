@@ -57,17 +57,17 @@ fn row_length<V: Version>(held: &Held<V>) -> Option<u64>
 }
 
 /// Sends bytes behind their length on their way.
-fn put_delimited<W: Write>(out: &mut Outgoing, writer: &mut W, bytes: &[u8]) -> Result<(), Stopped>
+fn send_delimited<W: Write>(out: &mut Outgoing, writer: &mut W, bytes: &[u8]) -> Result<(), Stopped>
     requires { out.old.written + vec_len out.old.gathered + length (delimited bytes.now) < 2 ^ 64 }
     ensures passed { OnOk result (Passes (W.contents writer.old) (W.contents writer.new) out.old.gathered.items (delimited bytes.now) out.new.gathered.items out.old.written out.new.written) }
     ensures stopped { IfErr result (λ e. TakesPart (W.contents writer.old) (W.contents writer.new) (out.old.gathered.items ++ delimited bytes.now) out.old.written e.written) }
 {
-    out.put(writer, write_varint(bytes.len() as u64).as_slice())?;
-    out.put(writer, bytes)
+    out.send(writer, write_varint(bytes.len() as u64).as_slice())?;
+    out.send(writer, bytes)
 }
 
 /// Sends the held versions on their way, each behind its length.
-fn put_versions<V: Version, W: Write>(
+fn send_versions<V: Version, W: Write>(
     out: &mut Outgoing,
     writer: &mut W,
     held: &Held<V>,
@@ -77,7 +77,7 @@ fn put_versions<V: Version, W: Write>(
     ensures stopped { IfErr result (λ e. TakesPart (W.contents writer.old) (W.contents writer.new) (out.old.gathered.items ++ row_text V.seen held.now) out.old.written e.written) }
 {
     for version in held.iter() {
-        put_delimited(out, writer, version.canonical())?;
+        send_delimited(out, writer, version.canonical())?;
     }
     Ok(())
 }
@@ -98,7 +98,7 @@ pub fn write_row<V: Version, W: Write>(
     let Ok(mut out) = Outgoing::new(alloc) else {
         return Err(WriteFault::Memory);
     };
-    put_versions(&mut out, writer, held)?;
+    send_versions(&mut out, writer, held)?;
     out.flush(writer)?;
     Ok(length)
 }

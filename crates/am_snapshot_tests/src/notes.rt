@@ -89,7 +89,7 @@ impl Message for Note {
         self.text.len() as u64
     }
 
-    fn put(&self, out: &mut Vec<u8>) -> Result<(), AllocError> {
+    fn write(&self, out: &mut Vec<u8>) -> Result<(), AllocError> {
         out.extend_from_slice(&self.text)?;
         Ok(())
     }

@@ -98,7 +98,7 @@ fn load_fault<R: Read>(alloc: Global, reader: &mut R) -> Option<SnapshotError> {
 }
 
 fn row_fault<R: Read>(alloc: Global, reader: &mut R) -> Option<RowFault> {
-    take_row::<Note, R>(alloc, reader, Moment::LEAST).err()
+    take_row::<Note, R>(alloc, reader).err()
 }
 
 fn folded<R: Read>(alloc: Global, reader: &mut R, writer: &mut Brittle) -> Result<u64, FoldError> {

@@ -34,7 +34,7 @@ pub trait Version: Drop {
     fn head(key: &Self::Key) -> u64
         ensures { result ≡ head_of key.now };
 
-    /// A copy of the key, or want of memory.
+    /// A copy of the key, or [`AllocError`] where memory runs out.
     fn try_key(&self, alloc: Global) -> Result<Self::Key, AllocError>
         ensures { IfOk result (λ key. key ≡ (seen self.now).key) };
 
@@ -70,7 +70,7 @@ pub trait Version: Drop {
         }
     }
 
-    /// A copy, or want of memory.
+    /// A copy, or [`AllocError`] where memory runs out.
     fn try_clone(&self, alloc: Global) -> Result<Self, AllocError>
         ensures { IfOk result (λ copy. copy ≡ self.now) };
 

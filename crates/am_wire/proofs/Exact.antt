@@ -11,7 +11,7 @@ use Rattle.am_wire.specs.Varint.{IsVarint, IsChain, total, varint_at, groups, sh
 use Rattle.am_wire.specs.Fields.{FieldAt, fields_of, field_at, row_at, rows_of, any}
 use Rattle.am_wire.specs.Grammar.{AreSpelled, AreFields, IsRow, AreRows, ArePacked, field_fits}
 use Rattle.am_wire.specs.Reading.{unpacked}
-use Rattle.am_wire.specs.Writing.{delimited, put_rows}
+use Rattle.am_wire.specs.Writing.{delimited, writes_rows}
 use Rattle.am_wire.specs.Again.Varints.{varint_read, varint_filled, shortest_spells}
 use Rattle.am_wire.specs.Again.Pieces.{done, Reads, pieces-spelled}
 use Rattle.am_wire.specs.Again.Fields.{field_read}
@@ -100,12 +100,12 @@ rows_one_way bytes messages others first second = lists_are messages others (sym
 abbrev IsSmall : List ℕ → Type 0
 IsSmall message = length message ≤ most
 
-pub rows_written : (messages : List (List ℕ)) (at : ℕ) → All IsSmall messages → AreSpelled IsRow messages at (put_rows messages)
+pub rows_written : (messages : List (List ℕ)) (at : ℕ) → All IsSmall messages → AreSpelled IsRow messages at (writes_rows messages)
 rows_written [] at small = refl
 rows_written (m ∷ messages) at small =
     let low = All-head IsSmall m messages small in
     let row : IsRow m at (delimited m) = record { size = shortest (length m); size_is = shortest_spells (length m) (omega arith); text_is = refl; not_large = low } in
-    (delimited m, put_rows messages, refl, row, rows_written messages (at + length (delimited m)) (All-tail IsSmall m messages small))
+    (delimited m, writes_rows messages, refl, row, rows_written messages (at + length (delimited m)) (All-tail IsSmall m messages small))
 
 -- ---- packed numbers
 module _ (tag : ℕ) (bytes numbers : List ℕ) where

@@ -8,7 +8,7 @@ use Rattle.std.proofs.lemmas.List.Concat.{flat_map-cons}
 use Rattle.am_wire.specs.declared.error.WireError.TheVariants.{NotUtf8}
 use Rattle.am_wire.specs.Fields.{FieldAt}
 use Rattle.am_wire.specs.Reading.{Table, picked, last_or, parts_in, message_in, messages, chunk_place, chunk_given}
-use Rattle.am_wire.specs.declared.parts.Part.{Part}
+use Rattle.am_wire.specs.declared.parts.Submessage.{Submessage}
 use Rattle.am_wire.specs.Parts.{IsPart}
 use Rattle.am_wire.specs.Again.Slots.{picked-append}
 
@@ -50,8 +50,8 @@ module _ {A : Type 0} (view : FieldAt → List A) (n : ℕ) where
   goes_past m d es e old is other held = held ∙ last-there d es e (λ same. eqb-false m n other (sym is ∙ same))
 
 -- ---- parts and lists of messages
-module _ {D : Type 0} (holds : List FieldAt → D → Type 0) (table : Table) (n : ℕ) (es : List FieldAt) (e : FieldAt) (p : Part D) (h : IsPart holds table n es p) where
-  pub part_here : (later : Part D) → e.number ≡ n
+module _ {D : Type 0} (holds : List FieldAt → D → Type 0) (table : Table) (n : ℕ) (es : List FieldAt) (e : FieldAt) (p : Submessage D) (h : IsPart holds table n es p) where
+  pub part_here : (later : Submessage D) → e.number ≡ n
       → ((fs : List FieldAt) → holds fs p.draft → holds (fs ++ parts_in table e) later.draft)
       → later.at ≡ last_or p.at (chunk_place e) → later.given ≡ last_or p.given (chunk_given e) → IsPart holds table n (es ++ e ∷ []) later
   part_here later is draft place given = record {

@@ -6,7 +6,7 @@ use Rattle.std.proofs.Common.{pow-suc}
 use Rattle.std.proofs.Math.Pow.{pow_mono}
 use Rattle.std.specs.Int.Count.{count_leading_zeros}
 use Rattle.am_wire.specs.Varint.{groups, shortest}
-use Rattle.am_wire.specs.Writing.{tag, put_chunk}
+use Rattle.am_wire.specs.Writing.{tag, writes_delimited}
 use Rattle.am_wire.specs.Sizes.{counted}
 
 -- ---- numbers
@@ -52,9 +52,9 @@ size_by_zeros n some fits =
 -- ---- chunks
 -- the front of a chunk and its bytes, counted apart
 pub counted_chunk : (number size front : ℕ) (bytes : List ℕ) → size ≡ counted (length bytes) → front ≡ length (tag number 2) + length (shortest size)
-    → counted (front + size) ≡ counted (length (put_chunk number bytes))
+    → counted (front + size) ≡ counted (length (writes_delimited number bytes))
 counted_chunk number size front bytes is before =
-    let parts : length (put_chunk number bytes) ≡ length (tag number 2) + (length (shortest (length bytes)) + length bytes) =
+    let parts : length (writes_delimited number bytes) ≡ length (tag number 2) + (length (shortest (length bytes)) + length bytes) =
     length-append (tag number 2) (shortest (length bytes) ++ bytes) ∙ ap (λ (n : ℕ). length (tag number 2) + n) (length-append (shortest (length bytes)) bytes) in
     elim (cases_lt (length bytes) (2 ^ 64 - 1)) [
       | inl lt ↦

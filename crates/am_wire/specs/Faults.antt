@@ -31,7 +31,7 @@ EndsInNumber bytes = (length bytes < 10) × All (λ b. 128 ≤ b) bytes
 abbrev pub HasLongNumber : List ℕ → Type 0
 HasLongNumber bytes = (9 < length bytes) × All (λ b. 128 ≤ b) (take 9 bytes) × (2 ≤ slice_index bytes 9)
 
--- why no number stands at the front; the fault is put down to the offset `at`
+-- why no number stands at the front; the fault is reported at the offset `at`
 abbrev pub IsNumberFault : ℕ → List ℕ → WireError → Type 0
 IsNumberFault at bytes (Truncated place) = (place ≡ at) × EndsInNumber bytes
 IsNumberFault at bytes (LongVarint place) = (place ≡ at) × HasLongNumber bytes
@@ -135,7 +135,7 @@ abbrev pub AreRowsUntil : List (List ℕ) → WireError → List ℕ → Type 0
 AreRowsUntil messages fault bytes = AreSpelledUntil IsRow IsRowFault messages fault 0 bytes
 
 -- ---- packed numbers
--- the bytes are these numbers, and then comes this fault, which is put down to the offset of the field's tag
+-- the bytes are these numbers, and then comes this fault, which is reported at the offset of the field's tag
 abbrev pub ArePackedUntil : ℕ → List ℕ → WireError → List ℕ → Type 0
 ArePackedUntil tag numbers fault bytes =
     AreSpelledUntil (λ n at text. IsVarint text n) (λ at text e. IsNumberFault tag text e) numbers fault 0 bytes

@@ -58,7 +58,7 @@ abbrev pub field_seen_one : Result Field WireError → Result FieldAt WireError
 field_seen_one (Ok f) = Ok (field_of f)
 field_seen_one (Err e) = Err e
 
--- ---- payloads: each at the front of the bytes, with its length. A fault is put down to the tag's offset `at`; the bytes
+-- ---- payloads: each at the front of the bytes, with its length. A fault is reported at the tag's offset `at`; the bytes
 -- begin at the offset `start`.
 
 -- so many bytes, or a cut

@@ -64,7 +64,7 @@ module _ {A : Type 0} (reads : ℕ → List ℕ → Result A WireError) where
   StopsAfter input messages left Ended = ⊥
 
 -- A call gave the first of what was to come, a message or the fault, behind which nothing comes; or nothing, where
--- nothing was. Want of memory is no fault of the bytes, and nothing comes behind it either.
+-- nothing was. Out of memory is no fault of the bytes, and nothing comes behind it either.
 abbrev pub GivesNext : {A : Type 0} → List (Result A WireError) → Option (Result A WireError) → List (Result A WireError) → Type 0
 GivesNext coming None left = (coming ≡ []) × (left ≡ [])
 GivesNext coming (Some (Ok message)) left = coming ≡ Ok message ∷ left

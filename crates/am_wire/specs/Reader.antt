@@ -59,7 +59,7 @@ Answers reads Over bytes left answer next = (bytes ≡ []) × (answer ≡ Ok Non
 Answers reads Refused bytes left answer next = (bytes ≡ []) × (answer ≡ Err Ended) × (next ≡ Refused)
 
 -- ---- the steps of a call
--- a fault in a message; want of memory is no fault of its bytes
+-- a fault in a message; out of memory is no fault of its bytes
 abbrev pub row_fault : WireError → RowFault
 row_fault errors.Memory = Memory
 row_fault e = Wire e

@@ -85,7 +85,7 @@ chunk_in e = elim e.payload [ chunk at bytes ↦ bytes ∷ [] | _ ↦ [] ]
 abbrev pub message_in : Table → FieldAt → List (List FieldAt)
 message_in table e = elim e.payload [ chunk at bytes ↦ fields_in table at bytes ∷ [] | _ ↦ [] ]
 
--- the same as one list of fields, so that several payloads can be joined
+-- the same as one list of fields, so that several payloads can be merged
 abbrev pub parts_in : Table → FieldAt → List FieldAt
 parts_in table e = elim e.payload [ chunk at bytes ↦ fields_in table at bytes | _ ↦ [] ]
 
@@ -105,9 +105,9 @@ last_text n es = last_or [] (picked chunk_in n es)
 abbrev pub messages : Table → ℕ → List FieldAt → List (List FieldAt)
 messages table n es = picked (message_in table) n es
 
--- the message of a number, read from its payloads joined
-abbrev pub joined : Table → ℕ → List FieldAt → List FieldAt
-joined table n es = picked (parts_in table) n es
+-- the message of a number, read from its payloads merged
+abbrev pub merged : Table → ℕ → List FieldAt → List FieldAt
+merged table n es = picked (parts_in table) n es
 
 -- ---- a message's table: one row for each number
 pub record Row : Type 0 where
@@ -154,7 +154,7 @@ abbrev pub table_of : List Row → Table
 table_of rows = record { fits = fits_by rows; inside = inside_by rows }
 
 -- ---- a whole message: the first fault in its fields, then its tests, then its value. `place` is what its
--- tests are put down to, where they have no field of the message itself.
+-- tests are reported at, where they have no field of the message itself.
 abbrev pub judged : {A : Type 0} → Option WireError → A → Result A WireError
 judged (Some fault) value = Err fault
 judged None value = Ok value
@@ -206,7 +206,7 @@ first_fault [] = None
 first_fault (Ok x ∷ xs) = first_fault xs
 first_fault (Err e ∷ xs) = Some e
 
--- the numbers packed in bytes; a fault is put down to the field's tag
+-- the numbers packed in bytes; a fault is reported at the field's tag
 abbrev pub unpacked : ℕ → List ℕ → List (Result ℕ WireError)
 unpacked tag bytes = pieces (λ at text. varint_at tag text) 0 0 bytes
 

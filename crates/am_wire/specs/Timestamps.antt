@@ -5,8 +5,8 @@ use Rattle.am_version_order.specs.Moments.{seconds_before_1970}
 use Rattle.am_wire.specs.declared.error.WireError.{WireError}
 use Rattle.am_wire.specs.declared.error.WireError.TheVariants as errors
 use Rattle.am_wire.specs.Fields.{FieldAt}
-use Rattle.am_wire.specs.Reading.{Table, table_of, varint_row, last_number, last_place, joined, is_given, read_by}
-use Rattle.am_wire.specs.Writing.{put_number}
+use Rattle.am_wire.specs.Reading.{Table, table_of, varint_row, last_number, last_place, merged, is_given, read_by}
+use Rattle.am_wire.specs.Writing.{writes_number}
 
 -- its fields
 abbrev pub timestamp : Table
@@ -39,11 +39,11 @@ reads_moment at bytes = read_by timestamp timestamp_tests moment at at bytes
 -- ---- a timestamp as the part of a number in a message
 -- a missing one is the first moment
 abbrev pub moment_of : ℕ → List FieldAt → ℕ
-moment_of n es = if is_given n es then moment (joined timestamp n es) else 0
+moment_of n es = if is_given n es then moment (merged timestamp n es) else 0
 
 -- the test of a part, whose fault stands at its last payload
 abbrev pub moment_test : ℕ → List FieldAt → Option WireError
-moment_test n es = timestamp_tests (last_place n es) (joined timestamp n es)
+moment_test n es = timestamp_tests (last_place n es) (merged timestamp n es)
 
 -- ---- writing
 -- the seconds since 1970 in two's complement
@@ -52,4 +52,4 @@ seconds_number m = (m / 1_000_000_000 + (2 ^ 64 - seconds_before_1970)) % 2 ^ 64
 
 -- the text of a moment
 unfoldable pub writes_moment : ℕ → List ℕ
-writes_moment m = put_number 1 (seconds_number m) ++ put_number 2 (m % 1_000_000_000)
+writes_moment m = writes_number 1 (seconds_number m) ++ writes_number 2 (m % 1_000_000_000)

@@ -28,7 +28,7 @@ one_more b (Ok x) = Ok (b % 128 + 128 * x.0, x.1 + 1)
 one_more b (Err e) = Err e
 
 -- The spelling at the front of the bytes: its number and its length. `room` more bytes may follow the first one, and a
--- fault is put down to the offset `at`.
+-- fault is reported at the offset `at`.
 unfoldable pub varint_within : ℕ → ℕ → List ℕ → Result (ℕ × ℕ) WireError
 varint_within at room [] = Err (Truncated at)
 varint_within at zero (b ∷ bs) = if nat_lt b 2 then Ok (b, 1) else Err (LongVarint at)

@@ -8,29 +8,29 @@ abbrev pub tag : ℕ → ℕ → List ℕ
 tag n kind = shortest (n * 8 + kind)
 
 -- a number, where it is not 0
-abbrev pub put_number : ℕ → ℕ → List ℕ
-put_number n v = if v == 0 then [] else tag n 0 ++ shortest v
+abbrev pub writes_number : ℕ → ℕ → List ℕ
+writes_number n v = if v == 0 then [] else tag n 0 ++ shortest v
 
 -- bytes, also where there are none
-abbrev pub put_chunk : ℕ → List ℕ → List ℕ
-put_chunk n bytes = tag n 2 ++ (shortest (length bytes) ++ bytes)
+abbrev pub writes_delimited : ℕ → List ℕ → List ℕ
+writes_delimited n bytes = tag n 2 ++ (shortest (length bytes) ++ bytes)
 
 -- a text, where it is not empty
-abbrev pub put_text : ℕ → List ℕ → List ℕ
-put_text n bytes = if length bytes == 0 then [] else put_chunk n bytes
+abbrev pub writes_text : ℕ → List ℕ → List ℕ
+writes_text n bytes = if length bytes == 0 then [] else writes_delimited n bytes
 
 -- messages, each as a field of its own
-abbrev pub put_messages : {A : Type 0} → (A → List ℕ) → ℕ → List A → List ℕ
-put_messages writes n messages = flat_map (λ m. put_chunk n (writes m)) messages
+abbrev pub writes_messages : {A : Type 0} → (A → List ℕ) → ℕ → List A → List ℕ
+writes_messages writes n messages = flat_map (λ m. writes_delimited n (writes m)) messages
 
 -- bytes behind their length
 abbrev pub delimited : List ℕ → List ℕ
 delimited bytes = shortest (length bytes) ++ bytes
 
 -- messages, each behind its length
-abbrev pub put_rows : List (List ℕ) → List ℕ
-put_rows messages = flat_map delimited messages
+abbrev pub writes_rows : List (List ℕ) → List ℕ
+writes_rows messages = flat_map delimited messages
 
 -- numbers packed in one field, where there are any
-abbrev pub put_numbers : ℕ → List ℕ → List ℕ
-put_numbers n numbers = put_text n (flat_map shortest numbers)
+abbrev pub writes_numbers : ℕ → List ℕ → List ℕ
+writes_numbers n numbers = writes_text n (flat_map shortest numbers)

@@ -37,7 +37,7 @@ impl Bytes {
     ///
     /// # Errors
     ///
-    /// [`AllocError`] for want of memory.
+    /// [`AllocError`] where memory runs out.
     pub fn copied(alloc: Global, bytes: &[u8]) -> Result<Bytes, AllocError>
         ensures { IfOk result (λ copy. copy ≡ bytes.now) }
     {
@@ -63,7 +63,7 @@ impl Bytes {
     ///
     /// # Errors
     ///
-    /// [`AllocError`] for want of memory.
+    /// [`AllocError`] where memory runs out.
     pub fn try_clone(&self, alloc: Global) -> Result<Bytes, AllocError>
         ensures { IfOk result (λ copy. copy ≡ self.now) }
     {

@@ -17,7 +17,7 @@ ghost use Rattle.am_wire.specs.Reader as reader;
 ghost use Rattle.am_wire.specs.Reading.{Table, fields_in, faults_in, text_fault, part_fault, item_fault, numbers_fault, last_number, read_by, unpacked};
 ghost use Rattle.am_wire.specs.SignedParts.{ArePartsOf, IsTimestampOf};
 ghost use Rattle.am_wire.specs.Timestamps.{is_moment, moment, reads_moment};
-ghost use Rattle.am_wire.specs.Writing.{put_rows};
+ghost use Rattle.am_wire.specs.Writing.{writes_rows};
 
 /// What is read is a spelling, and a spelling is read, whatever follows it. Where there is none at the front,
 /// the bytes are too few, or the tenth one is not the last of 64 bits. The shortest spelling is one.
@@ -45,7 +45,7 @@ pub fn rows_are_the_grammar()
     ensures found { (bytes : List ℕ) (messages : List (List ℕ)) → rows_of bytes ≡ map Ok messages → AreRows messages bytes }
     ensures read { (bytes : List ℕ) (messages : List (List ℕ)) → AreRows messages bytes → rows_of bytes ≡ map Ok messages }
     ensures one_way { (bytes : List ℕ) (messages others : List (List ℕ)) → AreRows messages bytes → AreRows others bytes → messages ≡ others }
-    ensures written { (messages : List (List ℕ)) → All (λ m. length m ≤ most) messages → AreRows messages (put_rows messages) }
+    ensures written { (messages : List (List ℕ)) → All (λ m. length m ≤ most) messages → AreRows messages (writes_rows messages) }
 {}
 
 /// Bytes are read without a fault as these packed numbers exactly where they spell them one after the other.

@@ -5,13 +5,13 @@ ghost use Rattle.std.specs.List.{flat_map};
 ghost use Rattle.am_wire.specs.Fields.{field_of};
 ghost use Rattle.am_wire.specs.Reading.{Fails, last_or, chunk_in, numbers_in, numbers_fault, kept, first_fault, unpacked};
 ghost use Rattle.am_wire.specs.Varint.{shortest};
-ghost use Rattle.am_wire.specs.Writing.{put_chunk, put_text, put_numbers};
+ghost use Rattle.am_wire.specs.Writing.{writes_delimited, writes_text, writes_numbers};
 
 use crate::error::WireError;
 use crate::size::varints_size;
 use crate::value::{Field, Value};
 use crate::varint::{varint_from, write_varint};
-use crate::writing::{push_chunk, push_size};
+use crate::writing::{write_delimited, write_prefix};
 use std::alloc::AllocError;
 
 /// The last bytes of a field.
@@ -29,7 +29,7 @@ impl<'a> LastBytes<'a> {
     }
 
     /// Takes the field, where it has bytes.
-    pub fn put(&mut self, field: Field<'a>)
+    pub fn take(&mut self, field: Field<'a>)
         ensures { self.new.bytes.now ≡ last_or self.old.bytes.now (chunk_in (field_of field.entry)) }
     {
         if let Value::Bytes(bytes) = field.value {
@@ -43,7 +43,7 @@ impl<'a> LastBytes<'a> {
 /// # Errors
 ///
 /// The first fault in packed numbers, told at the field's tag, or [`WireError::Memory`].
-pub fn push_numbers(numbers: &mut Vec<u64>, field: Field<'_>) -> Result<(), WireError>
+pub fn take_numbers(numbers: &mut Vec<u64>, field: Field<'_>) -> Result<(), WireError>
     ensures held { OnOk result (numbers.new.items ≡ numbers.old.items ++ numbers_in (field_of field.entry)) }
     ensures clean { OnOk result (numbers_fault (field_of field.entry) ≡ None) }
     ensures fault { IfErr result (λ e. Fails e (numbers_fault (field_of field.entry))) }
@@ -63,7 +63,7 @@ fn packed_count(bytes: &[u8]) -> usize
     bytes.iter().filter(|byte| **byte < 128).count()
 }
 
-// Reads the numbers that are packed in bytes; a fault is put down to `at`.
+// Reads the numbers that are packed in bytes; a fault is reported at `at`.
 fn unpack(numbers: &mut Vec<u64>, bytes: &[u8], at: usize) -> Result<(), WireError>
     ensures held { OnOk result (numbers.new.items ≡ numbers.old.items ++ kept (unpacked at bytes.now)) }
     ensures clean { OnOk result (first_fault (unpacked at bytes.now) ≡ None) }
@@ -83,13 +83,13 @@ fn unpack(numbers: &mut Vec<u64>, bytes: &[u8], at: usize) -> Result<(), WireErr
 ///
 /// # Errors
 ///
-/// [`AllocError`] for want of memory. A part of the field may be left.
-pub fn push_bytes(out: &mut Vec<u8>, number: u32, bytes: &[u8]) -> Result<(), AllocError>
+/// [`AllocError`] where memory runs out. A part of the field may be left.
+pub fn write_bytes(out: &mut Vec<u8>, number: u32, bytes: &[u8]) -> Result<(), AllocError>
     requires { number < 2 ^ 29 }
-    ensures ok { OnOk result (out.new.items ≡ out.old.items ++ put_text number bytes.now) }
+    ensures ok { OnOk result (out.new.items ≡ out.old.items ++ writes_text number bytes.now) }
 {
     if !bytes.is_empty() {
-        push_chunk(out, number, bytes)?;
+        write_delimited(out, number, bytes)?;
     }
     Ok(())
 }
@@ -98,21 +98,21 @@ pub fn push_bytes(out: &mut Vec<u8>, number: u32, bytes: &[u8]) -> Result<(), Al
 ///
 /// # Errors
 ///
-/// [`AllocError`] for want of memory. A part of the field may be left.
-pub fn pack_numbers(out: &mut Vec<u8>, number: u32, numbers: &[u64]) -> Result<(), AllocError>
+/// [`AllocError`] where memory runs out. A part of the field may be left.
+pub fn write_numbers(out: &mut Vec<u8>, number: u32, numbers: &[u64]) -> Result<(), AllocError>
     requires { number < 2 ^ 29 }
-    ensures ok { OnOk result (out.new.items ≡ out.old.items ++ put_numbers number numbers.now) }
+    ensures ok { OnOk result (out.new.items ≡ out.old.items ++ writes_numbers number numbers.now) }
     ensures range { All (λ n. n < 2 ^ 64) numbers.now }
 {
     if !numbers.is_empty() {
-        push_size(out, number, varints_size(numbers))?;
-        push_varints(out, numbers)?;
+        write_prefix(out, number, varints_size(numbers))?;
+        append_varints(out, numbers)?;
     }
     Ok(())
 }
 
 // Writes numbers one after the other.
-fn push_varints(out: &mut Vec<u8>, numbers: &[u64]) -> Result<(), AllocError>
+fn append_varints(out: &mut Vec<u8>, numbers: &[u64]) -> Result<(), AllocError>
     ensures ok { OnOk result (out.new.items ≡ out.old.items ++ flat_map shortest numbers.now) }
 {
     for number in numbers {

@@ -4,13 +4,13 @@ ghost use Rattle.std.specs.Prelude.{◌≡◌, ℕ, List, ◌++◌, ◌+◌, ◌
 ghost use Rattle.am_wire.specs.Limits.{most};
 ghost use Rattle.am_wire.specs.Reading.{Gives};
 ghost use Rattle.am_wire.specs.Sizes.{counted};
-ghost use Rattle.am_wire.specs.Writing.{put_chunk};
+ghost use Rattle.am_wire.specs.Writing.{writes_delimited};
 ghost use Rattle.am_wire.specs.declared.error.WireError.{WireError};
 ghost use Rattle.am_wire.specs.declared.error.WireError.TheVariants as errors;
 
 use crate::error::WireError;
 use crate::rows::MOST_MESSAGE_BYTES;
-use crate::writing::push_size;
+use crate::writing::write_prefix;
 use std::alloc::{AllocError, Global};
 
 /// A value that has one text of its own, and is read from every text that spells it.
@@ -32,8 +32,8 @@ pub trait Message: Sized + Drop {
     ///
     /// # Errors
     ///
-    /// [`AllocError`] for want of memory. A part of the text may be left.
-    fn put(&self, out: &mut Vec<u8>) -> Result<(), AllocError>
+    /// [`AllocError`] where memory runs out. A part of the text may be left.
+    fn write(&self, out: &mut Vec<u8>) -> Result<(), AllocError>
         ensures written { OnOk result (out.new.items ≡ out.old.items ++ writes self.now) }
         ensures value { OnOk result (is_value self.now) };
 
@@ -56,7 +56,7 @@ pub trait Message: Sized + Drop {
             return Err(WireError::TooLarge);
         }
         let mut text = Vec::with_capacity(*out.allocator(), size as usize)?;
-        self.put(&mut text)?;
+        self.write(&mut text)?;
         out.extend_from_slice(&text)?;
         Ok(())
     }
@@ -89,25 +89,25 @@ pub trait Message: Sized + Drop {
 ///
 /// # Errors
 ///
-/// [`AllocError`] for want of memory. A part of the field may be left.
-pub fn push_message<M: Message>(
+/// [`AllocError`] where memory runs out. A part of the field may be left.
+pub fn write_message<M: Message>(
     out: &mut Vec<u8>,
     number: u32,
     message: &M,
 ) -> Result<(), AllocError>
     requires { number < 2 ^ 29 }
-    ensures written { OnOk result (out.new.items ≡ out.old.items ++ put_chunk number (M.writes message.now)) }
+    ensures written { OnOk result (out.new.items ≡ out.old.items ++ writes_delimited number (M.writes message.now)) }
     ensures value { OnOk result (M.is_value message.now) }
 {
-    push_sized(out, number, message.size(), message)
+    write_sized_message(out, number, message.size(), message)
 }
 
 /// Writes a message whose [`Message::size`] is known as a field.
 ///
 /// # Errors
 ///
-/// [`AllocError`] for want of memory. A part of the field may be left.
-pub fn push_sized<M: Message>(
+/// [`AllocError`] where memory runs out. A part of the field may be left.
+pub fn write_sized_message<M: Message>(
     out: &mut Vec<u8>,
     number: u32,
     size: u64,
@@ -115,9 +115,9 @@ pub fn push_sized<M: Message>(
 ) -> Result<(), AllocError>
     requires number { number < 2 ^ 29 }
     requires size { size ≡ counted (length (M.writes message.now)) }
-    ensures written { OnOk result (out.new.items ≡ out.old.items ++ put_chunk number (M.writes message.now)) }
+    ensures written { OnOk result (out.new.items ≡ out.old.items ++ writes_delimited number (M.writes message.now)) }
     ensures value { OnOk result (M.is_value message.now) }
 {
-    push_size(out, number, size)?;
-    message.put(out)
+    write_prefix(out, number, size)?;
+    message.write(out)
 }

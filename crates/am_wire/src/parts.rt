@@ -26,7 +26,7 @@ impl LastNumber {
     }
 
     /// Takes the field, where it has a number.
-    pub fn put(&mut self, field: Field<'_>)
+    pub fn take(&mut self, field: Field<'_>)
         ensures value { self.new.value ≡ last_or self.old.value (varint_in (field_of field.entry)) }
         ensures at { self.new.at ≡ last_or self.old.at (varint_place (field_of field.entry)) }
     {
@@ -56,7 +56,7 @@ impl<'a> LastText<'a> {
     /// # Errors
     ///
     /// [`WireError::NotUtf8`] for bytes that are no text.
-    pub fn put(&mut self, field: Field<'a>) -> Result<(), WireError>
+    pub fn take(&mut self, field: Field<'a>) -> Result<(), WireError>
         ensures held { OnOk result (self.new.text.now ≡ last_or self.old.text.now (chunk_in (field_of field.entry))) }
         ensures clean { OnOk result (text_fault (field_of field.entry) ≡ None) }
         ensures fault { IfErr result (λ e. Fails e (text_fault (field_of field.entry))) }
@@ -73,13 +73,13 @@ impl<'a> LastText<'a> {
 
 /// A message that is held once, and where it was last given.
 #[derive(Drop)]
-pub struct Part<D> {
+pub struct Submessage<D> {
     pub draft: D,
     pub at: usize,
     pub given: bool,
 }
 
-impl<D> Part<D> {
+impl<D> Submessage<D> {
     /// No payload came yet.
     pub fn none<'a>(alloc: Global) -> Self
     where
@@ -88,7 +88,7 @@ impl<D> Part<D> {
         ensures at { result.at ≡ 0 }
         ensures given { result.given ≡ false }
     {
-        Part {
+        Submessage {
             draft: D::start(alloc),
             at: 0,
             given: false,
@@ -100,7 +100,7 @@ impl<D> Part<D> {
     /// # Errors
     ///
     /// The first fault in the payload, or [`WireError::Memory`].
-    pub fn put<'a>(&mut self, field: Field<'a>) -> Result<(), WireError>
+    pub fn take<'a>(&mut self, field: Field<'a>) -> Result<(), WireError>
     where
         D: Draft<'a>,
         ensures held { OnOk result ((es : List FieldAt) → D.holds es self.old.draft → D.holds (es ++ parts_in (table_at D.fitting D.inside) (field_of field.entry)) self.new.draft) }
@@ -124,7 +124,7 @@ impl<D> Part<D> {
 ///
 /// The first fault in the message, else what its own tests find, told at the field's tag; or
 /// [`WireError::Memory`].
-pub fn push_item<'a, D: Draft<'a>>(
+pub fn take_item<'a, D: Draft<'a>>(
     alloc: Global,
     items: &mut Vec<D::Done>,
     field: Field<'a>,

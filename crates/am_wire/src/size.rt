@@ -5,7 +5,7 @@ ghost use Rattle.std.specs.Prelude.{◌≡◌, ℕ, List, ◌<◌, ◌≤◌, �
 ghost use Rattle.std.specs.List.{flat_map};
 ghost use Rattle.am_wire.specs.Sizes.{counted};
 ghost use Rattle.am_wire.specs.Varint.{shortest};
-ghost use Rattle.am_wire.specs.Writing.{put_number, put_chunk, put_text, put_numbers};
+ghost use Rattle.am_wire.specs.Writing.{writes_number, writes_delimited, writes_text, writes_numbers};
 
 use crate::message::Message;
 
@@ -23,7 +23,7 @@ pub fn varint_size(value: u64) -> u64
 /// How many bytes a number takes as a field.
 pub fn number_size(number: u32, value: u64) -> u64
     requires { number < 2 ^ 29 }
-    ensures size { result ≡ length (put_number number value) }
+    ensures size { result ≡ length (writes_number number value) }
     ensures most { result ≤ 20 }
 {
     if value == 0 {
@@ -33,9 +33,9 @@ pub fn number_size(number: u32, value: u64) -> u64
 }
 
 /// How many bytes so many take as a field.
-pub fn chunk_size(number: u32, size: u64) -> u64
+pub fn delimited_size(number: u32, size: u64) -> u64
     requires { number < 2 ^ 29 }
-    ensures { (bytes : List ℕ) → size ≡ counted (length bytes) → result ≡ counted (length (put_chunk number bytes)) }
+    ensures { (bytes : List ℕ) → size ≡ counted (length bytes) → result ≡ counted (length (writes_delimited number bytes)) }
 {
     let front = varint_size(u64::from(number) * 8 + 2) + varint_size(size);
     front.saturating_add(size)
@@ -44,18 +44,18 @@ pub fn chunk_size(number: u32, size: u64) -> u64
 /// How many bytes others take as a field, where there are any.
 pub fn bytes_size(number: u32, bytes: &[u8]) -> u64
     requires { number < 2 ^ 29 }
-    ensures { result ≡ counted (length (put_text number bytes.now)) }
+    ensures { result ≡ counted (length (writes_text number bytes.now)) }
 {
     if bytes.is_empty() {
         return 0;
     }
-    chunk_size(number, bytes.len() as u64)
+    delimited_size(number, bytes.len() as u64)
 }
 
 /// How many bytes a text takes as a field, where it is not empty.
 pub fn text_size(number: u32, text: &str) -> u64
     requires { number < 2 ^ 29 }
-    ensures { result ≡ counted (length (put_text number text.now)) }
+    ensures { result ≡ counted (length (writes_text number text.now)) }
 {
     bytes_size(number, text.as_bytes())
 }
@@ -63,20 +63,20 @@ pub fn text_size(number: u32, text: &str) -> u64
 /// How many bytes a message takes as a field.
 pub fn message_size<M: Message>(number: u32, message: &M) -> u64
     requires { number < 2 ^ 29 }
-    ensures { result ≡ counted (length (put_chunk number (M.writes message.now))) }
+    ensures { result ≡ counted (length (writes_delimited number (M.writes message.now))) }
 {
-    chunk_size(number, message.size())
+    delimited_size(number, message.size())
 }
 
 /// How many bytes numbers take that are packed in one field, where there are any.
 pub fn numbers_size(number: u32, numbers: &[u64]) -> u64
     requires { number < 2 ^ 29 }
-    ensures { result ≡ counted (length (put_numbers number numbers.now)) }
+    ensures { result ≡ counted (length (writes_numbers number numbers.now)) }
 {
     if numbers.is_empty() {
         return 0;
     }
-    chunk_size(number, varints_size(numbers))
+    delimited_size(number, varints_size(numbers))
 }
 
 /// How many bytes numbers have that stand one after the other.

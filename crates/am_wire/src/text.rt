@@ -38,7 +38,7 @@ impl Text {
     ///
     /// # Errors
     ///
-    /// [`AllocError`] for want of memory.
+    /// [`AllocError`] where memory runs out.
     pub fn copied(alloc: Global, text: &str) -> Result<Text, AllocError>
         ensures { IfOk result (λ copy. copy ≡ text.now) }
     {
@@ -65,7 +65,7 @@ impl Text {
     ///
     /// # Errors
     ///
-    /// [`AllocError`] for want of memory.
+    /// [`AllocError`] where memory runs out.
     pub fn try_clone(&self, alloc: Global) -> Result<Text, AllocError>
         ensures { IfOk result (λ copy. copy ≡ self.now) }
     {

@@ -11,10 +11,10 @@ use crate::draft::{Draft, read_message};
 use crate::error::WireError;
 use crate::field::Schema;
 use crate::message::Message;
-use crate::parts::{LastNumber, Part};
+use crate::parts::{LastNumber, Submessage};
 use crate::size::number_size;
 use crate::value::{Field, WireType};
-use crate::writing::push_number;
+use crate::writing::write_number;
 use am_version_order::Moment;
 use std::alloc::{AllocError, Global};
 
@@ -59,8 +59,8 @@ impl<'a> Draft<'a> for TimestampDraft {
 
     fn take(&mut self, field: Field<'a>) -> Result<(), WireError> {
         match field.number {
-            1 => self.seconds.put(field),
-            2 => self.nanos.put(field),
+            1 => self.seconds.take(field),
+            2 => self.nanos.take(field),
             _ => {}
         }
         Ok(())
@@ -80,7 +80,7 @@ impl<'a> Draft<'a> for TimestampDraft {
 /// # Errors
 ///
 /// [`WireError::Timestamp`] where the seconds or the nanoseconds make no moment, told at the part's tag.
-pub fn moment_in(alloc: Global, part: Part<TimestampDraft>) -> Result<Moment, WireError>
+pub fn moment_in(alloc: Global, part: Submessage<TimestampDraft>) -> Result<Moment, WireError>
     ensures { (n : ℕ) (es : List FieldAt) → IsPart IsTimestampDraft timestamp n es part → Gives result (judged (moment_test n es) (moment_of n es)) }
 {
     let moment = part.draft.finish(alloc, part.at)?;
@@ -112,10 +112,10 @@ impl Message for Moment {
     }
 
     #[tactic(auto, unfolding(crate::specs::Timestamps::writes_moment))]
-    fn put(&self, out: &mut Vec<u8>) -> Result<(), AllocError> {
+    fn write(&self, out: &mut Vec<u8>) -> Result<(), AllocError> {
         let (seconds, nanos) = self.parts();
-        push_number(out, 1, seconds.cast_unsigned())?;
-        push_number(out, 2, u64::from(nanos))
+        write_number(out, 1, seconds.cast_unsigned())?;
+        write_number(out, 2, u64::from(nanos))
     }
 
     #[tactic(auto, unfolding(crate::specs::Timestamps::reads_moment))]

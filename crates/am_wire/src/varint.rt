@@ -9,7 +9,7 @@ use std::marker::Model;
 /// The most bytes that a number takes.
 const MOST_BYTES: usize = 10;
 
-/// Reads the number at the front, and how many bytes it takes; a fault is put down to the offset `at`.
+/// Reads the number at the front, and how many bytes it takes; a fault is reported at the offset `at`.
 #[tactic(auto, using(crate::proofs::Groups::one_byte))]
 pub fn varint_from(bytes: &[u8], at: usize) -> Result<(u64, usize), WireError>
     ensures value { result ≡ varint_at at bytes.now }

@@ -4,27 +4,33 @@ ghost use Rattle.std.specs.Prelude.{◌≡◌, ℕ, List, ◌++◌, ◌<◌, ◌
 ghost use Rattle.am_wire.specs.Limits.{most};
 ghost use Rattle.am_wire.specs.Varint.{shortest};
 ghost use Rattle.am_wire.specs.declared.error.WireError.TheVariants as errors;
-ghost use Rattle.am_wire.specs.Writing.{tag, put_number, put_chunk, put_text};
+ghost use Rattle.am_wire.specs.Writing.{tag, writes_number, writes_delimited, writes_text};
 
 use crate::error::WireError;
+pub use crate::lists::{write_bytes, write_numbers};
+pub use crate::message::{write_message, write_sized_message};
 use crate::rows::MOST_MESSAGE_BYTES;
+pub use crate::size::{
+    bytes_size, delimited_size, message_size, number_size, numbers_size, text_size, varint_size,
+    varints_size,
+};
 use crate::varint::write_varint;
 use std::alloc::AllocError;
 
 #[tactic(auto, unfolding(crate::specs::Varint::groups))]
-fn push_varint(out: &mut Vec<u8>, value: u64) -> Result<(), AllocError>
+fn append_varint(out: &mut Vec<u8>, value: u64) -> Result<(), AllocError>
     ensures ok { OnOk result (out.new.items ≡ out.old.items ++ shortest value) }
 {
     if value < 128 {
         out.push(value as u8)?;
         return Ok(());
     }
-    push_long_varint(out, value)
+    append_long_varint(out, value)
 }
 
 // The same, byte by byte: most numbers have but one.
 #[inline(never)]
-fn push_long_varint(out: &mut Vec<u8>, value: u64) -> Result<(), AllocError>
+fn append_long_varint(out: &mut Vec<u8>, value: u64) -> Result<(), AllocError>
     ensures ok { OnOk result (out.new.items ≡ out.old.items ++ shortest value) }
 {
     let mut rest = value;
@@ -42,14 +48,14 @@ fn push_long_varint(out: &mut Vec<u8>, value: u64) -> Result<(), AllocError>
 ///
 /// # Errors
 ///
-/// [`AllocError`] for want of memory. A part of the field may be left.
-pub fn push_number(out: &mut Vec<u8>, number: u32, value: u64) -> Result<(), AllocError>
+/// [`AllocError`] where memory runs out. A part of the field may be left.
+pub fn write_number(out: &mut Vec<u8>, number: u32, value: u64) -> Result<(), AllocError>
     requires { number < 2 ^ 29 }
-    ensures ok { OnOk result (out.new.items ≡ out.old.items ++ put_number number value) }
+    ensures ok { OnOk result (out.new.items ≡ out.old.items ++ writes_number number value) }
 {
     if value != 0 {
-        push_varint(out, u64::from(number) * 8)?;
-        push_varint(out, value)?;
+        append_varint(out, u64::from(number) * 8)?;
+        append_varint(out, value)?;
     }
     Ok(())
 }
@@ -58,25 +64,25 @@ pub fn push_number(out: &mut Vec<u8>, number: u32, value: u64) -> Result<(), All
 ///
 /// # Errors
 ///
-/// [`AllocError`] for want of memory. A part of the field may be left.
-pub fn push_size(out: &mut Vec<u8>, number: u32, size: u64) -> Result<(), AllocError>
+/// [`AllocError`] where memory runs out. A part of the field may be left.
+pub fn write_prefix(out: &mut Vec<u8>, number: u32, size: u64) -> Result<(), AllocError>
     requires { number < 2 ^ 29 }
     ensures ok { OnOk result (out.new.items ≡ out.old.items ++ (tag number 2 ++ shortest size)) }
 {
-    push_varint(out, u64::from(number) * 8 + 2)?;
-    push_varint(out, size)
+    append_varint(out, u64::from(number) * 8 + 2)?;
+    append_varint(out, size)
 }
 
 /// Writes bytes as a field, also where there are none.
 ///
 /// # Errors
 ///
-/// [`AllocError`] for want of memory. A part of the field may be left.
-pub fn push_chunk(out: &mut Vec<u8>, number: u32, bytes: &[u8]) -> Result<(), AllocError>
+/// [`AllocError`] where memory runs out. A part of the field may be left.
+pub fn write_delimited(out: &mut Vec<u8>, number: u32, bytes: &[u8]) -> Result<(), AllocError>
     requires { number < 2 ^ 29 }
-    ensures ok { OnOk result (out.new.items ≡ out.old.items ++ put_chunk number bytes.now) }
+    ensures ok { OnOk result (out.new.items ≡ out.old.items ++ writes_delimited number bytes.now) }
 {
-    push_size(out, number, bytes.len() as u64)?;
+    write_prefix(out, number, bytes.len() as u64)?;
     out.extend_from_slice(bytes)?;
     Ok(())
 }
@@ -85,13 +91,13 @@ pub fn push_chunk(out: &mut Vec<u8>, number: u32, bytes: &[u8]) -> Result<(), Al
 ///
 /// # Errors
 ///
-/// [`AllocError`] for want of memory. A part of the field may be left.
-pub fn push_text(out: &mut Vec<u8>, number: u32, text: &str) -> Result<(), AllocError>
+/// [`AllocError`] where memory runs out. A part of the field may be left.
+pub fn write_text(out: &mut Vec<u8>, number: u32, text: &str) -> Result<(), AllocError>
     requires { number < 2 ^ 29 }
-    ensures ok { OnOk result (out.new.items ≡ out.old.items ++ put_text number text.now) }
+    ensures ok { OnOk result (out.new.items ≡ out.old.items ++ writes_text number text.now) }
 {
     if !text.is_empty() {
-        push_chunk(out, number, text.as_bytes())?;
+        write_delimited(out, number, text.as_bytes())?;
     }
     Ok(())
 }

@@ -1,6 +1,7 @@
 //! Fields and rows, and their faults.
 
-use am_wire::{AnyField, Fields, Rows, Scan, Schema, TimestampDraft, Value, WireError};
+use am_wire::reading::{AnyField, Scan, Schema, TimestampDraft};
+use am_wire::{Fields, Rows, Value, WireError};
 
 /// A field: its number, its offset, that of its payload, and its value; or a fault.
 type FieldRow = Result<(u32, usize, usize, Value<'static>), WireError>;

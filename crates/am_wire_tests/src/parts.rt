@@ -1,10 +1,11 @@
 //! The parts of a message: here a text = 1, a number = 2, a timestamp = 3, and timestamps = 4.
 
 use am_version_order::Moment;
-use am_wire::{
-    Fields, LastNumber, LastText, Part, TimestampDraft, WireError, append_text, moment_in,
-    push_chunk, push_item, push_message, push_number, push_size, push_text,
+use am_wire::reading::{LastNumber, LastText, Submessage, TimestampDraft, moment_in, take_item};
+use am_wire::writing::{
+    append_text, write_delimited, write_message, write_number, write_prefix, write_text,
 };
+use am_wire::{Fields, WireError};
 use std::alloc::{AllocError, Global};
 use std::process::Abort;
 
@@ -24,15 +25,15 @@ fn ten() -> Moment {
 }
 
 fn push_sample(bytes: &mut Vec<u8>) -> Result<(), AllocError> {
-    push_text(bytes, 1, "a")?;
-    push_text(bytes, 1, "b")?;
-    push_text(bytes, 1, "")?;
-    push_number(bytes, 2, 7)?;
-    push_number(bytes, 2, 0)?;
-    push_message(bytes, 3, &ten())?;
-    push_chunk(bytes, 3, &[0x10, 0x05])?;
-    push_message(bytes, 4, &ten())?;
-    push_chunk(bytes, 4, &[])
+    write_text(bytes, 1, "a")?;
+    write_text(bytes, 1, "b")?;
+    write_text(bytes, 1, "")?;
+    write_number(bytes, 2, 7)?;
+    write_number(bytes, 2, 0)?;
+    write_message(bytes, 3, &ten())?;
+    write_delimited(bytes, 3, &[0x10, 0x05])?;
+    write_message(bytes, 4, &ten())?;
+    write_delimited(bytes, 4, &[])
 }
 
 fn is_sample_written(alloc: Global) -> Result<bool, WireError> {
@@ -51,7 +52,7 @@ fn text_in(bytes: &[u8]) -> Result<&str, WireError> {
     for field in Fields::new(bytes) {
         let field = field?;
         if field.number == 1 {
-            text.put(field)?;
+            text.take(field)?;
         }
     }
     Ok(text.text)
@@ -62,7 +63,7 @@ fn number_in(bytes: &[u8]) -> Result<u64, WireError> {
     for field in Fields::new(bytes) {
         let field = field?;
         if field.number == 2 {
-            number.put(field);
+            number.take(field);
         }
     }
     Ok(number.value)
@@ -81,11 +82,11 @@ fn bytes_that_are_no_text_are_told(rt: HostRuntime) {
     assert!(rt; text == Err(WireError::NotUtf8 { at: 2 }));
 }
 
-fn put_moment(part: &mut Part<TimestampDraft>, bytes: &[u8]) -> Result<(), WireError> {
+fn put_moment(part: &mut Submessage<TimestampDraft>, bytes: &[u8]) -> Result<(), WireError> {
     for field in Fields::new(bytes) {
         let field = field?;
         if field.number == 3 {
-            part.put(field)?;
+            part.take(field)?;
         }
     }
     Ok(())
@@ -93,7 +94,7 @@ fn put_moment(part: &mut Part<TimestampDraft>, bytes: &[u8]) -> Result<(), WireE
 
 // The moment under the number 3.
 fn moment_of(alloc: Global, bytes: &[u8]) -> Result<Moment, WireError> {
-    let mut part = Part::<TimestampDraft>::none(alloc);
+    let mut part = Submessage::<TimestampDraft>::none(alloc);
     put_moment(&mut part, bytes)?;
     moment_in(alloc, part)
 }
@@ -102,7 +103,7 @@ fn moment_of(alloc: Global, bytes: &[u8]) -> Result<Moment, WireError> {
 type MomentRow = (&'static [u8], Result<(i64, u32), WireError>);
 
 const MOMENTS: [MomentRow; 5] = [
-    // two payloads of one message are joined
+    // two payloads of one message are merged
     (&SAMPLE, Ok((10, 5))),
     // a moment that is missing is the first one, and an empty one is the start of 1970
     (&[], Ok((-62_135_596_800, 0))),
@@ -140,7 +141,7 @@ fn push_moments(alloc: Global, moments: &mut Vec<Moment>, bytes: &[u8]) -> Resul
     for field in Fields::new(bytes) {
         let field = field?;
         if field.number == 4 {
-            push_item::<TimestampDraft>(alloc, moments, field)?;
+            take_item::<TimestampDraft>(alloc, moments, field)?;
         }
     }
     Ok(())
@@ -160,8 +161,8 @@ fn each_item_stands_by_itself(rt: HostRuntime) {
 }
 
 fn push_behind(bytes: &mut Vec<u8>) -> Result<(), WireError> {
-    push_size(bytes, 2, 3)?;
-    push_number(bytes, 1, 300)?;
+    write_prefix(bytes, 2, 3)?;
+    write_number(bytes, 1, 300)?;
     append_text(bytes, &[0x61])
 }
 

@@ -5,7 +5,7 @@ use Rattle.std.proofs.lemmas.Bool.{lt-ltb, and_from}
 use Rattle.am_version_order.specs.Moments.{greatest}
 use Rattle.am_wire.specs.declared.error.WireError.TheVariants as errors
 use Rattle.am_wire.specs.Fields.{FieldAt}
-use Rattle.am_wire.specs.Reading.{Row, varint_row, last_number, last_place, joined}
+use Rattle.am_wire.specs.Reading.{Row, varint_row, last_number, last_place, merged}
 use Rattle.am_wire.specs.Timestamps.{timestamp, timestamp_tests, moment, moment_of, moment_test, seconds_since_least, low_half}
 use Rattle.am_wire.specs.Timestamps.{seconds_number, reads_moment, writes_moment}
 use Rattle.am_wire.specs.Again.Slots.{part, Slot, written, fields_at, content_at}
@@ -53,6 +53,6 @@ pub moment_part_again : {rows : List Row} {slots : List Slot} (w : IsWritten row
 moment_part_again {rows} {slots} w at n small {m} h is =
     let means = part_again w at n small (moment_reads m h) is in
     record {
-      value_is = ap (λ (b : Bool). cond b (moment (joined timestamp n (fields_at at slots))) 0) (given_again w at n is) ∙ means.value_is;
+      value_is = ap (λ (b : Bool). cond b (moment (merged timestamp n (fields_at at slots))) 0) (given_again w at n is) ∙ means.value_is;
       passes = means.passes (last_place n (fields_at at slots));
     }

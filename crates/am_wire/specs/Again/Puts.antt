@@ -10,7 +10,7 @@ use Rattle.am_wire.specs.Varint.{shortest}
 use Rattle.am_wire.specs.Fields.{FieldAt, varint, chunk, fields_of, field_at, pieces}
 use Rattle.am_wire.specs.Grammar.{IsField}
 use Rattle.am_wire.specs.Reading.{scan, sound_fields, ◌then◌}
-use Rattle.am_wire.specs.Writing.{tag, put_number, put_chunk, put_text}
+use Rattle.am_wire.specs.Writing.{tag, writes_number, writes_delimited, writes_text}
 use Rattle.am_wire.specs.Again.Varints.{shortest_spells}
 use Rattle.am_wire.specs.Again.Pieces.{done, pieces-reads}
 use Rattle.am_wire.specs.Again.Fields.{field_read}
@@ -32,15 +32,15 @@ number_fields n v at = cond (eqb v 0) [] (number_field n v at ∷ [])
 abbrev pub text_fields : ℕ → List ℕ → ℕ → List FieldAt
 text_fields n bytes at = cond (eqb (length bytes) 0) [] (chunk_field n bytes at ∷ [])
 
-abbrev pub put_chunks : ℕ → List (List ℕ) → List ℕ
-put_chunks n texts = flat_map (put_chunk n) texts
+abbrev pub writes_each_delimited : ℕ → List (List ℕ) → List ℕ
+writes_each_delimited n texts = flat_map (writes_delimited n) texts
 
 abbrev pub chunk_fields : ℕ → List (List ℕ) → ℕ → List FieldAt
 chunk_fields n [] at = []
-chunk_fields n (t ∷ texts) at = chunk_field n t at ∷ chunk_fields n texts (at + length (put_chunk n t))
+chunk_fields n (t ∷ texts) at = chunk_field n t at ∷ chunk_fields n texts (at + length (writes_delimited n t))
 
-pub length-put_chunk : (n : ℕ) (bytes : List ℕ) → length bytes ≤ length (put_chunk n bytes)
-length-put_chunk n bytes =
+pub length-writes_delimited : (n : ℕ) (bytes : List ℕ) → length bytes ≤ length (writes_delimited n bytes)
+length-writes_delimited n bytes =
     omega (arith, length-append (tag n 2) (shortest (length bytes) ++ bytes), length-append (shortest (length bytes)) bytes)
 
 module _ (fits : ℕ → WireType → Bool) where
@@ -61,9 +61,9 @@ module _ (fits : ℕ → WireType → Bool) where
   }
 
   module _ (n : ℕ) (pos : 0 < n) (lt : n < 2 ^ 29) where
-    put_number_field : (v at : ℕ) → v < 2 ^ 64 → fits n kinds.Varint ≡ true
+    writes_number_field : (v at : ℕ) → v < 2 ^ 64 → fits n kinds.Varint ≡ true
         → Puts fits at (tag n 0 ++ shortest v) (number_field n v at ∷ [])
-    put_number_field v at small fit =
+    writes_number_field v at small fit =
         let field : IsField (number_field n v at) at (tag n 0 ++ shortest v) = record {
           tag = tag n 0;
           payload = shortest v;
@@ -79,18 +79,18 @@ module _ (fits : ℕ → WireType → Bool) where
               (field_read fits (number_field n v at) at (tag n 0 ++ shortest v) field fit);
         }
 
-    pub Puts-number : (v at : ℕ) → v < 2 ^ 64 → fits n kinds.Varint ≡ true → Puts fits at (put_number n v) (number_fields n v at)
+    pub Puts-number : (v at : ℕ) → v < 2 ^ 64 → fits n kinds.Varint ≡ true → Puts fits at (writes_number n v) (number_fields n v at)
     Puts-number v at small fit =
         elim (eqb v 0) as (λ b. Puts fits at (cond b [] (tag n 0 ++ shortest v)) (cond b [] (number_field n v at ∷ []))) [
           | true ↦ Puts-nil at
-          | false ↦ put_number_field v at small fit
+          | false ↦ writes_number_field v at small fit
         ]
 
     pub Puts-chunk : (bytes : List ℕ) (at : ℕ) → length bytes < 2 ^ 64 → fits n kinds.Bytes ≡ true
-        → Puts fits at (put_chunk n bytes) (chunk_field n bytes at ∷ [])
+        → Puts fits at (writes_delimited n bytes) (chunk_field n bytes at ∷ [])
     Puts-chunk bytes at small fit =
         let size : List ℕ = shortest (length bytes) in
-        let field : IsField (chunk_field n bytes at) at (put_chunk n bytes) = record {
+        let field : IsField (chunk_field n bytes at) at (writes_delimited n bytes) = record {
           tag = tag n 2;
           payload = size ++ bytes;
           text_is = refl;
@@ -101,27 +101,27 @@ module _ (fits : ℕ → WireType → Bool) where
           payload_is = record { size = size; size_is = shortest_spells (length bytes) small; text_is = refl; inside_is = refl };
         } in
         record {
-          reads = λ rest. pieces-reads (field_at fits) at (put_chunk n bytes) rest (chunk_field n bytes at)
-              (field_read fits (chunk_field n bytes at) at (put_chunk n bytes) field fit);
+          reads = λ rest. pieces-reads (field_at fits) at (writes_delimited n bytes) rest (chunk_field n bytes at)
+              (field_read fits (chunk_field n bytes at) at (writes_delimited n bytes) field fit);
         }
 
     pub Puts-text : (bytes : List ℕ) (at : ℕ) → length bytes < 2 ^ 64 → fits n kinds.Bytes ≡ true
-        → Puts fits at (put_text n bytes) (text_fields n bytes at)
+        → Puts fits at (writes_text n bytes) (text_fields n bytes at)
     Puts-text bytes at small fit =
-        elim (eqb (length bytes) 0) as (λ b. Puts fits at (cond b [] (put_chunk n bytes)) (cond b [] (chunk_field n bytes at ∷ []))) [
+        elim (eqb (length bytes) 0) as (λ b. Puts fits at (cond b [] (writes_delimited n bytes)) (cond b [] (chunk_field n bytes at ∷ []))) [
           | true ↦ Puts-nil at
           | false ↦ Puts-chunk bytes at small fit
         ]
 
-    pub Puts-chunks : (texts : List (List ℕ)) (at : ℕ) → length (put_chunks n texts) < 2 ^ 64 → fits n kinds.Bytes ≡ true
-        → Puts fits at (put_chunks n texts) (chunk_fields n texts at)
+    pub Puts-chunks : (texts : List (List ℕ)) (at : ℕ) → length (writes_each_delimited n texts) < 2 ^ 64 → fits n kinds.Bytes ≡ true
+        → Puts fits at (writes_each_delimited n texts) (chunk_fields n texts at)
     Puts-chunks [] at small fit = Puts-nil at
     Puts-chunks (t ∷ texts) at small fit =
-        let whole = length-append (put_chunk n t) (put_chunks n texts) in
-        let inner = length-put_chunk n t in
-        Puts-then at (put_chunk n t) (put_chunks n texts) (chunk_field n t at ∷ []) (chunk_fields n texts (at + length (put_chunk n t)))
+        let whole = length-append (writes_delimited n t) (writes_each_delimited n texts) in
+        let inner = length-writes_delimited n t in
+        Puts-then at (writes_delimited n t) (writes_each_delimited n texts) (chunk_field n t at ∷ []) (chunk_fields n texts (at + length (writes_delimited n t)))
         (Puts-chunk t at (omega (arith, whole, inner)) fit)
-        (Puts-chunks texts (at + length (put_chunk n t)) (omega (arith, whole)) fit)
+        (Puts-chunks texts (at + length (writes_delimited n t)) (omega (arith, whole)) fit)
 
 -- ---- a whole text
 pub Puts-whole : (fits : ℕ → WireType → Bool) (at : ℕ) (text : List ℕ) (es : List FieldAt) → Puts fits at text es

@@ -8,7 +8,7 @@ use Rattle.std.proofs.lemmas.List.Concat.{flat_map-append}
 use Rattle.am_wire.specs.declared.value.WireType.{WireType}
 use Rattle.am_wire.specs.Fields.{FieldAt}
 use Rattle.am_wire.specs.Reading.{Row, fits_by, inside_by, picked}
-use Rattle.am_wire.specs.Writing.{put_number, put_text, put_chunk}
+use Rattle.am_wire.specs.Writing.{writes_number, writes_text, writes_delimited}
 use Rattle.am_wire.specs.Again.Puts.{AllClean, number_field, number_fields, text_fields, chunk_field, chunk_fields}
 
 -- ---- what is written
@@ -28,9 +28,9 @@ abbrev pub slot : ℕ → Content → Slot
 slot n c = record { slot_number = n; content = c }
 
 abbrev pub put : ℕ → Content → List ℕ
-put n (number v) = put_number n v
-put n (text bytes) = put_text n bytes
-put n (part bytes) = put_chunk n bytes
+put n (number v) = writes_number n v
+put n (text bytes) = writes_text n bytes
+put n (part bytes) = writes_delimited n bytes
 put n (items bytes texts) = bytes
 
 -- the bytes of a message; the slot that is written last comes first
@@ -88,7 +88,7 @@ AllNumbered n (e ∷ es) = (e.number ≡ n) × AllNumbered n es
 
 chunk_fields_numbered : (n : ℕ) (texts : List (List ℕ)) (at : ℕ) → AllNumbered n (chunk_fields n texts at)
 chunk_fields_numbered n [] at = tt
-chunk_fields_numbered n (t ∷ texts) at = (refl, chunk_fields_numbered n texts (at + length (put_chunk n t)))
+chunk_fields_numbered n (t ∷ texts) at = (refl, chunk_fields_numbered n texts (at + length (writes_delimited n t)))
 
 numbered_if : (n : ℕ) (b : Bool) (e : FieldAt) → e.number ≡ n → AllNumbered n (cond b [] (e ∷ []))
 numbered_if n true e h = tt

@@ -19,11 +19,11 @@ use Rattle.am_wire.specs.Varint.{shortest, varint_at}
 use Rattle.am_wire.specs.Fields.{FieldAt, fields_of, pieces}
 use Rattle.am_wire.specs.Reading.{Table, Row, scan, sound_fields, table_of, fits_by, inside_by, varint_row, text_row, blob_row, part_row}
 use Rattle.am_wire.specs.Reading.{item_row, numbers_row, item_fault, fields_in, faults_in, judged, read_by, ◌then◌, picked, last_or}
-use Rattle.am_wire.specs.Reading.{varint_in, chunk_in, chunk_given, message_in, parts_in, last_number, last_text, messages, joined}
+use Rattle.am_wire.specs.Reading.{varint_in, chunk_in, chunk_given, message_in, parts_in, last_number, last_text, messages, merged}
 use Rattle.am_wire.specs.Reading.{is_given, numbers_in, all_numbers, kept, first_fault}
-use Rattle.am_wire.specs.Writing.{tag, put_text, put_chunk, put_messages}
+use Rattle.am_wire.specs.Writing.{tag, writes_text, writes_delimited, writes_messages}
 use Rattle.am_wire.specs.Again.Puts.{Puts, Puts-nil, Puts-then, Puts-number, Puts-text, Puts-chunk, Puts-chunks, Puts-whole}
-use Rattle.am_wire.specs.Again.Puts.{length-put_chunk, put_chunks, AllClean, AllClean-append, sound_fields-done, scan-done, number_field}
+use Rattle.am_wire.specs.Again.Puts.{length-writes_delimited, writes_each_delimited, AllClean, AllClean-append, sound_fields-done, scan-done, number_field}
 use Rattle.am_wire.specs.Again.Puts.{number_fields, text_fields, chunk_field, chunk_fields}
 use Rattle.am_wire.specs.Again.Pieces.{done, Reads, pieces-reads}
 use Rattle.am_wire.specs.Again.Varints.{varint_again, shortest_filled}
@@ -73,13 +73,13 @@ clean_if : (inside : FieldAt → Option WireError) (b : Bool) (e : FieldAt) → 
 clean_if inside true e h = tt
 clean_if inside false e h = (h, tt)
 
-chunk_small : (n : ℕ) (bytes : List ℕ) → length (put_chunk n bytes) < 2 ^ 64 → length bytes < 2 ^ 64
-chunk_small n bytes small = let h = length-put_chunk n bytes in omega (arith, h)
+chunk_small : (n : ℕ) (bytes : List ℕ) → length (writes_delimited n bytes) < 2 ^ 64 → length bytes < 2 ^ 64
+chunk_small n bytes small = let h = length-writes_delimited n bytes in omega (arith, h)
 
 -- a text that is left out is empty
-text_small : (n : ℕ) (bytes : List ℕ) → length (put_text n bytes) < 2 ^ 64 → length bytes < 2 ^ 64
+text_small : (n : ℕ) (bytes : List ℕ) → length (writes_text n bytes) < 2 ^ 64 → length bytes < 2 ^ 64
 text_small n bytes =
-    elim (eqb (length bytes) 0) as (λ b. eqb (length bytes) 0 ≡ b → length (cond b [] (put_chunk n bytes)) < 2 ^ 64
+    elim (eqb (length bytes) 0) as (λ b. eqb (length bytes) 0 ≡ b → length (cond b [] (writes_delimited n bytes)) < 2 ^ 64
     → length bytes < 2 ^ 64) [
       | true ↦ λ e _. let h = eqb-true _ _ e in omega (arith, h)
       | false ↦ λ e small. chunk_small n bytes small
@@ -154,28 +154,28 @@ module _ {rows : List Row} {before : List Slot} (w : IsWritten rows before) (n :
 
     -- messages, each of them a field; a message x is written as `writes x`
     module _ {writes : A → List ℕ} where
-      items_clean : (xs : List A) (at : ℕ) → EachReads table tests value writes xs → length (put_chunks n (map writes xs)) < 2 ^ 64
+      items_clean : (xs : List A) (at : ℕ) → EachReads table tests value writes xs → length (writes_each_delimited n (map writes xs)) < 2 ^ 64
           → AllClean (item_fault table tests) (chunk_fields n (map writes xs) at)
       items_clean [] at inner small = tt
       items_clean (x ∷ xs) at inner small =
           let P : A → Type 0 = λ y. length (writes y) < 2 ^ 64 → ReadsAs table tests value (writes y) y in
-          let len = length-append (put_chunk n (writes x)) (put_chunks n (map writes xs)) in
+          let len = length-append (writes_delimited n (writes x)) (writes_each_delimited n (map writes xs)) in
           let one = All-head P x xs inner.each (chunk_small n (writes x) (omega (arith, len))) in
           let e : FieldAt = chunk_field n (writes x) at in
           let p : ℕ = at + length (tag n 2) + length (shortest (length (writes x))) in (
             ap (λ (f : Option WireError). f then tests e.at (fields_in table p (writes x))) (one.clean p) ∙ (one.means p).passes e.at,
-            items_clean xs (at + length (put_chunk n (writes x))) (record { each = All-tail P x xs inner.each }) (omega (arith, len)),
+            items_clean xs (at + length (writes_delimited n (writes x))) (record { each = All-tail P x xs inner.each }) (omega (arith, len)),
           )
 
       pub written_items : {xs : List A} → EachReads table tests value writes xs → is_next n before ≡ true
           → row_at rows n ≡ item_row n table tests
-          → IsWritten rows (slot n (items (put_messages writes n xs) (map writes xs)) ∷ before)
+          → IsWritten rows (slot n (items (writes_messages writes n xs) (map writes xs)) ∷ before)
       unfolding slot_fields
       written_items {xs} inner next row =
           let order = IsNext-from n before next in
-          let same = flat_map-map (put_chunk n) writes xs in
-          let len : length (put_chunks n (map writes xs)) ≡ length (put_messages writes n xs) = ap length same in
-          one_more (items (put_messages writes n xs) (map writes xs)) order
+          let same = flat_map-map (writes_delimited n) writes xs in
+          let len : length (writes_each_delimited n (map writes xs)) ≡ length (writes_messages writes n xs) = ap length same in
+          one_more (items (writes_messages writes n xs) (map writes xs)) order
           (λ at small. subst (λ (bytes : List ℕ). Puts (fits_by rows) at bytes (chunk_fields n (map writes xs) at)) same
           (Puts-chunks (fits_by rows) n order.low order.high (map writes xs) at (omega (arith, len))
           (taken (item_row n table tests) kinds.Bytes row refl)))
@@ -264,48 +264,48 @@ module _ {rows : List Row} {slots : List Slot} (w : IsWritten rows slots) (at n 
 
   -- the message's fields, read where its text stands
   module _ (table : Table) where
-    joined_again : {bytes : List ℕ} → content_at n slots ≡ part bytes
-        → (p : ℕ) × (joined table n (fields_at at slots) ≡ fields_in table p bytes)
+    merged_again : {bytes : List ℕ} → content_at n slots ≡ part bytes
+        → (p : ℕ) × (merged table n (fields_at at slots) ≡ fields_in table p bytes)
     unfolding slot_fields
-    joined_again {bytes} is =
+    merged_again {bytes} is =
         let p : ℕ = place_at n at slots + length (tag n 2) + length (shortest (length bytes)) in
         (p, seen (parts_in table) (part bytes) is ∙ append-nil (fields_in table p bytes))
 
   module _ {A : Type 0} {table : Table} {tests : ℕ → List FieldAt → Option WireError}
       {value : List FieldAt → A} (small : length (written slots) < 2 ^ 64) where
     pub part_again : {bytes : List ℕ} {v : A} → (length bytes < 2 ^ 64 → ReadsAs table tests value bytes v)
-        → content_at n slots ≡ part bytes → Means tests value (joined table n (fields_at at slots)) v
+        → content_at n slots ≡ part bytes → Means tests value (merged table n (fields_at at slots)) v
     part_again {bytes} {v} inner is =
         let len = length-content_at n slots in
-        let whole : length (put n (content_at n slots)) ≡ length (put_chunk n bytes) = ap (λ (c : Content). length (put n c)) is in
-        let j = joined_again table is in
+        let whole : length (put n (content_at n slots)) ≡ length (writes_delimited n bytes) = ap (λ (c : Content). length (put n c)) is in
+        let j = merged_again table is in
         subst (λ (es : List FieldAt). Means tests value es v) (sym j.1)
         ((inner (chunk_small n bytes (omega (arith, len, whole)))).means j.0)
 
     module _ {writes : A → List ℕ} where
-      values : (xs : List A) (p : ℕ) → EachReads table tests value writes xs → length (put_chunks n (map writes xs)) < 2 ^ 64
+      values : (xs : List A) (p : ℕ) → EachReads table tests value writes xs → length (writes_each_delimited n (map writes xs)) < 2 ^ 64
           → map value (flat_map (message_in table) (chunk_fields n (map writes xs) p)) ≡ xs
       values [] p inner lt = refl
       values (x ∷ xs) p inner lt =
           let P : A → Type 0 = λ y. length (writes y) < 2 ^ 64 → ReadsAs table tests value (writes y) y in
-          let len = length-append (put_chunk n (writes x)) (put_chunks n (map writes xs)) in
+          let len = length-append (writes_delimited n (writes x)) (writes_each_delimited n (map writes xs)) in
           let q : ℕ = p + length (tag n 2) + length (shortest (length (writes x))) in
           let one = ((All-head P x xs inner.each (chunk_small n (writes x) (omega (arith, lt, len)))).means q).value_is in
-          let more = values xs (p + length (put_chunk n (writes x))) (record { each = All-tail P x xs inner.each })
+          let more = values xs (p + length (writes_delimited n (writes x))) (record { each = All-tail P x xs inner.each })
           (omega (arith, lt, len)) in
           ap (λ (y : A). y ∷ map value
-          (flat_map (message_in table) (chunk_fields n (map writes xs) (p + length (put_chunk n (writes x)))))) one
+          (flat_map (message_in table) (chunk_fields n (map writes xs) (p + length (writes_delimited n (writes x)))))) one
           ∙ ap (λ (ys : List A). x ∷ ys) more
 
       pub items_again : {xs : List A} → EachReads table tests value writes xs
-          → content_at n slots ≡ items (put_messages writes n xs) (map writes xs) → map value (messages table n (fields_at at slots)) ≡ xs
+          → content_at n slots ≡ items (writes_messages writes n xs) (map writes xs) → map value (messages table n (fields_at at slots)) ≡ xs
       unfolding slot_fields
       items_again {xs} inner is =
           let len = length-content_at n slots in
-          let whole : length (put n (content_at n slots)) ≡ length (put_messages writes n xs) = ap (λ (c : Content). length (put n c)) is in
-          let same : length (put_chunks n (map writes xs)) ≡ length (put_messages writes n xs) =
-          ap length (flat_map-map (put_chunk n) writes xs) in
-          ap (λ (fs : List (List FieldAt)). map value fs) (seen (message_in table) (items (put_messages writes n xs) (map writes xs)) is)
+          let whole : length (put n (content_at n slots)) ≡ length (writes_messages writes n xs) = ap (λ (c : Content). length (put n c)) is in
+          let same : length (writes_each_delimited n (map writes xs)) ≡ length (writes_messages writes n xs) =
+          ap length (flat_map-map (writes_delimited n) writes xs) in
+          ap (λ (fs : List (List FieldAt)). map value fs) (seen (message_in table) (items (writes_messages writes n xs) (map writes xs)) is)
           ∙ values xs (place_at n at slots) inner (omega (arith, len, whole, same))
 
 -- ---- the whole message

@@ -22,7 +22,7 @@ module _ (c : goal.After-saturating_sub-2) where
   end =
       let whole = small_inside (writes_silence c.args.silence.now) c.requires.small in
       end_counted c.args.silence.now c.in-Some.index c.index-matchers-index.result lt is
-      _ _ _ _ _ _ _ c.requires.size c.requires.small (c.chunk_size.ensures (writes_silence c.args.silence.now) (omega (arith, c.requires.size, whole)))
+      _ _ _ _ _ _ _ c.requires.size c.requires.small (c.delimited_size.ensures (writes_silence c.args.silence.now) (omega (arith, c.requires.size, whole)))
       c.saturating_sub.ensures (rw (sym c.as_str.ensures.bytes) c.text_size.ensures) c.saturating_add.ensures
       (rw (sym c.as_slice-matchers.ensures) c.matchers_size.ensures) c.saturating_add-end.ensures
 

@@ -2,7 +2,7 @@ use Rattle.std.proofs.Common.{◌≤◌, List, [], ◌∷◌, ◌++◌, ℕ, tak
 use Rattle.std.specs.Prelude.{All}
 use Rattle.std.proofs.lemmas.List.{take_all, take_more, flat_map_more}
 use Rattle.std.proofs.lemmas.List.Elements.{All-more}
-use Rattle.am_wire.specs.Writing.{put_chunk, put_messages}
+use Rattle.am_wire.specs.Writing.{writes_delimited, writes_messages}
 use Rattle.am_silence.specs.declared.matcher.Matcher.{Matcher}
 use Rattle.am_silence.specs.Matchers.{IsMatcher, writes_matcher}
 use Rattle.am_silence.proofs.silence.push_matchers.Goals as goal
@@ -15,11 +15,11 @@ loop-matcher-preserved c =
     let old = c.args.out.now.items in
     record {
       written =
-          c.in_ok-push_message.ensures.written
-          ∙ ap (λ (x : List ℕ). x ++ put_chunk 2 (writes_matcher m)) c.loop-matcher.invariant.written
-          ∙ flat_map_more (λ (k : Matcher). put_chunk 2 (writes_matcher k)) old (take i ms) m
-          ∙ ap (λ (x : List Matcher). old ++ put_messages writes_matcher 2 x) (ap (λ (k : Matcher). take i ms ++ k ∷ []) c.matcher-item.is ∙ sym (take_more ms i m c.loop-matcher-test.true));
-      value = All-more IsMatcher ms i m c.loop-matcher-test.true c.loop-matcher.invariant.value (subst IsMatcher c.matcher-item.is c.in_ok-push_message.ensures.value);
+          c.in_ok-write_message.ensures.written
+          ∙ ap (λ (x : List ℕ). x ++ writes_delimited 2 (writes_matcher m)) c.loop-matcher.invariant.written
+          ∙ flat_map_more (λ (k : Matcher). writes_delimited 2 (writes_matcher k)) old (take i ms) m
+          ∙ ap (λ (x : List Matcher). old ++ writes_messages writes_matcher 2 x) (ap (λ (k : Matcher). take i ms ++ k ∷ []) c.matcher-item.is ∙ sym (take_more ms i m c.loop-matcher-test.true));
+      value = All-more IsMatcher ms i m c.loop-matcher-test.true c.loop-matcher.invariant.value (subst IsMatcher c.matcher-item.is c.in_ok-write_message.ensures.value);
     }
 
 pub returns-clause-value : goal.returns-clause-value

@@ -1,11 +1,11 @@
 use Rattle.std.proofs.Common.{◌≡◌, ◌++◌, take}
 use Rattle.std.specs.Prelude.{All}
-use Rattle.am_wire.specs.Writing.{put_messages}
+use Rattle.am_wire.specs.Writing.{writes_messages}
 use Rattle.am_silence.specs.Matchers.{IsMatcher, writes_matcher}
 use Rattle.am_silence.proofs.silence.push_matchers.Given as goal
 
 abbrev pub invariant-loop-matcher : goal.invariant-loop-matcher
 invariant-loop-matcher l = record {
-  written : l.out.items ≡ l.fn.out.items ++ put_messages writes_matcher 2 (take l.matcher-index l.matchers);
+  written : l.out.items ≡ l.fn.out.items ++ writes_messages writes_matcher 2 (take l.matcher-index l.matchers);
   value : All IsMatcher (take l.matcher-index l.matchers);
 }

@@ -4,7 +4,7 @@ use Rattle.am_wire.specs.Reading.{fields_in}
 use Rattle.am_silence.specs.Comments.{comment}
 use Rattle.am_silence.proofs.FirstComments.{comment_first, comment_later}
 use Rattle.am_silence.proofs.Judging.{judged-passed, judged-failed, then-right}
-use Rattle.am_silence.proofs.comment.FirstComment.put.Goals as goal
+use Rattle.am_silence.proofs.comment.FirstComment.take.Goals as goal
 
 pub returns-in_err-finish-clause-fault : goal.returns-in_err-finish-clause-fault
 returns-in_err-finish-clause-fault c =

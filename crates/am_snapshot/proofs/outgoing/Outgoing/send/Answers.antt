@@ -1,7 +1,7 @@
 use Rattle.std.proofs.Common.{◌≡◌, [], rules}
 use Rattle.std.proofs.lemmas.Result.{err_from_is_err_and}
 use Rattle.am_snapshot.proofs.Passing.{passes_all, passes_then, stops_first, stops_later}
-use Rattle.am_snapshot.proofs.outgoing.Outgoing.put.Goals as goal
+use Rattle.am_snapshot.proofs.outgoing.Outgoing.send.Goals as goal
 
 pub returns-in_err-flush-clause-stopped : goal.returns-in_err-flush-clause-stopped
 returns-in_err-flush-clause-stopped g c =

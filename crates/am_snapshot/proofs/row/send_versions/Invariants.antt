@@ -1,7 +1,7 @@
 use Rattle.std.proofs.Common.{◌≡◌, ◌++◌, ℕ, List}
 use Rattle.am_snapshot.specs.Texts.{row_text}
 use Rattle.am_snapshot.specs.Writing.{Passes}
-use Rattle.am_snapshot.proofs.row.put_versions.Given as goal
+use Rattle.am_snapshot.proofs.row.send_versions.Given as goal
 
 abbrev pub invariant-loop-version : goal.invariant-loop-version
 invariant-loop-version g l =

@@ -1,7 +1,7 @@
 use Rattle.std.proofs.Common.{◌∙◌}
 use Rattle.am_wire.proofs.Shortest.{goes_on_pushing, pushed_low, pushed_full}
-use Rattle.am_wire.proofs.writing.push_long_varint.Goals as goal
-use Rattle.am_wire.proofs.writing.push_long_varint.Goals.{then-loop-rest-test+else-len-lt9, else-loop-rest-test}
+use Rattle.am_wire.proofs.writing.append_long_varint.Goals as goal
+use Rattle.am_wire.proofs.writing.append_long_varint.Goals.{then-loop-rest-test+else-len-lt9, else-loop-rest-test}
 
 pub loop-rest-preserved : goal.loop-rest-preserved
 loop-rest-preserved c =

@@ -1,6 +1,6 @@
 use Rattle.am_wire.specs.Again.Written.{text_is_clean}
 use Rattle.am_wire.proofs.Picked.{text_is_at_fault}
-use Rattle.am_wire.proofs.parts.LastText.put.Goals as goal
+use Rattle.am_wire.proofs.parts.LastText.take.Goals as goal
 
 pub returns-in_default-from_utf8-clause-fault : goal.returns-in_default-from_utf8-clause-fault
 returns-in_default-from_utf8-clause-fault c = λ _. rw c.in-Bytes.is (text_is_at_fault c.args.field.at c.in-Bytes.bytes.now c.in_default-from_utf8.ensures.cases.0)

@@ -1,5 +1,5 @@
 use Rattle.am_wire.proofs.Shortest.{HasPushed}
-use Rattle.am_wire.proofs.writing.push_long_varint.Given as goal
+use Rattle.am_wire.proofs.writing.append_long_varint.Given as goal
 
 abbrev pub invariant-loop-rest : goal.invariant-loop-rest
 invariant-loop-rest l = HasPushed l.value l.fn.out.items l.out.items l.len l.rest
