@@ -63,10 +63,18 @@ def peak(command, source, target):
     return most
 
 
+def seen_peak(command, source, target):
+    """The peak of a run that lasted long enough to be looked at."""
+    while True:
+        most = peak(command, source, target)
+        if most:
+            return most
+
+
 def measure(commands, source, targets, rounds):
     """The least time of each command, taken in turn, and the peak memory of each."""
     least = [min(times) for times in zip(*([seconds(c, source, t) for c, t in zip(commands, targets)] for _ in range(rounds)))]
-    return least, [peak(c, source, t) for c, t in zip(commands, targets)]
+    return least, [seen_peak(c, source, t) for c, t in zip(commands, targets)]
 
 
 def main():
