@@ -5,7 +5,7 @@ use am_silence::{
     MeshSilence, Plan, Posted, Silence, SilenceError, Verdict, plan_expire, plan_post,
 };
 use am_version_order::{Moment, Version};
-use am_wire::{Text, WireError};
+use am_wire::{Message, Text, WireError};
 use std::alloc::{AllocError, Global};
 
 /// The greatest length of a canonical text.
@@ -53,6 +53,27 @@ fn a_version_over_the_greatest_length_is_too_large(rt: HostRuntime) {
     for (len, wanted) in MADE {
         let made = length_held(rt.alloc(), len);
         assert!(rt; made == wanted, "{len}: {made:?}");
+    }
+}
+
+fn length_written(alloc: Global, len: usize) -> Result<usize, WireError> {
+    let silence = commented(alloc, ACTIVE, len)?;
+    let mut text = Vec::new(alloc);
+    silence.encode(&mut text)?;
+    Ok(text.len())
+}
+
+/// The same of the silence by itself, which has 30 bytes beside its comment.
+const WRITTEN: [(usize, Result<usize, WireError>); 2] = [
+    (MOST - 30, Ok(MOST)),
+    (MOST - 29, Err(WireError::TooLarge)),
+];
+
+#[test]
+fn a_silence_over_the_greatest_length_is_not_written(rt: HostRuntime) {
+    for (len, wanted) in WRITTEN {
+        let written = length_written(rt.alloc(), len);
+        assert!(rt; written == wanted, "{len}: {written:?}");
     }
 }
 
