@@ -23,7 +23,7 @@ fn message_from<V: Message>(alloc: Global, bytes: &[u8], at: usize) -> Result<(V
     Ok((message, len))
 }
 
-/// Goes over the messages of a row, and reads each as it comes. After a fault, or out of memory, it ends.
+/// Goes over the messages of a row, and reads each as it comes. After a fault, or where memory runs out, it ends.
 #[derive(Drop)]
 pub struct Messages<'a, V: Message> {
     alloc: Global,

@@ -14,7 +14,6 @@ pub use crate::size::{
     bytes_size, delimited_size, message_size, number_size, numbers_size, text_size, varint_size,
     varints_size,
 };
-use crate::varint::write_varint;
 use std::alloc::AllocError;
 
 #[tactic(auto, unfolding(crate::specs::Varint::groups))]
