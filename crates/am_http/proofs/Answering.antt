@@ -1,6 +1,5 @@
 -- What is read of bytes, by how far the request has come.
-use Rattle.std.proofs.Common.{◌≡◌, ℕ, List, Bool, refl, sym, ap, subst, ◌∙◌, string_bytes}
-use Rattle.am_http.specs.Lines.{line_seen, line_of}
+use Rattle.std.proofs.Common.{◌≡◌, ℕ, List, Bool, ◌∙◌}
 use Rattle.am_http.specs.Requests.{IsRequestIn, IsTakenFrom, HasFault, IsRefusedFor, IsReadOf}
 use Rattle.am_http.specs.declared.cause.Cause.{Cause}
 use Rattle.am_http.specs.declared.cause.Cause.TheVariants.{EndedEarly, Memory}

@@ -1,15 +1,15 @@
 -- Requests that come piece by piece.
-use Rattle.std.proofs.Common.{◌≡◌, ℕ, ◌+◌, ◌<◌, ◌≤◌, Bool, true, false, List, [], ◌++◌, length, Option, Result, Ok, Err, IsTrue, refl, sym, ap, subst, ◌∙◌, arith, inl, inr}
+use Rattle.std.proofs.Common.{◌≡◌, ℕ, ◌≤◌, Bool, true, false, List, length, Option, Result, Ok, Err, refl, sym, subst, arith, inl, inr}
 use Rattle.std.proofs.KnownBytes.{Consumes-trans}
 use Rattle.std.proofs.lemmas.Bool.{false≢true}
 use Rattle.std.specs.Io.KnownBytes.{Consumes, IsAtEnd}
 use Rattle.am_http.specs.Lines.{line_seen, line_of}
 use Rattle.am_http.specs.Requests.{IsRequestIn, IsTakenFrom, HasFault, IsReadOf, IsUnfinished, IsOpenBody}
 use Rattle.am_http.specs.Pieces.{HasGrown, GrowsTo}
-use Rattle.am_http.specs.Receiving.{IsReceived, StopsReading}
+use Rattle.am_http.specs.Receiving.{IsReceived}
 use Rattle.am_http.specs.declared.cause.Cause.{Cause}
 use Rattle.am_http.specs.declared.cause.Cause.TheVariants.{Memory}
-use Rattle.am_http.specs.declared.cause.Refusal.{Refusal}
+use Rattle.am_http.specs.declared.refusal.Refusal.{Refusal}
 use Rattle.am_http.specs.declared.receiving.Stop.{Stop}
 use Rattle.am_http.specs.declared.receiving.Stop.TheVariants as stop
 use Rattle.am_http.specs.declared.request.Read.{Read}

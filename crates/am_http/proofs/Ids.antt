@@ -1,5 +1,5 @@
 -- The identifier in a path.
-use Rattle.std.proofs.Common.{◌≡◌, ◌≢◌, ℕ, ◌+◌, ◌<◌, ◌≤◌, Bool, true, false, List, [], ◌∷◌, ◌++◌, length, get_or, drop, codes, Some, None, MatchBool, refl, sym, ap, subst, ◌∙◌, arith, lit<}
+use Rattle.std.proofs.Common.{◌≡◌, ℕ, ◌+◌, ◌<◌, ◌≤◌, Bool, false, List, ◌++◌, length, get_or, drop, codes, Some, None, MatchBool, sym, ap, ◌∙◌, arith, lit<}
 use Rattle.std.specs.Prelude.{Contains}
 use Rattle.std.specs.Str.Pattern.{FindsTextPrefix, FindsChar}
 use Rattle.std.proofs.lemmas.Bool.{false≢true}

@@ -1,5 +1,5 @@
 -- What the parts of a head say of the bytes that came.
-use Rattle.std.proofs.Common.{◌≡◌, ℕ, ◌+◌, ◌-◌, ◌<◌, ◌≤◌, List, ◌++◌, length, take, drop, map, Result, Ok, Err, IsUtf8, refl, sym, ap, subst, ◌∙◌, arith, length-drop, length-append, append_assoc, append-nil, inl, inr}
+use Rattle.std.proofs.Common.{◌≡◌, ℕ, ◌+◌, ◌-◌, ◌<◌, ◌≤◌, List, ◌++◌, length, take, drop, map, Result, Ok, Err, IsUtf8, sym, ap, subst, ◌∙◌, arith, length-drop, append_assoc, append-nil, inl, inr}
 use Rattle.std.proofs.Math.Seq.{take-append-add}
 use Rattle.std.proofs.lemmas.Bool.{cases_lt}
 use Rattle.std.proofs.lemmas.List.{take_all, take-append-le}
@@ -8,8 +8,8 @@ use Rattle.httparse.specs.Spans.{IsRequestWithin, IsRequestOf, header_bytes, spa
 use Rattle.httparse.specs.declared.spans.HeaderSpan.{HeaderSpan}
 use Rattle.httparse.specs.declared.spans.RequestSpans.{RequestSpans}
 use Rattle.am_http.specs.Heads.{window, HasHead, fields_of}
-use Rattle.am_http.specs.Bodies.{IsBodyLength, NamesLength}
-use Rattle.am_http.specs.Requests.{behind, HasFault, IsOpenBody, IsRequestIn}
+use Rattle.am_http.specs.Bodies.{IsBodyLength}
+use Rattle.am_http.specs.Requests.{HasFault, IsOpenBody, IsRequestIn}
 use Rattle.am_http.specs.declared.cause.Cause.{Cause}
 use Rattle.am_http.specs.declared.cause.Cause.TheVariants.{TransferEncoding, BadContentLength, BodyTooLarge}
 use Rattle.am_http.proofs.HeadLemmas.{Found, found, method_is_text, head_small}

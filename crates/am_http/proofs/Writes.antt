@@ -1,5 +1,5 @@
 -- Bytes that go out call by call.
-use Rattle.std.proofs.Common.{◌≡◌, ◌<◌, ◌≤◌, ◌+◌, ◌-◌, length-drop, length-take, ℕ, List, [], ◌++◌, length, take, drop, Result, Ok, Err, arith, Option}
+use Rattle.std.proofs.Common.{◌≡◌, ◌≤◌, ◌+◌, ◌-◌, length-drop, length-take, ℕ, List, [], ◌++◌, length, take, drop, Result, Ok, Err, arith, Option}
 use Rattle.std.proofs.Math.Seq.{take-add, take-length}
 use Rattle.std.proofs.KnownBytes.{Appends-nil, Appends-kept, Appends-trans}
 use Rattle.std.specs.Io.{WritesAtMost}

@@ -5,7 +5,7 @@ use Rattle.am_http.specs.declared.cause.Cause.{Cause}
 use Rattle.am_http.specs.declared.cause.Cause.TheVariants.{HeadTooLarge, BadHead, TransferEncoding, BadContentLength, BodyTooLarge, EndedEarly, NoSuchPath, MethodNotAllowed, BadFilter, BadJson, BadSilence, Memory}
 use Rattle.am_http.specs.declared.cause.PostedKey.{PostedKey}
 use Rattle.am_http.specs.declared.cause.PostedKey.TheVariants.{Id, Matchers, StartsAt, EndsAt, CreatedBy, Comment}
-use Rattle.am_http.specs.declared.cause.Refusal.{Refusal}
+use Rattle.am_http.specs.declared.refusal.Refusal.{Refusal}
 use Rattle.am_http.specs.declared.cause.Resource.{Resource}
 use Rattle.am_http.specs.declared.cause.Resource.TheVariants.{Silences, Silence}
 

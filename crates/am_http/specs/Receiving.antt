@@ -1,11 +1,11 @@
 -- What is read of a reader, and what a writer takes.
-use Rattle.std.specs.Prelude.{◌≡◌, ℕ, ◌<◌, ◌≤◌, ◌⊎◌, ◌++◌, Bool, List, [], length, take, Option, IsTrue}
+use Rattle.std.specs.Prelude.{◌≡◌, ℕ, ◌<◌, ◌≤◌, ◌⊎◌, Bool, List, [], length, take, Option, IsTrue}
 use Rattle.std.specs.Io.KnownBytes.{Appends, Consumes, IsAtEnd}
 use Rattle.am_http.specs.Lines.{line_seen, line_of}
 use Rattle.am_http.specs.Requests.{IsReadOf, IsUnfinished}
 use Rattle.am_http.specs.declared.cause.Cause.TheVariants.{Memory}
 use Rattle.am_http.specs.declared.request.Read.{Read}
-use Rattle.am_http.specs.declared.request.Read.TheVariants.{More, Whole, Refused}
+use Rattle.am_http.specs.declared.request.Read.TheVariants.{More, Refused}
 
 -- the most bytes that a request is read from: a head and a body
 abbrev pub most_bytes : ℕ

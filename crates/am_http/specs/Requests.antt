@@ -1,12 +1,11 @@
 -- What the bytes that came say of a request.
-use Rattle.std.specs.Prelude.{◌≡◌, ℕ, ◌+◌, ◌<◌, ◌≤◌, ◌⊎◌, Bool, true, List, [], length, take, drop, Err, Result, Ok, IsTrue, string_bytes}
+use Rattle.std.specs.Prelude.{◌≡◌, ℕ, ◌+◌, ◌<◌, ◌≤◌, ◌⊎◌, Bool, List, [], length, take, drop, Err, IsTrue, string_bytes}
 use Rattle.httparse.specs.Grammar.{RequestHead, print_request}
 use Rattle.am_http.specs.Lines.{line_seen, line_of}
 use Rattle.am_http.specs.Heads.{HasHead, IsOpenHead, HasLargeHead, HasBadHead, fields_of}
 use Rattle.am_http.specs.Bodies.{NamesLength, IsBodyLength}
 use Rattle.am_http.specs.declared.cause.Cause.{Cause}
 use Rattle.am_http.specs.declared.cause.Cause.TheVariants.{HeadTooLarge, BadHead, TransferEncoding, BadContentLength, BodyTooLarge, EndedEarly, Memory}
-use Rattle.am_http.specs.declared.standing.Parts.{Parts}
 use Rattle.am_http.specs.declared.standing.Standing.{Standing}
 use Rattle.am_http.specs.declared.standing.Standing.TheVariants as at
 use Rattle.am_http.specs.declared.request.Request.{Request}

@@ -1,7 +1,10 @@
 //! Why a request is refused, and the line of the table of statuses that says so.
 
 ghost use Rattle.std.specs.Prelude.{◌≡◌};
+ghost use Rattle.http.specs.StatusCode.{IsStatusCode};
 ghost use Rattle.am_http.specs.Lines.{allowed_at, bad_key, line_of, line_seen};
+
+use crate::refusal::Refusal;
 
 /// What a path of API v2 names.
 #[derive(Clone, Copy, Debug, PartialEq, Eq)]
@@ -52,18 +55,9 @@ pub enum Cause {
     Memory,
 }
 
-/// A line of the table of statuses.
-#[derive(Clone, Copy, Debug, PartialEq, Eq)]
-pub struct Refusal {
-    pub status: u16,
-    /// What the body says.
-    pub text: &'static str,
-    /// The methods that the path has, where another was asked for.
-    pub allow: Option<&'static str>,
-}
-
 /// The line with this status and text.
 const fn plain(status: u16, text: &'static str) -> Refusal
+    requires { IsStatusCode status }
     ensures { line_seen result ≡ record { status = status; text = text.now; allow = None } }
 {
     Refusal {

@@ -3,7 +3,8 @@
 ghost use Rattle.std.specs.Prelude.{◌≡◌, IfOk, string_bytes};
 ghost use Rattle.am_http.specs.Requests.{IsReadOf, IsTakenFrom, IsUnfinished};
 
-use crate::cause::{Cause, Refusal};
+use crate::cause::Cause;
+use crate::refusal::Refusal;
 use crate::standing::{Parts, Standing, standing_of};
 use std::alloc::{AllocError, Global};
 

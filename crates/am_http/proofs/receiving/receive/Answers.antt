@@ -1,4 +1,4 @@
-use Rattle.std.proofs.Common.{ℕ, List, ◌++◌, length, refl, subst, arith, true}
+use Rattle.std.proofs.Common.{ℕ, List, ◌++◌, refl, subst, arith, true}
 use Rattle.am_http.specs.Requests.{HasFault, IsReadOf}
 use Rattle.am_http.proofs.Growing.{grown, received_refused, received_end, received_memory}
 use Rattle.am_http.proofs.receiving.receive.Goals as goal
@@ -33,4 +33,4 @@ returns-in-Err-Read-clause-stopped g c =
 pub returns-in-Err-Memory-clause-read : goal.returns-in-Err-Memory-clause-read
 returns-in-Err-Memory-clause-read g c =
     let more = rw c.in-Err-Memory.field-0-is at c.in-Err-Memory.ensures.more in
-    received_memory _ _ (c.read_more.new.bytes.items ++ more.0) _ (grown _ _ _ _ _ c.loop-end.invariant.consumed more.1) more.2 c.refusal-in-Err-Memory.ensures
+    received_memory _ _ (c.read_more.new.bytes.items ++ more.0) c.refusal-in-Err-Memory.result (grown _ _ _ _ _ c.loop-end.invariant.consumed more.1) more.2 c.refusal-in-Err-Memory.ensures

@@ -1,4 +1,4 @@
-use Rattle.am_http.proofs.Answering.{read_taken, fault_refuses}
+use Rattle.am_http.proofs.Answering.{read_taken}
 use Rattle.am_http.proofs.request.read_request.Goals as goal
 
 pub returns-in-Whole : goal.returns-in-Whole
