@@ -1,0 +1,5 @@
+mod Fronts
+mod Sums
+mod Years
+mod Bytes
+mod Again
