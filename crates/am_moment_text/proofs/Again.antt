@@ -70,7 +70,8 @@ moment_again c nanos m real parts e =
     let below : nanos < 1_000_000_000 = parts.below_second in
     record {
       real = real;
-      parts = rw (none_ahead (clock_seconds c)) (record { not_before = parts.not_before; not_after = parts.not_after; below_second = omega arith });
+      parts =
+          rw (none_ahead (clock_seconds c)) (record { not_before = parts.not_before; not_after = parts.not_after; below_second = omega arith });
       moment = rw (none_ahead (clock_seconds c)) (cut_is (clock_seconds c) nanos m parts e);
     }
 

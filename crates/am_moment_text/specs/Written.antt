@@ -18,11 +18,14 @@ three_digits n = digit (n / 100) ++ two_digits (n % 100)
 
 -- the year, the month and the day
 abbrev pub date_text : Clock → List ℕ
-date_text c = two_digits (c.year / 100) ++ (two_digits (c.year % 100) ++ (codes "-" ++ (two_digits c.month ++ (codes "-" ++ two_digits c.day))))
+date_text c =
+    two_digits (c.year / 100) ++ (two_digits (c.year % 100) ++ (codes "-" ++ (two_digits c.month ++ (codes "-" ++ two_digits c.day))))
 
 -- the time of day, and milliseconds
 abbrev pub time_text : Clock → ℕ → List ℕ
-time_text c millis = two_digits c.hour ++ (codes ":" ++ (two_digits c.minute ++ (codes ":" ++ (two_digits c.second ++ (codes "." ++ three_digits millis)))))
+time_text c millis =
+    two_digits c.hour ++ (codes ":" ++ (two_digits c.minute ++ (
+    codes ":" ++ (two_digits c.second ++ (codes "." ++ three_digits millis)))))
 
 -- the whole text
 abbrev pub written_text : Clock → ℕ → List ℕ

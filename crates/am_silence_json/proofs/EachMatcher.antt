@@ -35,5 +35,6 @@ one_found vs i v ms m h e before here =
     ap (map seen) (take_more vs i v h) ∙ map-append seen (take i vs) (get_or vs i v ∷ [])
     ∙ rw (← e, before, here) (sym (map-append Some ms (m ∷ [])))
 
-pub whole_found : (vs : List Value) (i : ℕ) (ms : List Matcher) → length vs ≤ i → map seen (take i vs) ≡ map Some ms → matchers_of (items_view vs) ≡ Some ms
+pub whole_found : (vs : List Value) (i : ℕ) (ms : List Matcher) → length vs ≤ i
+    → map seen (take i vs) ≡ map Some ms → matchers_of (items_view vs) ≡ Some ms
 whole_found vs i ms h e = all_found vs ms (rw take_all at e)

@@ -15,10 +15,12 @@ use Rattle.am_silence_json.proofs.Bodies.{chain}
 row_more : (ds : List Data) (d : Data) → row_tokens (ds ++ d ∷ []) ≡ row_tokens ds ++ data_tokens d
 row_more ds d = flat_map-append data_tokens ds (d ∷ []) ∙ ap (λ ts. row_tokens ds ++ ts) (append-nil (data_tokens d))
 
-pub one_more : {a b c : Written} (ds : List Data) (d : Data) → Adds a b (row_tokens ds) → Adds b c (data_tokens d) → Adds a c (row_tokens (ds ++ d ∷ []))
+pub one_more : {a b c : Written} (ds : List Data) (d : Data) → Adds a b (row_tokens ds)
+    → Adds b c (data_tokens d) → Adds a c (row_tokens (ds ++ d ∷ []))
 one_more ds d first second = rw (row_more ds d) (chain first second)
 
-matchers_more : (ms : List Matcher) (i : ℕ) (m : Matcher) → i < length ms → map matcher_data (take (i + 1) ms) ≡ map matcher_data (take i ms) ++ matcher_data (get_or ms i m) ∷ []
+matchers_more : (ms : List Matcher) (i : ℕ) (m : Matcher) → i < length ms
+    → map matcher_data (take (i + 1) ms) ≡ map matcher_data (take i ms) ++ matcher_data (get_or ms i m) ∷ []
 matchers_more ms i m h = ap (map matcher_data) (take_more ms i m h) ∙ map-append matcher_data (take i ms) (get_or ms i m ∷ [])
 
 pub matcher_more :

@@ -90,7 +90,8 @@ fn copied(alloc: Global, parts: Parts<'_>) -> Result<Matcher, AllocError>
 /// The matcher that a value is.
 fn read_matcher(alloc: Global, value: &Value) -> Result<Matcher, BodyError>
     ensures read { IfOk result (λ m. matcher_of (view value.now) ≡ Some m) }
-    ensures wrong { IfErr result (λ e. e ≢ errors.Memory → (e ≡ errors.Wrong keys.Matchers) × (matcher_of (view value.now) ≡ None)) }
+    ensures wrong { IfErr result (λ e. e ≢ errors.Memory →
+        (e ≡ errors.Wrong keys.Matchers) × (matcher_of (view value.now) ≡ None)) }
 {
     let Some(parts) = parts_of(value) else {
         return Err(BodyError::Wrong(Key::Matchers));
@@ -102,7 +103,8 @@ fn read_matcher(alloc: Global, value: &Value) -> Result<Matcher, BodyError>
 /// The matchers that the values are.
 fn read_each(alloc: Global, values: &[Value]) -> Result<Vec<Matcher>, BodyError>
     ensures read { IfOk result (λ ms. matchers_of (items_view values.now) ≡ Some ms.items) }
-    ensures wrong { IfErr result (λ e. e ≢ errors.Memory → (e ≡ errors.Wrong keys.Matchers) × (matchers_of (items_view values.now) ≡ None)) }
+    ensures wrong { IfErr result (λ e. e ≢ errors.Memory →
+        (e ≡ errors.Wrong keys.Matchers) × (matchers_of (items_view values.now) ≡ None)) }
 {
     let mut matchers = Vec::with_capacity(alloc, values.len())?;
     for value in values {
@@ -121,7 +123,8 @@ fn read_each(alloc: Global, values: &[Value]) -> Result<Vec<Matcher>, BodyError>
 /// The posted matchers.
 pub fn read_matchers(alloc: Global, object: &Value) -> Result<Vec<Matcher>, BodyError>
     ensures read { IfOk result (λ ms. matchers_in (view object.now) ≡ Some ms.items) }
-    ensures wrong { IfErr result (λ e. e ≢ errors.Memory → (e ≡ errors.Wrong keys.Matchers) × (matchers_in (view object.now) ≡ None)) }
+    ensures wrong { IfErr result (λ e. e ≢ errors.Memory →
+        (e ≡ errors.Wrong keys.Matchers) × (matchers_in (view object.now) ≡ None)) }
 {
     let Some(values) = object.get("matchers").and_then(Value::as_array) else {
         return Err(BodyError::Wrong(Key::Matchers));

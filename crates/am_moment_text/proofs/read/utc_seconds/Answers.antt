@@ -5,8 +5,10 @@ use Rattle.am_moment_text.proofs.read.utc_seconds.Goals as goal
 
 pub returns-then-offset : goal.returns-then-offset
 returns-then-offset c =
-    utc_behind _ _ c.shown_seconds-shown.result c.size-size.result _ _ c.if-offset.true c.shown_seconds-shown.ensures.value c.size-size.ensures (omega (arith, ints))
+    let shown = c.shown_seconds-shown.ensures.value in
+    utc_behind _ _ c.shown_seconds-shown.result c.size-size.result _ _ c.if-offset.true shown c.size-size.ensures (omega (arith, ints))
 
 pub returns-else-offset : goal.returns-else-offset
 returns-else-offset c =
-    utc_ahead _ _ c.shown_seconds-shown.result c.size-size.result _ _ c.if-offset.false (omega arith) c.shown_seconds-shown.ensures.value c.size-size.ensures (omega (arith, ints))
+    let shown = c.shown_seconds-shown.ensures.value in
+    utc_ahead _ _ c.shown_seconds-shown.result c.size-size.result _ _ c.if-offset.false (omega arith) shown c.size-size.ensures (omega (arith, ints))

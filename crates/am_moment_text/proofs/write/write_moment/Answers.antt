@@ -7,11 +7,13 @@ use Rattle.am_moment_text.proofs.write.write_moment.Goals as goal
 pub invariant_of-result : goal.invariant_of-result
 invariant_of-result c =
     let few : c.parts-seconds.result.1 / 1_000_000 < 1000 = omega (arith, c.parts-seconds.ensures.range.below_second) in
-    rw c.bytes_of-bytes.ensures (utf8_text _ _ c.clock_at-clock.ensures.real c.clock_at-clock.ensures.bound.0 c.clock_at-clock.ensures.bound.1 c.clock_at-clock.ensures.bound.2 few)
+    let bound = c.clock_at-clock.ensures.bound in
+    rw c.bytes_of-bytes.ensures (utf8_text _ _ c.clock_at-clock.ensures.real bound.0 bound.1 bound.2 few)
 
 pub returns : goal.returns
 returns c =
-    let same : clock_seconds c.clock_at-clock.result ≡ c.parts-seconds.result.0 = omega (arith, ints, c.clock_at-clock.ensures.value, c.since_least.ensures) in
+    let same : clock_seconds c.clock_at-clock.result ≡ c.parts-seconds.result.0 =
+        omega (arith, ints, c.clock_at-clock.ensures.value, c.since_least.ensures) in
     record {
       clock = c.clock_at-clock.result;
       nanos = c.parts-seconds.result.1;

@@ -12,5 +12,6 @@ returns-in_default-moment_in-clause-wrong c = λ id matchers.
 pub returns-in_default-text_in-2-clause-wrong : goal.returns-in_default-text_in-2-clause-wrong
 returns-in_default-text_in-2-clause-wrong c = λ id matchers. record {
   wrong = λ h. let none = rw (← c.in_default-text_in-2.ensures) at h in search rules;
-  before = (id, (matchers, ((_, c.in-Some.ensures.value), ((_, c.in-Some-moment_in.ensures.value), (rw (← c.in-Some-text_in.ensures) (search rules), tt)))));
+  before =
+      (id, (matchers, ((_, c.in-Some.ensures.value), ((_, c.in-Some-moment_in.ensures.value), (rw (← c.in-Some-text_in.ensures) (search rules), tt)))));
 }
