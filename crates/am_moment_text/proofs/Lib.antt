@@ -3,3 +3,4 @@ mod Sums
 mod Years
 mod Bytes
 mod Again
+mod One

@@ -23,3 +23,8 @@ pub fn reads_again(moment: Moment) -> Option<Moment>
 pub fn texts_are_read()
     ensures { (m : ℕ) (text : List ℕ) → WritesMoment m text → ReadsMoment text (m - m % 1_000_000) }
 {}
+
+/// Two texts that are written for a moment are the same.
+pub fn texts_are_unique()
+    ensures { (m : ℕ) (text other : List ℕ) → WritesMoment m text → WritesMoment m other → text ≡ other }
+{}

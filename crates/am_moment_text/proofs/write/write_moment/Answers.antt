@@ -13,7 +13,7 @@ invariant_of-result c =
 pub returns : goal.returns
 returns c =
     let same : clock_seconds c.clock_at-clock.result ≡ c.parts-seconds.result.0 =
-        omega (arith, ints, c.clock_at-clock.ensures.value, c.since_least.ensures) in
+    omega (arith, ints, c.clock_at-clock.ensures.value, c.since_least.ensures) in
     record {
       clock = c.clock_at-clock.result;
       nanos = c.parts-seconds.result.1;
