@@ -34,14 +34,20 @@ fn state_text(state: State) -> &'static str
 }
 
 /// Adds a matcher.
-fn add_matcher(out: &mut Writer, matcher: &Matcher) -> Result<(), AllocError>
-    ensures { OnOk result (Adds out.old out.new (data_tokens (matcher_data matcher.now))) }
+fn add_matcher(
+    out: &mut Writer,
+    kind: MatcherKind,
+    name: &str,
+    pattern: &str,
+) -> Result<(), AllocError>
+    ensures { OnOk result (Adds out.old out.new
+        (data_tokens (matcher_data (record { kind = kind; name = name.now; pattern = pattern.now })))) }
 {
     add(out, Token::BeginObject)?;
-    add_truth(out, "isEqual", is_equal(matcher.kind))?;
-    add_truth(out, "isRegex", matcher.kind.is_regexp())?;
-    add_text(out, "name", matcher.name.as_str())?;
-    add_text(out, "value", matcher.pattern.as_str())?;
+    add_truth(out, "isEqual", is_equal(kind))?;
+    add_truth(out, "isRegex", kind.is_regexp())?;
+    add_text(out, "name", name)?;
+    add_text(out, "value", pattern)?;
     add(out, Token::EndObject)?;
     Ok(())
 }
@@ -51,7 +57,8 @@ fn add_each_matcher(out: &mut Writer, matchers: &[Matcher]) -> Result<(), AllocE
     ensures { OnOk result (Adds out.old out.new (row_tokens (map matcher_data matchers.now))) }
 {
     for matcher in matchers {
-        add_matcher(out, matcher)?;
+        let (name, pattern) = (matcher.name.as_str(), matcher.pattern.as_str());
+        add_matcher(out, matcher.kind, name, pattern)?;
     }
     Ok(())
 }
