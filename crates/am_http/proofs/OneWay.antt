@@ -1,9 +1,8 @@
 -- A request stands in bytes in one way only.
-use Rattle.std.proofs.Common.{◌≡◌, ◌≢◌, ℕ, ◌+◌, ◌-◌, ◌<◌, ◌≤◌, List, [], ◌∷◌, ◌++◌, length, take, drop, ⊎_elim, refl, sym, ap, subst, ◌∙◌, arith, append-nil, length-append, length-take, length-drop}
-use Rattle.std.specs.Str.Parse.{digits_value}
-use Rattle.httparse.specs.Grammar.{RequestHead, ReadsRequest, print_request}
+use Rattle.std.proofs.Common.{◌≡◌, ◌≢◌, ℕ, ◌≤◌, List, [], ◌∷◌, length, take, ⊎_elim, refl, sym, ap, subst, ◌∙◌, arith, append-nil, length-append, length-take, length-drop}
+use Rattle.httparse.specs.Grammar.{RequestHead, print_request}
 use Rattle.httparse.proofs.GrammarLemmas.{request_unique}
-use Rattle.am_http.specs.Heads.{window, HasHead, IsOpenHead, fields_of}
+use Rattle.am_http.specs.Heads.{window, HasHead, fields_of}
 use Rattle.am_http.specs.Bodies.{LengthIs, HasBadLength, NamesLength, lengths, encodings}
 use Rattle.am_http.specs.Requests.{behind, HasFault, IsOpenBody, IsRequestIn, IsUnfinished}
 use Rattle.am_http.specs.declared.cause.Cause.{Cause}

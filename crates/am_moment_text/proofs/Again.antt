@@ -1,5 +1,5 @@
 -- A written text is read again.
-use Rattle.std.proofs.Common.{◌≡◌, ℕ, ◌+◌, ◌-◌, ◌*◌, ◌/◌, ◌%◌, ◌<◌, ◌≤◌, List, [], ◌∷◌, length, drop, ℤ, pos, ◌+ℤ◌, ◌-ℤ◌, true, false, arith, refl, inl, inr, subst, sym}
+use Rattle.std.proofs.Common.{◌≡◌, ℕ, ◌+◌, ◌-◌, ◌*◌, ◌/◌, ◌%◌, ◌<◌, List, [], ◌∷◌, length, ℤ, pos, ◌-ℤ◌, true, false, arith, refl, inl, inr}
 use Rattle.std.specs.Char.{is_ascii_digit}
 use Rattle.std.specs.List.{take_while}
 use Rattle.std.proofs.lemmas.Bool.Decides.{nat_tests}
@@ -10,9 +10,8 @@ use Rattle.am_moment_text.specs.declared.clock.Clock.{Clock}
 use Rattle.am_moment_text.specs.declared.fraction.Fraction.{Fraction}
 use Rattle.am_moment_text.specs.declared.zone.Offset.{Offset}
 use Rattle.am_moment_text.specs.Clocks.{IsClockText, IsReal, clock_seconds}
-use Rattle.am_moment_text.specs.Fractions.{IsPointed, IsFraction, digit_count, fraction_nanos}
-use Rattle.am_moment_text.specs.Zones.{IsUtc, IsZone}
-use Rattle.am_moment_text.specs.Moments.{utc_seconds, IsMomentOf, IsDateTime, ReadsMoment}
+use Rattle.am_moment_text.specs.Fractions.{IsPointed, IsFraction, fraction_nanos}
+use Rattle.am_moment_text.specs.Moments.{IsMomentOf, ReadsMoment}
 use Rattle.am_moment_text.specs.Written.{written_text, WritesMoment}
 
 digit_passes : (n : ℕ) → n < 10 → is_ascii_digit (48 + n) ≡ true

@@ -1,6 +1,6 @@
 -- The bytes of a written text are ASCII.
-use Rattle.std.proofs.Common.{ℕ, ◌<◌, ◌+◌, ◌/◌, ◌%◌, ◌++◌, lit<, List, [], ◌∷◌, length, get_or, zero, suc, arith, refl}
-use Rattle.std.specs.Str.{IsAscii, IsUtf8}
+use Rattle.std.proofs.Common.{ℕ, ◌<◌, ◌/◌, ◌%◌, ◌++◌, lit<, List, [], ◌∷◌, length, get_or, zero, suc, arith}
+use Rattle.std.specs.Str.{IsUtf8}
 use Rattle.std.proofs.lemmas.Str.{IsUtf8-from_ascii}
 use Rattle.std.proofs.lemmas.Str.Ascii.{IsAscii-from_reads}
 use Rattle.am_moment_text.specs.declared.clock.Clock.{Clock}

@@ -1,10 +1,10 @@
 -- One text is written for a moment.
-use Rattle.std.proofs.Common.{◌≡◌, ℕ, ◌+◌, ◌*◌, ◌/◌, ◌<◌, ◌≤◌, List, ℤ, pos, ◌+ℤ◌, ◌*ℤ◌, arith, refl, sym, ap, ap₂, ◌∙◌}
+use Rattle.std.proofs.Common.{◌≡◌, ℕ, ◌/◌, ◌<◌, List, ℤ, pos, arith, refl, sym, ap₂, ◌∙◌}
 use Rattle.std.proofs.lemmas.Int.{ints}
 use Rattle.jiff_core.specs.declared.civil.date.Date.{Date}
-use Rattle.jiff_core.specs.Calendar.{days_from_civil, IsDate}
+use Rattle.jiff_core.specs.Calendar.{days_from_civil}
 use Rattle.jiff_core.proofs.DateLemmas.{epoch_day_injective}
-use Rattle.am_version_order.specs.Moments.{AreParts, since_least}
+use Rattle.am_version_order.specs.Moments.{since_least}
 use Rattle.am_moment_text.specs.declared.clock.Clock.{Clock}
 use Rattle.am_moment_text.specs.Clocks.{IsReal, second_of_day, clock_seconds}
 use Rattle.am_moment_text.specs.Written.{written_text, WritesMoment}

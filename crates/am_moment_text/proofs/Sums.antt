@@ -1,5 +1,5 @@
 -- Seconds of UTC out of what a clock shows.
-use Rattle.std.proofs.Common.{◌≡◌, ℕ, ◌+◌, ◌-◌, ◌<◌, ◌≤◌, ℤ, pos, ◌+ℤ◌, true, false, arith}
+use Rattle.std.proofs.Common.{◌≡◌, ℕ, ◌+◌, ◌-◌, ◌≤◌, ℤ, pos, ◌+ℤ◌, true, false, arith}
 use Rattle.std.proofs.lemmas.Int.{ints}
 use Rattle.am_moment_text.specs.declared.clock.Clock.{Clock}
 use Rattle.am_moment_text.specs.declared.zone.Offset.{Offset}

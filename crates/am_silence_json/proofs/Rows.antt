@@ -1,8 +1,7 @@
 -- One value more.
-use Rattle.std.proofs.Common.{◌≡◌, ℕ, ◌+◌, ◌<◌, List, [], ◌∷◌, ◌++◌, length, take, get_or, map, sym, ap, ◌∙◌, refl, append_assoc, append-nil}
+use Rattle.std.proofs.Common.{◌≡◌, ℕ, ◌+◌, ◌<◌, List, [], ◌∷◌, ◌++◌, length, take, get_or, map, ap, ◌∙◌, append-nil}
 use Rattle.std.proofs.lemmas.List.{take_more, map-append}
 use Rattle.std.proofs.lemmas.Grind.{flat_map-append}
-use Rattle.json.specs.Token.{Token}
 use Rattle.json.specs.Written.{Written}
 use Rattle.serde_json.specs.Data.{Data}
 use Rattle.am_silence.specs.declared.matcher.Matcher.{Matcher}

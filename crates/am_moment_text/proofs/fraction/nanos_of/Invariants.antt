@@ -1,4 +1,4 @@
-use Rattle.std.proofs.Common.{◌≡◌, ◌+◌, ◌*◌, ◌<◌, ◌≤◌, drop}
+use Rattle.std.proofs.Common.{◌≡◌, ◌+◌, ◌*◌, ◌≤◌, drop}
 use Rattle.am_moment_text.specs.Fractions.{fraction_nanos}
 use Rattle.am_moment_text.proofs.fraction.nanos_of.Given as goal
 

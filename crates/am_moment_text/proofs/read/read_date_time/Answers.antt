@@ -1,4 +1,4 @@
-use Rattle.std.proofs.Common.{◌≡◌, arith, refl, ap, sym, ◌∙◌}
+use Rattle.std.proofs.Common.{◌≡◌}
 use Rattle.am_moment_text.proofs.read.read_date_time.Goals as goal
 
 pub returns-in_err-fraction-clause-only : goal.returns-in_err-fraction-clause-only

@@ -1,4 +1,4 @@
-use Rattle.std.proofs.Common.{◌<◌, ◌/◌, ◌≡◌, pos, ◌+ℤ◌, arith, refl}
+use Rattle.std.proofs.Common.{◌<◌, ◌/◌, ◌≡◌, arith, refl}
 use Rattle.std.proofs.lemmas.Int.{ints}
 use Rattle.am_moment_text.proofs.Bytes.{utf8_text}
 use Rattle.am_moment_text.specs.Clocks.{clock_seconds}
