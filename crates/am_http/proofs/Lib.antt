@@ -1,0 +1,9 @@
+pub mod Digits
+pub mod FieldLists
+pub mod HeadLemmas
+pub mod Standings
+pub mod Growing
+pub mod OneWay
+pub mod Writes
+pub mod Ids
+pub mod Answering

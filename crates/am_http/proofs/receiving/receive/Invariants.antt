@@ -1,0 +1,12 @@
+use Rattle.std.proofs.Common.{length, ◌-◌, ◌≤◌}
+use Rattle.std.specs.Io.KnownBytes.{Consumes}
+use Rattle.am_http.proofs.receiving.receive.Given as goal
+
+abbrev pub invariant-loop-end : goal.invariant-loop-end
+invariant-loop-end g l = record {
+  consumed : Consumes (g.R.Read.remaining l.fn.reader) (g.R.Read.remaining l.reader) l.bytes.items;
+  few : length l.bytes.items ≤ 1064960;
+}
+
+abbrev pub decreases-loop-end : goal.decreases-loop-end
+decreases-loop-end g l = 1064960 - length l.bytes.items

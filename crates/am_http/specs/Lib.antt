@@ -1,0 +1,10 @@
+pub mod Lines
+pub mod Heads
+pub mod HeadSpans
+pub mod Bodies
+pub mod Requests
+pub mod Pieces
+pub mod Receiving
+pub mod Paths
+pub mod Queries
+pub mod Replies

@@ -1,0 +1,53 @@
+-- The table of statuses: the line that each cause of a refusal has.
+use Rattle.std.specs.Prelude.{ℕ, List, Option, Some, None, codes}
+use Rattle.std.specs.Option.{option_copied}
+use Rattle.am_http.specs.declared.cause.Cause.{Cause}
+use Rattle.am_http.specs.declared.cause.Cause.TheVariants.{HeadTooLarge, BadHead, TransferEncoding, BadContentLength, BodyTooLarge, EndedEarly, NoSuchPath, MethodNotAllowed, BadFilter, BadJson, BadSilence, Memory}
+use Rattle.am_http.specs.declared.cause.PostedKey.{PostedKey}
+use Rattle.am_http.specs.declared.cause.PostedKey.TheVariants.{Id, Matchers, StartsAt, EndsAt, CreatedBy, Comment}
+use Rattle.am_http.specs.declared.refusal.Refusal.{Refusal}
+use Rattle.am_http.specs.declared.cause.Resource.{Resource}
+use Rattle.am_http.specs.declared.cause.Resource.TheVariants.{Silences, Silence}
+
+-- a status, what is said, and the methods that there are where another was asked for
+pub record Line : Type 0 where
+  pub status : ℕ
+  pub text : List ℕ
+  pub allow : Option (List ℕ)
+
+-- a refusal's line, without where its texts lie in memory
+abbrev pub line_seen : Refusal → Line
+line_seen refusal = record { status = refusal.status; text = refusal.text.now; allow = option_copied refusal.allow }
+
+-- a line without methods
+abbrev pub line : ℕ → List ℕ → Line
+line status text = record { status = status; text = text; allow = None }
+
+-- the methods of what a path names
+abbrev pub allowed_at : Resource → List ℕ
+allowed_at Silences = codes "GET, POST"
+allowed_at Silence = codes "GET, DELETE"
+
+-- what is said of a key that is wanting or wrong
+abbrev pub bad_key : PostedKey → List ℕ
+bad_key Id = codes "bad silence: id"
+bad_key Matchers = codes "bad silence: matchers"
+bad_key StartsAt = codes "bad silence: startsAt"
+bad_key EndsAt = codes "bad silence: endsAt"
+bad_key CreatedBy = codes "bad silence: createdBy"
+bad_key Comment = codes "bad silence: comment"
+
+-- the table, in the order in which its lines are tested (status codes of RFC 9110, section 15, and RFC 6585)
+abbrev pub line_of : Cause → Line
+line_of HeadTooLarge = line 431 (codes "head too large")
+line_of BadHead = line 400 (codes "bad request head")
+line_of TransferEncoding = line 501 (codes "transfer-encoding not supported")
+line_of BadContentLength = line 400 (codes "bad content-length")
+line_of BodyTooLarge = line 413 (codes "body too large")
+line_of EndedEarly = line 400 (codes "request ended early")
+line_of NoSuchPath = line 404 (codes "no such path")
+line_of (MethodNotAllowed resource) = record { status = 405; text = codes "method not allowed"; allow = Some (allowed_at resource) }
+line_of BadFilter = line 400 (codes "bad filter")
+line_of BadJson = line 400 (codes "bad JSON")
+line_of (BadSilence key) = line 400 (bad_key key)
+line_of Memory = line 500 (codes "out of memory")

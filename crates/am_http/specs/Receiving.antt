@@ -1,0 +1,42 @@
+-- What is read of a reader, and what a writer takes.
+use Rattle.std.specs.Prelude.{◌≡◌, ℕ, ◌<◌, ◌≤◌, ◌⊎◌, Bool, List, [], length, take, Option, IsTrue}
+use Rattle.std.specs.Io.KnownBytes.{Appends, Consumes, IsAtEnd}
+use Rattle.am_http.specs.Lines.{line_seen, line_of}
+use Rattle.am_http.specs.Requests.{IsReadOf, IsUnfinished}
+use Rattle.am_http.specs.declared.cause.Cause.TheVariants.{Memory}
+use Rattle.am_http.specs.declared.request.Read.{Read}
+use Rattle.am_http.specs.declared.request.Read.TheVariants.{More, Refused}
+
+-- the most bytes that a request is read from: a head and a body
+abbrev pub most_bytes : ℕ
+most_bytes = 1064960
+
+-- there was no memory for the bytes that come
+abbrev pub IsWantOfMemory : Read → Type 0
+IsWantOfMemory (Refused refusal) = line_seen refusal ≡ line_of Memory
+IsWantOfMemory _ = ⊥
+
+-- The reader gave these bytes, where it says what it has; they are decided, or its input ended in them.
+pub record HasReceived (old new : Option (List ℕ)) (read : Read) : Type 0 where
+  pub came : List ℕ
+  pub ended : Bool
+  pub consumed : Consumes old new came
+  pub at_end : IsTrue ended → IsAtEnd new
+  pub few : length came ≤ most_bytes
+  pub answer : IsReadOf came ended read ⊎ IsWantOfMemory read
+
+-- The first request of the input, or why it is refused; where nothing is decided, the input ended before its first byte.
+abbrev pub IsReceived : Option (List ℕ) → Option (List ℕ) → Read → Type 0
+IsReceived old new More = Consumes old new [] × IsAtEnd new
+IsReceived old new read = HasReceived old new read
+
+-- the reader failed when it had given so many bytes, which decide nothing
+pub record StopsReading (old new : Option (List ℕ)) (at : ℕ) : Type 0 where
+  pub came : List ℕ
+  pub consumed : Consumes old new came
+  pub count : at ≡ length came
+  pub undecided : IsUnfinished came
+
+-- exactly so many of the first bytes went out, and not all
+abbrev pub WritesPart : Option (List ℕ) → Option (List ℕ) → List ℕ → ℕ → Type 0
+WritesPart old new bytes written = (written < length bytes) × Appends old new (take written bytes)

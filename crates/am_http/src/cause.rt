@@ -1,0 +1,133 @@
+//! Why a request is refused, and the line of the table of statuses that says so.
+
+ghost use Rattle.std.specs.Prelude.{◌≡◌};
+ghost use Rattle.http.specs.StatusCode.{IsStatusCode};
+ghost use Rattle.am_http.specs.Lines.{allowed_at, bad_key, line_of, line_seen};
+
+use crate::refusal::Refusal;
+
+/// What a path of API v2 names.
+#[derive(Clone, Copy, Debug, PartialEq, Eq)]
+pub enum Resource {
+    /// `/api/v2/silences`
+    Silences,
+    /// `/api/v2/silence/ID`
+    Silence,
+}
+
+/// A key of a posted silence.
+#[derive(Clone, Copy, Debug, PartialEq, Eq)]
+pub enum PostedKey {
+    Id,
+    Matchers,
+    StartsAt,
+    EndsAt,
+    CreatedBy,
+    Comment,
+}
+
+/// What is at fault in a request before a step is made, in the order in which it is tested.
+#[derive(Clone, Copy, Debug, PartialEq, Eq)]
+pub enum Cause {
+    /// The head doesn't end in 16,384 bytes, or has over 64 fields.
+    HeadTooLarge,
+    /// The bytes are no head of HTTP/1.x.
+    BadHead,
+    /// There is a field `transfer-encoding`.
+    TransferEncoding,
+    /// The `content-length` is not 1 to 18 digits, or comes twice.
+    BadContentLength,
+    /// The body has over 1,048,576 bytes.
+    BodyTooLarge,
+    /// The input ended in the head or in the body.
+    EndedEarly,
+    /// The path names nothing.
+    NoSuchPath,
+    /// What the path names has no such method.
+    MethodNotAllowed(Resource),
+    /// A `filter` of the query is none.
+    BadFilter,
+    /// The body is no JSON object.
+    BadJson,
+    /// The key is wanting or wrong.
+    BadSilence(PostedKey),
+    /// Memory ran out.
+    Memory,
+}
+
+/// The line with this status and text.
+const fn plain(status: u16, text: &'static str) -> Refusal
+    requires { IsStatusCode status }
+    ensures { line_seen result ≡ record { status = status; text = text.now; allow = None } }
+{
+    Refusal {
+        status,
+        text,
+        allow: None,
+    }
+}
+
+impl Resource {
+    /// The methods of the resource, as a field `allow` names them.
+    pub const fn allowed(self) -> &'static str
+        ensures { result.now ≡ allowed_at self }
+    {
+        match self {
+            Resource::Silences => "GET, POST",
+            Resource::Silence => "GET, DELETE",
+        }
+    }
+}
+
+impl PostedKey {
+    /// What is said where the key is wanting or wrong.
+    const fn bad(self) -> &'static str
+        ensures { result.now ≡ bad_key self }
+    {
+        match self {
+            PostedKey::Id => "bad silence: id",
+            PostedKey::Matchers => "bad silence: matchers",
+            PostedKey::StartsAt => "bad silence: startsAt",
+            PostedKey::EndsAt => "bad silence: endsAt",
+            PostedKey::CreatedBy => "bad silence: createdBy",
+            PostedKey::Comment => "bad silence: comment",
+        }
+    }
+}
+
+impl Cause {
+    /// The line of the table that the request is refused with.
+    pub const fn refusal(self) -> Refusal
+        ensures { line_seen result ≡ line_of self }
+    {
+        match self {
+            Cause::HeadTooLarge => plain(431, "head too large"),
+            Cause::BadHead => plain(400, "bad request head"),
+            Cause::TransferEncoding => plain(501, "transfer-encoding not supported"),
+            Cause::BadContentLength => plain(400, "bad content-length"),
+            Cause::BodyTooLarge => plain(413, "body too large"),
+            Cause::EndedEarly => plain(400, "request ended early"),
+            Cause::NoSuchPath => plain(404, "no such path"),
+            Cause::MethodNotAllowed(resource) => Refusal {
+                status: 405,
+                text: "method not allowed",
+                allow: Some(resource.allowed()),
+            },
+            Cause::BadFilter => plain(400, "bad filter"),
+            Cause::BadJson => plain(400, "bad JSON"),
+            Cause::BadSilence(key) => plain(400, key.bad()),
+            Cause::Memory => plain(500, "out of memory"),
+        }
+    }
+}
+
+impl From<Cause> for Refusal {
+    ghost use Rattle.am_http.specs.Lines.{line_of, line_seen};
+    ghost use Rattle.std.specs.Prelude.{◌≡◌};
+
+    ghost from_gives = { λ cause refusal. line_seen refusal ≡ line_of cause };
+
+    fn from(cause: Cause) -> Refusal {
+        cause.refusal()
+    }
+}

@@ -1,0 +1,17 @@
+//! A law over the definitions that the contracts cite.
+
+ghost use Rattle.std.specs.Prelude.{◌≡◌, ◌≢◌, ℕ, List};
+ghost use Rattle.am_http.specs.declared.cause.Cause.{Cause};
+ghost use Rattle.am_http.specs.declared.cause.Cause.TheVariants.{HeadTooLarge};
+ghost use Rattle.am_http.specs.Requests.{HasFault, IsRequestIn, IsUnfinished};
+
+/// Bytes have one whole request at their front, or none. Where they have one, nothing is wanting, and nothing is at
+/// fault; that the head isn't too large is not said, since the grammar's own words leave that to the parser.
+pub fn a_request_is_read_in_one_way()
+    ensures one { (bytes method target body other_method other_target other_body : List ℕ)
+        → IsRequestIn bytes method target body → IsRequestIn bytes other_method other_target other_body
+        → (method ≡ other_method) × (target ≡ other_target) × (body ≡ other_body) }
+    ensures whole { (bytes method target body : List ℕ) → IsRequestIn bytes method target body → ¬ (IsUnfinished bytes) }
+    ensures sound { (bytes method target body : List ℕ) (cause : Cause) → cause ≢ HeadTooLarge
+        → IsRequestIn bytes method target body → ¬ (HasFault bytes cause) }
+{}

@@ -1,0 +1,25 @@
+//! HTTP/1.1 for the calls on silences: requests in the bytes that came, the calls that they are, and the bytes of
+//! replies; read from any reader, written to any writer.
+#![tactic(auto)]
+
+mod cause;
+mod fields;
+mod filters;
+mod head;
+pub mod laws;
+mod receiving;
+mod refusal;
+mod replies;
+mod request;
+mod routes;
+mod sending;
+mod standing;
+
+pub use cause::{Cause, PostedKey, Resource};
+pub use filters::filter_texts;
+pub use receiving::{ReadFault, receive};
+pub use refusal::Refusal;
+pub use replies::{out_of_memory, reply};
+pub use request::{Read, Request, read_request};
+pub use routes::{Call, call_of};
+pub use sending::{WriteFault, send};

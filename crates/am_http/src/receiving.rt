@@ -1,0 +1,106 @@
+//! Requests from any reader.
+
+ghost use Rattle.std.specs.Prelude.{◌≡◌, ◌<◌, Err, IfOk, IfErr, vec_len};
+ghost use Rattle.am_http.specs.Pieces.{GrowsTo, IsUndecided};
+ghost use Rattle.am_http.specs.Requests.{IsUnfinished};
+ghost use Rattle.am_http.specs.Receiving.{IsReceived, StopsReading};
+
+use crate::cause::Cause;
+use crate::head::MOST_HEAD_BYTES;
+use crate::request::{Read, read_request, taken};
+use crate::standing::{Standing, standing_of};
+use std::alloc::Global;
+use std::io;
+
+/// A read failed, when so many bytes had come.
+#[derive(Clone, Copy, Debug, PartialEq, Eq)]
+pub struct ReadFault {
+    pub at: usize,
+}
+
+/// Why no bytes came, though the input has not ended.
+#[derive(Clone, Copy, Debug, PartialEq, Eq)]
+pub enum Stop {
+    Read,
+    Memory,
+}
+
+/// How many bytes are asked for at once.
+const PIECE: usize = 4_096;
+
+/// Reads once, so that there are at most `most` bytes then, and answers whether any came.
+fn read_some<R: io::Read>(reader: &mut R, bytes: &mut Vec<u8>, most: usize) -> Result<bool, Stop>
+    requires { vec_len bytes.old < most }
+    ensures more { GrowsTo most (R.remaining reader.old) (R.remaining reader.new) bytes.old.items bytes.new.items result }
+    ensures failed { result ≡ Err Stop.Read → bytes.new.items ≡ bytes.old.items }
+{
+    let mut piece = [0u8; PIECE];
+    let room = PIECE.min(most - bytes.len());
+    let Ok(count) = reader.read(&mut piece[..room]) else {
+        return Err(Stop::Read);
+    };
+    if bytes.extend_from_slice(&piece[..count]).is_err() {
+        return Err(Stop::Memory);
+    }
+    Ok(count > 0)
+}
+
+/// Reads until there are `end` bytes, and answers whether they came.
+fn fill<R: io::Read>(reader: &mut R, bytes: &mut Vec<u8>, end: usize) -> Result<bool, Stop>
+    requires { vec_len bytes.old < end }
+    ensures { GrowsTo end (R.remaining reader.old) (R.remaining reader.new) bytes.old.items bytes.new.items result }
+{
+    while bytes.len() < end {
+        if !read_some(reader, bytes, end)? {
+            return Ok(false);
+        }
+    }
+    Ok(true)
+}
+
+/// Reads what is wanting of a request that isn't decided: some bytes where its head isn't whole, else up to its `end`.
+/// Answers whether any came.
+fn read_more<R: io::Read>(
+    reader: &mut R,
+    bytes: &mut Vec<u8>,
+    end: Option<usize>,
+) -> Result<bool, Stop>
+    requires { IsUndecided bytes.old.items end }
+    ensures more { GrowsTo 1_064_960 (R.remaining reader.old) (R.remaining reader.new) bytes.old.items bytes.new.items result }
+    ensures failed { result ≡ Err Stop.Read → IsUnfinished bytes.new.items }
+{
+    match end {
+        None => read_some(reader, bytes, MOST_HEAD_BYTES),
+        Some(end) => fill(reader, bytes, end),
+    }
+}
+
+/// Reads a request. No read asks for bytes behind a head or a body that is known to end, so none waits for what the
+/// request doesn't have.
+///
+/// [`Read::More`] is answered where the input ended before its first byte, and the line `out of memory` also where
+/// there was no memory for the bytes that came.
+///
+/// # Errors
+///
+/// [`ReadFault`] at the first read that fails; it is not tried again.
+pub fn receive<R: io::Read>(alloc: Global, reader: &mut R) -> Result<Read, ReadFault>
+    ensures read { IfOk result (IsReceived (R.remaining reader.old) (R.remaining reader.new)) }
+    ensures stopped { IfErr result (λ e. StopsReading (R.remaining reader.old) (R.remaining reader.new) e.at) }
+{
+    let mut bytes = Vec::new(alloc);
+    loop {
+        let end = match standing_of(&bytes) {
+            Standing::Head => None,
+            Standing::Body { end } => Some(end),
+            Standing::Whole(parts) => return Ok(taken(alloc, parts)),
+            Standing::Refused(cause) => return Ok(Read::Refused(cause.refusal())),
+        };
+        match read_more(reader, &mut bytes, end) {
+            Ok(true) => {}
+            Ok(false) => return Ok(read_request(alloc, &bytes, true)),
+            Err(Stop::Read) => return Err(ReadFault { at: bytes.len() }),
+            Err(Stop::Memory) => return Ok(Read::Refused(Cause::Memory.refusal())),
+        }
+    }
+}

@@ -1,0 +1,14 @@
+//! A line of the table of statuses.
+
+ghost use Rattle.http.specs.StatusCode.{IsStatusCode};
+
+/// A line of the table of statuses.
+#[derive(Clone, Copy, Debug, PartialEq, Eq)]
+pub struct Refusal {
+    pub status: u16,
+    /// What the body says.
+    pub text: &'static str,
+    /// The methods that the path has, where another was asked for.
+    pub allow: Option<&'static str>,
+    pub ghost is_status: { IsStatusCode status },
+}

@@ -1,0 +1,75 @@
+//! Requests.
+
+ghost use Rattle.std.specs.Prelude.{◌≡◌, IfOk, string_bytes};
+ghost use Rattle.am_http.specs.Requests.{IsReadOf, IsTakenFrom, IsUnfinished};
+
+use crate::cause::Cause;
+use crate::refusal::Refusal;
+use crate::standing::{Parts, Standing, standing_of};
+use std::alloc::{AllocError, Global};
+
+/// A whole request.
+#[derive(Debug, Drop)]
+pub struct Request {
+    pub method: String,
+    /// The target as it came: nothing in it is decoded.
+    pub target: String,
+    pub body: Vec<u8>,
+}
+
+/// What was read of the bytes that came.
+#[derive(Debug, Drop)]
+pub enum Read {
+    /// Nothing is decided yet.
+    More,
+    Whole(Request),
+    Refused(Refusal),
+}
+
+/// A request of its own with these parts.
+fn owned(alloc: Global, parts: Parts<'_>) -> Result<Request, AllocError>
+    ensures method { IfOk result (λ r. string_bytes r.method ≡ parts.entry.method.now) }
+    ensures target { IfOk result (λ r. string_bytes r.target ≡ parts.entry.target.now) }
+    ensures body { IfOk result (λ r. r.body.items ≡ parts.entry.body.now) }
+{
+    Ok(Request {
+        method: String::from_str(alloc, parts.method)?,
+        target: String::from_str(alloc, parts.target)?,
+        body: parts.body.to_vec(alloc)?,
+    })
+}
+
+/// What is read of a whole request: the request, unless memory ran out.
+pub fn taken(alloc: Global, parts: Parts<'_>) -> Read
+    ensures { IsTakenFrom parts.entry.method.now parts.entry.target.now parts.entry.body.now result }
+{
+    match owned(alloc, parts) {
+        Ok(request) => Read::Whole(request),
+        Err(_) => Read::Refused(Cause::Memory.refusal()),
+    }
+}
+
+/// What is read of bytes that decide nothing.
+fn unfinished(bytes: &[u8], ended: bool) -> Read
+    requires { IsUnfinished bytes.now }
+    ensures { IsReadOf bytes.now ended result }
+{
+    if ended && !bytes.is_empty() {
+        return Read::Refused(Cause::EndedEarly.refusal());
+    }
+    Read::More
+}
+
+/// Reads a request from the bytes that came, behind which the input ended or may go on.
+///
+/// A head has at most 16,384 bytes and 64 fields, and a body 1,048,576 bytes. [`Read::Refused`] has the line of the
+/// first fault that stands; input that ended before its first byte is [`Read::More`].
+pub fn read_request(alloc: Global, bytes: &[u8], ended: bool) -> Read
+    ensures { IsReadOf bytes.now ended result }
+{
+    match standing_of(bytes) {
+        Standing::Head | Standing::Body { .. } => unfinished(bytes, ended),
+        Standing::Whole(parts) => taken(alloc, parts),
+        Standing::Refused(cause) => Read::Refused(cause.refusal()),
+    }
+}

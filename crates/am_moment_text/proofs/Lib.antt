@@ -1,0 +1,6 @@
+mod Fronts
+mod Sums
+mod Years
+mod Bytes
+mod Again
+mod One

@@ -1,0 +1,4 @@
+pub mod Gettables
+pub mod Posts
+pub mod Tokens
+pub mod Borrowed

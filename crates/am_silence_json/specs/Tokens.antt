@@ -1,0 +1,21 @@
+-- What is added to a text of JSON that is being written.
+use Rattle.std.specs.Prelude.{◌≡◌, List, ◌++◌}
+use Rattle.std.specs.List.{flat_map}
+use Rattle.json.specs.Token.{Token}
+use Rattle.json.specs.Tree.{json_tokens}
+use Rattle.json.specs.Written.{Written}
+use Rattle.serde_json.specs.Data.{Data}
+use Rattle.serde_json.specs.Written.{outline}
+
+-- these tokens come behind the others, and what stood before stays
+pub record Adds (old new : Written) (added : List Token) : Type 0 where
+  pub before : new.before ≡ old.before
+  pub tokens : new.tokens ≡ old.tokens ++ added
+
+-- the tokens of a value
+abbrev pub data_tokens : Data → List Token
+data_tokens d = json_tokens (outline d)
+
+-- those of values one after the other, without brackets
+abbrev pub row_tokens : List Data → List Token
+row_tokens = flat_map data_tokens

@@ -1,0 +1,47 @@
+//! Why the body of a post is refused.
+
+use crate::key::Key;
+use std::alloc::AllocError;
+use std::fmt;
+use thiserror::Error;
+
+/// Why the body of a post is refused.
+#[derive(Clone, Copy, Debug, PartialEq, Eq, Error)]
+pub enum BodyError {
+    /// It is no JSON, or no object.
+    #[error("bad JSON")]
+    BadJson,
+    /// What stands at this key is wanting or of another kind.
+    #[error("bad silence: {0}")]
+    Wrong(Key),
+    #[error("out of memory")]
+    Memory,
+}
+
+impl fmt::Display for Key {
+    fn fmt<W: fmt::Write>(&self, f: &mut fmt::Formatter<W>) -> fmt::Result {
+        f.write_str(self.text())
+    }
+}
+
+impl From<AllocError> for BodyError {
+    ghost use Rattle.std.specs.Prelude.{◌≡◌};
+    ghost use Rattle.am_silence_json.specs.declared.error.BodyError.TheVariants.{Memory};
+
+    ghost from_gives = { λ _ e. e ≡ Memory };
+
+    fn from(_: AllocError) -> BodyError {
+        BodyError::Memory
+    }
+}
+
+impl From<Key> for BodyError {
+    ghost use Rattle.std.specs.Prelude.{◌≡◌};
+    ghost use Rattle.am_silence_json.specs.declared.error.BodyError.TheVariants.{Wrong};
+
+    ghost from_gives = { λ key e. e ≡ Wrong key };
+
+    fn from(key: Key) -> BodyError {
+        BodyError::Wrong(key)
+    }
+}

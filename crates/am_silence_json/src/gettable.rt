@@ -1,0 +1,145 @@
+//! Silences as API v2 shows them.
+
+ghost use Rattle.std.specs.Prelude.{◌≡◌, ℕ, [], ◌∷◌, List, OnOk, map, codes};
+ghost use Rattle.json.specs.Token.{key, string, begin_array, end_array};
+ghost use Rattle.serde_json.specs.Data.{Data, array};
+ghost use Rattle.serde_json.specs.View.{items_of};
+ghost use Rattle.am_silence_json.specs.Gettables.{is_equal, matcher_data, state_text, status_data, IsGettable, AreGettable, posted_data};
+ghost use Rattle.am_silence_json.specs.Tokens.{Adds, data_tokens, row_tokens};
+ghost use Rattle.am_moment_text.specs.Written.{WritesMoment};
+
+use crate::tokens::{add, add_text, add_truth};
+use am_moment_text::write_moment;
+use am_silence::{Matcher, MatcherKind, MeshSilence, Silence, State};
+use am_version_order::Moment;
+use json::{Token, Writer};
+use std::alloc::AllocError;
+
+/// Whether the label has to match.
+fn is_equal(kind: MatcherKind) -> bool
+    ensures { result ≡ is_equal kind }
+{
+    matches!(kind, MatcherKind::Equal | MatcherKind::Regexp)
+}
+
+/// The name of a state.
+fn state_text(state: State) -> &'static str
+    ensures { result.now ≡ state_text state }
+{
+    match state {
+        State::Pending => "pending",
+        State::Active => "active",
+        State::Expired => "expired",
+    }
+}
+
+/// Adds a matcher.
+fn add_matcher(
+    out: &mut Writer,
+    kind: MatcherKind,
+    name: &str,
+    pattern: &str,
+) -> Result<(), AllocError>
+    ensures { OnOk result (Adds out.old out.new
+        (data_tokens (matcher_data (record { kind = kind; name = name.now; pattern = pattern.now })))) }
+{
+    add(out, Token::BeginObject)?;
+    add_truth(out, "isEqual", is_equal(kind))?;
+    add_truth(out, "isRegex", kind.is_regexp())?;
+    add_text(out, "name", name)?;
+    add_text(out, "value", pattern)?;
+    add(out, Token::EndObject)?;
+    Ok(())
+}
+
+/// Adds matchers, without brackets.
+fn add_each_matcher(out: &mut Writer, matchers: &[Matcher]) -> Result<(), AllocError>
+    ensures { OnOk result (Adds out.old out.new (row_tokens (map matcher_data matchers.now))) }
+{
+    for matcher in matchers {
+        let (name, pattern) = (matcher.name.as_str(), matcher.pattern.as_str());
+        add_matcher(out, matcher.kind, name, pattern)?;
+    }
+    Ok(())
+}
+
+/// Adds the member that lists the matchers.
+fn add_matchers(out: &mut Writer, matchers: &[Matcher]) -> Result<(), AllocError>
+    ensures { OnOk result (Adds out.old out.new
+        (key (codes "matchers") ∷ data_tokens (array (items_of (map matcher_data matchers.now))))) }
+{
+    add(out, Token::Key("matchers"))?;
+    add(out, Token::BeginArray)?;
+    add_each_matcher(out, matchers)?;
+    add(out, Token::EndArray)?;
+    Ok(())
+}
+
+/// Adds the member that says the state.
+fn add_status(out: &mut Writer, state: State) -> Result<(), AllocError>
+    ensures { OnOk result (Adds out.old out.new (key (codes "status") ∷ data_tokens (status_data state))) }
+{
+    add(out, Token::Key("status"))?;
+    add(out, Token::BeginObject)?;
+    add_text(out, "state", state_text(state))?;
+    add(out, Token::EndObject)?;
+    Ok(())
+}
+
+/// Adds a member that is a moment.
+fn add_moment(out: &mut Writer, name: &str, moment: Moment) -> Result<(), AllocError>
+    ensures { OnOk result ((text : List ℕ) × WritesMoment moment text
+        × Adds out.old out.new (key name.now ∷ string text ∷ [])) }
+{
+    let text = write_moment(moment);
+    add_text(out, name, text.as_str())?;
+    Ok(())
+}
+
+/// Adds a silence in a state.
+pub fn add_silence(out: &mut Writer, silence: &Silence, state: State) -> Result<(), AllocError>
+    ensures { OnOk result ((d : Data) × IsGettable silence.now state d × Adds out.old out.new (data_tokens d)) }
+{
+    add(out, Token::BeginObject)?;
+    add_text(out, "comment", silence.comment.as_str())?;
+    add_text(out, "createdBy", silence.created_by.as_str())?;
+    add_moment(out, "endsAt", silence.ends_at)?;
+    add_text(out, "id", silence.id.as_str())?;
+    add_matchers(out, silence.matchers.as_slice())?;
+    add_moment(out, "startsAt", silence.starts_at)?;
+    add_status(out, state)?;
+    add_moment(out, "updatedAt", silence.updated_at)?;
+    add(out, Token::EndObject)?;
+    Ok(())
+}
+
+/// Adds silences, without brackets.
+fn add_each_silence(out: &mut Writer, rows: &[(MeshSilence, State)]) -> Result<(), AllocError>
+    ensures { OnOk result ((ds : List Data) × AreGettable rows.now ds × Adds out.old out.new (row_tokens ds)) }
+{
+    for (version, state) in rows {
+        add_silence(out, version.silence(), *state)?;
+    }
+    Ok(())
+}
+
+/// Adds the list of these silences.
+pub fn add_silences(out: &mut Writer, rows: &[(MeshSilence, State)]) -> Result<(), AllocError>
+    ensures { OnOk result ((ds : List Data) × AreGettable rows.now ds
+        × Adds out.old out.new (data_tokens (array (items_of ds)))) }
+{
+    add(out, Token::BeginArray)?;
+    add_each_silence(out, rows)?;
+    add(out, Token::EndArray)?;
+    Ok(())
+}
+
+/// Adds what a post is answered.
+pub fn add_posted(out: &mut Writer, id: &str) -> Result<(), AllocError>
+    ensures { OnOk result (Adds out.old out.new (data_tokens (posted_data id.now))) }
+{
+    add(out, Token::BeginObject)?;
+    add_text(out, "silenceID", id)?;
+    add(out, Token::EndObject)?;
+    Ok(())
+}

@@ -1,0 +1,67 @@
+//! Bodies of replies, written behind what a buffer holds.
+
+ghost use Rattle.std.specs.Prelude.{◌≡◌, ◌++◌, List, IfOk};
+ghost use Rattle.serde_json.specs.Data.{Data, array, string};
+ghost use Rattle.serde_json.specs.View.{items_of};
+ghost use Rattle.serde_json.specs.Written.{compact_text};
+ghost use Rattle.am_silence_json.specs.Gettables.{IsGettable, AreGettable, posted_data};
+
+use crate::gettable::{add_posted, add_silence, add_silences};
+use crate::tokens::add;
+use am_silence::{MeshSilence, Silence, State};
+use json::{Token, Writer};
+use std::alloc::AllocError;
+
+/// The list of silences, each in its state: compact JSON behind what `out` holds. There is no tree of it in memory.
+///
+/// # Errors
+///
+/// [`AllocError`] where memory runs out.
+pub fn write_silences(out: Vec<u8>, rows: &[(MeshSilence, State)]) -> Result<Vec<u8>, AllocError>
+    ensures { IfOk result (λ body. (ds : List Data) × AreGettable rows.now ds
+        × (body.items ≡ out.items ++ compact_text (array (items_of ds)))) }
+{
+    let mut writer = Writer::new(out);
+    add_silences(&mut writer, rows)?;
+    Ok(writer.into_inner())
+}
+
+/// One silence in its state: compact JSON behind what `out` holds.
+///
+/// # Errors
+///
+/// [`AllocError`] where memory runs out.
+pub fn write_silence(out: Vec<u8>, silence: &Silence, state: State) -> Result<Vec<u8>, AllocError>
+    ensures { IfOk result (λ body. (d : Data) × IsGettable silence.now state d
+        × (body.items ≡ out.items ++ compact_text d)) }
+{
+    let mut writer = Writer::new(out);
+    add_silence(&mut writer, silence, state)?;
+    Ok(writer.into_inner())
+}
+
+/// What a post is answered, `{"silenceID":"ID"}`, behind what `out` holds.
+///
+/// # Errors
+///
+/// [`AllocError`] where memory runs out.
+pub fn write_posted(out: Vec<u8>, id: &str) -> Result<Vec<u8>, AllocError>
+    ensures { IfOk result (λ body. body.items ≡ out.items ++ compact_text (posted_data id.now)) }
+{
+    let mut writer = Writer::new(out);
+    add_posted(&mut writer, id)?;
+    Ok(writer.into_inner())
+}
+
+/// What a fault is answered, a JSON string, behind what `out` holds.
+///
+/// # Errors
+///
+/// [`AllocError`] where memory runs out.
+pub fn write_error(out: Vec<u8>, text: &str) -> Result<Vec<u8>, AllocError>
+    ensures { IfOk result (λ body. body.items ≡ out.items ++ compact_text (string text.now)) }
+{
+    let mut writer = Writer::new(out);
+    add(&mut writer, Token::String(text))?;
+    Ok(writer.into_inner())
+}
