@@ -112,7 +112,7 @@ impl Compiled {
         ensures answer { IfOk result (λ yes. yes ≡ matches_value self.old value.now) }
         ensures same { self.new ≡ self.old }
     {
-        let found = match &self.whole {
+        let found = match &mut self.whole {
             Some(whole) => whole.matches(value)?,
             None => self.matcher.pattern.as_str() == value,
         };

@@ -55,8 +55,9 @@ impl Whole {
     }
 
     /// Whether the text matches from end to end.
-    pub fn matches(&self, text: &str) -> Result<bool, AllocError>
-        ensures { IfOk result (λ found. found ≡ is_found self.now text.now) }
+    pub fn matches(&mut self, text: &str) -> Result<bool, AllocError>
+        ensures answer { IfOk result (λ found. found ≡ is_found self.old text.now) }
+        ensures same { self.new ≡ self.old }
     {
         let mut matcher = self.regex.matcher(self.alloc)?;
         Ok(matcher.is_match(text))
