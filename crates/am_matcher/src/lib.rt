@@ -13,6 +13,7 @@ pub mod laws;
 mod muted;
 mod muting;
 mod pieces;
+mod search;
 mod whole;
 
 pub use cache::PatternCache;
