@@ -22,6 +22,7 @@ impl Probe<u32> for Number {
 }
 
 // A number that is looked for among its 16 neighbours, as if they were one.
+#[derive(Clone, Copy)]
 struct Rough(u32);
 
 impl Probe<u32> for Rough {
@@ -165,10 +166,7 @@ fn run(
             twins.take(number);
         }
         if step % 16 == 0 {
-            agreed = agreed
-                && twins.agree(number)
-                && twins.agree(0)
-                && twins.finds_anyhow(number);
+            agreed = agreed && twins.agree(number) && twins.agree(0) && twins.finds_anyhow(number);
         }
     }
     Ok(agreed)

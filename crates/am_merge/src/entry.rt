@@ -2,6 +2,7 @@
 
 ghost use Rattle.std.specs.Prelude.{◌≡◌};
 ghost use Rattle.std.specs.Ordering.{nat_cmp, ordering_then};
+ghost use Rattle.std.specs.declared.cmp.Ordering.TheVariants.{Greater};
 ghost use Rattle.am_merge.specs.Buckets.{number_of, bytes_order, front_order};
 ghost use Rattle.am_merge.specs.Entries.{tie_of, key_order, expiry_order};
 ghost use Rattle.slab.specs.Slab.{get};
@@ -92,6 +93,23 @@ impl<'a, V: Version> Probe<BucketEntry> for FrontProbe<'a, V> {
 
     fn compare(&self, item: &BucketEntry) -> Ordering {
         match compare_bucket(self, item) {
+            Ordering::Equal => Ordering::Greater,
+            apart => apart,
+        }
+    }
+}
+
+/// The front of a bucket, as if no two buckets had one number: so no bytes of a bucket are looked at.
+#[derive(Drop)]
+pub struct FrontHint {
+    pub number: u64,
+}
+
+impl Probe<BucketEntry> for FrontHint {
+    ghost order = { λ hint e. ordering_then (nat_cmp e.number hint.number) Greater };
+
+    fn compare(&self, item: &BucketEntry) -> Ordering {
+        match item.number.cmp(&self.number) {
             Ordering::Equal => Ordering::Greater,
             apart => apart,
         }

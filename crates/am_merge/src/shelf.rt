@@ -13,7 +13,7 @@ ghost use Rattle.am_merge.specs.Places.{IsGapFor};
 ghost use Rattle.am_merge.specs.Shelves.{versions, HasRooms, HasRoomOver, IsSame, IsShelf, IsAbsent, IsBucketIndex, IsExpiryIndex, IsKeySpot, IsGapSpot, IsSlotAt, IsWithout, HasSlot};
 
 use crate::entry::{
-    BucketEntry, BucketProbe, ExpiryEntry, ExpiryProbe, FrontProbe, KeyEntry, KeyProbe,
+    BucketEntry, BucketProbe, ExpiryEntry, ExpiryProbe, FrontHint, FrontProbe, KeyEntry, KeyProbe,
     NumberHint, bucket_number,
 };
 use am_blocks::{Blocks, Spot};
@@ -130,7 +130,9 @@ fn search_bucket<V: Version>(shelf: &Shelf<V>, version: &V, near: Spot) -> Resul
     if bucket.is_empty() {
         shelf.buckets.search_near(near, &probe)
     } else {
-        shelf.buckets.search_by(&NumberHint { probe: &probe }, &probe)
+        shelf
+            .buckets
+            .search_by(&NumberHint { probe: &probe }, &probe)
     }
 }
 
@@ -171,12 +173,13 @@ pub fn bucket_front<V: Version>(shelf: &Shelf<V>, bucket: &[u8]) -> Spot
         (filed bucket_slot (get shelf.now.table) (entries shelf.now.buckets))
         (bucket.now, None) (place shelf.now.buckets result) }
 {
+    let number = bucket_number(bucket);
     let probe = FrontProbe {
         table: &shelf.table,
         bucket,
-        number: bucket_number(bucket),
+        number,
     };
-    match shelf.buckets.search(&probe) {
+    match shelf.buckets.search_by(&FrontHint { number }, &probe) {
         Ok(_) => unreachable!(),
         Err(spot) => spot,
     }
