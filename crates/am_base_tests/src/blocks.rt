@@ -1,6 +1,6 @@
 //! Lists in blocks: random runs against a plain sorted list.
 
-ghost use Rattle.std.specs.Prelude.{◌<◌};
+ghost use Rattle.std.specs.Prelude.{◌<◌, ◌/◌};
 ghost use Rattle.std.specs.List.{AllPairs};
 ghost use Rattle.std.specs.Ordering.{nat_cmp};
 ghost use Rattle.am_blocks.specs.Rows.{entries};
