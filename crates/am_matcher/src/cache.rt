@@ -102,6 +102,9 @@ impl PatternCache {
 
     /// Drops the patterns that no silence of the map has. It takes linear time and no memory.
     pub fn drop_unused(&mut self, held: &Held<MeshSilence>) {
+        if self.kept.is_empty() {
+            return;
+        }
         for version in held.iter() {
             self.mark_all(version.silence().matchers.as_slice());
         }
