@@ -1,11 +1,11 @@
 //! Lists in blocks: random runs against a plain sorted list.
 
-ghost use Rattle.std.specs.Prelude.{◌<◌};
+ghost use Rattle.std.specs.Prelude.{◌<◌, ◌/◌};
 ghost use Rattle.std.specs.List.{AllPairs};
 ghost use Rattle.std.specs.Ordering.{nat_cmp};
 ghost use Rattle.am_blocks.specs.Rows.{entries};
 
-use am_blocks::{Blocks, Probe, Walk};
+use am_blocks::{Blocks, Probe, Spot, Walk};
 use std::alloc::{AllocError, Global};
 use std::cmp::Ordering;
 
@@ -18,6 +18,18 @@ impl Probe<u32> for Number {
 
     fn compare(&self, item: &u32) -> Ordering {
         item.cmp(&self.0)
+    }
+}
+
+// A number that is looked for among its 16 neighbours, as if they were one.
+#[derive(Clone, Copy)]
+struct Rough(u32);
+
+impl Probe<u32> for Rough {
+    ghost order = { λ probe item. nat_cmp (item / 16) (probe.0 / 16) };
+
+    fn compare(&self, item: &u32) -> Ordering {
+        (item / 16).cmp(&(self.0 / 16))
     }
 }
 
@@ -74,6 +86,22 @@ impl Twins {
         }
     }
 
+    // A number is found in the same place near any guess and by any hint.
+    fn finds_anyhow(&self, number: u32) -> bool {
+        let place = self.blocks.search(&Number(number));
+        let guesses = [(0, 0), (0, 63), (3, 64), (7, 200), (900, 0)];
+        guesses.iter().all(|(block, offset)| {
+            let guess = Spot {
+                block: *block,
+                offset: *offset,
+            };
+            self.blocks.search_near(guess, &Number(number)) == place
+        }) && self.blocks.search_near(near_to(place), &Number(number)) == place
+            && self.blocks.search_by(&Number(number), &Number(number)) == place
+            && self.blocks.search_by(&Rough(number), &Number(number)) == place
+            && self.blocks.search_by(&Number(1000), &Number(number)) == place
+    }
+
     // The blocks have the items of the plain list from a number on, by whichever way they are read.
     fn agree(&self, number: u32) -> bool {
         match (
@@ -89,6 +117,13 @@ impl Twins {
             }
             _ => false,
         }
+    }
+}
+
+// The place of what was found or missed.
+fn near_to(place: Result<Spot, Spot>) -> Spot {
+    match place {
+        Ok(spot) | Err(spot) => spot,
     }
 }
 
@@ -131,7 +166,7 @@ fn run(
             twins.take(number);
         }
         if step % 16 == 0 {
-            agreed = agreed && twins.agree(number) && twins.agree(0);
+            agreed = agreed && twins.agree(number) && twins.agree(0) && twins.finds_anyhow(number);
         }
     }
     Ok(agreed)

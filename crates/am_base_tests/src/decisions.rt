@@ -161,18 +161,16 @@ fn are_long_decided(rt: &impl Abort, alloc: Global, rows: &[Long]) {
     }
 }
 
-// The first ten are looked for one by one, the others by 1,024.
-const REVERSED: [Long; 14] = [
+// The first nine are looked for one by one, the others by 2,048.
+const REVERSED: [Long; 12] = [
     (9, 9, 8, None),
     (12, 12, 11, Some(11)),
-    (1_033, 1_033, 1_032, None),
-    (1_033, 1_033, 1_032, Some(1_032)),
-    (1_034, 1_034, 1_033, None),
-    (1_034, 1_034, 1_033, Some(1_033)),
-    (1_035, 1_035, 1_034, None),
-    (1_035, 1_035, 1_034, Some(1_034)),
-    (2_059, 2_059, 2_058, None),
-    (2_059, 2_059, 2_058, Some(2_058)),
+    (2_056, 2_056, 2_055, None),
+    (2_056, 2_056, 2_055, Some(2_055)),
+    (2_057, 2_057, 2_056, None),
+    (2_057, 2_057, 2_056, Some(2_056)),
+    (2_058, 2_058, 2_057, None),
+    (2_058, 2_058, 2_057, Some(2_057)),
     (4_000, 4_000, 3_999, None),
     (4_000, 4_000, 3_999, Some(10)),
     (4_000, 4_000, 3_999, Some(2_000)),
@@ -186,8 +184,8 @@ fn reversed_hashes_are_found(rt: HostRuntime) {
 
 const SCRAMBLED: [Long; 12] = [
     (1_023, 1_023, 787, None),
-    (1_024, 1_024, 787, Some(1_023)),
-    (1_025, 1_025, 787, Some(512)),
+    (2_047, 2_047, 787, Some(2_046)),
+    (2_048, 2_048, 787, Some(2_047)),
     (2_049, 2_049, 787, None),
     (2_049, 2_049, 787, Some(1_034)),
     (4_000, 4_000, 787, None),

@@ -1,3 +1,4 @@
+pub mod Gaps
 pub mod Joins
 pub mod Places
 pub mod Risings

@@ -51,7 +51,8 @@ module _ {T : Type 0} (order : T → Ordering) where
   all_before xs ys rising some first k d inside =
       elim (rising_across xs ys rising k 0 d inside some) [ inl less ↦ less | inr greater ↦ absurd (first d greater) ]
 
-  less_or_greater : {o : Ordering} {P : Type 0} → o ≡ Less → o ≡ Greater → P
+  -- an item isn't both
+  pub less_or_greater : {o : Ordering} {P : Type 0} → o ≡ Less → o ≡ Greater → P
   less_or_greater less greater = cc
 
   -- where the first item is behind what is looked for, all are

@@ -1,15 +1,17 @@
 //! A list of small items in order, in blocks.
 
-ghost use Rattle.std.specs.Prelude.{◌≡◌, ℕ, ◌+◌, [], length, drop, slice_get, Some, IsOk, IfOk, IfErr, OnOk};
-ghost use Rattle.std.specs.List.{insert, remove};
+ghost use Rattle.std.specs.Prelude.{◌≡◌, ℕ, ◌+◌, [], length, drop, slice_get, Some, IsOk, IfOk, IfErr, IfSome, OnOk};
+ghost use Rattle.std.specs.List.{HoldsAt, insert, remove};
+ghost use Rattle.std.specs.declared.cmp.Ordering.TheVariants.{Less, Greater};
 
 use crate::block::Block;
 use crate::parts::{fill, put, take_out};
 use crate::probe::Probe;
-use crate::searches::{leading, search_block};
+use crate::searches::{leading, leading_items, search_block};
 use crate::spot::Spot;
 use crate::walk::Walk;
 use std::alloc::{AllocError, Global};
+use std::cmp::Ordering;
 use std::marker::Model;
 
 /// A list of small items in order, in blocks of fewer than 128.
@@ -97,6 +99,92 @@ impl<T: Copy> Blocks<T> {
             Ok(offset) => Ok(Spot { block, offset }),
             Err(offset) => Err(Spot { block, offset }),
         }
+    }
+
+    /// Where an item is, or else where it would go, as `search` has it. Where that is at the guess or next to
+    /// it, two comparisons tell; else it bisects.
+    pub fn search_near<P: Probe<T>>(&self, guess: Spot, probe: &P) -> Result<Spot, Spot>
+        requires { IsRising (P.order probe.now) (entries self.now) }
+        ensures found { IfOk result (IsFound (P.order probe.now) self.now) }
+        ensures missing { IfErr result (IsMissing (P.order probe.now) self.now) }
+    {
+        match self.near(guess, probe) {
+            Some(place) => place,
+            None => self.search(probe),
+        }
+    }
+
+    /// Where an item is, or else where it would go, as `search` has it. A hint is a cheaper probe, of which
+    /// nothing is asked: where it goes by the same order, two comparisons of the other probe do.
+    pub fn search_by<H: Probe<T>, P: Probe<T>>(&self, hint: &H, probe: &P) -> Result<Spot, Spot>
+        requires { IsRising (P.order probe.now) (entries self.now) }
+        ensures found { IfOk result (IsFound (P.order probe.now) self.now) }
+        ensures missing { IfErr result (IsMissing (P.order probe.now) self.now) }
+    {
+        let block = leading(&self.blocks, hint).saturating_sub(1);
+        let offset = match self.blocks.get(block) {
+            Some(block) => leading_items(block.as_slice(), hint).saturating_sub(1),
+            None => 0,
+        };
+        self.search_near(Spot { block, offset }, probe)
+    }
+
+    /// Where an item is, or else where it would go, where that is at the guess or next to it.
+    fn near<P: Probe<T>>(&self, guess: Spot, probe: &P) -> Option<Result<Spot, Spot>>
+        requires { IsRising (P.order probe.now) (entries self.now) }
+        ensures found { IfSome result (λ place. IfOk place (IsFound (P.order probe.now) self.now)) }
+        ensures missing { IfSome result (λ place. IfErr place (IsMissing (P.order probe.now) self.now)) }
+    {
+        let last = self.blocks.len().checked_sub(1)?;
+        let block = guess.block.min(last);
+        let offset = guess.offset.min(self.blocks[block].len() - 1);
+        let spot = Spot { block, offset };
+        match probe.compare(&self.get(spot)) {
+            Ordering::Equal => Some(Ok(spot)),
+            Ordering::Less => Some(Err(self.gap_behind(spot, probe)?)),
+            Ordering::Greater => Some(Err(self.gap_before(spot, probe)?)),
+        }
+    }
+
+    /// The place behind an item that is before what is looked for, where it goes there.
+    fn gap_behind<P: Probe<T>>(&self, spot: Spot, probe: &P) -> Option<Spot>
+        requires rising { IsRising (P.order probe.now) (entries self.now) }
+        requires item { IsItem self.now spot }
+        requires less { HoldsAt (λ x. P.order probe.now x ≡ Less) (entries self.now) (place self.now spot) }
+        ensures { IfSome result (IsMissing (P.order probe.now) self.now) }
+    {
+        // A block has fewer than 128 items.
+        let _items = &self.blocks;
+        let next = Spot {
+            block: spot.block,
+            offset: spot.offset + 1,
+        };
+        let is_gap = match self.walk_from(next).next() {
+            Some(item) => probe.compare(&item).is_gt(),
+            None => true,
+        };
+        if is_gap { Some(next) } else { None }
+    }
+
+    /// The place of an item that is behind what is looked for, where it goes there. What stands in the block
+    /// before isn't looked at.
+    fn gap_before<P: Probe<T>>(&self, spot: Spot, probe: &P) -> Option<Spot>
+        requires rising { IsRising (P.order probe.now) (entries self.now) }
+        requires item { IsItem self.now spot }
+        requires greater { HoldsAt (λ x. P.order probe.now x ≡ Greater) (entries self.now) (place self.now spot) }
+        ensures { IfSome result (IsMissing (P.order probe.now) self.now) }
+    {
+        let is_gap = match spot.offset.checked_sub(1) {
+            Some(offset) => {
+                let before = self.get(Spot {
+                    block: spot.block,
+                    offset,
+                });
+                probe.compare(&before).is_lt()
+            }
+            None => spot.block == 0,
+        };
+        if is_gap { Some(spot) } else { None }
     }
 
     /// The item at a spot.

@@ -32,6 +32,13 @@ pub fn leading<T: Copy, P: Probe<T>>(blocks: &[Block<T>], probe: &P) -> usize
     low
 }
 
+/// How many items of a block aren't behind what is looked for, where they rise.
+pub fn leading_items<T: Copy, P: Probe<T>>(items: &[T], probe: &P) -> usize
+    ensures { result ≤ length items.now }
+{
+    items.partition_point(|item| !probe.compare(item).is_gt())
+}
+
 /// Where in a block an item is that is looked for, or else where it would go.
 pub fn search_block<T: Copy, P: Probe<T>>(items: &[T], probe: &P) -> Result<usize, usize>
     requires { IsRising (P.order probe.now) items.now }

@@ -1,12 +1,13 @@
 -- Sorted hashes, their first places, and the marks at these.
-use Rattle.std.proofs.Common.{arith, ◌≡◌, ℕ, ◌+◌, ◌<◌, ◌≤◌, ◌%◌, take, Bool, true, false, refl, sym, ◌∙◌, ap, cond, List, length, get_or, Option, Some, None, nat_eq, nat_lt, ◌||◌, set}
-use Rattle.std.specs.List.{position, position_or_len}
+use Rattle.std.proofs.Common.{arith, ◌≡◌, ℕ, ◌+◌, ◌-◌, ◌<◌, ◌≤◌, ◌%◌, take, Bool, true, false, refl, sym, ◌∙◌, ap, cond, List, length, get_or, Option, Some, None, nat_eq, nat_lt, ◌||◌, set}
+use Rattle.std.specs.List.{position, position_or_len, list_all}
 use Rattle.std.specs.List.Sorted.{IsNonDecreasing}
 use Rattle.std.proofs.lemmas.Bool.Decides.{nat_tests}
-use Rattle.std.proofs.lemmas.List.{get_or-set_same, get_or-set_other}
+use Rattle.std.proofs.lemmas.List.{get_or-set_same, get_or-set_other, get_or_default}
+use Rattle.std.proofs.lemmas.List.Elements.{All-from_get_or}
 use Rattle.std.proofs.lemmas.List.Folds.{list_any_more}
 use Rattle.std.proofs.lemmas.List.Quantifiers.{position-Some}
-use Rattle.std.proofs.lemmas.List.Sums.{position_or_len_is, fails_before_first}
+use Rattle.std.proofs.lemmas.List.Sums.{position_or_len_is, fails_before_first, list_all-from_AllPass}
 use Rattle.am_dedup.proofs.Sets.{is_among, is_same, is_itself, or_true, or_false}
 
 -- the first place of a hash
@@ -15,6 +16,9 @@ first_place hashes hash = position (λ y. nat_eq y hash) hashes
 
 is_below : (a b : ℕ) → a < b → nat_lt a b ≡ true
 is_below a b less = grind (arith, nat_tests)
+
+pub less_is : (a b : ℕ) → nat_lt a b ≡ true → a < b
+less_is a b less = grind (arith, nat_tests)
 
 less_differs : (y q : ℕ) → nat_lt y q ≡ true → nat_eq y q ≡ false
 less_differs y q less = grind (arith, nat_tests)
@@ -90,26 +94,33 @@ marks_same sorted listed marks i within none marked hash place first =
     ] refl
 
 -- a table that has each hash's remainder
-abbrev pub HasRemainders : List ℕ → List Bool → Type 0
-HasRemainders hashes met = (i : ℕ) → i < length hashes → get_or met (get_or hashes i 0 % 8192) false ≡ true
+abbrev pub HasRemainders : List ℕ → List ℕ → Type 0
+HasRemainders hashes met = (i : ℕ) → i < length hashes → nat_eq (get_or met (get_or hashes i 0 % 32768) 0) 0 ≡ false
 
 -- a hash of another remainder is nowhere
-pub unmet : (hashes : List ℕ) (met : List Bool) (hash : ℕ) → HasRemainders hashes met → get_or met (hash % 8192) false ≡ false → None ≡ first_place hashes hash
+pub unmet : (hashes met : List ℕ) (hash : ℕ) → HasRemainders hashes met → get_or met (hash % 32768) 0 ≡ 0 → None ≡ first_place hashes hash
 unmet hashes met hash has none =
     elim (first_place hashes hash) as (λ o. first_place hashes hash ≡ o → None ≡ o) [
       | None ↦ λ e. refl
       | Some place ↦ λ e.
           let is : get_or hashes place 0 ≡ hash = is_same _ _ (position-Some (λ y. nat_eq y hash) hashes place 0 e).1 in
-          absurd (cc (sym none ∙ ap (λ h. get_or met (h % 8192) false) (sym is) ∙ has place (is_within hashes hash place e)))
+          let empty : nat_eq (get_or met (hash % 32768) 0) 0 ≡ true = ap (λ n. nat_eq n 0) none ∙ is_itself 0 in
+          absurd (cc (sym empty ∙ ap (λ h. nat_eq (get_or met (h % 32768) 0) 0) (sym is) ∙ has place (is_within hashes hash place e)))
     ] refl
 
+more_than_none : (n : ℕ) → nat_eq (n + 1) 0 ≡ false
+more_than_none n = grind (arith, nat_tests)
+
 -- the table of one more hash
-pub met_more : (hashes : List ℕ) (met : List Bool) (n : ℕ) → length met ≡ 8192 → ((i : ℕ) → i < n → get_or met (get_or hashes i 0 % 8192) false ≡ true) → (i : ℕ) → i < n + 1 → get_or (set met (get_or hashes n 0 % 8192) true) (get_or hashes i 0 % 8192) false ≡ true
+pub met_more : (hashes met : List ℕ) (n : ℕ) → length met ≡ 32768 → ((i : ℕ) → i < n → nat_eq (get_or met (get_or hashes i 0 % 32768) 0) 0 ≡ false) → (i : ℕ) → i < n + 1 → nat_eq (get_or (set met (get_or hashes n 0 % 32768) (n + 1)) (get_or hashes i 0 % 32768) 0) 0 ≡ false
 met_more hashes met n long has i below =
-    let at : ℕ → ℕ = λ (k : ℕ). get_or hashes k 0 % 8192 in
+    let at : ℕ → ℕ = λ (k : ℕ). get_or hashes k 0 % 32768 in
     let fits : at n < length met = omega (arith, long) in
-    elim (nat_eq (at i) (at n)) as (λ b. nat_eq (at i) (at n) ≡ b → get_or (set met (at n) true) (at i) false ≡ true) [
-      | true ↦ λ e. ap (λ k. get_or (set met (at n) true) k false) (is_same (at i) (at n) e) ∙ get_or-set_same met (at n) true false fits
+    elim (nat_eq (at i) (at n)) as (λ b. nat_eq (at i) (at n) ≡ b → nat_eq (get_or (set met (at n) (n + 1)) (at i) 0) 0 ≡ false) [
+      | true ↦ λ e.
+          ap (λ k. nat_eq (get_or (set met (at n) (n + 1)) k 0) 0) (is_same (at i) (at n) e)
+          ∙ ap (λ v. nat_eq v 0) (get_or-set_same met (at n) (n + 1) 0 fits)
+          ∙ more_than_none n
       | false ↦ λ e.
           let other : at i ≡ at n → ⊥ = λ one. absurd (cc (sym e ∙ ap (λ k. nat_eq k (at n)) one ∙ is_itself (at n))) in
           let before : i < n = elim (nat_lt i n) as (λ b. nat_lt i n ≡ b → i < n) [
@@ -118,5 +129,18 @@ met_more hashes met n long has i below =
                 let last : i ≡ n = grind (arith, nat_tests) in
                 absurd (other (ap at last))
           ] refl in
-          get_or-set_other met (at n) (at i) true false other ∙ has i before
+          ap (λ v. nat_eq v 0) (get_or-set_other met (at n) (at i) (n + 1) 0 other) ∙ has i before
     ] refl
+
+-- a hash stands first where the one before it is less
+pub first_at : (sorted : List ℕ) (place : ℕ) → IsNonDecreasing sorted → place < length sorted → (0 < place → get_or sorted (place - 1) 0 < get_or sorted place 0) → first_place sorted (get_or sorted place 0) ≡ Some place
+first_at sorted place up within less =
+    sym (first_is sorted (get_or sorted place 0) place within refl (λ k d low below.
+    let rises = up k (place - 1) d (omega arith) (omega arith) in
+    let next = less (omega arith) in
+    let one : get_or sorted (place - 1) d ≡ get_or sorted (place - 1) 0 = get_or_default sorted (place - 1) d 0 (omega arith) in
+    is_below _ _ (omega (arith, rises, next, one))))
+
+-- each of them is listed
+pub all_listed : (sorted listed : List ℕ) → ((i : ℕ) → i < length sorted → is_among listed (get_or sorted i 0) ≡ true) → list_all (is_among listed) sorted ≡ true
+all_listed sorted listed each = list_all-from_AllPass (is_among listed) sorted (All-from_get_or (λ x. is_among listed x ≡ true) sorted 0 each)

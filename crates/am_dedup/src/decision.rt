@@ -1,6 +1,6 @@
 //! Whether a group of alerts is notified.
 
-ghost use Rattle.std.specs.Prelude.{◌≡◌, ◌+◌, ◌%◌, ◌<◌, ◌≤◌, length, option_map, nat_eq, ℕ, Some, get_or, nat_lt, true, false, IfSome, IfNone};
+ghost use Rattle.std.specs.Prelude.{◌≡◌, ◌+◌, ◌-◌, ◌%◌, IsTrue, ◌<◌, ◌≤◌, length, option_map, nat_eq, ℕ, Some, get_or, nat_lt, true, false, IfSome, IfNone};
 ghost use Rattle.std.specs.FinSet.{is_subset};
 ghost use Rattle.std.specs.List.{list_any, position};
 ghost use Rattle.std.specs.List.Sorted.{IsNonDecreasing};
@@ -11,13 +11,13 @@ use am_nflog::Entry;
 use am_version_order::{Interval, Moment};
 
 // So many hashes are looked for in one walk over the entry's, where they come in no order.
-const GROUP: usize = 1_024;
+const GROUP: usize = 2_048;
 
 // Where so many hashes were found before the place behind the last one, they come in no order.
 const TURNS: usize = 8;
 
 // By so many remainders hashes are told apart, before one is searched for.
-const REMAINDERS: u64 = 8_192;
+const REMAINDERS: u64 = 32_768;
 
 /// Why a group is notified.
 #[derive(Clone, Copy, Debug, PartialEq, Eq)]
@@ -43,7 +43,7 @@ pub enum Decision {
 
 /// Whether a group is notified at `now`, of which the view of the log has this entry or none. The lists of alert
 /// hashes count as sets. It takes no memory. Lists in the order of the entry's take linear time; in any other order each
-/// 1,024 hashes take one walk over the entry's, with a search by halving among the 1,024 at each.
+/// 2,048 hashes take one walk over the entry's, with a look into a table at each, or a search by halving at the worst.
 #[tactic(auto, unfolding(crate::specs::Decisions::decision))]
 pub fn decide(
     entry: Option<&Entry>,
@@ -169,7 +169,7 @@ fn are_groups_within(hashes: &[u64], listed: &[u64]) -> bool
 
 // Whether each hash of a group is listed. The group is sorted in an array, so that no memory is taken.
 fn is_group_within(group: &[u64], listed: &[u64]) -> bool
-    requires { length group.now ≤ 1024 }
+    requires { length group.now ≤ 2048 }
     ensures { result ≡ is_subset (set_of group.now) (set_of listed.now) }
 {
     let mut room = [0; GROUP];
@@ -181,25 +181,32 @@ fn is_group_within(group: &[u64], listed: &[u64]) -> bool
 
 // Whether each of the sorted hashes is listed.
 fn is_sorted_within(sorted: &[u64], listed: &[u64]) -> bool
-    requires fits { length sorted.now ≤ 1024 }
+    requires fits { length sorted.now ≤ 2048 }
     requires sorted { IsNonDecreasing sorted.now }
     ensures { result ≡ is_subset (set_of sorted.now) (set_of listed.now) }
 {
     let marks = marks_of(sorted, listed);
-    for hash in sorted {
-        let Some(place) = sorted_place_of(*hash, sorted) else {
-            return false;
-        };
-        if !marks[place] {
+    for place in 0..sorted.len() {
+        if is_new(sorted, place) && !marks[place] {
             return false;
         }
     }
     true
 }
 
+// Whether only other hashes stand before this place.
+fn is_new(sorted: &[u64], place: usize) -> bool
+    requires within { place < length sorted.now }
+    requires sorted { IsNonDecreasing sorted.now }
+    ensures first { IsTrue result → position (λ y. nat_eq y (get_or sorted.now place 0)) sorted.now ≡ Some place }
+    ensures again { result ≡ false → (0 < place) × (get_or sorted.now (place - 1) 0 ≡ get_or sorted.now place 0) }
+{
+    place == 0 || sorted[place - 1] < sorted[place]
+}
+
 // Which of the sorted hashes are listed, by their first places.
 fn marks_of(sorted: &[u64], listed: &[u64]) -> [bool; GROUP]
-    requires fits { length sorted.now ≤ 1024 }
+    requires fits { length sorted.now ≤ 2048 }
     requires sorted { IsNonDecreasing sorted.now }
     ensures { (hash place : ℕ) → position (λ y. nat_eq y hash) sorted.now ≡ Some place →
         get_or result place false ≡ list_any (λ y. nat_eq y hash) listed.now }
@@ -214,29 +221,41 @@ fn marks_of(sorted: &[u64], listed: &[u64]) -> [bool; GROUP]
     marks
 }
 
-// Which remainders the hashes have.
-fn remainders_of(hashes: &[u64]) -> [bool; REMAINDERS as usize]
-    ensures { (i : ℕ) → i < length hashes.now → get_or result (get_or hashes.now i 0 % 8192) false ≡ true }
+// For each remainder that a hash has, the place behind one of these hashes, and 0 for all others.
+fn remainders_of(hashes: &[u64]) -> [u16; REMAINDERS as usize]
+    requires { length hashes.now ≤ 2048 }
+    ensures { (i : ℕ) → i < length hashes.now → nat_eq (get_or result (get_or hashes.now i 0 % 32768) 0) 0 ≡ false }
 {
-    let mut met = [false; REMAINDERS as usize];
-    for hash in hashes {
-        met[(*hash % REMAINDERS) as usize] = true;
+    let mut met = [0; REMAINDERS as usize];
+    for (place, hash) in hashes.iter().enumerate() {
+        met[(*hash % REMAINDERS) as usize] = place as u16 + 1;
     }
     met
 }
 
 // The first place of a hash among sorted ones with these remainders. Most hashes that are not among them are told by
-// their remainder.
-fn met_place_of(hash: u64, sorted: &[u64], met: &[bool; REMAINDERS as usize]) -> Option<usize>
+// their remainder, and most others stand at the place that it has.
+fn met_place_of(hash: u64, sorted: &[u64], met: &[u16; REMAINDERS as usize]) -> Option<usize>
     requires sorted { IsNonDecreasing sorted.now }
-    requires met { (i : ℕ) → i < length sorted.now → get_or met.now (get_or sorted.now i 0 % 8192) false ≡ true }
+    requires met { (i : ℕ) → i < length sorted.now → nat_eq (get_or met.now (get_or sorted.now i 0 % 32768) 0) 0 ≡ false }
     ensures { result ≡ position (λ y. nat_eq y hash) sorted.now }
 {
-    if met[(hash % REMAINDERS) as usize] {
-        sorted_place_of(hash, sorted)
-    } else {
+    let behind = met[(hash % REMAINDERS) as usize] as usize;
+    if behind == 0 {
         None
+    } else if is_first_place(hash, sorted, behind - 1) {
+        Some(behind - 1)
+    } else {
+        sorted_place_of(hash, sorted)
     }
+}
+
+// Whether a hash stands first at this place.
+fn is_first_place(hash: u64, sorted: &[u64], place: usize) -> bool
+    requires { IsNonDecreasing sorted.now }
+    ensures { IsTrue result → position (λ y. nat_eq y hash) sorted.now ≡ Some place }
+{
+    place < sorted.len() && sorted[place] == hash && is_new(sorted, place)
 }
 
 // The first place of a hash among sorted ones.

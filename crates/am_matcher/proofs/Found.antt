@@ -1,6 +1,6 @@
 -- What a compiled pattern finds is what the grammar reads in its text.
 use Rattle.std.proofs.Common.{◌≡◌, ◌<◌, ◌≤◌, ◌⊎◌, inl, inr, ℕ, Bool, true, false, true≢false, List, length, Option, None, Some, IsSomeAnd, is_some, get_or, subst, refl, sym, ap, ◌∙◌, arith}
-use Rattle.std.specs.Prelude.{◌≢◌, IfSome}
+use Rattle.std.specs.Prelude.{◌≢◌, IfSome, if◌then◌else◌}
 use Rattle.std.specs.Str.{chars}
 use Rattle.regex_syntax.specs.Grammar.{Names, read}
 use Rattle.regex_syntax.specs.Brackets.{Nested}
@@ -8,17 +8,19 @@ use Rattle.regex_syntax.specs.Verdict.{Reads, Refuses}
 use Rattle.regex_syntax.specs.declared.error.ErrorKind.{ErrorKind}
 use Rattle.regex_syntax.specs.declared.error.ErrorKind.TheVariants as parser
 use Rattle.regex.specs.Patterns.{Re, SameCaptures, Config, find_str, default_config}
-use Rattle.regex.specs.Strings.{regex_pattern, regex_source, regex_config, IsReadFromSource}
-use Rattle.regex.specs.Sources.{IsRefusal}
-use Rattle.regex.specs.Failures.{IsRightKind}
-use Rattle.regex.specs.declared.error.Error.{Error}
-use Rattle.regex.specs.declared.error.Error.TheVariants as regex
-use Rattle.regex.specs.declared.string.regex.Regex.{Regex}
+use Rattle.regex_hir.specs.Meaning.{meaning}
+use Rattle.regex_hir.specs.Re.{Trace}
+use Rattle.regex_hir.specs.Text.{is_boundary}
+use Rattle.regex_hir.specs.declared.hir.Hir.{Hir}
+use Rattle.regex_hir.proofs.FindLemmas.{first_between_cong}
+use Rattle.regex_compile.specs.Implements.{Implements}
+use Rattle.regex_nfa.specs.declared.nfa.Nfa.{Nfa}
 use Rattle.regex.proofs.ForCallers.{is_match_alike}
 use Rattle.am_matcher.specs.declared.compiled.BuildError.{BuildError}
 use Rattle.am_matcher.specs.declared.compiled.BuildError.TheVariants as build
-use Rattle.am_matcher.specs.Errors.{of_parser, of_regex}
-use Rattle.am_matcher.specs.Patterns.{has_match, is_found, IsReadable, IsRefusedFor}
+use Rattle.am_matcher.specs.Errors.{of_parser}
+use Rattle.am_matcher.specs.Patterns.{has_match, is_found, IsReadable}
+use Rattle.am_matcher.specs.Searches.{Finds}
 
 found_in : (o : Option (Nested Re × Names)) (a : Re) (names : Names) (most : ℕ) (n : ℕ) (hay : List ℕ) →
     ((k : ℕ) → get_or hay k 0 < 256) →
@@ -27,11 +29,13 @@ found_in : (o : Option (Nested Re × Names)) (a : Re) (names : Names) (most : �
 found_in None a names most n hay bytes p = absurd p
 found_in (Some (re, found)) a names most n hay bytes p = is_match_alike p.1 hay bytes true 0
 
-pub found_as_meant : (r : Regex) (hay : List ℕ) → regex_config r ≡ default_config → IsReadFromSource r →
-    ((k : ℕ) → get_or hay k 0 < 256) → is_some (find_str (regex_pattern r) hay 0) ≡ is_found (regex_source r) hay
-unfolding Reads is_found
-found_as_meant r hay is_default is_read bytes =
-    found_in (read default_config (chars (regex_source r))) (regex_pattern r) _ _ _ hay bytes (rw is_default at is_read)
+-- what is compiled from what is read in a text finds what the text does
+pub finds_as_read : (nfa : Nfa) (hir : Hir) (config : Config) (source : List ℕ) (names : Names) → config ≡ default_config →
+    Implements nfa (meaning hir) → Reads config source hir names → Finds nfa source
+unfolding Reads is_found find_str
+finds_as_read nfa hir config source names is_default implements is_read = λ text bytes.
+    ap is_some (first_between_cong _ _ 0 (length text) (λ i low high. ap (λ (o : Option Trace). if is_boundary text i then o else None) (implements text i)))
+    ∙ found_in (read default_config (chars source)) (meaning hir) names _ _ text bytes (rw is_default at is_read)
 
 readable_in : (o : Option (Nested Re × Names)) (a : Re) (names : Names) (most n : ℕ) →
     IsSomeAnd o (λ (re, found). (re.depth ≤ most) × SameCaptures a re.value × (names ≡ found) × (n ≤ length names)) →
@@ -45,11 +49,6 @@ pub readable_as_read : (config : Config) (source : List ℕ) (a : Re) (names : N
 unfolding IsReadable
 readable_as_read config source a names n is_default is_read =
     readable_in (read default_config (chars source)) a names _ n (rw is_default at is_read)
-
-pub readable_as_compiled : (r : Regex) (source : List ℕ) → regex_source r ≡ source → regex_config r ≡ default_config → IsReadFromSource r → IsReadable source
-unfolding Reads
-readable_as_compiled r source same is_default is_read =
-    subst IsReadable same (readable_as_read (regex_config r) (regex_source r) _ _ _ is_default is_read)
 
 -- ---- what is refused
 abbrev is_memory : BuildError → Bool
@@ -74,10 +73,3 @@ unread_as_refused source kind (inr (inr deep)) other readable = unread_in (read 
 pub unread_by_parser : (config : Config) (source : List ℕ) (kind : ErrorKind) → config ≡ default_config → Refuses config source kind → of_parser kind ≡ build.BadPattern → IsReadable source → ⊥
 unread_by_parser config source kind is_default refuses bad =
     unread_as_refused source kind (subst (λ (c : Config). Refuses c source kind) is_default refuses) (λ memory. memory_is_not_bad (sym (ap of_parser memory) ∙ bad))
-
-pub refused_by_regex : (source : List ℕ) (error : Error) → IsRefusal default_config source error → IsRightKind default_config source error → error ≢ regex.Internal → of_regex error ≡ build.BadPattern → IsRefusedFor source error
-unfolding Reads
-refused_by_regex source (regex.Syntax e) refusal kind no_internal bad = unread_as_refused source e.kind (refusal e refl) kind
-refused_by_regex source regex.CompiledTooBig refusal kind no_internal bad = readable_as_read default_config source _ _ _ refl kind.2
-refused_by_regex source regex.Internal refusal kind no_internal bad = absurd (no_internal refl)
-refused_by_regex source regex.OutOfMemory refusal kind no_internal bad = absurd (memory_is_not_bad bad)

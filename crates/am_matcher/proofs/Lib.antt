@@ -1,5 +1,6 @@
 pub mod HandedOn
 pub mod Found
+pub mod Searches
 pub mod Judgements
 pub mod Runs
 pub mod Splits

@@ -1,8 +1,10 @@
 -- What an error becomes: out of memory stays that, and all else that is refused is a bad pattern.
 use Rattle.regex_syntax.specs.declared.error.ErrorKind.{ErrorKind}
 use Rattle.regex_syntax.specs.declared.error.ErrorKind.TheVariants as parser
-use Rattle.regex.specs.declared.error.Error.{Error}
-use Rattle.regex.specs.declared.error.Error.TheVariants as regex
+use Rattle.regex_compile.specs.declared.error.Error.{Error}
+use Rattle.regex_compile.specs.declared.error.Error.TheVariants as compiler
+use Rattle.regex_nfa.specs.declared.build.BuildError as tables
+use Rattle.regex_nfa.specs.declared.build.BuildError.TheVariants as table
 use Rattle.am_matcher.specs.declared.compiled.BuildError.{BuildError}
 use Rattle.am_matcher.specs.declared.compiled.BuildError.TheVariants as build
 use Rattle.am_matcher.specs.declared.filter.FilterError.{FilterError}
@@ -16,6 +18,10 @@ abbrev pub of_parser : ErrorKind → BuildError
 of_parser parser.OutOfMemory = build.Memory
 of_parser _ = build.BadPattern
 
-abbrev pub of_regex : Error → BuildError
-of_regex regex.OutOfMemory = build.Memory
-of_regex _ = build.BadPattern
+abbrev pub of_compiler : Error → BuildError
+of_compiler compiler.OutOfMemory = build.Memory
+of_compiler _ = build.BadPattern
+
+abbrev pub of_tables : tables.BuildError → BuildError
+of_tables table.OutOfMemory = build.Memory
+of_tables table.Malformed = build.BadPattern

@@ -1,5 +1,6 @@
 pub mod Texts
 pub mod Patterns
+pub mod Searches
 pub mod Labels
 pub mod Matching
 pub mod Filters

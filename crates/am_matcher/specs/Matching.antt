@@ -3,6 +3,7 @@ use Rattle.std.specs.Prelude.{◌≡◌, ℕ, Bool, true, false, not, List, [], 
 use Rattle.std.specs.List.{list_all}
 use Rattle.std.specs.Option.{option_map_or}
 use Rattle.am_silence.specs.declared.matcher.Matcher.{Matcher}
+use Rattle.am_silence.specs.declared.matcher.MatcherKind.{MatcherKind}
 use Rattle.am_silence.specs.declared.matcher.MatcherKind.TheVariants as kinds
 use Rattle.am_silence.specs.Kinds.{is_regexp}
 use Rattle.am_silence.specs.declared.plan.Verdict.{Verdict}
@@ -14,13 +15,16 @@ use Rattle.am_matcher.specs.declared.labels.Label.{Label}
 use Rattle.am_matcher.specs.Patterns.{is_match, IsSound, IsBroken}
 
 -- the value is the text, or is not, or matches the pattern from end to end, or does not
-abbrev pub matches_value : Matcher → List ℕ → Bool
-matches_value m value = elim m.kind [
-  | kinds.Equal ↦ is_text m.pattern value
-  | kinds.Regexp ↦ is_match m.pattern value
-  | kinds.NotEqual ↦ not (is_text m.pattern value)
-  | kinds.NotRegexp ↦ not (is_match m.pattern value)
+abbrev pub is_met : MatcherKind → List ℕ → List ℕ → Bool
+is_met kind pattern value = elim kind [
+  | kinds.Equal ↦ is_text pattern value
+  | kinds.Regexp ↦ is_match pattern value
+  | kinds.NotEqual ↦ not (is_text pattern value)
+  | kinds.NotRegexp ↦ not (is_match pattern value)
 ]
+
+abbrev pub matches_value : Matcher → List ℕ → Bool
+matches_value m value = is_met m.kind m.pattern value
 
 -- where a regular expression decides, its pattern is read
 abbrev pub IsSoundMatcher : Matcher → Type 0

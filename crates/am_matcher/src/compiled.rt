@@ -44,16 +44,30 @@ impl From<regex_syntax::Error> for BuildError {
     }
 }
 
-impl From<regex::Error> for BuildError {
+impl From<regex_compile::Error> for BuildError {
     ghost use Rattle.std.specs.Prelude.{◌≡◌};
-    ghost use Rattle.am_matcher.specs.Errors.{of_regex};
+    ghost use Rattle.am_matcher.specs.Errors.{of_compiler};
 
-    ghost from_gives = { λ given e. e ≡ of_regex given };
+    ghost from_gives = { λ given e. e ≡ of_compiler given };
 
-    fn from(error: regex::Error) -> BuildError {
+    fn from(error: regex_compile::Error) -> BuildError {
         match error {
-            regex::Error::OutOfMemory => BuildError::Memory,
+            regex_compile::Error::OutOfMemory => BuildError::Memory,
             _ => BuildError::BadPattern,
+        }
+    }
+}
+
+impl From<regex_nfa::BuildError> for BuildError {
+    ghost use Rattle.std.specs.Prelude.{◌≡◌};
+    ghost use Rattle.am_matcher.specs.Errors.{of_tables};
+
+    ghost from_gives = { λ given e. e ≡ of_tables given };
+
+    fn from(error: regex_nfa::BuildError) -> BuildError {
+        match error {
+            regex_nfa::BuildError::OutOfMemory => BuildError::Memory,
+            regex_nfa::BuildError::Malformed => BuildError::BadPattern,
         }
     }
 }
@@ -112,7 +126,7 @@ impl Compiled {
         ensures answer { IfOk result (λ yes. yes ≡ matches_value self.old value.now) }
         ensures same { self.new ≡ self.old }
     {
-        let found = match &self.whole {
+        let found = match &mut self.whole {
             Some(whole) => whole.matches(value)?,
             None => self.matcher.pattern.as_str() == value,
         };

@@ -1,18 +1,22 @@
 //! Matchers, verdicts on them, filters and mutes, over the regular expressions of `regex`.
 #![tactic(auto)]
 
+mod cache;
 mod compiled;
 mod filter;
 mod filter_text;
 mod gathering;
 mod judged;
+mod kept;
 mod labels;
 pub mod laws;
 mod muted;
 mod muting;
 mod pieces;
+mod search;
 mod whole;
 
+pub use cache::PatternCache;
 pub use compiled::{BuildError, Compiled};
 pub use filter::{Filter, FilterError};
 pub use judged::verdict;

@@ -4,6 +4,7 @@ ghost use Rattle.std.specs.Prelude.{◌≡◌, ◌++◌, ℕ, List, map, IfOk, O
 ghost use Rattle.am_silence.specs.Mesh.{Mesh};
 ghost use Rattle.am_matcher.specs.Mutes.{is_active, IsEffect, if_mutes, if_broken, AreMuted};
 
+use crate::cache::PatternCache;
 use crate::compiled::BuildError;
 use crate::gathering::{buckets_for, gather};
 use crate::judged::judge_all;
@@ -36,9 +37,9 @@ fn is_active(version: &MeshSilence, now: Moment) -> bool
     now < version.expires() && silence.starts_at <= now && now < silence.ends_at
 }
 
-/// What a silence does to an alert with these labels. Only the patterns of an active one are compiled.
+/// What a silence does to an alert with these labels. Only the patterns of an active one are looked at.
 fn effect_of(
-    alloc: Global,
+    patterns: &mut PatternCache,
     version: &MeshSilence,
     labels: &[Label],
     now: Moment,
@@ -48,7 +49,7 @@ fn effect_of(
     if !is_active(version, now) {
         return Ok(Effect::Idle);
     }
-    match judge_all(alloc, version.silence().matchers.as_slice(), labels) {
+    match judge_all(patterns, version.silence().matchers.as_slice(), labels) {
         Ok(true) => Ok(Effect::Mutes),
         Ok(false) => Ok(Effect::Passes),
         Err(BuildError::BadPattern) => Ok(Effect::Broken),
@@ -78,6 +79,7 @@ fn put_id(
 /// Which of the silences mute an alert, and which are broken.
 fn mutes_among(
     alloc: Global,
+    patterns: &mut PatternCache,
     silences: &[&MeshSilence],
     labels: &[Label],
     now: Moment,
@@ -87,13 +89,32 @@ fn mutes_among(
     let mut ids = Vec::new(alloc);
     let mut broken = Vec::new(alloc);
     for &version in silences {
-        let effect = effect_of(alloc, version, labels, now)?;
+        let effect = effect_of(patterns, version, labels, now)?;
         put_id(alloc, version.key(), effect, &mut ids, &mut broken)?;
     }
     Ok(Mutes {
         ids: Ids::new(ids),
         broken: Ids::new(broken),
     })
+}
+
+impl PatternCache {
+    /// As [`mutes`], with the patterns kept: each is compiled once.
+    pub fn mutes(
+        &mut self,
+        held: &Held<MeshSilence>,
+        labels: &Labels,
+        now: Moment,
+    ) -> Result<Mutes, AllocError>
+        ensures { IfOk result (λ m. AreMuted labels.now now held.now m.ids m.broken) }
+    {
+        let alloc = self.alloc();
+        let labels = labels.as_slice();
+        let buckets = buckets_for(alloc, labels)?;
+        let silences = gather(alloc, held, &buckets)?;
+        let muted = mutes_among(alloc, self, &silences, labels, now)?;
+        Ok(muted)
+    }
 }
 
 /// The silences that mute an alert with these labels, and those with a pattern that `regex` refuses.
@@ -110,9 +131,5 @@ pub fn mutes(
 ) -> Result<Mutes, AllocError>
     ensures { IfOk result (λ m. AreMuted labels.now now held.now m.ids m.broken) }
 {
-    let labels = labels.as_slice();
-    let buckets = buckets_for(alloc, labels)?;
-    let silences = gather(alloc, held, &buckets)?;
-    let muted = mutes_among(alloc, &silences, labels, now)?;
-    Ok(muted)
+    PatternCache::of_nothing(alloc).mutes(held, labels, now)
 }

@@ -1,33 +1,47 @@
 //! Patterns that are searched for from end to end.
 
 ghost use Rattle.std.specs.Prelude.{◌≡◌, IfOk, OnOk, IsErrOf};
-ghost use Rattle.regex.specs.Strings.{regex_source, regex_config, IsReadFromSource};
-ghost use Rattle.regex.specs.Patterns.{default_config};
-ghost use Rattle.am_matcher.specs.Patterns.{whole_text, is_found, IsReadable, IsSound, IsBroken};
+ghost use Rattle.regex.specs.declared.error.Error.{Error};
+ghost use Rattle.regex_hir.specs.Meaning.{meaning};
+ghost use Rattle.regex_compile.specs.Implements.{Implements};
+ghost use Rattle.am_matcher.specs.Patterns.{whole_text, is_found, IsReadable, IsSound, IsBroken, IsRefusedFor};
+ghost use Rattle.am_matcher.specs.Searches.{Finds};
 
 use crate::compiled::BuildError;
-use regex::Regex;
-use regex_syntax::{Config, parse};
+use crate::search::is_found;
+use regex_dfa::{Dfa, Forward};
+use regex_nfa::Nfa;
+use regex_syntax::{Config, Parsed, parse};
 use std::alloc::{AllocError, Global};
 use std::marker::Model;
 
-/// A compiled pattern. Contracts see the text that was compiled.
+/// What is compiled takes at most so many bytes: the limit that `regex` has by itself.
+const MOST_BYTES: usize = 10 << 20;
+
+/// What searches build takes about so many bytes. Where that is too little they go on without it.
+const SEARCH_BYTES: usize = 64 << 10;
+
+/// A compiled pattern, and what searches for it have built. Contracts see the text that was compiled.
+///
+/// It stands on the parts of `regex`, whose own searcher borrows the compiled pattern and can't be kept beside it.
 #[derive(Drop)]
 pub struct Whole {
-    regex: Regex,
+    text: String,
+    dfa: Dfa,
+    forward: Forward,
     alloc: Global,
 }
 
 impl Model for Whole {
-    ghost use Rattle.std.specs.Prelude.{◌≡◌, List, ℕ};
-    ghost use Rattle.regex.specs.Strings.{regex_source, regex_config, IsReadFromSource};
-    ghost use Rattle.regex.specs.Patterns.{default_config};
+    ghost use Rattle.std.specs.Prelude.{List, ℕ, string_bytes};
+    ghost use Rattle.regex_dfa.specs.Search.{IsForwardFor};
+    ghost use Rattle.am_matcher.specs.Searches.{Finds};
 
     ghost Value = { List ℕ };
 
-    ghost view = { λ w. regex_source w.regex };
+    ghost view = { λ w. string_bytes w.text };
 
-    ghost invariant = { λ w. (regex_config w.regex ≡ default_config) × IsReadFromSource w.regex };
+    ghost invariant = { λ w. Finds w.dfa.nfa (string_bytes w.text) × IsForwardFor w.forward w.dfa };
 }
 
 /// Refuses a pattern that is broken by itself, as `a)|(b`, which would be read once it is wrapped.
@@ -41,6 +55,29 @@ fn read_alone(alloc: Global, pattern: &str) -> Result<(), BuildError>
     Ok(())
 }
 
+/// The states of a pattern that was read. It is refused where it is too big.
+fn nfa_of(alloc: Global, parsed: &Parsed) -> Result<Nfa, BuildError>
+    ensures { IfOk result (λ nfa. Implements nfa (meaning parsed.now.hir)) }
+{
+    let Ok(groups) = u32::try_from(parsed.names.len()) else {
+        return Err(BuildError::BadPattern);
+    };
+    let nfa = regex_compile::compile(alloc, &parsed.hir, groups, MOST_BYTES)?;
+    Ok(nfa)
+}
+
+/// What a text is compiled to.
+fn dfa_of(alloc: Global, text: &str) -> Result<Dfa, BuildError>
+    ensures finds { IfOk result (λ dfa. Finds dfa.nfa text.now) }
+    ensures read { OnOk result (IsReadable text.now) }
+    ensures refused { IsErrOf result BuildError.BadPattern → (error : Error) × IsRefusedFor text.now error }
+{
+    let parsed = parse(alloc, text, &Config::default())?;
+    let nfa = nfa_of(alloc, &parsed)?;
+    let dfa = Dfa::new(alloc, nfa)?;
+    Ok(dfa)
+}
+
 impl Whole {
     /// Compiles the pattern `p` as `^(?:p)$`.
     pub fn build(alloc: Global, pattern: &str) -> Result<Whole, BuildError>
@@ -50,15 +87,22 @@ impl Whole {
     {
         read_alone(alloc, pattern)?;
         let text = format!(in alloc; "^(?:{pattern})$")?;
-        let regex = Regex::new(alloc, text.as_str())?;
-        Ok(Whole { regex, alloc })
+        let dfa = dfa_of(alloc, text.as_str())?;
+        let forward = Forward::with_budget(alloc, &dfa, false, SEARCH_BYTES)?;
+        Ok(Whole {
+            text,
+            dfa,
+            forward,
+            alloc,
+        })
     }
 
     /// Whether the text matches from end to end.
-    pub fn matches(&self, text: &str) -> Result<bool, AllocError>
-        ensures { IfOk result (λ found. found ≡ is_found self.now text.now) }
+    pub fn matches(&mut self, text: &str) -> Result<bool, AllocError>
+        ensures answer { IfOk result (λ found. found ≡ is_found self.old text.now) }
+        ensures same { self.new ≡ self.old }
     {
-        let mut matcher = self.regex.matcher(self.alloc)?;
-        Ok(matcher.is_match(text))
+        let found = is_found(self.alloc, &self.dfa, &mut self.forward, text.as_bytes())?;
+        Ok(found)
     }
 }

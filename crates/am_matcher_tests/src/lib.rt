@@ -2,6 +2,8 @@
 #![tactic(auto)]
 
 #[cfg(test)]
+mod caching;
+#[cfg(test)]
 mod filters;
 #[cfg(test)]
 mod fixtures;

@@ -1,17 +1,17 @@
 //! Which silences mute an alert.
 
 use crate::fixtures::{BROKEN, JOB_IS_X, MatcherRow, PATTERNS, at, silence};
-use am_matcher::{Ids, Label, Labels, mutes};
+use am_matcher::{Ids, Label, Labels, PatternCache, mutes};
 use am_merge::Held;
 use am_silence::{MatcherKind, MeshSilence};
 use am_wire::{Text, WireError};
 use std::alloc::{AllocError, Global};
 
 /// Name and value of a label.
-type LabelRow = (&'static str, &'static str);
+pub type LabelRow = (&'static str, &'static str);
 
 /// What mutes an alert: the ids that mute it, and the broken ones.
-type Wanted = (&'static str, &'static str);
+pub type Wanted = (&'static str, &'static str);
 
 fn label(alloc: Global, (name, value): LabelRow) -> Result<Label, AllocError> {
     let name = Text::copied(alloc, name)?;
@@ -21,7 +21,7 @@ fn label(alloc: Global, (name, value): LabelRow) -> Result<Label, AllocError> {
     })
 }
 
-fn labels_of(alloc: Global, rows: &[LabelRow]) -> Result<Labels, AllocError> {
+pub fn labels_of(alloc: Global, rows: &[LabelRow]) -> Result<Labels, AllocError> {
     let mut labels = Vec::new(alloc);
     for &row in rows {
         labels.push(label(alloc, row)?)?;
@@ -74,7 +74,34 @@ fn mutes_are(
     Ok(are(&answered.ids, want.0) && are(&answered.broken, want.1))
 }
 
-/// Whether an alert with these labels is muted so at so many seconds.
+/// The same, asked of a cache of patterns.
+pub fn kept_mutes_are(
+    patterns: &mut PatternCache,
+    held: &Held<MeshSilence>,
+    labels: &Labels,
+    seconds: i64,
+    want: Wanted,
+) -> Result<bool, AllocError> {
+    let answered = patterns.mutes(held, labels, at(seconds))?;
+    Ok(are(&answered.ids, want.0) && are(&answered.broken, want.1))
+}
+
+/// The same, asked of one cache, and again after it dropped what the silences don't have.
+fn twice_mutes_are(
+    alloc: Global,
+    held: &Held<MeshSilence>,
+    labels: &Labels,
+    seconds: i64,
+    want: Wanted,
+) -> Result<bool, AllocError> {
+    let mut patterns = PatternCache::new(alloc);
+    let first = kept_mutes_are(&mut patterns, held, labels, seconds, want);
+    patterns.drop_unused(held);
+    let second = kept_mutes_are(&mut patterns, held, labels, seconds, want);
+    Ok(first? && second?)
+}
+
+/// Whether an alert with these labels is muted so at so many seconds, with patterns kept and without.
 fn is_muted(
     alloc: Global,
     held: &Held<MeshSilence>,
@@ -83,11 +110,13 @@ fn is_muted(
     want: Wanted,
 ) -> Result<bool, AllocError> {
     let labels = labels_of(alloc, rows)?;
-    mutes_are(alloc, held, &labels, seconds, want)
+    let alone = mutes_are(alloc, held, &labels, seconds, want);
+    let twice = twice_mutes_are(alloc, held, &labels, seconds, want);
+    Ok(alone? && twice?)
 }
 
 /// p wants job `x`, q has a broken pattern beside that, r has no matchers, and s wants `x` or `z`.
-fn hold_four(alloc: Global, held: &mut Held<MeshSilence>) -> Result<(), WireError> {
+pub fn hold_four(alloc: Global, held: &mut Held<MeshSilence>) -> Result<(), WireError> {
     let open = (MatcherKind::Regexp, "env", "(");
     let x_or_z = (MatcherKind::Regexp, "job", "x|z");
     hold(alloc, held, "s", &[x_or_z])?;
@@ -97,7 +126,7 @@ fn hold_four(alloc: Global, held: &mut Held<MeshSilence>) -> Result<(), WireErro
 }
 
 /// A job, a moment in seconds, and the ids that mute it then, and the broken ones.
-const JOBS: [(&str, i64, &str, &str); 5] = [
+pub const JOBS: [(&str, i64, &str, &str); 5] = [
     ("y", 50, "r", "q"),
     ("x", 50, "prs", "q"),
     ("z", 10, "rs", "q"),

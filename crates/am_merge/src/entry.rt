@@ -1,7 +1,8 @@
 //! The small entries of a map's indexes, and what is looked for among them.
 
 ghost use Rattle.std.specs.Prelude.{◌≡◌};
-ghost use Rattle.std.specs.Ordering.{ordering_then};
+ghost use Rattle.std.specs.Ordering.{nat_cmp, ordering_then};
+ghost use Rattle.std.specs.declared.cmp.Ordering.TheVariants.{Greater};
 ghost use Rattle.am_merge.specs.Buckets.{number_of, bytes_order, front_order};
 ghost use Rattle.am_merge.specs.Entries.{tie_of, key_order, expiry_order};
 ghost use Rattle.slab.specs.Slab.{get};
@@ -98,6 +99,23 @@ impl<'a, V: Version> Probe<BucketEntry> for FrontProbe<'a, V> {
     }
 }
 
+/// The front of a bucket, as if no two buckets had one number: so no bytes of a bucket are looked at.
+#[derive(Drop)]
+pub struct FrontHint {
+    pub number: u64,
+}
+
+impl Probe<BucketEntry> for FrontHint {
+    ghost order = { λ hint e. ordering_then (nat_cmp e.number hint.number) Greater };
+
+    fn compare(&self, item: &BucketEntry) -> Ordering {
+        match item.number.cmp(&self.number) {
+            Ordering::Equal => Ordering::Greater,
+            apart => apart,
+        }
+    }
+}
+
 /// A key in a bucket that is looked for.
 #[derive(Drop)]
 pub struct BucketProbe<'a, V: Version> {
@@ -113,6 +131,25 @@ impl<'a, V: Version> Probe<BucketEntry> for BucketProbe<'a, V> {
     fn compare(&self, item: &BucketEntry) -> Ordering {
         match compare_bucket(&self.front, item) {
             Ordering::Equal => self.key.compare(&item.key),
+            apart => apart,
+        }
+    }
+}
+
+/// What is looked for, as if no two buckets had one number: so no bytes of a bucket are looked at.
+#[derive(Drop)]
+pub struct NumberHint<'a, 'b, V: Version> {
+    pub probe: &'b BucketProbe<'a, V>,
+}
+
+impl<'a, 'b, V: Version> Probe<BucketEntry> for NumberHint<'a, 'b, V> {
+    ghost order = { λ hint e. ordering_then
+        (nat_cmp e.number hint.probe.now.front.number)
+        (key_order V.seen V.Key.cmp (get hint.probe.now.key.table.now) hint.probe.now.key.head hint.probe.now.key.key.now e.key) };
+
+    fn compare(&self, item: &BucketEntry) -> Ordering {
+        match item.number.cmp(&self.probe.front.number) {
+            Ordering::Equal => self.probe.key.compare(&item.key),
             apart => apart,
         }
     }

@@ -141,7 +141,8 @@ impl<V: Version> Held<V> {
 
     /// The versions of a bucket, in the order of their keys. It takes no memory.
     pub fn in_bucket<'a>(&'a self, bucket: &'a [u8]) -> InBucket<'a, V>
-        ensures { result ≡ in_bucket V.bucket_of bucket.now self.now }
+        ensures items { result ≡ in_bucket V.bucket_of bucket.now self.now }
+        ensures order { IsMap V.seen V.Key.cmp self.now }
     {
         walk_bucket(&self.shelf, bucket)
     }

@@ -13,8 +13,8 @@ ghost use Rattle.am_merge.specs.Places.{IsGapFor};
 ghost use Rattle.am_merge.specs.Shelves.{versions, HasRooms, HasRoomOver, IsSame, IsShelf, IsAbsent, IsBucketIndex, IsExpiryIndex, IsKeySpot, IsGapSpot, IsSlotAt, IsWithout, HasSlot};
 
 use crate::entry::{
-    BucketEntry, BucketProbe, ExpiryEntry, ExpiryProbe, FrontProbe, KeyEntry, KeyProbe,
-    bucket_number,
+    BucketEntry, BucketProbe, ExpiryEntry, ExpiryProbe, FrontHint, FrontProbe, KeyEntry, KeyProbe,
+    NumberHint, bucket_number,
 };
 use am_blocks::{Blocks, Spot};
 use am_version_order::{Moment, Version};
@@ -28,6 +28,8 @@ pub struct Shelf<V> {
     pub keys: Blocks<KeyEntry>,
     pub expiries: Blocks<ExpiryEntry>,
     pub buckets: Blocks<BucketEntry>,
+    /// Where in the index by key a version came last: the next one is looked for near it.
+    pub last: Spot,
 }
 
 /// An empty shelf. It takes no memory.
@@ -40,6 +42,10 @@ pub fn empty_shelf<V: Version>(alloc: Global) -> Shelf<V>
         keys: Blocks::new(alloc),
         expiries: Blocks::new(alloc),
         buckets: Blocks::new(alloc),
+        last: Spot {
+            block: 0,
+            offset: 0,
+        },
     }
 }
 
@@ -54,7 +60,7 @@ pub fn find<V: Version>(shelf: &Shelf<V>, key: &V::Key) -> Result<Spot, Spot>
         key,
         head: V::head(key),
     };
-    shelf.keys.search(&probe)
+    shelf.keys.search_near(shelf.last, &probe)
 }
 
 /// The version at a spot of the index by key.
@@ -95,8 +101,9 @@ pub fn expiry_gap<V: Version>(shelf: &Shelf<V>, expires: Moment, slot: usize) ->
     }
 }
 
-/// Where the entry by bucket is of a version's key in its bucket, or where it would go.
-fn search_bucket<V: Version>(shelf: &Shelf<V>, version: &V) -> Result<Spot, Spot>
+/// Where the entry by bucket is of a version's key in its bucket, or where it would go. The empty bucket is
+/// looked for near a spot: that of the index by key is the right one where no version has another bucket.
+fn search_bucket<V: Version>(shelf: &Shelf<V>, version: &V, near: Spot) -> Result<Spot, Spot>
     requires { IsBucketIndex V.seen V.head_of V.Key.cmp V.bucket_of (get shelf.now.table) (entries shelf.now.buckets) }
     ensures found { IfOk result (IsFound
         (bucket_order V.seen V.bucket_of V.Key.cmp (get shelf.now.table) (number_of (V.bucket_of version.now)) (V.bucket_of version.now)
@@ -108,7 +115,7 @@ fn search_bucket<V: Version>(shelf: &Shelf<V>, version: &V) -> Result<Spot, Spot
     let table = &shelf.table;
     let bucket = version.bucket();
     let key = version.key();
-    shelf.buckets.search(&BucketProbe {
+    let probe = BucketProbe {
         front: FrontProbe {
             table,
             bucket,
@@ -119,24 +126,32 @@ fn search_bucket<V: Version>(shelf: &Shelf<V>, version: &V) -> Result<Spot, Spot
             key,
             head: V::head(key),
         },
-    })
+    };
+    if bucket.is_empty() {
+        shelf.buckets.search_near(near, &probe)
+    } else {
+        shelf
+            .buckets
+            .search_by(&NumberHint { probe: &probe }, &probe)
+    }
 }
 
-/// Where the entry by bucket is of what is in a slot.
-fn bucket_spot<V: Version>(shelf: &Shelf<V>, slot: usize) -> Spot
+/// Where the entry by bucket is of what is in a slot; that of the empty bucket is looked for near a spot.
+fn bucket_spot<V: Version>(shelf: &Shelf<V>, slot: usize, near: Spot) -> Spot
     requires index { IsBucketIndex V.seen V.head_of V.Key.cmp V.bucket_of (get shelf.now.table) (entries shelf.now.buckets) }
     requires there { HasSlot shelf.now.table slot }
     ensures item { IsItem shelf.now.buckets result }
     ensures own { HoldsAt (λ e. bucket_slot e ≡ slot) (entries shelf.now.buckets) (place shelf.now.buckets result) }
 {
-    match search_bucket(shelf, &shelf.table[slot]) {
+    match search_bucket(shelf, &shelf.table[slot], near) {
         Ok(spot) => spot,
         Err(_) => unreachable!(),
     }
 }
 
-/// Where the entry by bucket goes of a version whose key none has.
-fn bucket_gap<V: Version>(shelf: &Shelf<V>, version: &V) -> Spot
+/// Where the entry by bucket goes of a version whose key none has; that of the empty bucket is looked for
+/// near a spot.
+fn bucket_gap<V: Version>(shelf: &Shelf<V>, version: &V, near: Spot) -> Spot
     requires index { IsBucketIndex V.seen V.head_of V.Key.cmp V.bucket_of (get shelf.now.table) (entries shelf.now.buckets) }
     requires absent { IsAbsent V.seen (get shelf.now.table) (V.seen version.now).key }
     ensures within { IsWithin shelf.now.buckets result }
@@ -144,7 +159,7 @@ fn bucket_gap<V: Version>(shelf: &Shelf<V>, version: &V) -> Spot
         (filed bucket_slot (get shelf.now.table) (entries shelf.now.buckets))
         (by_bucket V.seen V.bucket_of version.now).key (place shelf.now.buckets result) }
 {
-    match search_bucket(shelf, version) {
+    match search_bucket(shelf, version, near) {
         Ok(_) => unreachable!(),
         Err(spot) => spot,
     }
@@ -158,12 +173,13 @@ pub fn bucket_front<V: Version>(shelf: &Shelf<V>, bucket: &[u8]) -> Spot
         (filed bucket_slot (get shelf.now.table) (entries shelf.now.buckets))
         (bucket.now, None) (place shelf.now.buckets result) }
 {
+    let number = bucket_number(bucket);
     let probe = FrontProbe {
         table: &shelf.table,
         bucket,
-        number: bucket_number(bucket),
+        number,
     };
-    match shelf.buckets.search(&probe) {
+    match shelf.buckets.search_by(&FrontHint { number }, &probe) {
         Ok(_) => unreachable!(),
         Err(spot) => spot,
     }
@@ -234,8 +250,9 @@ pub fn add<V: Version>(shelf: &mut Shelf<V>, spot: Spot, version: V)
     ensures added { versions shelf.new ≡ insert (versions shelf.old) (place shelf.old.keys spot) version }
     ensures room { (n m : ℕ) → HasRooms shelf.old (n + 1) (m + 1) → HasRooms shelf.new n m }
 {
+    shelf.last = spot;
     let entry = entry_of(&version, shelf.table.vacant_key());
-    let place = bucket_gap(shelf, &version);
+    let place = bucket_gap(shelf, &version, spot);
     put_in(shelf, version);
     shelf.keys.insert(spot, entry.key);
     shelf.buckets.insert(place, entry);
@@ -271,6 +288,7 @@ fn replace_within<V: Version>(shelf: &mut Shelf<V>, spot: Spot, slot: usize, ver
     ensures replaced { versions shelf.new ≡ slice_set (versions shelf.old) (place shelf.old.keys spot) version }
     ensures room { (n m : ℕ) → HasRooms shelf.old n (m + 1) → HasRooms shelf.new n m }
 {
+    shelf.last = spot;
     let _replaced = take_out(shelf, slot);
     put_in(shelf, version);
 }
@@ -288,11 +306,12 @@ fn replace_across<V: Version>(shelf: &mut Shelf<V>, spot: Spot, slot: usize, ver
     ensures replaced { versions shelf.new ≡ slice_set (versions shelf.old) (place shelf.old.keys spot) version }
     ensures room { (n m : ℕ) → HasRooms shelf.old n (m + 1) → HasRooms shelf.new n m }
 {
+    shelf.last = spot;
     let entry = entry_of(&version, slot);
-    let left = bucket_spot(shelf, slot);
+    let left = bucket_spot(shelf, slot, spot);
     let _replaced = take_out(shelf, slot);
     shelf.buckets.remove(left);
-    let place = bucket_gap(shelf, &version);
+    let place = bucket_gap(shelf, &version, spot);
     put_in(shelf, version);
     shelf.buckets.insert(place, entry);
 }
@@ -306,7 +325,7 @@ pub fn drop_at<V: Version>(shelf: &mut Shelf<V>, slot: usize)
         IsWithout v (versions shelf.old) (versions shelf.new) }
 {
     let spot = key_spot(shelf, slot);
-    let place = bucket_spot(shelf, slot);
+    let place = bucket_spot(shelf, slot, spot);
     let _gone = take_out(shelf, slot);
     shelf.keys.remove(spot);
     shelf.buckets.remove(place);

@@ -3,6 +3,8 @@
 ghost use Rattle.std.specs.Prelude.{◌≡◌, ◌≤◌, ℕ, List, length, IfOk, OnOk, IfErr, IfSome};
 ghost use Rattle.std.specs.Io.KnownBytes.{Appends};
 ghost use Rattle.am_wire.specs.Limits.{most};
+ghost use Rattle.am_wire.specs.Inputs.{AreMessages};
+ghost use Rattle.am_snapshot.specs.Best.{HoldsBest};
 ghost use Rattle.am_snapshot.specs.Folds.{IsFold, StopsFold};
 
 use crate::reading::take_row;
@@ -72,7 +74,7 @@ pub fn fold<V: Version + Message, R: Read, W: Write>(
     alloc: Global,
     reader: &mut R,
     writer: &mut W,
-    _now: Moment,
+    now: Moment,
 ) -> Result<u64, FoldError>
     ensures row { IfOk result (λ written. (row : List ℕ) × (written ≡ length row) ×
         Appends (W.contents writer.old) (W.contents writer.new) row ×
@@ -82,6 +84,42 @@ pub fn fold<V: Version + Message, R: Read, W: Write>(
 
     ensures stopped { IfErr result (StopsFold V.seen V.Key.cmp V.reads (R.remaining reader.old) (R.remaining reader.new) W.contents writer.old writer.new) }
 {
+    let folded: Folded<V> = fold_held(alloc, reader, writer, now)?;
+    Ok(folded.written)
+}
+
+/// A row that was folded.
+#[derive(Drop)]
+pub struct Folded<V: Version> {
+    /// How many bytes went out.
+    pub written: u64,
+    /// The versions of the row.
+    pub held: Held<V>,
+}
+
+/// Folds as [`fold`] does, and answers the map too. A program that ends then may forget it: to free each
+/// version would take about a tenth of the time.
+///
+/// # Errors
+///
+/// Those of [`fold`].
+pub fn fold_held<V: Version + Message, R: Read, W: Write>(
+    alloc: Global,
+    reader: &mut R,
+    writer: &mut W,
+    _now: Moment,
+) -> Result<Folded<V>, FoldError>
+    ensures row { IfOk result (λ folded. (row : List ℕ) × (folded.written ≡ length row) ×
+        Appends (W.contents writer.old) (W.contents writer.new) row ×
+        IfSome (R.remaining reader.old) (λ input. IsFold V.seen V.Key.cmp V.reads input row)) }
+    ensures size { OnOk result (IfSome (R.remaining reader.old) (λ input. length input ≤ most)) }
+    ensures room { IfOk result (λ folded. folded.written ≤ most) }
+    ensures best { IfOk result (λ folded. IfSome (R.remaining reader.old) (λ input.
+        (versions : List V) × AreMessages V.reads input versions × HoldsBest V.seen versions folded.held)) }
+
+    ensures stopped { IfErr result (StopsFold V.seen V.Key.cmp V.reads (R.remaining reader.old) (R.remaining reader.new) W.contents writer.old writer.new) }
+{
     let held: Held<V> = take_row(alloc, reader)?;
-    Ok(write_row(alloc, &held, writer)?)
+    let written = write_row(alloc, &held, writer)?;
+    Ok(Folded { written, held })
 }

@@ -11,7 +11,7 @@ mod row;
 mod saving;
 
 pub use error::SnapshotError;
-pub use folding::{FoldError, fold};
+pub use folding::{FoldError, Folded, fold, fold_held};
 pub use loading::load;
 pub use reading::take_row;
 pub use saving::save;

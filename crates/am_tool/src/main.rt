@@ -1,14 +1,18 @@
 //! The program: folds a row of versions to the ones that count.
 #![tactic(auto)]
 
+ghost use Rattle.std.specs.Prelude.{◌≡◌};
+
 mod fault;
 mod status;
 mod words;
 
 use am_nflog::MeshEntry;
 use am_silence::MeshSilence;
-pub use am_snapshot::{FoldError, fold};
+pub use am_snapshot::{FoldError, Folded, fold_held};
+use am_version_order::Version;
 use std::io::BufReader;
+use std::mem;
 use std::process::ExitCode;
 use words::{Job, StateName};
 
@@ -19,10 +23,23 @@ fn run(rt: &HostRuntime, job: Job) -> Result<u64, FoldError> {
     };
     let mut output = rt.stdout();
     let Job::Fold { state, now } = job;
-    match state {
-        StateName::Silences => fold::<MeshSilence, _, _>(alloc, &mut input, &mut output, now),
-        StateName::Log => fold::<MeshEntry, _, _>(alloc, &mut input, &mut output, now),
-    }
+    Ok(match state {
+        StateName::Silences => {
+            written_by(fold_held::<MeshSilence, _, _>(alloc, &mut input, &mut output, now)?)
+        }
+        StateName::Log => {
+            written_by(fold_held::<MeshEntry, _, _>(alloc, &mut input, &mut output, now)?)
+        }
+    })
+}
+
+/// How many bytes a fold wrote. Its versions are forgotten: the process ends now, and its memory with it.
+fn written_by<V: Version>(folded: Folded<V>) -> u64
+    ensures { result ≡ folded.written }
+{
+    let written = folded.written;
+    mem::forget(folded);
+    written
 }
 
 fn main(rt: HostRuntime) -> ExitCode {

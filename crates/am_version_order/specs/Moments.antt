@@ -1,5 +1,6 @@
 -- Moments as contracts see them: whole nanoseconds since the first one.
-use Rattle.std.specs.Prelude.{ℕ, ℤ, pos, ◌+ℤ◌, ◌*ℤ◌, ◌≤ℤ◌, ◌<◌}
+use Rattle.std.specs.Prelude.{◌≡◌, ℕ, ◌+◌, ◌*◌, ◌/◌, ◌%◌, ◌<◌, ℤ, pos, ◌+ℤ◌, ◌*ℤ◌, ◌≤ℤ◌}
+use Rattle.std.proofs.Common.{arith}
 
 -- the last moment, 9999-12-31T23:59:59.999999999Z
 abbrev pub greatest : ℕ
@@ -18,3 +19,10 @@ pub record AreParts (seconds : ℤ) (nanos : ℕ) : Type 0 where
   pub not_before : pos 0 ≤ℤ (seconds +ℤ pos seconds_before_1970)
   pub not_after : seconds ≤ℤ pos 253_402_300_799
   pub below_second : nanos < 1_000_000_000
+
+-- ---- a moment's seconds and nanoseconds are found in their number again
+pub whole_of : (seconds nanos : ℕ) → nanos < 1_000_000_000 → (seconds * 1_000_000_000 + nanos) / 1_000_000_000 ≡ seconds
+whole_of seconds nanos h = omega arith
+
+pub rest_of : (seconds nanos : ℕ) → nanos < 1_000_000_000 → (seconds * 1_000_000_000 + nanos) % 1_000_000_000 ≡ nanos
+rest_of seconds nanos h = omega arith

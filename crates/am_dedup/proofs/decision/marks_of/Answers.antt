@@ -11,7 +11,7 @@ loop-hash-init c = (
   refl,
   λ hash place first.
       let within = is_within c.args.sorted.now hash place first in
-      get_or-replicate 1024 place false false (omega (arith, within, c.requires.fits)),
+      get_or-replicate 2048 place false false (omega (arith, within, c.requires.fits)),
 )
 
 pub loop-hash-preserved : goal.loop-hash-preserved

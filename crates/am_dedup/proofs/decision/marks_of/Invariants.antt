@@ -4,4 +4,4 @@ use Rattle.am_dedup.proofs.Sets.{is_among}
 use Rattle.am_dedup.proofs.decision.marks_of.Given as goal
 
 abbrev pub invariant-loop-hash : goal.invariant-loop-hash
-invariant-loop-hash l = (length l.marks ≡ 1024) × ((hash place : ℕ) → position (λ y. nat_eq y hash) l.sorted ≡ Some place → get_or l.marks place false ≡ is_among (take l.hash-index l.listed) hash)
+invariant-loop-hash l = (length l.marks ≡ 2048) × ((hash place : ℕ) → position (λ y. nat_eq y hash) l.sorted ≡ Some place → get_or l.marks place false ≡ is_among (take l.hash-index l.listed) hash)

@@ -4,14 +4,14 @@ use Rattle.am_merge.proofs.Keys.{key_order as order_of_keys}
 use Rattle.am_merge.proofs.Buckets.{front_rising, front_missed, front_never_met}
 use Rattle.am_merge.proofs.shelf.bucket_front.Goals as goal
 
-pub search-requires : goal.search-requires
-search-requires g c =
-    front_rising g.V.Version.seen g.V.Version.head_of g.V.Key.Ord.cmp (order_of_keys g.met.V.Key.Ord.total g.met.V.Version.exact_keys) g.V.Version.bucket_of (get c.args.shelf.now.table) c.args.bucket.now c.bucket_number.result c.bucket_number.ensures (entries c.args.shelf.now.buckets) c.requires
+pub search_by-requires : goal.search_by-requires
+search_by-requires g c =
+    front_rising g.V.Version.seen g.V.Version.head_of g.V.Key.Ord.cmp (order_of_keys g.met.V.Key.Ord.total g.met.V.Version.exact_keys) g.V.Version.bucket_of (get c.args.shelf.now.table) c.args.bucket.now c.bucket_number-number.result c.bucket_number-number.ensures (entries c.args.shelf.now.buckets) c.requires
 
 pub unreachable-requires : goal.unreachable-requires
 unreachable-requires g c =
-    front_never_met g.V.Version.seen g.V.Version.head_of g.V.Key.Ord.cmp (order_of_keys g.met.V.Key.Ord.total g.met.V.Version.exact_keys) g.V.Version.bucket_of (get c.args.shelf.now.table) c.args.bucket.now c.bucket_number.result c.bucket_number.ensures c.args.shelf.now.buckets c.in-Ok.field-0 c.in-Ok.ensures.found
+    front_never_met g.V.Version.seen g.V.Version.head_of g.V.Key.Ord.cmp (order_of_keys g.met.V.Key.Ord.total g.met.V.Version.exact_keys) g.V.Version.bucket_of (get c.args.shelf.now.table) c.args.bucket.now c.bucket_number-number.result c.bucket_number-number.ensures c.args.shelf.now.buckets c.in-Ok.field-0 c.in-Ok.ensures.found
 
 pub returns-clause-gap : goal.returns-clause-gap
 returns-clause-gap g c =
-    front_missed g.V.Version.seen g.V.Version.head_of g.V.Key.Ord.cmp (order_of_keys g.met.V.Key.Ord.total g.met.V.Version.exact_keys) g.V.Version.bucket_of (get c.args.shelf.now.table) c.args.bucket.now c.bucket_number.result c.bucket_number.ensures c.args.shelf.now.buckets c.in-Err.spot c.requires c.in-Err.ensures.missing
+    front_missed g.V.Version.seen g.V.Version.head_of g.V.Key.Ord.cmp (order_of_keys g.met.V.Key.Ord.total g.met.V.Version.exact_keys) g.V.Version.bucket_of (get c.args.shelf.now.table) c.args.bucket.now c.bucket_number-number.result c.bucket_number-number.ensures c.args.shelf.now.buckets c.in-Err.spot c.requires c.in-Err.ensures.missing

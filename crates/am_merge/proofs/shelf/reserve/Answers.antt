@@ -32,7 +32,7 @@ returns-in_err-reserve-3-clause-kept g c = λ n m had.
 
 pub returns-clause-shelf : goal.returns-clause-shelf
 returns-clause-shelf g c =
-    moved g.V.Version.seen g.V.Version.head_of g.V.Key.Ord.cmp (order_of_keys g.met.V.Key.Ord.total g.met.V.Version.exact_keys) g.V.Version.bucket_of c.args.shelf.now (record { table = c.reserve.new.self; keys = c.reserve-2.new.self; expiries = c.reserve-3.new.self; buckets = c.reserve-4.new.self }) (ap (λ (s : Slab g.row.V.Denot). s.slots) c.reserve.ensures.rest_kept) c.reserve-2.ensures.items c.reserve-3.ensures.items c.reserve-4.ensures.items c.requires
+    moved g.V.Version.seen g.V.Version.head_of g.V.Key.Ord.cmp (order_of_keys g.met.V.Key.Ord.total g.met.V.Version.exact_keys) g.V.Version.bucket_of c.args.shelf.now (record c.args.shelf.now { table = c.reserve.new.self; keys = c.reserve-2.new.self; expiries = c.reserve-3.new.self; buckets = c.reserve-4.new.self }) (ap (λ (s : Slab g.row.V.Denot). s.slots) c.reserve.ensures.rest_kept) c.reserve-2.ensures.items c.reserve-3.ensures.items c.reserve-4.ensures.items c.requires
 
 pub returns-clause-kept : goal.returns-clause-kept
 returns-clause-kept g c = λ n m had.

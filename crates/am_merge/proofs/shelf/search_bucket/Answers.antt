@@ -4,6 +4,10 @@ use Rattle.am_merge.proofs.Keys.{key_order as order_of_keys}
 use Rattle.am_merge.proofs.Buckets.{bucket_rising}
 use Rattle.am_merge.proofs.shelf.search_bucket.Goals as goal
 
-pub search-requires : goal.search-requires
-search-requires g c =
+pub search_near-requires : goal.search_near-requires
+search_near-requires g c =
+    bucket_rising g.V.Version.seen g.V.Version.head_of g.V.Key.Ord.cmp (order_of_keys g.met.V.Key.Ord.total g.met.V.Version.exact_keys) g.V.Version.bucket_of (get c.args.shelf.now.table) c.bucket-bucket.result.now c.bucket_number.result c.bucket_number.ensures g.met.V.Version.heads c.key-key.result.now c.head.result c.head.ensures (entries c.args.shelf.now.buckets) c.requires
+
+pub search_by-requires : goal.search_by-requires
+search_by-requires g c =
     bucket_rising g.V.Version.seen g.V.Version.head_of g.V.Key.Ord.cmp (order_of_keys g.met.V.Key.Ord.total g.met.V.Version.exact_keys) g.V.Version.bucket_of (get c.args.shelf.now.table) c.bucket-bucket.result.now c.bucket_number.result c.bucket_number.ensures g.met.V.Version.heads c.key-key.result.now c.head.result c.head.ensures (entries c.args.shelf.now.buckets) c.requires

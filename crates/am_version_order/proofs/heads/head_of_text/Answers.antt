@@ -1,5 +1,5 @@
-use Rattle.std.proofs.Common.{◌≡◌, ◌+◌, ◌*◌, ◌<◌, ◌≤◌, length, get_or, drop, ap, arith}
-use Rattle.am_version_order.specs.Heads.{weighed, weights, head_of_text}
+use Rattle.std.proofs.Common.{arith}
+use Rattle.am_version_order.specs.Heads.{weights}
 use Rattle.am_version_order.proofs.Weights.{weighed_more, weighed_last, weighed_end}
 use Rattle.am_version_order.proofs.heads.head_of_text.Goals as goal
 

@@ -1,7 +1,12 @@
-use Rattle.am_matcher.proofs.Found.{found_as_meant}
+use Rattle.std.proofs.Common.{◌≡◌, ◌∙◌, ap, is_some, rules}
+use Rattle.am_matcher.specs.Patterns.{is_found}
+use Rattle.am_matcher.specs.Searches.{found_by}
 use Rattle.am_matcher.proofs.whole.Whole.matches.Goals as goal
 
-pub returns : goal.returns
-returns c =
-    rw (c.is_match.ensures.found, c.in_ok-matcher.ensures.pattern, ← c.self.view_is)
-    (found_as_meant c.self.inside.regex c.args.text.now c.self.invariant.0 c.self.invariant.1 (λ k. (c.type_inv.text k).fits))
+pub returns-clause-answer : goal.returns-clause-answer
+returns-clause-answer c =
+    let same : c.as_bytes.result.now ≡ c.args.text.now = search rules in
+    c.in_ok-found.ensures.answer
+    ∙ ap (λ text. is_some (found_by c.self.inside.dfa.nfa text)) same
+    ∙ c.self.invariant.0 c.args.text.now (λ k. (c.type_inv.text k).fits)
+    ∙ ap (λ source. is_found source c.args.text.now) c.self.view_is

@@ -4,7 +4,7 @@ use Rattle.am_matcher.specs.Mutes.{AreMuted}
 use Rattle.am_matcher.proofs.Apart.{muted_among_all}
 use Rattle.am_matcher.proofs.Orders.{silences}
 use Rattle.am_matcher.proofs.OtherBuckets.{other_bucket}
-use Rattle.am_matcher.proofs.muting.mutes.Goals as goal
+use Rattle.am_matcher.proofs.cache.PatternCache.mutes.Goals as goal
 
 pub returns : goal.returns
 returns c =

@@ -1,0 +1,20 @@
+-- What the engines of `regex` find in a text.
+use Rattle.std.specs.Prelude.{◌≡◌, ℕ, ◌<◌, List, length, get_or, Option, None, is_some, if◌then◌else◌}
+use Rattle.regex_hir.specs.Re.{Trace}
+use Rattle.regex_hir.specs.Find.{Match, first_between}
+use Rattle.regex_hir.specs.Text.{is_boundary}
+use Rattle.regex_nfa.specs.Run.{run}
+use Rattle.regex_nfa.specs.declared.nfa.Nfa.{Nfa}
+use Rattle.am_matcher.specs.Patterns.{is_found}
+
+-- the match that begins at a place
+abbrev pub match_from : Nfa → List ℕ → ℕ → Option Trace
+match_from nfa text place = run nfa text (length text) nfa.start place
+
+-- the first match from a place where a character begins
+abbrev pub found_by : Nfa → List ℕ → Option Match
+found_by nfa text = first_between (λ i. if is_boundary text i then match_from nfa text i else None) 0 (length text)
+
+-- in each text it finds something exactly where the text that is compiled does
+abbrev pub Finds : Nfa → List ℕ → Type 0
+Finds nfa source = (text : List ℕ) → ((k : ℕ) → get_or text k 0 < 256) → is_some (found_by nfa text) ≡ is_found source text
