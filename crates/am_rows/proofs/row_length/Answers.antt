@@ -1,7 +1,7 @@
 use Rattle.std.proofs.Common.{◌≡◌, List, ℕ, ap, length, length-append, arith, ◌∙◌}
 use Rattle.am_wire.specs.Varint.{shortest}
-use Rattle.am_snapshot.proofs.RowTexts.{row_first}
-use Rattle.am_snapshot.proofs.row.row_length.Goals as goal
+use Rattle.am_rows.proofs.RowTexts.{row_first}
+use Rattle.am_rows.proofs.row_length.Goals as goal
 
 pub returns-then-total-gt-MOST-clause-length : goal.returns-then-total-gt-MOST-clause-length
 returns-then-total-gt-MOST-clause-length g c = λ small.

@@ -1,0 +1,11 @@
+use Rattle.std.proofs.Common.{◌≡◌, ℕ, ap, arith, subst, sym, ◌∙◌, length}
+use Rattle.am_gossip.specs.declared.frame.Part.{Part}
+use Rattle.std.proofs.lemmas.Bool.{lt-leb}
+use Rattle.am_gossip.proofs.Limits.{part_over}
+use Rattle.am_gossip.proofs.encode.delta_fits.Goals as goal
+
+pub returns-else-size-limit : goal.returns-else-size-limit
+returns-else-size-limit c = λ part key size.
+    let over = c.if-size-limit.false in
+    let limit = c.limit-limit.ensures in
+    lt-leb c.args.size c.limit-limit.result over ∙ sym (part_over part 4_194_304 (omega (arith, over, limit, size)))

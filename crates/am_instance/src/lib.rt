@@ -1,0 +1,11 @@
+//! One instance: silences and the notification log, and one step for each event.
+#![tactic(auto)]
+
+mod error;
+mod event;
+mod outbox;
+mod reply;
+
+pub use error::{ConfigError, StepError};
+pub use event::{Event, Place, Request};
+pub use reply::{Made, Outcome, Reply, Unsent};
