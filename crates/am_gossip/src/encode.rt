@@ -1,6 +1,7 @@
 //! Frames as they are written. How long each part is, is known before anything is written.
 
 ghost use Rattle.std.specs.Prelude.{◌≡◌, ℕ, List, ◌++◌, ◌+◌, ◌<◌, ◌≤◌, ◌^◌, ◌⊎◌, ◌↔◌, Err, length, OnOk, IfOk, IfErr};
+ghost use Rattle.am_wire.specs.Sizes.{counted};
 ghost use Rattle.am_wire.specs.Varint.{shortest};
 ghost use Rattle.am_wire.specs.Writing.{writes_delimited, writes_text};
 ghost use Rattle.am_gossip.specs.Kinds.{limit};
@@ -160,9 +161,10 @@ pub fn encode_frame(alloc: Global, frame: &Frame) -> Result<Vec<u8>, FrameError>
     Ok(out)
 }
 
-/// Whether a Delta keeps its limit whose part holds so many bytes. It takes no memory.
+/// Whether a Delta keeps its limit whose part holds so many bytes, where [`u64::MAX`] stands for every number that is
+/// no less. It takes no memory.
 pub fn delta_fits(key: StateKey, size: u64) -> bool
-    ensures { (part : Part) → part.key ≡ key → length part.bytes ≡ size → result ≡ fits (frames.Delta part) }
+    ensures { (part : Part) → part.key ≡ key → size ≡ counted (length part.bytes) → result ≡ fits (frames.Delta part) }
 {
     let limit = FrameKind::Delta.limit();
     size <= limit && part_size(key, size) <= limit

@@ -1,6 +1,6 @@
 -- Which versions change a map, where versions of both states are taken one after the other.
 -- X is the type of versions, and `seen` is what the merge sees of one. A map is here the function from a key to its version.
-use Rattle.std.specs.Prelude.{ℕ, Bool, ◌&&◌, List, [], ◌∷◌, ◌++◌, map, Option, if◌then◌else◌}
+use Rattle.std.specs.Prelude.{◌≡◌, ◌+◌, ◌<◌, length, take, ℕ, Bool, ◌&&◌, List, [], ◌∷◌, ◌++◌, map, Option, if◌then◌else◌}
 use Rattle.std.specs.declared.cmp.Ordering.{Ordering}
 use Rattle.std.specs.Ordering.{nat_cmp}
 use Rattle.std.specs.Cmp.Lexicographic.{slice_cmp}
@@ -9,8 +9,8 @@ use Rattle.am_silence.specs.Mesh.{Mesh, mesh_version}
 use Rattle.am_nflog.specs.Mesh.{Mesh as LogMesh, mesh_version as entry_version}
 use Rattle.am_nflog.specs.Keys.{key_cmp}
 use Rattle.am_nflog.specs.declared.entry.LogKey.{LogKey}
-use Rattle.am_merge.specs.Maps.{is_above}
-use Rattle.am_collect.specs.Events.{after, after_all}
+use Rattle.am_merge.specs.Maps.{is_above, at}
+use Rattle.am_collect.specs.Events.{Events, after, after_all}
 use Rattle.am_collect.specs.Events.Event.{Delivered}
 use Rattle.am_instance.specs.Deliveries.{Delivery, to_silences, to_log}
 use Rattle.am_instance.specs.Deliveries.Delivery.{OfSilence, OfEntry}
@@ -44,3 +44,14 @@ silences_after now silences ds = after_all mesh_version (slice_cmp nat_cmp) sile
 
 abbrev pub log_after : ℕ → (LogKey → Option LogMesh) → List Delivery → LogKey → Option LogMesh
 log_after now log ds = after_all entry_version key_cmp log (map (λ d. (to_log d, now)) ds)
+
+-- versions taken one after the other at a moment, as events
+abbrev pub takings : {X : Type 0} → ℕ → List X → Events X
+takings now vs = map (λ v. (Delivered v, now)) vs
+
+-- Of a row only the first versions were taken, and not all of them; so many more are counted.
+pub record IsStoppedRow {K X : Type 0} (seen : X → Version K) (cmp : K → K → Ordering) (now : ℕ) (old vs new : List X) (before count : ℕ) : Type 0 where
+  pub number : ℕ
+  pub within : number < length vs
+  pub counted : count ≡ before + number
+  pub map : (key : K) → at seen cmp new key ≡ after_all seen cmp (at seen cmp old) (takings now (take number vs)) key

@@ -28,6 +28,21 @@ pub record HasTwice (names : List (List ℕ)) : Type 0 where
 abbrev pub is_peer : Settings → ℕ → Bool
 is_peer settings place = nat_lt place (length settings.members) && not (place == settings.place)
 
+-- neither of two places
+abbrev pub is_other : ℕ → ℕ → ℕ → Bool
+is_other one other place = not (place == one) && not (place == other)
+
+-- the places of so many members but two of them, in the order of the names
+abbrev pub places_but : ℕ → ℕ → ℕ → List ℕ
+places_but members one other = filter (is_other one other) (range_with_len 0 members)
+
 -- all peers but the one at a place, in the order of their names; at the own place, all peers
 abbrev pub peers_but : Settings → ℕ → List ℕ
-peers_but settings place = filter (λ p. not (p == settings.place) && not (p == place)) (range_with_len 0 (length settings.members))
+peers_but settings place = places_but (length settings.members) settings.place place
+
+-- a name of no byte, and one of more than 255
+abbrev pub IsEmptyName : List ℕ → Type 0
+IsEmptyName name = length name ≡ 0
+
+abbrev pub IsLongName : List ℕ → Type 0
+IsLongName name = 255 < length name

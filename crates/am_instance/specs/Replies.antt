@@ -71,8 +71,8 @@ pub record IsNothing (made : Made) : Type 0 where
   pub log : made.log ≡ None
 
 -- silences were made here, and no entry
-pub record AreMade (made : Made) (silences : List Mesh) : Type 0 where
-  pub silences : made.silences.items ≡ silences
+pub record AreMade (made : Made) (versions : List Mesh) : Type 0 where
+  pub silences : made.silences.items ≡ versions
   pub log : made.log ≡ None
 
 -- the id of a plan's new version: of the silence that is updated, or of the new one
@@ -88,18 +88,18 @@ posted_over now silences (Some id) = silence_in_view now silences id
 
 -- a request is refused, and makes nothing
 pub record IsRefused (error : SilenceError) (reply : Reply) (made : Made) : Type 0 where
-  pub reply : reply ≡ replies.Refused error
-  pub made : IsNothing made
+  pub answer : reply ≡ replies.Refused error
+  pub nothing : IsNothing made
 
 -- a post does as planned
 pub record IsDone (plan : Plan) (reply : Reply) (made : Made) : Type 0 where
-  pub reply : reply ≡ replies.Posted (posted_id plan)
-  pub made : AreMade made (versions plan)
+  pub answer : reply ≡ replies.Posted (posted_id plan)
+  pub copies : AreMade made (versions plan)
 
 -- a silence is ended by one version
 pub record IsEnded (version : Option Mesh) (reply : Reply) (made : Made) : Type 0 where
-  pub reply : reply ≡ replies.Deleted
-  pub made : AreMade made (listed version)
+  pub answer : reply ≡ replies.Deleted
+  pub copies : AreMade made (listed version)
 
 -- refused for that reason, or else done
 abbrev pub RefusedOr : Option SilenceError → (Reply → Made → Type 0) → Reply → Made → Type 0

@@ -1,6 +1,7 @@
 -- What a step sends.
 use Rattle.std.specs.Prelude.{◌≡◌, ◌⊎◌, ℕ, ◌+◌, ◌-◌, ◌^◌, min, Bool, true, false, List, [], ◌∷◌, ◌++◌, map}
 use Rattle.std.specs.List.{flat_map}
+use Rattle.am_version_order.specs.Versions.{Version}
 use Rattle.am_wire.specs.Writing.{delimited}
 use Rattle.am_silence.specs.Mesh.{Mesh, mesh_version}
 use Rattle.am_nflog.specs.Mesh.{Mesh as LogMesh, mesh_version as entry_version}
@@ -76,3 +77,7 @@ whole_state silences log = states (row_text mesh_version silences) (row_text ent
 abbrev pub IsMissing : Bool → Missing → Type 0
 IsMissing fitting Memory = fitting ≡ true
 IsMissing fitting Limit = fitting ≡ false
+
+-- for each version of one state in turn, a Delta to each of the places
+abbrev pub deltas_of : {K X : Type 0} → (X → Version K) → StateKey → List ℕ → List X → List (ℕ × Frame)
+deltas_of seen key places vs = flat_map (λ v. addressed places (delta key (seen v).content)) vs

@@ -4,6 +4,7 @@
 mod error;
 mod event;
 mod outbox;
+mod rows;
 mod reply;
 
 pub use error::{ConfigError, StepError};

@@ -1,11 +1,11 @@
 //! Frames that a step hands out.
 
-ghost use Rattle.std.specs.Prelude.{◌≡◌, ◌×◌, ◌≤◌, length, Some, true, false, IfSome, IfNone, IfOk, IfErr, OnOk, OnErr};
+ghost use Rattle.std.specs.Prelude.{◌≡◌, ◌≤◌, [], ◌∷◌, length, filter, Some, true, false, IfSome, IfNone, IfOk, IfErr, OnOk, OnErr};
 ghost use Rattle.std.specs.Option.{option_copied};
 ghost use Rattle.am_wire.specs.Writing.{delimited};
 ghost use Rattle.am_gossip.specs.Frames.{fits};
 ghost use Rattle.am_gossip.specs.declared.frame.Frame.TheVariants as frames;
-ghost use Rattle.am_instance.specs.Configs.{Settings, peers_but};
+ghost use Rattle.am_instance.specs.Configs.{is_other, places_but};
 ghost use Rattle.am_instance.specs.Sendings.{IsSent, Sends, IsMissing, addressed, delta, handed_out, no_memory, nothing_sent, over_limit, whole_state};
 
 use crate::event::Place;
@@ -16,7 +16,7 @@ use am_nflog::MeshEntry;
 use am_rows::{delimited_bytes, delimited_length, row_bytes, row_length};
 use am_silence::MeshSilence;
 use am_wire::Bytes;
-use std::alloc::{AllocError, Global};
+use std::alloc::{AllocError, AllocFailed, Global};
 use std::marker::Model;
 
 /// Whom the Deltas of a step go to: all members but the own one and the one that the versions came from.
@@ -40,6 +40,16 @@ impl From<AllocError> for Missing {
     ghost from_gives = { λ _ e. e ≡ Memory };
 
     fn from(_e: AllocError) -> Missing {
+        Missing::Memory
+    }
+}
+
+impl<T: Drop> From<AllocFailed<T>> for Missing {
+    ghost use Rattle.am_instance.specs.declared.outbox.Missing.TheVariants.{Memory};
+
+    ghost from_gives = { λ _ e. e ≡ Memory };
+
+    fn from(_e: AllocFailed<T>) -> Missing {
         Missing::Memory
     }
 }
@@ -105,20 +115,34 @@ impl Outbox {
 
     /// Sends a version to each place of the route, by its canonical text.
     pub fn send_version(&mut self, route: Route, key: StateKey, content: &[u8])
-        ensures { (config : Settings) → length config.members ≡ route.members → config.place ≡ route.own →
-            Sends (addressed (peers_but config route.origin) (delta key content.now)) self.old self.new }
+        ensures { Sends (addressed (places_but route.members route.own route.origin) (delta key content.now)) self.old self.new }
     {
         let row = delta_row(self.alloc, key, content);
         for place in 0..route.members {
-            if place != route.own && place != route.origin {
-                self.send_delta(place, key, content, row.as_ref());
-            }
+            self.send_along(route, place, key, content, row.as_ref());
+        }
+    }
+
+    /// Sends a version to one place, if that is of the route.
+    fn send_along(
+        &mut self,
+        route: Route,
+        place: Place,
+        key: StateKey,
+        content: &[u8],
+        row: Option<&Bytes>,
+    )
+        requires { IfSome (option_copied row) (λ bytes. bytes ≡ delimited content.now) }
+        ensures { Sends (addressed (filter (is_other route.own route.origin) (place ∷ [])) (delta key content.now)) self.old self.new }
+    {
+        if place != route.own && place != route.origin {
+            self.send_delta(place, key, content, row);
         }
     }
 
     /// Sends a version to one place. It is written already, where there was memory for that.
     fn send_delta(&mut self, place: Place, key: StateKey, content: &[u8], row: Option<&Bytes>)
-        requires { IfSome (option_copied row.entry) (λ bytes. bytes ≡ delimited content.now) }
+        requires { IfSome (option_copied row) (λ bytes. bytes ≡ delimited content.now) }
         ensures { IsSent (place, delta key content.now) self.old self.new }
     {
         if !delta_fits(key, delimited_length(content)) {
@@ -189,7 +213,10 @@ fn whole_state(
     ensures push_too_long { IfErr result (IsMissing (fits (frames.Push (whole_state silences.now log.now)))) }
     ensures pull_too_long { IfErr result (IsMissing (fits (frames.Pull (whole_state silences.now log.now)))) }
 {
-    let (Some(of_silences), Some(of_log)) = (row_length(silences), row_length(log)) else {
+    let Some(of_silences) = row_length(silences) else {
+        return Err(Missing::Limit);
+    };
+    let Some(of_log) = row_length(log) else {
         return Err(Missing::Limit);
     };
     if !states_fit(of_silences, of_log) {
