@@ -23,7 +23,7 @@ all_sound (Ok x ∷ items) sound = let rest = all_sound items sound in omega (ar
 all_sound (Err e ∷ items) sound = absurd cc
 
 module _ {K X : Type 0} (seen : X → Version K) (cmp : K → K → Ordering) where
-  after_all_append : (m : K → Option X) (past events : Events X) → after_all seen cmp m (past ++ events) ≡ after_all seen cmp (after_all seen cmp m past) events
+  pub after_all_append : (m : K → Option X) (past events : Events X) → after_all seen cmp m (past ++ events) ≡ after_all seen cmp (after_all seen cmp m past) events
   after_all_append m [] events = refl
   after_all_append m (e ∷ past) events = after_all_append (after seen cmp m e.0 e.1) past events
 

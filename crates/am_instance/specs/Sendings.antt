@@ -14,6 +14,7 @@ use Rattle.am_gossip.specs.Frames.{fits, states}
 use Rattle.am_rows.specs.Texts.{row_text}
 use Rattle.am_instance.specs.declared.outbox.Missing.{Missing}
 use Rattle.am_instance.specs.declared.outbox.Missing.TheVariants.{Memory, Limit}
+use Rattle.am_instance.specs.declared.reply.Outcome.{Outcome}
 use Rattle.am_instance.specs.Deliveries.{Delivery}
 use Rattle.am_instance.specs.Deliveries.Delivery.{OfSilence, OfEntry}
 
@@ -81,3 +82,7 @@ IsMissing fitting Limit = fitting ≡ false
 -- for each version of one state in turn, a Delta to each of the places
 abbrev pub deltas_of : {K X : Type 0} → (X → Version K) → StateKey → List ℕ → List X → List (ℕ × Frame)
 deltas_of seen key places vs = flat_map (λ v. addressed places (delta key (seen v).content)) vs
+
+-- what an outcome sends
+abbrev pub sent_by : Outcome → Sent
+sent_by outcome = record { frames = outcome.frames.items; memory = outcome.unsent.memory; limit = outcome.unsent.limit }

@@ -4,7 +4,8 @@ ghost use Rattle.std.specs.Prelude.{◌≡◌};
 
 use am_gossip::FrameError;
 use am_version_order::Moment;
-use std::alloc::AllocError;
+use am_wire::WireError;
+use std::alloc::{AllocError, AllocFailed};
 use thiserror::Error;
 
 /// Why names make no configuration: the first of these that applies, in their order.
@@ -46,4 +47,48 @@ pub enum StepError {
     /// The first `taken` versions of the event were taken, and its moment counts. Nothing is sent.
     #[error("out of memory")]
     Memory { taken: usize },
+}
+
+impl From<AllocError> for StepError {
+    ghost use Rattle.am_instance.specs.declared.error.StepError.TheVariants.{Memory};
+
+    ghost from_gives = { λ _ e. e ≡ Memory 0 };
+
+    fn from(_e: AllocError) -> StepError {
+        StepError::Memory { taken: 0 }
+    }
+}
+
+/// A fault in a row of a frame.
+impl From<WireError> for StepError {
+    ghost use Rattle.am_instance.specs.Steps.{step_fault};
+
+    ghost from_gives = { λ given e. e ≡ step_fault given };
+
+    fn from(e: WireError) -> StepError {
+        match e {
+            WireError::Memory => StepError::Memory { taken: 0 },
+            fault => StepError::Frame(FrameError::Wire(fault)),
+        }
+    }
+}
+
+impl<T: Drop> From<AllocFailed<T>> for ConfigError {
+    ghost use Rattle.am_instance.specs.declared.error.ConfigError.TheVariants.{Memory};
+
+    ghost from_gives = { λ _ e. e ≡ Memory };
+
+    fn from(_e: AllocFailed<T>) -> ConfigError {
+        ConfigError::Memory
+    }
+}
+
+impl<T: Drop> From<AllocFailed<T>> for StepError {
+    ghost use Rattle.am_instance.specs.declared.error.StepError.TheVariants.{Memory};
+
+    ghost from_gives = { λ _ e. e ≡ Memory 0 };
+
+    fn from(_e: AllocFailed<T>) -> StepError {
+        StepError::Memory { taken: 0 }
+    }
 }

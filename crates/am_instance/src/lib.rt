@@ -1,12 +1,20 @@
 //! One instance: silences and the notification log, and one step for each event.
 #![tactic(auto)]
 
+mod config;
 mod error;
 mod event;
+mod frames;
+mod instance;
 mod outbox;
 mod rows;
+mod views;
+mod notices;
 mod reply;
+mod requests;
 
+pub use config::Config;
 pub use error::{ConfigError, StepError};
 pub use event::{Event, Place, Request};
+pub use instance::Instance;
 pub use reply::{Made, Outcome, Reply, Unsent};

@@ -1,0 +1,129 @@
+//! Notifications of groups, and what is asked before one.
+
+ghost use Rattle.std.specs.Prelude.{◌≡◌, [], Ok, Some, OnErr, IfOk, IfErr};
+ghost use Rattle.am_instance.specs.declared.event.Event.TheVariants as events;
+ghost use Rattle.am_instance.specs.declared.error.StepError.TheVariants as errors;
+ghost use Rattle.am_instance.specs.declared.reply.Reply.TheVariants as replies;
+ghost use Rattle.am_instance.specs.Sendings.{sent_by};
+ghost use Rattle.am_instance.specs.Steps.{IsLoggedHere, IsWork};
+
+use crate::error::StepError;
+use crate::instance::Instance;
+use crate::outbox::Outbox;
+use crate::reply::{Made, Outcome, Reply};
+use crate::requests::quiet;
+use crate::views::{entry_in_view, log_shown, silences_shown};
+use am_dedup::decide;
+use am_gossip::StateKey;
+use am_matcher::{Labels, mutes};
+use am_merge::Taken;
+use am_nflog::{Hashes, LogKey, MeshEntry, Receiver, make_entry};
+use am_version_order::{Interval, Moment, Version};
+use am_wire::Bytes;
+use std::alloc::Global;
+
+impl Instance {
+    /// Notes that a group was notified.
+    #[tactic(none)]
+    pub(crate) fn note(
+        &mut self,
+        group_key: Bytes,
+        receiver: Receiver,
+        firing: Hashes,
+        resolved: Hashes,
+        repeat: Interval,
+        now: Moment,
+    ) -> Result<Outcome, StepError>
+        ensures { IsWork self.old (events.Notified group_key receiver firing resolved repeat) now result self.new }
+    {
+        let retention = self.config.retention();
+        match make_entry(self.alloc, group_key, receiver, firing, resolved, repeat, retention, now)? {
+            Some(entry) => self.put_entry(entry, now),
+            None => Ok(quiet(self.alloc, Reply::Logged(false))),
+        }
+    }
+
+    /// Takes an entry that was made here, and sends it on where that changes the log.
+    #[tactic(none)]
+    fn put_entry(&mut self, entry: MeshEntry, now: Moment) -> Result<Outcome, StepError>
+        ensures put { IfOk result (λ outcome. IsLoggedHere self.old entry now outcome self.new) }
+        ensures err { IfErr result (λ e. e ≡ errors.Memory 0) }
+        ensures unchanged { OnErr result (self.new ≡ self.old) }
+    {
+        let copy = entry.try_clone(self.alloc)?;
+        let is_changed = self.log.take(entry, now)? == Taken::Changed;
+        let mut outbox = Outbox::new(self.alloc);
+        if is_changed {
+            outbox.send_version(self.route(self.config.place()), StateKey::Nfl, copy.canonical());
+        }
+        Ok(logged_outcome(self.alloc, is_changed, outbox, copy))
+    }
+
+    /// Whether a group is to be notified.
+    #[tactic(none)]
+    pub(crate) fn decide(
+        &self,
+        group_key: Bytes,
+        receiver: Receiver,
+        firing: Hashes,
+        resolved: Hashes,
+        repeat: Interval,
+        send_resolved: bool,
+        now: Moment,
+    ) -> Outcome
+        ensures { IsWork self.now (events.Decide group_key receiver firing resolved repeat send_resolved) now (Ok result) self.now }
+    {
+        let key = LogKey {
+            group_key,
+            receiver,
+        };
+        let entry = entry_in_view(&self.log, &key, now).map(|version| version.entry());
+        let decision = decide(
+            entry,
+            firing.as_slice(),
+            resolved.as_slice(),
+            repeat,
+            send_resolved,
+            now,
+        );
+        quiet(self.alloc, Reply::Decided(decision))
+    }
+
+    /// Which silences mute an alert.
+    #[tactic(none)]
+    pub(crate) fn mute(&self, labels: &Labels, now: Moment) -> Result<Outcome, StepError>
+        ensures { IsWork self.now (events.Mutes labels.now) now result self.now }
+    {
+        let muted = mutes(self.alloc, &self.silences, labels, now)?;
+        Ok(quiet(self.alloc, Reply::Muted(muted)))
+    }
+
+    /// Both views.
+    #[tactic(none)]
+    pub(crate) fn show(&self, now: Moment) -> Result<Outcome, StepError>
+        ensures { IsWork self.now events.Show now result self.now }
+    {
+        let silences = silences_shown(self.alloc, &self.silences, &mut Vec::new(self.alloc), now)?;
+        let log = log_shown(self.alloc, &self.log, now)?;
+        Ok(quiet(self.alloc, Reply::Shown { silences, log }))
+    }
+}
+
+/// An outcome in which an entry was made here.
+fn logged_outcome(alloc: Global, is_changed: bool, outbox: Outbox, entry: MeshEntry) -> Outcome
+    ensures reply { result.reply ≡ replies.Logged is_changed }
+    ensures sent { sent_by result ≡ outbox }
+    ensures silences { result.made.silences.items ≡ [] }
+    ensures log { result.made.log ≡ Some entry }
+{
+    let (frames, unsent) = outbox.into_parts();
+    Outcome {
+        reply: Reply::Logged(is_changed),
+        frames,
+        unsent,
+        made: Made {
+            silences: Vec::new(alloc),
+            log: Some(entry),
+        },
+    }
+}

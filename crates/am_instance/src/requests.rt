@@ -1,0 +1,211 @@
+//! What people and tools ask of an instance.
+
+ghost use Rattle.std.specs.Prelude.{◌≡◌, [], ◌∷◌, OnErr, IfOk, IfErr};
+ghost use Rattle.am_silence.specs.Plans.{versions};
+ghost use Rattle.am_instance.specs.declared.error.StepError.TheVariants as errors;
+ghost use Rattle.am_instance.specs.declared.event.Event.TheVariants as events;
+ghost use Rattle.am_instance.specs.declared.event.Request.TheVariants as requests;
+ghost use Rattle.am_instance.specs.Configs.{peers_but};
+ghost use Rattle.am_instance.specs.Deliveries.Delivery.{OfSilence};
+ghost use Rattle.am_instance.specs.declared.reply.Reply.TheVariants as replies;
+ghost use Rattle.am_instance.specs.Changes.{only_if};
+ghost use Rattle.am_instance.specs.Sendings.{Sends, deltas_to, nothing_sent, sent_by};
+ghost use Rattle.am_instance.specs.Replies.{AreMade, IsNothing, posted_id};
+ghost use Rattle.am_instance.specs.Steps.{IsPlanned, IsPutHere, IsWork, is_changed};
+
+use crate::error::StepError;
+use crate::event::Request;
+use crate::frames::outcome;
+use crate::instance::Instance;
+use crate::outbox::Outbox;
+use crate::reply::{Made, Outcome, Reply};
+use crate::views::{silence_in_view, silences_shown};
+use am_gossip::StateKey;
+use am_matcher::{Filter, verdict};
+use am_merge::Taken;
+use am_silence::{MeshSilence, Plan, Posted, SilenceError, fresh_id, plan_expire, plan_post, state_at};
+use am_version_order::{Moment, Version};
+use am_wire::Text;
+use std::alloc::{AllocError, Global};
+
+impl Instance {
+    /// Answers a request.
+    #[tactic(none)]
+    pub(crate) fn answer(&mut self, request: Request, now: Moment) -> Result<Outcome, StepError>
+        ensures { IsWork self.old (events.Request request) now result self.new }
+    {
+        match request {
+            Request::List { filters } => self.list(filters, now),
+            Request::Get { id } => self.get(&id, now),
+            Request::Post { posted, bits } => self.post(posted, bits, now),
+            Request::Delete { id } => self.delete(&id, now),
+        }
+    }
+
+    /// The silences in view that pass all filters.
+    #[tactic(none)]
+    fn list(&self, mut filters: Vec<Filter>, now: Moment) -> Result<Outcome, StepError>
+        ensures { IsWork self.now (events.Request (requests.List filters)) now result self.now }
+    {
+        let rows = silences_shown(self.alloc, &self.silences, &mut filters, now)?;
+        Ok(quiet(self.alloc, Reply::Silences(rows)))
+    }
+
+    /// The silence of an identifier.
+    #[tactic(none)]
+    fn get(&self, id: &Text, now: Moment) -> Result<Outcome, StepError>
+        ensures { IsWork self.now (events.Request (requests.Get id.now)) now result self.now }
+    {
+        let Some(version) = silence_in_view(&self.silences, id, now) else {
+            return Ok(quiet(self.alloc, Reply::Refused(SilenceError::NotFound)));
+        };
+        let state = state_at(version.silence(), now);
+        let copy = version.try_clone(self.alloc)?;
+        Ok(quiet(self.alloc, Reply::Silence(copy, state)))
+    }
+
+    /// Makes or updates a silence.
+    #[tactic(none)]
+    fn post(&mut self, posted: Posted, bits: u128, now: Moment) -> Result<Outcome, StepError>
+        ensures { IsWork self.old (events.Request (requests.Post posted bits)) now result self.new }
+    {
+        match self.plan(posted, bits, now) {
+            Ok(plan) => self.carry_out(plan, now),
+            Err(SilenceError::Memory) => Err(StepError::Memory { taken: 0 }),
+            Err(error) => Ok(quiet(self.alloc, Reply::Refused(error))),
+        }
+    }
+
+    /// What a post makes, or why it is refused.
+    #[tactic(none)]
+    fn plan(&self, posted: Posted, bits: u128, now: Moment) -> Result<Plan, SilenceError>
+        ensures { IsPlanned self.now posted bits now result }
+    {
+        let alloc = self.alloc;
+        let verdict = verdict(alloc, posted.matchers.as_slice())?;
+        let fresh = Text::copied(alloc, fresh_id(bits).as_str())?;
+        let id_held = self.silences.get(&fresh).is_some();
+        let held = match &posted.id {
+            Some(id) => silence_in_view(&self.silences, id, now),
+            None => None,
+        };
+        let retention = self.config.retention();
+        plan_post(alloc, held, posted, verdict, now, bits, id_held, retention)
+    }
+
+    /// Takes the versions of a plan, the new silence first.
+    #[tactic(none)]
+    fn carry_out(&mut self, plan: Plan, now: Moment) -> Result<Outcome, StepError>
+        ensures done { IfOk result (λ outcome. IsPutHere self.old (versions plan) (replies.Posted (posted_id plan)) now outcome self.new) }
+        ensures err { IfErr result (λ e. e ≡ errors.Memory 0) }
+        ensures unchanged { OnErr result (self.new ≡ self.old) }
+    {
+        let reply = Reply::Posted(posted_id(&plan).try_clone(self.alloc)?);
+        match plan {
+            Plan::Update(version) | Plan::Create(version) => self.put_one(version, reply, now),
+            Plan::Replace { new, old } => self.put_pair(new, old, reply, now),
+        }
+    }
+
+    /// Ends a silence.
+    #[tactic(none)]
+    fn delete(&mut self, id: &Text, now: Moment) -> Result<Outcome, StepError>
+        ensures { IsWork self.old (events.Request (requests.Delete id.now)) now result self.new }
+    {
+        let held = silence_in_view(&self.silences, id, now);
+        match plan_expire(self.alloc, held, now, self.config.retention()) {
+            Ok(version) => self.put_one(version, Reply::Deleted, now),
+            Err(SilenceError::Memory) => Err(StepError::Memory { taken: 0 }),
+            Err(error) => Ok(quiet(self.alloc, Reply::Refused(error))),
+        }
+    }
+
+    /// Takes a version of a silence that was made here, and sends it on where that changes the map.
+    #[tactic(none)]
+    fn put_one(&mut self, version: MeshSilence, reply: Reply, now: Moment) -> Result<Outcome, StepError>
+        ensures put { IfOk result (λ outcome. IsPutHere self.old (version ∷ []) reply now outcome self.new) }
+        ensures err { IfErr result (λ e. e ≡ errors.Memory 0) }
+        ensures unchanged { OnErr result (self.new ≡ self.old) }
+    {
+        let alloc = self.alloc;
+        let copy = version.try_clone(alloc)?;
+        let mut made = Vec::with_capacity(alloc, 1)?;
+        made.push(copy)?;
+        let taken = self.silences.take(version, now)?;
+        let mut outbox = Outbox::new(alloc);
+        self.send_on(taken, &made[0], &mut outbox);
+        Ok(made_outcome(reply, outbox, made))
+    }
+
+    /// Takes a new silence and the end of another, or neither, and sends on what changes the map.
+    #[tactic(none)]
+    fn put_pair(&mut self, new: MeshSilence, old: MeshSilence, reply: Reply, now: Moment) -> Result<Outcome, StepError>
+        ensures put { IfOk result (λ outcome. IsPutHere self.old (new ∷ old ∷ []) reply now outcome self.new) }
+        ensures err { IfErr result (λ e. e ≡ errors.Memory 0) }
+        ensures unchanged { OnErr result (self.new ≡ self.old) }
+    {
+        let alloc = self.alloc;
+        let made = copies_of_pair(alloc, &new, &old)?;
+        let (first, second) = self.silences.take_pair(new, old, now)?;
+        let mut outbox = Outbox::new(alloc);
+        self.send_on(first, &made[0], &mut outbox);
+        self.send_on(second, &made[1], &mut outbox);
+        Ok(made_outcome(reply, outbox, made))
+    }
+
+    /// Sends a version that was made here to all peers, where its taking changed the map.
+    fn send_on(&self, taken: Taken, version: &MeshSilence, outbox: &mut Outbox)
+        ensures { Sends (deltas_to (peers_but self.now.config self.now.config.place) (only_if (is_changed taken) (OfSilence version.now))) outbox.old outbox.new }
+    {
+        if taken == Taken::Changed {
+            outbox.send_version(self.route(self.config.place()), StateKey::Sil, version.canonical());
+        }
+    }
+}
+
+/// Copies of two versions, in order.
+fn copies_of_pair(alloc: Global, first: &MeshSilence, second: &MeshSilence) -> Result<Vec<MeshSilence>, AllocError>
+    ensures { IfOk result (λ copies. copies.items ≡ first.now ∷ second.now ∷ []) }
+{
+    let mut copies = Vec::with_capacity(alloc, 2)?;
+    copies.push(first.try_clone(alloc)?)?;
+    copies.push(second.try_clone(alloc)?)?;
+    Ok(copies)
+}
+
+/// The identifier of the silence that a plan makes or updates.
+fn posted_id(plan: &Plan) -> &Text
+    ensures { result.now ≡ posted_id plan.now }
+{
+    match plan {
+        Plan::Update(version) | Plan::Create(version) => version.key(),
+        Plan::Replace { new, .. } => new.key(),
+    }
+}
+
+/// An outcome in which nothing was made here, and nothing is sent.
+pub(crate) fn quiet(alloc: Global, reply: Reply) -> Outcome
+    ensures reply { result.reply ≡ reply }
+    ensures sent { sent_by result ≡ nothing_sent }
+    ensures made { IsNothing result.made }
+{
+    outcome(alloc, reply, Outbox::new(alloc))
+}
+
+/// An outcome in which these silences were made here.
+fn made_outcome(reply: Reply, outbox: Outbox, silences: Vec<MeshSilence>) -> Outcome
+    ensures reply { result.reply ≡ reply }
+    ensures sent { sent_by result ≡ outbox }
+    ensures made { AreMade result.made silences.items }
+{
+    let (frames, unsent) = outbox.into_parts();
+    Outcome {
+        reply,
+        frames,
+        unsent,
+        made: Made {
+            silences,
+            log: None,
+        },
+    }
+}
