@@ -6,6 +6,7 @@ mod event;
 mod outbox;
 mod rows;
 mod reply;
+mod views;
 
 pub use error::{ConfigError, StepError};
 pub use event::{Event, Place, Request};
