@@ -1,2 +1,3 @@
+pub mod Names
 pub mod Sent
 pub mod TakenRows

@@ -1,6 +1,7 @@
 //! One instance: silences and the notification log, and one step for each event.
 #![tactic(auto)]
 
+mod config;
 mod error;
 mod event;
 mod outbox;
@@ -8,6 +9,7 @@ mod rows;
 mod reply;
 mod views;
 
+pub use config::Config;
 pub use error::{ConfigError, StepError};
 pub use event::{Event, Place, Request};
 pub use reply::{Made, Outcome, Reply, Unsent};
