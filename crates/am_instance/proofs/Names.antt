@@ -1,8 +1,8 @@
 -- Names in the order of their bytes, each once.
-use Rattle.std.proofs.Common.{◌≡◌, ℕ, zero, suc, ◌+◌, ◌<◌, ◌≤◌, List, [], ◌∷◌, ◌++◌, length, get_or, take, drop, Option, Some, None, Result, Ok, Err, ⊎_elim, refl, sym, ap, ◌∙◌, subst, arith, ◌↔◌, take-append-drop, get_or-take, get_or-drop, length-take, length-drop}
+use Rattle.std.proofs.Common.{◌≡◌, ℕ, zero, suc, ◌+◌, ◌<◌, ◌≤◌, List, [], ◌∷◌, length, get_or, take, drop, Option, Some, None, Result, Ok, Err, ⊎_elim, refl, sym, ap, ◌∙◌, subst, arith, ◌↔◌, take-append-drop, get_or-take, get_or-drop, length-take, length-drop}
 use Rattle.std.specs.Prelude.{IsPermutation, IfSome, true, false, Any, Contains, slice_get, insert}
 use Rattle.std.specs.Result.{result_err}
-use Rattle.std.specs.List.{AllByRecursion, All, AllWithin, AllAdjacentBelow, IsAllAdjacentAnswer, HoldsAt, remove}
+use Rattle.std.specs.List.{All, IsAllAdjacentAnswer, remove}
 use Rattle.std.specs.List.Sorted.{IsSorted, IsSearchInRange, IsBinarySearchResult, IsPartitionPoint}
 use Rattle.std.specs.Ordering.{nat_cmp, is_lt, ordering_reverse}
 use Rattle.std.specs.Cmp.Lexicographic.{slice_cmp}
@@ -90,8 +90,8 @@ twice_more x names twice =
       name = n;
       rest = x ∷ twice.rest;
       among = IsPermutation-trans (x ∷ names) (x ∷ n ∷ n ∷ twice.rest) (n ∷ n ∷ x ∷ twice.rest)
-      (IsPermutation-cons x names (n ∷ n ∷ twice.rest) twice.among)
-      (IsPermutation-sym (n ∷ n ∷ x ∷ twice.rest) (x ∷ n ∷ n ∷ twice.rest) (IsPermutation-middle (n ∷ n ∷ []) x twice.rest));
+          (IsPermutation-cons x names (n ∷ n ∷ twice.rest) twice.among)
+          (IsPermutation-sym (n ∷ n ∷ x ∷ twice.rest) (x ∷ n ∷ n ∷ twice.rest) (IsPermutation-middle (n ∷ n ∷ []) x twice.rest));
     }
 
 pub twice_there : (x : List ℕ) (old names : List (List ℕ)) → IsPermutation old names → Contains names x → HasTwice (x ∷ old)

@@ -1,4 +1,4 @@
-use Rattle.std.proofs.Common.{Result, Err, ◌↔◌, ◌≡◌, ◌≤◌, ◌∷◌, List, ℕ, length, false, Contains, rules, refl, sym, ap, ◌∙◌, subst, insert}
+use Rattle.std.proofs.Common.{Result, Err, ◌↔◌, ◌≡◌, ◌≤◌, ◌∷◌, List, ℕ, length, false, Contains, rules, refl, ap, ◌∙◌, subst, insert}
 use Rattle.std.proofs.lemmas.Result.{err_from_is_err_and}
 use Rattle.std.specs.Result.{IsErrAnd}
 use Rattle.am_instance.specs.declared.error.ConfigError.{ConfigError}
