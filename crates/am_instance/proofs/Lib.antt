@@ -1,3 +1,4 @@
+pub mod Names
 pub mod Sent
 pub mod TakenRows
 pub mod Lifts

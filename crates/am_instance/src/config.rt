@@ -62,7 +62,8 @@ fn has_long(name: &Text, peers: &[Text]) -> bool
 /// Whether each name has from 1 to 255 bytes.
 fn check_names(name: &Text, peers: &[Text]) -> Result<(), ConfigError>
     ensures empty_name { (result ≡ Err errors.EmptyName) ↔ Any IsEmptyName (name.now ∷ peers.now) }
-    ensures long_name { (result ≡ Err errors.LongName) ↔ (¬ Any IsEmptyName (name.now ∷ peers.now)) × Any IsLongName (name.now ∷ peers.now) }
+    ensures long_name { (result ≡ Err errors.LongName)
+        ↔ (¬ Any IsEmptyName (name.now ∷ peers.now)) × Any IsLongName (name.now ∷ peers.now) }
     ensures fine { OnOk result ((¬ Any IsEmptyName (name.now ∷ peers.now)) × (¬ Any IsLongName (name.now ∷ peers.now))) }
     ensures refused { OnErr result (Any IsEmptyName (name.now ∷ peers.now) ⊎ Any IsLongName (name.now ∷ peers.now)) }
     ensures same_name { result ≢ Err errors.SameName }
@@ -158,9 +159,10 @@ impl Config {
         ensures retention { IfOk result (λ config. config.retention ≡ retention) }
         ensures peer_timeout { IfOk result (λ config. config.peer_timeout ≡ peer_timeout) }
         ensures empty_name { (result ≡ Err errors.EmptyName) ↔ Any IsEmptyName (name ∷ peers.items) }
-        ensures long_name { (result ≡ Err errors.LongName) ↔ (¬ Any IsEmptyName (name ∷ peers.items)) × Any IsLongName (name ∷ peers.items) }
-        ensures same_name { (result ≡ Err errors.SameName) ↔
-            (¬ Any IsEmptyName (name ∷ peers.items)) × (¬ Any IsLongName (name ∷ peers.items)) × HasTwice (name ∷ peers.items) }
+        ensures long_name { (result ≡ Err errors.LongName)
+            ↔ (¬ Any IsEmptyName (name ∷ peers.items)) × Any IsLongName (name ∷ peers.items) }
+        ensures same_name { (result ≡ Err errors.SameName)
+            ↔ (¬ Any IsEmptyName (name ∷ peers.items)) × (¬ Any IsLongName (name ∷ peers.items)) × HasTwice (name ∷ peers.items) }
     {
         check_names(&name, &peers)?;
         let (members, place) = in_order(name, peers)?;
@@ -225,7 +227,7 @@ impl Config {
 
     /// When this member is due that began to wait at `start`. `None` past [`Moment::GREATEST`]. It takes no memory.
     pub fn due_from(&self, start: Moment) -> Option<Moment>
-        ensures { SomeIff result (start + self.now.place * self.now.peer_timeout ≤ greatest) (start + self.now.place * self.now.peer_timeout) }
+        ensures { let due = start + self.now.place * self.now.peer_timeout in SomeIff result (due ≤ greatest) due }
     {
         due(start, self.place, self.peer_timeout)
     }

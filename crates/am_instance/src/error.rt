@@ -4,7 +4,6 @@ ghost use Rattle.std.specs.Prelude.{◌≡◌};
 
 use am_gossip::FrameError;
 use am_version_order::Moment;
-use am_wire::WireError;
 use std::alloc::{AllocError, AllocFailed};
 use thiserror::Error;
 
@@ -28,6 +27,16 @@ impl From<AllocError> for ConfigError {
     ghost from_gives = { λ _ e. e ≡ Memory };
 
     fn from(_e: AllocError) -> ConfigError {
+        ConfigError::Memory
+    }
+}
+
+impl<T: Drop> From<AllocFailed<T>> for ConfigError {
+    ghost use Rattle.am_instance.specs.declared.error.ConfigError.TheVariants.{Memory};
+
+    ghost from_gives = { λ _ e. e ≡ Memory };
+
+    fn from(_e: AllocFailed<T>) -> ConfigError {
         ConfigError::Memory
     }
 }

@@ -11,7 +11,7 @@ mod rows;
 mod views;
 mod notices;
 mod reply;
-mod requests;
+mod views;
 
 pub use config::Config;
 pub use error::{ConfigError, StepError};
