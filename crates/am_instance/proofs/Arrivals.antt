@@ -103,12 +103,13 @@ module _ {E : Type 0} (places : List ℕ) (now : ℕ) (old : Stand) (all : List 
   pub begins : (items : List (Result Delivery E)) (n : ℕ) (sent : Sent) → all ≡ before_fault items → first_fault items ≡ None → HasDelivered places now old all items old n n sent sent
   begins items n sent is sound = record { done = []; whole = sym is; sound = sound; counted = omega arith; delivered = delivers_none now old; sends = refl }
 
-  pub goes_on : (left rows rest : List (Result Delivery E)) (mid new : Stand) (before count more : ℕ) (a b c : Sent) →
-      HasDelivered places now old all left mid before count a b → left ≡ rows ++ rest →
+  pub goes_on : (left rows rest : List (Result Delivery E)) (mid new : Stand) (before count more : ℕ) (a b c : Sent) (here : List ℕ) →
+      HasDelivered places now old all left mid before count a b → left ≡ rows ++ rest → here ≡ places →
       Delivers now (before_fault rows) mid new → more ≡ count + length (before_fault rows) →
-      Sends (deltas_to places (changed_of now (silence_at mid.silences) (entry_at mid.log) (before_fault rows))) b c →
+      Sends (deltas_to here (changed_of now (silence_at mid.silences) (entry_at mid.log) (before_fault rows))) b c →
       HasDelivered places now old all rest new before more a c
-  goes_on left rows rest mid new before count more a b c so_far is delivered counted sent =
+  goes_on left rows rest mid new before count more a b c here so_far is same delivered counted sends =
+      let sent = subst (λ ps. Sends (deltas_to ps (changed_of now (silence_at mid.silences) (entry_at mid.log) (before_fault rows))) b c) same sends in
       let done = so_far.done in
       let sound = first_fault_split rows rest (ap first_fault (sym is) ∙ so_far.sound) in
       let size = length-append done (before_fault rows) in

@@ -5,3 +5,7 @@ pub mod Lifts
 pub mod Arrivals
 pub mod Judgements
 pub mod Works
+pub mod PartTakings
+pub mod FrameWorks
+pub mod HereWorks
+pub mod RequestWorks

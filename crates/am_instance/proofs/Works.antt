@@ -10,6 +10,8 @@ use Rattle.am_instance.specs.declared.error.StepError.{StepError}
 use Rattle.am_silence.specs.Mesh.{Mesh, mesh_version}
 use Rattle.am_nflog.specs.Mesh.{Mesh as LogMesh, mesh_version as entry_version}
 use Rattle.am_gossip.specs.declared.frame.Frame.{Frame as GossipFrame}
+use Rattle.am_merge.specs.Maps.{if_live}
+use Rattle.am_nflog.specs.declared.entry.LogKey.{LogKey}
 use Rattle.am_instance.specs.declared.event.Event.{Event}
 use Rattle.am_instance.specs.declared.error.StepError.TheVariants.{Memory}
 use Rattle.am_instance.specs.declared.reply.Made.{Made}
@@ -95,3 +97,28 @@ memory_work old new event now same = subst (λ stand. IsWork old event now (Err 
 -- memory ran out, or something else did not
 pub stopped_work : (old new : Stand) (event : Event) (now : ℕ) (e : StepError) → e ≡ Memory 0 → new ≡ old → IsWork old event now (Err e) new
 stopped_work old new event now e is same = subst (λ error. IsWork old event now (Err error) new) (sym is) (memory_work old new event now same)
+
+nothing_wanted : (old new : Stand) (event : Event) (now : ℕ) (made : Made) → brought event ≡ [] → last_wanted event new ≡ [] → IsNothing made → wanted old event now made new ≡ []
+nothing_wanted old new event now made brings last nothing =
+    ap (λ ds. deltas_to (peers_but old.config (origin old.config event)) (changed_of now (silence_at old.silences) (entry_at old.log) ds) ++ last_wanted event new)
+        (ap (λ xs. xs ++ made_here made) brings ∙ made_nothing made nothing)
+    ∙ last
+
+-- an event that collects
+pub collected_work : (old new : Stand) (event : Event) (now : ℕ) (outcome : Outcome) → collects event ≡ true → brought event ≡ [] → last_wanted event new ≡ [] →
+    fault_of old.config now event ≡ None → new.config ≡ old.config → new.last ≡ old.last → AreSwept now old new →
+    ((key : List ℕ) → silence_at new.silences key ≡ if_live mesh_version now (silence_at old.silences key)) →
+    ((key : LogKey) → entry_at new.log key ≡ if_live entry_version now (entry_at old.log key)) →
+    sent_by outcome ≡ nothing_sent → IsNothing outcome.made → IsReply old event now outcome.reply outcome.made → IsWork old event now (Ok outcome) new
+collected_work old new event now outcome collected brings last_none sound config last swept silences log sent nothing reply = record {
+  config = config;
+  last = last;
+  silences = (λ i key. silences key i) ∙ sym (ap (after_all mesh_version (slice_cmp nat_cmp) (silence_at old.silences)) (ap (λ (test : Bool). if test then (Collected, now) ∷ [] else events_at to_silences now (delivers event outcome.made)) collected));
+  log = (λ i key. log key i) ∙ sym (ap (after_all entry_version key_cmp (entry_at old.log)) (ap (λ (test : Bool). if test then (Collected, now) ∷ [] else events_at to_log now (delivers event outcome.made)) collected));
+  answer = record {
+    sound = sound;
+    swept = λ _. swept;
+    sent = subst (λ xs. Sends xs nothing_sent (sent_by outcome)) (sym (nothing_wanted old new event now outcome.made brings last_none nothing)) sent;
+    reply = reply;
+  };
+}

@@ -1,5 +1,5 @@
 -- One step of an instance: when it is refused, what it delivers, and what it sends.
-use Rattle.std.specs.Prelude.{◌≡◌, ◌⊎◌, ◌≤◌, ◌<◌, ◌+◌, ℕ, Bool, true, false, not, ◌&&◌, List, [], ◌∷◌, ◌++◌, map, length, take, nat_lt, ⊤, is_some, Option, Some, None, option_map, Result, Ok, Err, if◌then◌else◌}
+use Rattle.std.specs.Prelude.{◌≡◌, ◌≢◌, ◌⊎◌, ◌≤◌, ◌<◌, ◌+◌, ℕ, Bool, true, false, not, ◌&&◌, List, [], ◌∷◌, ◌++◌, map, length, take, nat_lt, ⊤, is_some, Option, Some, None, option_map, Result, Ok, Err, if◌then◌else◌}
 use Rattle.am_wire.specs.Limits.{most}
 use Rattle.std.specs.Ordering.{nat_cmp}
 use Rattle.std.specs.Cmp.Lexicographic.{slice_cmp}
@@ -30,7 +30,7 @@ use Rattle.am_instance.specs.Deliveries.{Delivery, events_at, to_silences, to_lo
 use Rattle.am_instance.specs.Deliveries.Delivery.{OfSilence, OfEntry}
 use Rattle.am_instance.specs.Changes.{changes, changed_of, silences_after, log_after}
 use Rattle.am_instance.specs.Sendings.{Sent, Sends, deltas_to, nothing_sent, sent_by, whole_state}
-use Rattle.am_instance.specs.Replies.{IsReply, AreMade, listed, posted_over}
+use Rattle.am_instance.specs.Replies.{IsReply, IsNothing, AreMade, listed, posted_over}
 use Rattle.am_instance.specs.declared.reply.Reply.{Reply}
 use Rattle.am_instance.specs.declared.reply.Reply.TheVariants as replies
 use Rattle.am_merge.specs.declared.held.Taken.{Taken}
@@ -254,6 +254,12 @@ abbrev pub IsPlanned : Stand → Posted → ℕ → ℕ → Result Plan SilenceE
 IsPlanned stand posted bits now (Ok plan) =
     (verdict : Verdict) × IsVerdict posted.matchers verdict × (post_refusal stand posted bits now verdict ≡ None)
     × (plan ≡ planned (posted_over now stand.silences posted.id) (post_of posted now bits stand.config.retention))
-IsPlanned stand posted bits now (Err silence_errors.Memory) = ⊤
-IsPlanned stand posted bits now (Err error) =
+IsPlanned stand posted bits now (Err error) = error ≢ silence_errors.Memory →
     (verdict : Verdict) × IsVerdict posted.matchers verdict × (post_refusal stand posted bits now verdict ≡ Some error)
+
+-- a request is refused for another cause than memory, and nothing is made or sent
+pub record IsTurnedAway (error : SilenceError) (outcome : Outcome) : Type 0 where
+  pub other : error ≢ silence_errors.Memory
+  pub answer : outcome.reply ≡ replies.Refused error
+  pub nothing : IsNothing outcome.made
+  pub unsent : sent_by outcome ≡ nothing_sent

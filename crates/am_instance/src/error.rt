@@ -4,6 +4,7 @@ ghost use Rattle.std.specs.Prelude.{◌≡◌};
 
 use am_gossip::FrameError;
 use am_version_order::Moment;
+use am_wire::WireError;
 use std::alloc::{AllocError, AllocFailed};
 use thiserror::Error;
 
@@ -79,16 +80,6 @@ impl From<WireError> for StepError {
             WireError::Memory => StepError::Memory { taken: 0 },
             fault => StepError::Frame(FrameError::Wire(fault)),
         }
-    }
-}
-
-impl<T: Drop> From<AllocFailed<T>> for ConfigError {
-    ghost use Rattle.am_instance.specs.declared.error.ConfigError.TheVariants.{Memory};
-
-    ghost from_gives = { λ _ e. e ≡ Memory };
-
-    fn from(_e: AllocFailed<T>) -> ConfigError {
-        ConfigError::Memory
     }
 }
 

@@ -25,7 +25,6 @@ use std::alloc::{AllocError, Global};
 
 impl Instance {
     /// Takes what a frame brings, sends on what changed, and answers a Push with the own states.
-    #[tactic(none)]
     pub(crate) fn receive(&mut self, sender: Place, frame: Frame, now: Moment) -> Result<Outcome, StepError>
         ensures { IsWork self.old (events.Frame sender frame) now result self.new }
     {
@@ -48,7 +47,6 @@ impl Instance {
     }
 
     /// Drops what isn't live of both states.
-    #[tactic(none)]
     pub(crate) fn collect(&mut self, now: Moment) -> Outcome
         ensures tick { IsWork self.old events.Tick now (Ok result) self.new }
         ensures frame { (sender : ℕ) → IsWork self.old (events.Frame sender frames.Tick) now (Ok result) self.new }
@@ -59,7 +57,6 @@ impl Instance {
     }
 
     /// Sends both states to a peer, which answers with its own.
-    #[tactic(none)]
     pub(crate) fn pull_from(&mut self, place: Place, now: Moment) -> Outcome
         ensures { IsWork self.old (events.PullFrom place) now (Ok result) self.new }
     {
@@ -70,7 +67,6 @@ impl Instance {
 
     /// Takes the versions in the parts of a frame, once all of them were read. Those that change a map go to all peers
     /// but the sender.
-    #[tactic(none)]
     fn take_in(&mut self, sender: Place, parts: &[Part], now: Moment) -> Result<Outbox, StepError>
         ensures { IsArrival self.old sender parts.now now result self.new }
     {
@@ -88,7 +84,6 @@ impl Instance {
     /// # Errors
     ///
     /// [`AllocError`] where memory runs out; the versions counted were taken.
-    #[tactic(none)]
     fn take_parts(
         &mut self,
         sender: Place,
@@ -111,7 +106,6 @@ impl Instance {
     }
 
     /// Takes the versions in a part in order, and counts them.
-    #[tactic(none)]
     fn take_part(
         &mut self,
         sender: Place,
@@ -174,10 +168,9 @@ fn judge_part(alloc: Global, part: &Part) -> Result<(), StepError>
 {
     let row = part.bytes.as_slice();
     match part.key {
-        StateKey::Sil => judge_row::<MeshSilence>(alloc, row)?,
-        StateKey::Nfl => judge_row::<MeshEntry>(alloc, row)?,
+        StateKey::Sil => Ok(judge_row::<MeshSilence>(alloc, row)?),
+        StateKey::Nfl => Ok(judge_row::<MeshEntry>(alloc, row)?),
     }
-    Ok(())
 }
 
 /// An outcome in which nothing was made here.

@@ -6,11 +6,11 @@ mod error;
 mod event;
 mod frames;
 mod instance;
-mod outbox;
-mod rows;
-mod views;
 mod notices;
+mod outbox;
 mod reply;
+mod requests;
+mod rows;
 mod views;
 
 pub use config::Config;

@@ -1,6 +1,7 @@
 //! What people and tools ask of an instance.
 
 ghost use Rattle.std.specs.Prelude.{◌≡◌, [], ◌∷◌, OnErr, IfOk, IfErr};
+ghost use Rattle.std.specs.Option.{option_copied};
 ghost use Rattle.am_silence.specs.Plans.{versions};
 ghost use Rattle.am_instance.specs.declared.error.StepError.TheVariants as errors;
 ghost use Rattle.am_instance.specs.declared.event.Event.TheVariants as events;
@@ -10,8 +11,8 @@ ghost use Rattle.am_instance.specs.Deliveries.Delivery.{OfSilence};
 ghost use Rattle.am_instance.specs.declared.reply.Reply.TheVariants as replies;
 ghost use Rattle.am_instance.specs.Changes.{only_if};
 ghost use Rattle.am_instance.specs.Sendings.{Sends, deltas_to, nothing_sent, sent_by};
-ghost use Rattle.am_instance.specs.Replies.{AreMade, IsNothing, posted_id};
-ghost use Rattle.am_instance.specs.Steps.{IsPlanned, IsPutHere, IsWork, is_changed};
+ghost use Rattle.am_instance.specs.Replies.{AreMade, IsNothing, posted_id, posted_over};
+ghost use Rattle.am_instance.specs.Steps.{IsPlanned, IsPutHere, IsTurnedAway, IsWork, is_changed};
 
 use crate::error::StepError;
 use crate::event::Request;
@@ -22,7 +23,7 @@ use crate::reply::{Made, Outcome, Reply};
 use crate::views::{silence_in_view, silences_shown};
 use am_gossip::StateKey;
 use am_matcher::{Filter, verdict};
-use am_merge::Taken;
+use am_merge::{Held, Taken};
 use am_silence::{MeshSilence, Plan, Posted, SilenceError, fresh_id, plan_expire, plan_post, state_at};
 use am_version_order::{Moment, Version};
 use am_wire::Text;
@@ -43,7 +44,6 @@ impl Instance {
     }
 
     /// The silences in view that pass all filters.
-    #[tactic(none)]
     fn list(&self, mut filters: Vec<Filter>, now: Moment) -> Result<Outcome, StepError>
         ensures { IsWork self.now (events.Request (requests.List filters)) now result self.now }
     {
@@ -52,7 +52,6 @@ impl Instance {
     }
 
     /// The silence of an identifier.
-    #[tactic(none)]
     fn get(&self, id: &Text, now: Moment) -> Result<Outcome, StepError>
         ensures { IsWork self.now (events.Request (requests.Get id.now)) now result self.now }
     {
@@ -71,8 +70,18 @@ impl Instance {
     {
         match self.plan(posted, bits, now) {
             Ok(plan) => self.carry_out(plan, now),
-            Err(SilenceError::Memory) => Err(StepError::Memory { taken: 0 }),
-            Err(error) => Ok(quiet(self.alloc, Reply::Refused(error))),
+            Err(error) => self.turn_away(error),
+        }
+    }
+
+    /// Answers why a request is refused.
+    fn turn_away(&self, error: SilenceError) -> Result<Outcome, StepError>
+        ensures refused { IfOk result (IsTurnedAway error) }
+        ensures memory { IfErr result (λ e. e ≡ errors.Memory 0) }
+    {
+        match error {
+            SilenceError::Memory => Err(StepError::Memory { taken: 0 }),
+            error => Ok(quiet(self.alloc, Reply::Refused(error))),
         }
     }
 
@@ -85,24 +94,22 @@ impl Instance {
         let verdict = verdict(alloc, posted.matchers.as_slice())?;
         let fresh = Text::copied(alloc, fresh_id(bits).as_str())?;
         let id_held = self.silences.get(&fresh).is_some();
-        let held = match &posted.id {
-            Some(id) => silence_in_view(&self.silences, id, now),
-            None => None,
-        };
+        let held = posted_over(&self.silences, posted.id.as_ref(), now);
         let retention = self.config.retention();
         plan_post(alloc, held, posted, verdict, now, bits, id_held, retention)
     }
 
     /// Takes the versions of a plan, the new silence first.
-    #[tactic(none)]
     fn carry_out(&mut self, plan: Plan, now: Moment) -> Result<Outcome, StepError>
         ensures done { IfOk result (λ outcome. IsPutHere self.old (versions plan) (replies.Posted (posted_id plan)) now outcome self.new) }
         ensures err { IfErr result (λ e. e ≡ errors.Memory 0) }
         ensures unchanged { OnErr result (self.new ≡ self.old) }
     {
-        let reply = Reply::Posted(posted_id(&plan).try_clone(self.alloc)?);
+        let id = posted_id(&plan).try_clone(self.alloc)?;
+        let reply = Reply::Posted(id);
         match plan {
-            Plan::Update(version) | Plan::Create(version) => self.put_one(version, reply, now),
+            Plan::Update(version) => self.put_one(version, reply, now),
+            Plan::Create(version) => self.put_one(version, reply, now),
             Plan::Replace { new, old } => self.put_pair(new, old, reply, now),
         }
     }
@@ -115,30 +122,24 @@ impl Instance {
         let held = silence_in_view(&self.silences, id, now);
         match plan_expire(self.alloc, held, now, self.config.retention()) {
             Ok(version) => self.put_one(version, Reply::Deleted, now),
-            Err(SilenceError::Memory) => Err(StepError::Memory { taken: 0 }),
-            Err(error) => Ok(quiet(self.alloc, Reply::Refused(error))),
+            Err(error) => self.turn_away(error),
         }
     }
 
     /// Takes a version of a silence that was made here, and sends it on where that changes the map.
-    #[tactic(none)]
     fn put_one(&mut self, version: MeshSilence, reply: Reply, now: Moment) -> Result<Outcome, StepError>
         ensures put { IfOk result (λ outcome. IsPutHere self.old (version ∷ []) reply now outcome self.new) }
         ensures err { IfErr result (λ e. e ≡ errors.Memory 0) }
         ensures unchanged { OnErr result (self.new ≡ self.old) }
     {
-        let alloc = self.alloc;
-        let copy = version.try_clone(alloc)?;
-        let mut made = Vec::with_capacity(alloc, 1)?;
-        made.push(copy)?;
+        let made = copies_of_one(self.alloc, &version)?;
         let taken = self.silences.take(version, now)?;
-        let mut outbox = Outbox::new(alloc);
+        let mut outbox = Outbox::new(self.alloc);
         self.send_on(taken, &made[0], &mut outbox);
         Ok(made_outcome(reply, outbox, made))
     }
 
     /// Takes a new silence and the end of another, or neither, and sends on what changes the map.
-    #[tactic(none)]
     fn put_pair(&mut self, new: MeshSilence, old: MeshSilence, reply: Reply, now: Moment) -> Result<Outcome, StepError>
         ensures put { IfOk result (λ outcome. IsPutHere self.old (new ∷ old ∷ []) reply now outcome self.new) }
         ensures err { IfErr result (λ e. e ≡ errors.Memory 0) }
@@ -157,10 +158,36 @@ impl Instance {
     fn send_on(&self, taken: Taken, version: &MeshSilence, outbox: &mut Outbox)
         ensures { Sends (deltas_to (peers_but self.now.config self.now.config.place) (only_if (is_changed taken) (OfSilence version.now))) outbox.old outbox.new }
     {
-        if taken == Taken::Changed {
+        if is_changed(taken) {
             outbox.send_version(self.route(self.config.place()), StateKey::Sil, version.canonical());
         }
     }
+}
+
+/// The silence in view of the identifier that is posted, where one is.
+fn posted_over<'a>(silences: &'a Held<MeshSilence>, id: Option<&Text>, now: Moment) -> Option<&'a MeshSilence>
+    ensures { option_copied result ≡ posted_over now silences.now (option_copied id.entry) }
+{
+    match id {
+        Some(id) => silence_in_view(silences, id, now),
+        None => None,
+    }
+}
+
+/// Whether a taking is answered Changed.
+pub(crate) fn is_changed(taken: Taken) -> bool
+    ensures { result ≡ is_changed taken }
+{
+    matches!(taken, Taken::Changed)
+}
+
+/// A copy of a version.
+fn copies_of_one(alloc: Global, version: &MeshSilence) -> Result<Vec<MeshSilence>, AllocError>
+    ensures { IfOk result (λ copies. copies.items ≡ version.now ∷ []) }
+{
+    let mut copies = Vec::with_capacity(alloc, 1)?;
+    copies.push(version.try_clone(alloc)?)?;
+    Ok(copies)
 }
 
 /// Copies of two versions, in order.
