@@ -9,3 +9,5 @@ pub mod PartTakings
 pub mod FrameWorks
 pub mod HereWorks
 pub mod RequestWorks
+pub mod NoticeWorks
+pub mod Passing

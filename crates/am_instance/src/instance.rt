@@ -103,7 +103,6 @@ impl Instance {
     ///
     /// The first [`StepError`] that applies, in their order; memory may run out before the fault of a frame is found.
     /// What is refused changes nothing, but where memory ran out: then the moment counts, and what was taken stands.
-    #[tactic(none)]
     pub fn step(&mut self, event: Event, now: Moment) -> Result<Outcome, StepError>
         ensures accepted { OnOk result (IsAccepted self.old event now) }
         ensures refused { IfErr result (IsRefusal self.old event now) }
@@ -119,11 +118,11 @@ impl Instance {
         ensures reply { IfOk result (λ outcome. IsReply self.old event now outcome.reply outcome.made) }
     {
         self.admit(&event, now)?;
-        let result = self.work(event, now);
-        if counts(&result) {
+        let answer = self.work(event, now);
+        if counts(&answer) {
             self.last = now;
         }
-        result
+        answer
     }
 
     /// Refuses a moment before the last one, and a place that is no peer's.
@@ -141,7 +140,6 @@ impl Instance {
     }
 
     /// Does what an event asks for. Its moment is set by the caller.
-    #[tactic(none)]
     fn work(&mut self, event: Event, now: Moment) -> Result<Outcome, StepError>
         ensures { IsWork self.old event now result self.new }
     {

@@ -30,7 +30,6 @@ use std::alloc::Global;
 
 impl Instance {
     /// Notes that a group was notified.
-    #[tactic(none)]
     pub(crate) fn note(
         &mut self,
         group_key: Bytes,
@@ -43,7 +42,8 @@ impl Instance {
         ensures { IsWork self.old (events.Notified group_key receiver firing resolved repeat) now result self.new }
     {
         let retention = self.config.retention();
-        match make_entry(self.alloc, group_key, receiver, firing, resolved, repeat, retention, now)? {
+        let entry = make_entry(self.alloc, group_key, receiver, firing, resolved, repeat, retention, now)?;
+        match entry {
             Some(entry) => self.put_entry(entry, now),
             None => Ok(quiet(self.alloc, Reply::Logged(false))),
         }

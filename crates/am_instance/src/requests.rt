@@ -1,8 +1,10 @@
 //! What people and tools ask of an instance.
 
-ghost use Rattle.std.specs.Prelude.{◌≡◌, [], ◌∷◌, OnErr, IfOk, IfErr};
+ghost use Rattle.std.specs.Prelude.{◌≡◌, [], ◌∷◌, is_some, OnErr, IfOk, IfErr};
 ghost use Rattle.std.specs.Option.{option_copied};
 ghost use Rattle.am_silence.specs.Plans.{versions};
+ghost use Rattle.am_matcher.specs.Matching.{IsVerdict};
+ghost use Rattle.am_instance.specs.Stands.{silence_at};
 ghost use Rattle.am_instance.specs.declared.error.StepError.TheVariants as errors;
 ghost use Rattle.am_instance.specs.declared.event.Event.TheVariants as events;
 ghost use Rattle.am_instance.specs.declared.event.Request.TheVariants as requests;
@@ -24,14 +26,15 @@ use crate::views::{silence_in_view, silences_shown};
 use am_gossip::StateKey;
 use am_matcher::{Filter, verdict};
 use am_merge::{Held, Taken};
-use am_silence::{MeshSilence, Plan, Posted, SilenceError, fresh_id, plan_expire, plan_post, state_at};
+use am_silence::{
+    Matchers, MeshSilence, Plan, Posted, SilenceError, Verdict, fresh_id, plan_expire, plan_post, state_at,
+};
 use am_version_order::{Moment, Version};
 use am_wire::Text;
 use std::alloc::{AllocError, Global};
 
 impl Instance {
     /// Answers a request.
-    #[tactic(none)]
     pub(crate) fn answer(&mut self, request: Request, now: Moment) -> Result<Outcome, StepError>
         ensures { IsWork self.old (events.Request request) now result self.new }
     {
@@ -64,7 +67,6 @@ impl Instance {
     }
 
     /// Makes or updates a silence.
-    #[tactic(none)]
     fn post(&mut self, posted: Posted, bits: u128, now: Moment) -> Result<Outcome, StepError>
         ensures { IsWork self.old (events.Request (requests.Post posted bits)) now result self.new }
     {
@@ -86,14 +88,13 @@ impl Instance {
     }
 
     /// What a post makes, or why it is refused.
-    #[tactic(none)]
     fn plan(&self, posted: Posted, bits: u128, now: Moment) -> Result<Plan, SilenceError>
         ensures { IsPlanned self.now posted bits now result }
     {
         let alloc = self.alloc;
-        let verdict = verdict(alloc, posted.matchers.as_slice())?;
+        let verdict = judge(alloc, &posted.matchers)?;
         let fresh = Text::copied(alloc, fresh_id(bits).as_str())?;
-        let id_held = self.silences.get(&fresh).is_some();
+        let id_held = is_held(&self.silences, &fresh);
         let held = posted_over(&self.silences, posted.id.as_ref(), now);
         let retention = self.config.retention();
         plan_post(alloc, held, posted, verdict, now, bits, id_held, retention)
@@ -115,7 +116,6 @@ impl Instance {
     }
 
     /// Ends a silence.
-    #[tactic(none)]
     fn delete(&mut self, id: &Text, now: Moment) -> Result<Outcome, StepError>
         ensures { IsWork self.old (events.Request (requests.Delete id.now)) now result self.new }
     {
@@ -162,6 +162,20 @@ impl Instance {
             outbox.send_version(self.route(self.config.place()), StateKey::Sil, version.canonical());
         }
     }
+}
+
+/// The verdict on posted matchers.
+fn judge(alloc: Global, matchers: &Matchers) -> Result<Verdict, AllocError>
+    ensures { IfOk result (IsVerdict matchers.now) }
+{
+    verdict(alloc, matchers.as_slice())
+}
+
+/// Whether an identifier is held, live or not.
+fn is_held(silences: &Held<MeshSilence>, id: &Text) -> bool
+    ensures { result ≡ is_some (silence_at silences.now id.now) }
+{
+    silences.get(id).is_some()
 }
 
 /// The silence in view of the identifier that is posted, where one is.
