@@ -11,3 +11,4 @@ pub mod HereWorks
 pub mod RequestWorks
 pub mod NoticeWorks
 pub mod Passing
+pub mod Histories

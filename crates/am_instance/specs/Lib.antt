@@ -5,3 +5,4 @@ pub mod Changes
 pub mod Sendings
 pub mod Replies
 pub mod Steps
+pub mod Laws

@@ -6,6 +6,7 @@ mod error;
 mod event;
 mod frames;
 mod instance;
+pub mod laws;
 mod notices;
 mod outbox;
 mod reply;
