@@ -1,18 +1,16 @@
 -- Versions of both states, delivered one after the other.
-use Rattle.std.proofs.Common.{◌≡◌, ◌<◌, ◌≤◌, ℕ, ◌+◌, List, [], ◌∷◌, ◌++◌, Bool, map, length, take, ap, refl, sym, subst, ◌∙◌, append-nil, append_assoc, length-append, arith}
+use Rattle.std.proofs.Common.{◌≡◌, ℕ, ◌+◌, List, [], ◌∷◌, ◌++◌, map, length, take, ap, refl, sym, subst, ◌∙◌, append-nil, append_assoc, length-append, arith}
 use Rattle.std.specs.Prelude.{Option, Some, None, Result, Ok, Err}
-use Rattle.std.specs.List.{flat_map}
 use Rattle.std.specs.Ordering.{nat_cmp}
 use Rattle.std.specs.Cmp.Lexicographic.{slice_cmp}
 use Rattle.std.proofs.lemmas.List.{map-append, take-append-le}
-use Rattle.std.proofs.lemmas.Grind.{flat_map-append}
 use Rattle.std.proofs.Math.Seq.{take-append-add}
 use Rattle.am_silence.specs.Mesh.{Mesh, mesh_version}
 use Rattle.am_nflog.specs.Mesh.{Mesh as LogMesh, mesh_version as entry_version}
 use Rattle.am_nflog.specs.Keys.{key_cmp}
 use Rattle.am_nflog.specs.declared.entry.LogKey.{LogKey}
 use Rattle.am_collect.specs.Events.{after, after_all}
-use Rattle.am_collect.specs.Events.Event.{Delivered, Passed}
+use Rattle.am_collect.specs.Events.Event.{Delivered}
 use Rattle.am_instance.specs.Deliveries.{Delivery, before_fault, first_fault, to_silences, to_log}
 use Rattle.am_instance.specs.Deliveries.Delivery.{OfSilence, OfEntry}
 use Rattle.am_instance.specs.Stands.{Stand, silence_at, entry_at}
@@ -62,9 +60,9 @@ sends_then places now xs ys a b s t u delivered first second =
     let m = silence_at a.silences in
     let l = entry_at a.log in
     let whole : changed_of now m l xs ++ changed_of now (silence_at b.silences) (entry_at b.log) ys ≡ changed_of now m l (xs ++ ys) =
-        ap (λ (held : List ℕ → Option Mesh). changed_of now m l xs ++ changed_of now held (entry_at b.log) ys) delivered.silences
-        ∙ ap (λ (held : LogKey → Option LogMesh). changed_of now m l xs ++ changed_of now (silences_after now m xs) held ys) delivered.log
-        ∙ sym (changed_then now m l xs ys) in
+    ap (λ (held : List ℕ → Option Mesh). changed_of now m l xs ++ changed_of now held (entry_at b.log) ys) delivered.silences
+    ∙ ap (λ (held : LogKey → Option LogMesh). changed_of now m l xs ++ changed_of now (silences_after now m xs) held ys) delivered.log
+    ∙ sym (changed_then now m l xs ys) in
     subst (λ ds. Sends (deltas_to places ds) s u) whole
     (sent_then (λ d. addressed places (delta_of d)) (changed_of now m l xs) (changed_of now (silence_at b.silences) (entry_at b.log) ys) s t u first second)
 
@@ -127,10 +125,11 @@ module _ {E : Type 0} (places : List ℕ) (now : ℕ) (old : Stand) (all : List 
   pub ends : (left : List (Result Delivery E)) (new : Stand) (before count : ℕ) (a b : Sent) → HasDelivered places now old all left new before count a b → left ≡ [] →
       Delivers now all old new × (count ≡ before + length all) × Sends (deltas_to places (changed_of now (silence_at old.silences) (entry_at old.log) all)) a b
   ends left new before count a b so_far none =
-      let whole : so_far.done ≡ all = sym (append-nil so_far.done) ∙ ap (λ items. so_far.done ++ before_fault items) (sym none) ∙ so_far.whole in
-      (subst (λ xs. Delivers now xs old new) whole so_far.delivered,
-       subst (λ xs. count ≡ before + length xs) whole so_far.counted,
-       subst (λ xs. Sends (deltas_to places (changed_of now (silence_at old.silences) (entry_at old.log) xs)) a b) whole so_far.sends)
+      let whole : so_far.done ≡ all = sym (append-nil so_far.done) ∙ ap (λ items. so_far.done ++ before_fault items) (sym none) ∙ so_far.whole in (
+        subst (λ xs. Delivers now xs old new) whole so_far.delivered,
+        subst (λ xs. count ≡ before + length xs) whole so_far.counted,
+        subst (λ xs. Sends (deltas_to places (changed_of now (silence_at old.silences) (entry_at old.log) xs)) a b) whole so_far.sends,
+      )
 
   pub stops : (left rows rest : List (Result Delivery E)) (mid new : Stand) (before count stopped : ℕ) (a b : Sent) →
       HasDelivered places now old all left mid before count a b → left ≡ rows ++ rest →
@@ -140,7 +139,7 @@ module _ {E : Type 0} (places : List ℕ) (now : ℕ) (old : Stand) (all : List 
       let n = stop.number in
       let sound = first_fault_split rows rest (ap first_fault (sym is) ∙ so_far.sound) in
       let whole : done ++ (before_fault rows ++ before_fault rest) ≡ all =
-          ap (λ items. done ++ items) (sym (ap before_fault is ∙ before_fault_then rows rest sound.0)) ∙ so_far.whole in
+      ap (λ items. done ++ items) (sym (ap before_fault is ∙ before_fault_then rows rest sound.0)) ∙ so_far.whole in
       let sizes = ap (λ (xs : List Delivery). length xs) whole in
       let one = length-append done (before_fault rows ++ before_fault rest) in
       let two = length-append (before_fault rows) (before_fault rest) in
@@ -148,8 +147,8 @@ module _ {E : Type 0} (places : List ℕ) (now : ℕ) (old : Stand) (all : List 
       let sum = so_far.counted in
       let counted = stop.counted in
       let first : take (length done + n) all ≡ done ++ take n (before_fault rows) =
-          ap (λ xs. take (length done + n) xs) (sym whole) ∙ take-append-add done (before_fault rows ++ before_fault rest) n
-          ∙ ap (λ xs. done ++ xs) (take-append-le n (before_fault rows) (before_fault rest) (omega (arith, within))) in
+      ap (λ xs. take (length done + n) xs) (sym whole) ∙ take-append-add done (before_fault rows ++ before_fault rest) n
+      ∙ ap (λ xs. done ++ xs) (take-append-le n (before_fault rows) (before_fault rest) (omega (arith, within))) in
       record {
         number = length done + n;
         within = omega (arith, sizes, one, two, within);

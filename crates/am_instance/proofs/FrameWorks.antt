@@ -1,8 +1,7 @@
 -- What a frame does, put together of its parts.
-use Rattle.std.proofs.Common.{◌≡◌, ◌<◌, ◌≤◌, ℕ, ◌+◌, List, [], ◌∷◌, ◌++◌, Bool, true, false, map, length, take, ap, refl, sym, subst, ◌∙◌, append-nil, inl, inr, arith}
-use Rattle.std.specs.Prelude.{Option, Some, None, Result, Ok, Err, ◌⊎◌, option_map}
+use Rattle.std.proofs.Common.{◌≡◌, ℕ, List, ◌++◌, false, take, ap, refl, sym, subst, ◌∙◌, append-nil, inl, inr, arith}
+use Rattle.std.specs.Prelude.{Ok, Err, option_map}
 use Rattle.am_gossip.specs.declared.frame.Frame.{Frame as GossipFrame}
-use Rattle.am_gossip.specs.declared.frame.Frame.TheVariants as frames
 use Rattle.am_gossip.specs.declared.frame.Part.{Part}
 use Rattle.am_gossip.specs.Answers.{frame_fault}
 use Rattle.am_instance.specs.declared.event.Event.TheVariants as events
@@ -11,12 +10,12 @@ use Rattle.am_instance.specs.declared.error.StepError.TheVariants.{MomentBack, U
 use Rattle.am_instance.specs.declared.reply.Reply.TheVariants as replies
 use Rattle.am_instance.specs.declared.reply.Outcome.{Outcome}
 use Rattle.am_instance.specs.Configs.{peers_but}
-use Rattle.am_instance.specs.Deliveries.{Delivery, before_fault, first_fault, rows_in, parts_of}
+use Rattle.am_instance.specs.Deliveries.{before_fault, first_fault, rows_in, parts_of}
 use Rattle.am_instance.specs.Stands.{Stand, silence_at, entry_at}
 use Rattle.am_instance.specs.Changes.{changed_of}
-use Rattle.am_instance.specs.Sendings.{Sent, IsSent, Sends, deltas_to, nothing_sent, sent_by, whole_state}
+use Rattle.am_instance.specs.Sendings.{Sent, Sends, deltas_to, nothing_sent, sent_by}
 use Rattle.am_instance.specs.Replies.{IsNothing}
-use Rattle.am_instance.specs.Steps.{IsWork, IsArrival, IsJudgement, Delivers, StopsDelivering, collects, last_wanted, made_here}
+use Rattle.am_instance.specs.Steps.{IsWork, IsArrival, IsJudgement, Delivers, StopsDelivering, collects, last_wanted}
 use Rattle.am_instance.proofs.Arrivals.{delivers_none}
 use Rattle.am_instance.proofs.Sent.{sends_append}
 use Rattle.am_instance.proofs.Works.{answered, made_nothing}

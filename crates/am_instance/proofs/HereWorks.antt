@@ -1,6 +1,6 @@
 -- Versions that are made here, taken and sent on.
-use Rattle.std.proofs.Common.{◌≡◌, ℕ, get_or, List, [], ◌∷◌, ◌++◌, Bool, true, false, map, ap, refl, sym, subst, ◌∙◌, append-nil}
-use Rattle.std.specs.Prelude.{Option, Some, None, ◌&&◌}
+use Rattle.std.proofs.Common.{◌≡◌, ℕ, get_or, List, [], ◌∷◌, Bool, true, false, ap, refl, sym, subst, ◌∙◌, append-nil}
+use Rattle.std.specs.Prelude.{Some, ◌&&◌}
 use Rattle.std.specs.Ordering.{nat_cmp}
 use Rattle.std.specs.Cmp.Lexicographic.{slice_cmp}
 use Rattle.am_version_order.specs.Versions.{is_live}
@@ -10,22 +10,18 @@ use Rattle.am_nflog.specs.Keys.{key_cmp}
 use Rattle.am_merge.specs.Maps.{replaces}
 use Rattle.am_merge.specs.Takings.{IsTaking, AreTakings, taken_by}
 use Rattle.am_merge.specs.declared.held.Taken.{Taken}
-use Rattle.am_collect.specs.Events.{after, after_all}
-use Rattle.am_collect.specs.Events.Event.{Delivered}
 use Rattle.am_instance.specs.declared.reply.Reply.{Reply}
 use Rattle.am_instance.specs.declared.reply.Reply.TheVariants as replies
 use Rattle.am_instance.specs.declared.reply.Outcome.{Outcome}
 use Rattle.am_instance.specs.Configs.{peers_but}
-use Rattle.am_instance.specs.Deliveries.{Delivery}
 use Rattle.am_instance.specs.Deliveries.Delivery.{OfSilence, OfEntry}
 use Rattle.am_instance.specs.Stands.{Stand, silence_at, entry_at}
-use Rattle.am_instance.specs.Changes.{changes, only_if, changed_of}
+use Rattle.am_instance.specs.Changes.{changes, only_if}
 use Rattle.am_instance.specs.Sendings.{Sent, Sends, deltas_to, nothing_sent, sent_by}
 use Rattle.am_instance.specs.Replies.{AreMade}
 use Rattle.am_instance.specs.Steps.{Delivers, IsPutHere, IsLoggedHere, is_changed, deltas_here}
 use Rattle.am_instance.proofs.Lifts.{delivers_silences, delivers_entries}
-use Rattle.am_instance.proofs.Arrivals.{delivers_then, changed_then, sends_then}
-use Rattle.am_instance.proofs.Sent.{sent_then}
+use Rattle.am_instance.proofs.Arrivals.{delivers_then, sends_then}
 
 changed_by : (live replaced : Bool) → is_changed (taken_by live replaced) ≡ (live && replaced)
 changed_by true true = refl

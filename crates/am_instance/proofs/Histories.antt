@@ -1,12 +1,10 @@
 -- What runs leave of each map.
-use Rattle.std.proofs.Common.{◌≡◌, ◌≤◌, ℕ, List, [], ◌∷◌, ◌++◌, ap, refl, sym, subst, ◌∙◌, arith}
+use Rattle.std.proofs.Common.{List, [], ◌∷◌, refl, sym, subst}
 use Rattle.std.specs.Ordering.{nat_cmp}
 use Rattle.std.specs.Cmp.Lexicographic.{slice_cmp}
-use Rattle.am_silence.specs.Mesh.{Mesh, mesh_version}
-use Rattle.am_nflog.specs.Mesh.{Mesh as LogMesh, mesh_version as entry_version}
+use Rattle.am_silence.specs.Mesh.{mesh_version}
+use Rattle.am_nflog.specs.Mesh.{mesh_version as entry_version}
 use Rattle.am_nflog.specs.Keys.{key_cmp}
-use Rattle.am_collect.specs.Kept.{Kept}
-use Rattle.am_collect.specs.Keepers.{IsLeftBy}
 use Rattle.am_collect.proofs.Runs.{IsLeftBy-append}
 use Rattle.am_instance.specs.Deliveries.{to_silences, to_log}
 use Rattle.am_instance.specs.Stands.{Stand, kept_silences, kept_log, AreSilencesLeftBy, IsLogLeftBy}

@@ -1,6 +1,6 @@
 -- The fault of a row, as a step is answered with it.
 use Rattle.std.proofs.lemmas.List.{drop_all}
-use Rattle.std.proofs.Common.{◌≡◌, ◌<◌, ◌≤◌, ℕ, ◌+◌, List, [], ◌∷◌, ◌++◌, length, get_or, drop, drop-cons, suc, add-one, ap, refl, subst, sym, ◌∙◌}
+use Rattle.std.proofs.Common.{◌≡◌, ◌<◌, ◌≤◌, ℕ, ◌+◌, List, [], ◌++◌, length, get_or, drop, drop-cons, suc, add-one, ap, refl, sym, ◌∙◌}
 use Rattle.std.specs.Prelude.{◌≢◌, Option, Some, None, Result, option_map}
 use Rattle.am_wire.specs.declared.error.WireError.{WireError}
 use Rattle.am_wire.specs.declared.error.WireError.TheVariants as wire

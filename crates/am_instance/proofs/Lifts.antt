@@ -1,10 +1,8 @@
 -- What is said of versions of one state, said of deliveries.
-use Rattle.std.proofs.Common.{◌≡◌, ℕ, ◌+◌, List, [], ◌∷◌, ◌++◌, Bool, true, false, zero, suc, map, length, take, ap, refl, sym, subst, ◌∙◌, arith}
-use Rattle.std.specs.Prelude.{Option, Some, None, Result, Ok, Err}
-use Rattle.std.specs.List.{flat_map}
+use Rattle.std.proofs.Common.{◌≡◌, ℕ, List, [], ◌∷◌, ◌++◌, Bool, true, false, zero, suc, map, take, ap, refl, sym, ◌∙◌}
+use Rattle.std.specs.Prelude.{Option, Result, Ok, Err}
 use Rattle.std.specs.Ordering.{nat_cmp}
 use Rattle.std.specs.Cmp.Lexicographic.{slice_cmp}
-use Rattle.am_wire.specs.declared.error.WireError.{WireError}
 use Rattle.am_wire.specs.Inputs.{messages_of}
 use Rattle.am_silence.specs.Mesh.{Mesh, mesh_version}
 use Rattle.am_silence.specs.MeshTable.{reads_mesh_silence}
@@ -15,8 +13,8 @@ use Rattle.am_nflog.specs.declared.entry.LogKey.{LogKey}
 use Rattle.am_gossip.specs.declared.frame.Part.{Part}
 use Rattle.am_gossip.specs.declared.frame.StateKey.TheVariants.{Sil, Nfl}
 use Rattle.am_collect.specs.Events.{after, after_all}
-use Rattle.am_collect.specs.Events.Event.{Delivered, Passed}
-use Rattle.am_instance.specs.Deliveries.{Delivery, read_as, before_fault, first_fault, rows_of}
+use Rattle.am_collect.specs.Events.Event.{Delivered}
+use Rattle.am_instance.specs.Deliveries.{read_as, before_fault, first_fault, rows_of}
 use Rattle.am_instance.specs.Deliveries.Delivery.{OfSilence, OfEntry}
 use Rattle.am_instance.specs.Stands.{Stand, silence_at, entry_at}
 use Rattle.am_instance.specs.Changes.{changes, only_if, changed, changed_of, takings, silences_after, log_after}

@@ -1,8 +1,7 @@
 -- What a notification does, put together of its parts.
 use Rattle.std.proofs.Common.{◌≡◌, ◌<◌, ◌≤◌, ℕ, List, [], ◌∷◌, ◌++◌, Bool, true, false, map, length, ap, refl, sym, subst, ◌∙◌, inl, inr}
-use Rattle.std.specs.Prelude.{◌≢◌, ◌⊎◌, ◌&&◌, nat_lt, Option, Some, None, Result, Ok, Err, IfOk, IfErr, OnErr, if◌then◌else◌}
+use Rattle.std.specs.Prelude.{◌⊎◌, ◌&&◌, nat_lt, Option, Some, None, Result, Ok, Err, IfOk, IfErr, OnErr, if◌then◌else◌}
 use Rattle.std.proofs.lemmas.Bool.{lt-ltb, le-ltb}
-use Rattle.std.proofs.Math.Nat.{lt_of_not-le}
 use Rattle.am_wire.specs.Limits.{most}
 use Rattle.am_wire.specs.declared.error.WireError.{WireError}
 use Rattle.am_wire.specs.declared.error.WireError.TheVariants as wire_errors
@@ -20,7 +19,7 @@ use Rattle.am_instance.specs.Deliveries.Delivery.{OfEntry}
 use Rattle.am_instance.specs.Sendings.{sent_by, nothing_sent}
 use Rattle.am_instance.specs.Stands.{Stand}
 use Rattle.am_instance.specs.Replies.{IsLogged, IsNothing}
-use Rattle.am_instance.specs.Steps.{IsWork, IsLoggedHere, fault_of, step_fault}
+use Rattle.am_instance.specs.Steps.{IsWork, IsLoggedHere, step_fault}
 use Rattle.am_instance.proofs.Works.{made_work, quiet_work, stopped_work, memory_work, made_entry_here}
 
 -- the fault of a notification, by its two tests
@@ -45,8 +44,9 @@ module _ (old : Stand) (group_key : List ℕ) (receiver : Receiver) (firing reso
     log = refl;
     answer = (
       ap (λ (b : Bool). fault_by b (nat_lt most (length (writes_mesh_entry (made_entry group_key receiver firing resolved repeat old.config.retention now))))) (lt-ltb now (expiry repeat old.config.retention now) (large is).0)
-      ∙ ap (λ (b : Bool). fault_by true b) (lt-ltb most (length (writes_mesh_entry (made_entry group_key receiver firing resolved repeat old.config.retention now))) (large is).1)
-    , refl);
+          ∙ ap (λ (b : Bool). fault_by true b) (lt-ltb most (length (writes_mesh_entry (made_entry group_key receiver firing resolved repeat old.config.retention now))) (large is).1),
+      refl,
+    );
   })
 
   -- an entry that was made

@@ -1,13 +1,13 @@
 -- The row of a part, taken into the map of its state.
-use Rattle.std.proofs.Common.{◌≡◌, ◌<◌, ℕ, ◌+◌, List, [], ◌∷◌, ◌++◌, map, length, take, ap, refl, sym, subst, ◌∙◌, arith}
-use Rattle.std.specs.Prelude.{Option, None, Result, Ok, Err, OnOk, OnErr}
+use Rattle.std.proofs.Common.{◌≡◌, ℕ, ◌+◌, List, map, length, take, ap, sym, subst, ◌∙◌, arith}
+use Rattle.std.specs.Prelude.{Result, Ok, Err, OnOk, OnErr}
 use Rattle.std.proofs.lemmas.List.{length-map}
 use Rattle.std.specs.Ordering.{nat_cmp}
 use Rattle.std.specs.Cmp.Lexicographic.{slice_cmp}
 use Rattle.am_wire.specs.Inputs.{messages_of}
-use Rattle.am_silence.specs.Mesh.{Mesh, mesh_version}
+use Rattle.am_silence.specs.Mesh.{mesh_version}
 use Rattle.am_silence.specs.MeshTable.{reads_mesh_silence}
-use Rattle.am_nflog.specs.Mesh.{Mesh as LogMesh, mesh_version as entry_version}
+use Rattle.am_nflog.specs.Mesh.{mesh_version as entry_version}
 use Rattle.am_nflog.specs.MeshTable.{reads_mesh_entry}
 use Rattle.am_nflog.specs.Keys.{key_cmp}
 use Rattle.am_nflog.specs.declared.entry.LogKey.{LogKey}
@@ -53,8 +53,8 @@ module _ (part : Part) (now : ℕ) (old new : Stand) (config : new.config ≡ ol
         let xs = changed mesh_version (slice_cmp nat_cmp) now (silence_at old.silences) (before_fault (messages_of reads_mesh_silence row)) in
         subst (λ fs. Sends fs a b)
         (ap (λ (key : StateKey). deltas_of mesh_version key places xs) is ∙ ap (λ (ps : List ℕ). deltas_of mesh_version Sil ps xs) to
-            ∙ sent_silences peers now (silence_at old.silences) (entry_at old.log) (before_fault (messages_of reads_mesh_silence row))
-            ∙ ap (λ ds. deltas_to peers (changed_of now (silence_at old.silences) (entry_at old.log) ds)) all)
+        ∙ sent_silences peers now (silence_at old.silences) (entry_at old.log) (before_fault (messages_of reads_mesh_silence row))
+        ∙ ap (λ ds. deltas_to peers (changed_of now (silence_at old.silences) (entry_at old.log) ds)) all)
         sent
 
     pub silences_stopped : (before count : ℕ) → IsStoppedRow mesh_version (slice_cmp nat_cmp) now old.silences (before_fault (messages_of reads_mesh_silence row)) new.silences before count →
@@ -69,7 +69,7 @@ module _ (part : Part) (now : ℕ) (old new : Stand) (config : new.config ≡ ol
           within = omega (arith, within, size, mapped);
           counted = stop.counted;
           delivered = subst (λ ds. Delivers now ds old new) (sym (take_map OfSilence stop.number xs) ∙ ap (λ ds. take stop.number ds) all)
-            (delivers_silences now (take stop.number xs) old new config last log stop.map);
+              (delivers_silences now (take stop.number xs) old new config last log stop.map);
         }
 
   module _ (is : part.key ≡ Nfl) (silences : new.silences ≡ old.silences) (row : List ℕ) (same : row ≡ part.bytes) where
@@ -93,8 +93,8 @@ module _ (part : Part) (now : ℕ) (old new : Stand) (config : new.config ≡ ol
         let xs = changed entry_version key_cmp now (entry_at old.log) (before_fault (messages_of reads_mesh_entry row)) in
         subst (λ fs. Sends fs a b)
         (ap (λ (key : StateKey). deltas_of entry_version key places xs) is ∙ ap (λ (ps : List ℕ). deltas_of entry_version Nfl ps xs) to
-            ∙ sent_entries peers now (silence_at old.silences) (entry_at old.log) (before_fault (messages_of reads_mesh_entry row))
-            ∙ ap (λ ds. deltas_to peers (changed_of now (silence_at old.silences) (entry_at old.log) ds)) all_entries)
+        ∙ sent_entries peers now (silence_at old.silences) (entry_at old.log) (before_fault (messages_of reads_mesh_entry row))
+        ∙ ap (λ ds. deltas_to peers (changed_of now (silence_at old.silences) (entry_at old.log) ds)) all_entries)
         sent
 
     pub entries_stopped : (before count : ℕ) → IsStoppedRow entry_version key_cmp now old.log (before_fault (messages_of reads_mesh_entry row)) new.log before count →
@@ -109,5 +109,5 @@ module _ (part : Part) (now : ℕ) (old new : Stand) (config : new.config ≡ ol
           within = omega (arith, within, size, mapped);
           counted = stop.counted;
           delivered = subst (λ ds. Delivers now ds old new) (sym (take_map OfEntry stop.number xs) ∙ ap (λ ds. take stop.number ds) all_entries)
-            (delivers_entries now (take stop.number xs) old new config last silences stop.map);
+              (delivers_entries now (take stop.number xs) old new config last silences stop.map);
         }

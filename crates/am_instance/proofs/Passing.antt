@@ -1,5 +1,5 @@
 -- The events that a step is to its maps: their moments, and what they leave.
-use Rattle.std.proofs.Common.{◌≡◌, ◌≤◌, ℕ, List, [], ◌∷◌, Bool, true, false, map, ap, refl, sym, subst, ◌∙◌, take, arith}
+use Rattle.std.proofs.Common.{◌≡◌, ◌≤◌, ℕ, List, [], ◌∷◌, Bool, true, false, map, ap, refl, sym, ◌∙◌, take, arith}
 use Rattle.std.specs.Prelude.{Result, Ok, Err, if◌then◌else◌}
 use Rattle.std.specs.Ordering.{nat_cmp}
 use Rattle.std.specs.Cmp.Lexicographic.{slice_cmp}
@@ -7,8 +7,8 @@ use Rattle.am_silence.specs.Mesh.{Mesh, mesh_version}
 use Rattle.am_nflog.specs.Mesh.{Mesh as LogMesh, mesh_version as entry_version}
 use Rattle.am_nflog.specs.Keys.{key_cmp}
 use Rattle.am_merge.specs.Maps.{at}
-use Rattle.am_collect.specs.Events.{Event as MapEvent, Events, MoveForward, last_moment}
-use Rattle.am_collect.specs.Events.Event.{Passed, Collected}
+use Rattle.am_collect.specs.Events.{Event as MapEvent, MoveForward, last_moment}
+use Rattle.am_collect.specs.Events.Event.{Collected}
 use Rattle.am_collect.specs.Kept.{Kept}
 use Rattle.am_instance.specs.declared.event.Event.{Event}
 use Rattle.am_instance.specs.declared.error.StepError.{StepError}

@@ -1,5 +1,5 @@
 -- What a request does, put together of its parts.
-use Rattle.std.proofs.Common.{◌≡◌, ℕ, List, [], ◌∷◌, ◌++◌, Bool, true, false, map, ap, refl, sym, subst, ◌∙◌}
+use Rattle.std.proofs.Common.{◌≡◌, ℕ, List, [], ◌∷◌, Bool, map, ap, refl, sym, subst, ◌∙◌}
 use Rattle.std.specs.Prelude.{◌≢◌, Option, Some, None, Result, Ok, Err, IfOk, IfErr, OnOk, OnErr, is_some}
 use Rattle.am_silence.specs.Mesh.{Mesh}
 use Rattle.am_silence.specs.Ids.{id_text}
@@ -17,12 +17,11 @@ use Rattle.am_instance.specs.declared.event.Event.TheVariants as events
 use Rattle.am_instance.specs.declared.event.Request.TheVariants as requests
 use Rattle.am_instance.specs.declared.reply.Reply.{Reply}
 use Rattle.am_instance.specs.declared.reply.Reply.TheVariants as replies
-use Rattle.am_instance.specs.declared.reply.Made.{Made}
 use Rattle.am_instance.specs.declared.reply.Outcome.{Outcome}
-use Rattle.am_instance.specs.Deliveries.Delivery.{OfSilence, OfEntry}
+use Rattle.am_instance.specs.Deliveries.Delivery.{OfSilence}
 use Rattle.am_instance.specs.Stands.{Stand, silence_at}
-use Rattle.am_instance.specs.Replies.{RefusedOr, IsRefused, IsDone, IsEnded, IsPosted, IsDeleted, listed, posted_id, posted_over, silence_in_view}
-use Rattle.am_instance.specs.Steps.{IsWork, IsPlanned, IsPutHere, IsTurnedAway, post_refusal}
+use Rattle.am_instance.specs.Replies.{RefusedOr, IsDone, IsEnded, posted_id, posted_over, silence_in_view}
+use Rattle.am_instance.specs.Steps.{IsWork, IsPlanned, IsPutHere, IsTurnedAway}
 use Rattle.am_instance.proofs.Works.{made_work, quiet_work, stopped_work, made_silences}
 
 -- a plan that was carried out, as that of the versions and the reply that it names
@@ -38,15 +37,19 @@ pub planned_by : (stand : Stand) (posted : Posted) (bits now : ℕ) (verdict : V
     OnOk result (refusal held verdict id_held (post_of posted now bits stand.config.retention) ≡ None) →
     IfErr result (λ e. e ≢ silence_errors.Memory → refusal held verdict id_held (post_of posted now bits stand.config.retention) ≡ Some e) →
     IsPlanned stand posted bits now result
-planned_by stand posted bits now verdict held id_held (Ok plan) judged is known plans accepted refused =
-    (verdict, judged,
-     ap (λ (h : Option Mesh). refusal h verdict (is_some (silence_at stand.silences (id_text bits))) (post_of posted now bits stand.config.retention)) (sym is)
-        ∙ ap (λ (b : Bool). refusal held verdict b (post_of posted now bits stand.config.retention)) (sym known) ∙ accepted,
-     plans ∙ ap (λ (h : Option Mesh). planned h (post_of posted now bits stand.config.retention)) is)
-planned_by stand posted bits now verdict held id_held (Err e) judged is known plans accepted refused = λ other.
-    (verdict, judged,
-     ap (λ (h : Option Mesh). refusal h verdict (is_some (silence_at stand.silences (id_text bits))) (post_of posted now bits stand.config.retention)) (sym is)
-        ∙ ap (λ (b : Bool). refusal held verdict b (post_of posted now bits stand.config.retention)) (sym known) ∙ refused other)
+planned_by stand posted bits now verdict held id_held (Ok plan) judged is known plans accepted refused = (
+  verdict,
+  judged,
+  ap (λ (h : Option Mesh). refusal h verdict (is_some (silence_at stand.silences (id_text bits))) (post_of posted now bits stand.config.retention)) (sym is)
+      ∙ ap (λ (b : Bool). refusal held verdict b (post_of posted now bits stand.config.retention)) (sym known) ∙ accepted,
+  plans ∙ ap (λ (h : Option Mesh). planned h (post_of posted now bits stand.config.retention)) is,
+)
+planned_by stand posted bits now verdict held id_held (Err e) judged is known plans accepted refused = λ other. (
+  verdict,
+  judged,
+  ap (λ (h : Option Mesh). refusal h verdict (is_some (silence_at stand.silences (id_text bits))) (post_of posted now bits stand.config.retention)) (sym is)
+      ∙ ap (λ (b : Bool). refusal held verdict b (post_of posted now bits stand.config.retention)) (sym known) ∙ refused other,
+)
 
 -- a post that was planned and carried out
 pub post_done : (old new : Stand) (posted : Posted) (bits now : ℕ) (plan : Plan) (result : Result Outcome StepError) → IsPlanned old posted bits now (Ok plan) →

@@ -1,5 +1,5 @@
 -- Frames that are sent one after the other.
-use Rattle.std.proofs.Common.{◌≡◌, ℕ, suc, zero, ◌+◌, List, [], ◌∷◌, ◌++◌, Bool, true, false, map, ap, refl, sym, subst, ◌∙◌, append-nil, append_assoc, arith}
+use Rattle.std.proofs.Common.{◌≡◌, ℕ, ◌+◌, List, [], ◌∷◌, ◌++◌, Bool, true, false, ap, refl, sym, subst, ◌∙◌, append-nil, arith}
 use Rattle.std.specs.Prelude.{filter}
 use Rattle.std.proofs.lemmas.List.{map-id, map-append}
 use Rattle.std.proofs.lemmas.List.Elements.{filter-append}
@@ -9,7 +9,7 @@ use Rattle.std.specs.List.{flat_map, range_with_len}
 use Rattle.am_gossip.specs.declared.frame.Frame.{Frame}
 use Rattle.am_instance.specs.Configs.{is_other, places_but}
 use Rattle.am_instance.specs.Changes.{only_if}
-use Rattle.am_instance.specs.Sendings.{Sent, IsSent, Sends, addressed}
+use Rattle.am_instance.specs.Sendings.{Sent, Sends, addressed}
 
 pub sends_append : (one two : List (ℕ × Frame)) (a b c : Sent) → Sends one a b → Sends two b c → Sends (one ++ two) a c
 sends_append [] two a b c first second = subst (λ x. Sends two x c) first second
@@ -29,7 +29,7 @@ pub along_more : (n one other : ℕ) (frame : Frame) (a b c : Sent) → Sends (a
     Sends (addressed (filter (is_other one other) (n ∷ [])) frame) b c → Sends (addressed (places_but (n + 1) one other) frame) a c
 along_more n one other frame a b c first second =
     let whole : addressed (places_but n one other) frame ++ addressed (filter (is_other one other) (n ∷ [])) frame ≡ addressed (places_but (n + 1) one other) frame =
-        sym (ap (λ places. addressed places frame) (places_more n one other) ∙ map-append (λ place. (place, frame)) (places_but n one other) (filter (is_other one other) (n ∷ []))) in
+    sym (ap (λ places. addressed places frame) (places_more n one other) ∙ map-append (λ place. (place, frame)) (places_but n one other) (filter (is_other one other) (n ∷ []))) in
     subst (λ ws. Sends ws a c) whole (sends_append (addressed (places_but n one other) frame) (addressed (filter (is_other one other) (n ∷ [])) frame) a b c first second)
 
 -- what is sent of a version that changes the map, and of one that doesn't

@@ -1,6 +1,6 @@
 -- The versions of a row, taken one after the other.
-use Rattle.std.proofs.Common.{◌≡◌, ◌<◌, ◌≤◌, ℕ, ◌+◌, List, [], ◌∷◌, ◌++◌, Bool, map, length, take, ap, refl, sym, subst, ◌∙◌, append-nil, append_assoc, length-append, arith}
-use Rattle.std.specs.Prelude.{Option, Some, None, Result, Ok, Err}
+use Rattle.std.proofs.Common.{◌≡◌, ◌<◌, ℕ, ◌+◌, List, [], ◌∷◌, ◌++◌, length, take, ap, refl, sym, subst, ◌∙◌, append-nil, append_assoc, length-append, arith}
+use Rattle.std.specs.Prelude.{Option, None, Result, Ok, Err}
 use Rattle.std.proofs.lemmas.List.{map-append}
 use Rattle.std.proofs.Math.Seq.{take-append_seam}
 use Rattle.std.specs.declared.cmp.Ordering.{Ordering}
@@ -70,9 +70,9 @@ module _ {K X : Type 0} (seen : X → Version K) (cmp : K → K → Ordering) wh
           map = held ∙ ap (λ m. after_all seen cmp m (takings now (v ∷ []))) so_far.map ∙ sym (after_takings now (at seen cmp old) done (v ∷ []));
           sends =
               let whole : changed seen cmp now (at seen cmp old) done ++ only_if (changes seen now (at seen cmp mid) v) v ≡ changed seen cmp now (at seen cmp old) (done ++ v ∷ []) =
-                  ap (λ m. changed seen cmp now (at seen cmp old) done ++ only_if (changes seen now m v) v) so_far.map
-                  ∙ ap (λ xs. changed seen cmp now (at seen cmp old) done ++ xs) (sym (append-nil _))
-                  ∙ sym (changed_append now (at seen cmp old) done (v ∷ [])) in
+              ap (λ m. changed seen cmp now (at seen cmp old) done ++ only_if (changes seen now m v) v) so_far.map
+              ∙ ap (λ xs. changed seen cmp now (at seen cmp old) done ++ xs) (sym (append-nil _))
+              ∙ sym (changed_append now (at seen cmp old) done (v ∷ [])) in
               subst (λ xs. Sends (flat_map frames_of xs) a c) whole
               (sent_then frames_of (changed seen cmp now (at seen cmp old) done) (only_if (changes seen now (at seen cmp mid) v) v) a b c so_far.sends sent);
         }
@@ -80,10 +80,11 @@ module _ {K X : Type 0} (seen : X → Version K) (cmp : K → K → Ordering) wh
     pub ends : (left : List (Result X WireError)) (new : List X) (before count : ℕ) (a b : Sent) → HasTaken frames_of now old vs left new before count a b → left ≡ [] →
         (at seen cmp new ≡ after_all seen cmp (at seen cmp old) (takings now vs)) × (count ≡ before + length vs) × Sends (flat_map frames_of (changed seen cmp now (at seen cmp old) vs)) a b
     ends left new before count a b so_far none =
-        let all : so_far.done ≡ vs = sym (append-nil so_far.done) ∙ ap (λ items. so_far.done ++ before_fault items) (sym none) ∙ so_far.whole in
-        (subst (λ xs. at seen cmp new ≡ after_all seen cmp (at seen cmp old) (takings now xs)) all so_far.map,
-         subst (λ xs. count ≡ before + length xs) all so_far.counted,
-         subst (λ xs. Sends (flat_map frames_of (changed seen cmp now (at seen cmp old) xs)) a b) all so_far.sends)
+        let all : so_far.done ≡ vs = sym (append-nil so_far.done) ∙ ap (λ items. so_far.done ++ before_fault items) (sym none) ∙ so_far.whole in (
+          subst (λ xs. at seen cmp new ≡ after_all seen cmp (at seen cmp old) (takings now xs)) all so_far.map,
+          subst (λ xs. count ≡ before + length xs) all so_far.counted,
+          subst (λ xs. Sends (flat_map frames_of (changed seen cmp now (at seen cmp old) xs)) a b) all so_far.sends,
+        )
 
     pub stops : (left : List (Result X WireError)) (mid new : List X) (before count stopped : ℕ) (a b : Sent) → HasTaken frames_of now old vs left mid before count a b → 0 < length left →
         new ≡ mid → stopped ≡ count → IsStoppedRow seen cmp now old vs new before stopped

@@ -1,6 +1,6 @@
 -- What an event does, put together of its parts.
-use Rattle.std.proofs.Common.{◌≡◌, ◌<◌, ◌≤◌, ℕ, ◌+◌, List, [], ◌∷◌, ◌++◌, Bool, true, false, map, length, take, ap, refl, sym, subst, ◌∙◌, append-nil, inl, inr}
-use Rattle.std.specs.Prelude.{Option, Some, None, Result, Ok, Err, ◌⊎◌, if◌then◌else◌}
+use Rattle.std.proofs.Common.{◌≡◌, ℕ, List, [], ◌∷◌, ◌++◌, Bool, true, false, map, ap, refl, sym, subst, ◌∙◌, append-nil, inl}
+use Rattle.std.specs.Prelude.{Option, Some, None, Ok, Err, if◌then◌else◌}
 use Rattle.std.specs.Ordering.{nat_cmp}
 use Rattle.std.specs.Cmp.Lexicographic.{slice_cmp}
 use Rattle.am_nflog.specs.Keys.{key_cmp}
@@ -9,24 +9,21 @@ use Rattle.am_collect.specs.Events.Event.{Collected}
 use Rattle.am_instance.specs.declared.error.StepError.{StepError}
 use Rattle.am_silence.specs.Mesh.{Mesh, mesh_version}
 use Rattle.am_nflog.specs.Mesh.{Mesh as LogMesh, mesh_version as entry_version}
-use Rattle.am_gossip.specs.declared.frame.Frame.{Frame as GossipFrame}
 use Rattle.am_merge.specs.Maps.{if_live}
 use Rattle.am_nflog.specs.declared.entry.LogKey.{LogKey}
 use Rattle.am_instance.specs.declared.event.Event.{Event}
 use Rattle.am_instance.specs.declared.error.StepError.TheVariants.{Memory}
 use Rattle.am_instance.specs.declared.reply.Made.{Made}
-use Rattle.am_instance.specs.declared.reply.Reply.{Reply}
 use Rattle.am_instance.specs.declared.reply.Outcome.{Outcome}
 use Rattle.am_instance.specs.Configs.{peers_but}
 use Rattle.am_instance.specs.Deliveries.{Delivery, to_silences, to_log, events_at}
 use Rattle.am_instance.specs.Deliveries.Delivery.{OfSilence, OfEntry}
 use Rattle.am_instance.specs.Stands.{Stand, silence_at, entry_at}
 use Rattle.am_instance.specs.Changes.{changed_of}
-use Rattle.am_instance.specs.Sendings.{Sent, Sends, deltas_to, nothing_sent, sent_by}
+use Rattle.am_instance.specs.Sendings.{Sends, deltas_to, nothing_sent, sent_by}
 use Rattle.am_instance.specs.Replies.{IsReply, IsNothing, AreMade, listed}
-use Rattle.am_instance.specs.Steps.{IsWork, IsOutcome, AreSwept, Delivers, brought, collects, delivers, fault_of, last_wanted, made_here, origin, step_events, wanted, deltas_here}
+use Rattle.am_instance.specs.Steps.{IsWork, AreSwept, Delivers, brought, collects, delivers, fault_of, last_wanted, made_here, origin, step_events, wanted, deltas_here}
 use Rattle.am_instance.proofs.Arrivals.{delivers_none}
-use Rattle.am_instance.proofs.Sent.{sends_append}
 
 pub made_nothing : (made : Made) → IsNothing made → made_here made ≡ []
 made_nothing made nothing = ap (λ (vs : List Mesh). map OfSilence vs ++ map OfEntry (listed made.log)) nothing.silences ∙ ap (λ (e : Option LogMesh). map OfEntry (listed e)) nothing.log
@@ -78,9 +75,9 @@ pub made_work : (old new : Stand) (event : Event) (now : ℕ) (outcome : Outcome
     Sends (deltas_here old now ds) nothing_sent (sent_by outcome) → IsReply old event now outcome.reply outcome.made → IsWork old event now (Ok outcome) new
 made_work old new event now outcome ds stays brings last own sound is delivered sent reply =
     let whole : deltas_here old now ds ≡ deltas_to (peers_but old.config (origin old.config event)) (changed_of now (silence_at old.silences) (entry_at old.log) ds) ++ last_wanted event new =
-        sym (append-nil (deltas_here old now ds))
-        ∙ ap (λ (place : ℕ). deltas_to (peers_but old.config place) (changed_of now (silence_at old.silences) (entry_at old.log) ds) ++ []) (sym own)
-        ∙ ap (λ xs. deltas_to (peers_but old.config (origin old.config event)) (changed_of now (silence_at old.silences) (entry_at old.log) ds) ++ xs) (sym last) in
+    sym (append-nil (deltas_here old now ds))
+    ∙ ap (λ (place : ℕ). deltas_to (peers_but old.config place) (changed_of now (silence_at old.silences) (entry_at old.log) ds) ++ []) (sym own)
+    ∙ ap (λ xs. deltas_to (peers_but old.config (origin old.config event)) (changed_of now (silence_at old.silences) (entry_at old.log) ds) ++ xs) (sym last) in
     answered old new event now outcome ds stays (ap (λ xs. xs ++ made_here outcome.made) brings ∙ is) delivered sound
     (subst (λ xs. Sends xs nothing_sent (sent_by outcome)) whole sent) reply
 
@@ -101,7 +98,7 @@ stopped_work old new event now e is same = subst (λ error. IsWork old event now
 nothing_wanted : (old new : Stand) (event : Event) (now : ℕ) (made : Made) → brought event ≡ [] → last_wanted event new ≡ [] → IsNothing made → wanted old event now made new ≡ []
 nothing_wanted old new event now made brings last nothing =
     ap (λ ds. deltas_to (peers_but old.config (origin old.config event)) (changed_of now (silence_at old.silences) (entry_at old.log) ds) ++ last_wanted event new)
-        (ap (λ xs. xs ++ made_here made) brings ∙ made_nothing made nothing)
+    (ap (λ xs. xs ++ made_here made) brings ∙ made_nothing made nothing)
     ∙ last
 
 -- an event that collects

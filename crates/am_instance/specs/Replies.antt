@@ -1,7 +1,6 @@
 -- What a step answers, and which versions it makes here.
-use Rattle.std.specs.Prelude.{◌≡◌, ◌≢◌, ℕ, ◌≤◌, ◌<◌, Bool, true, false, not, List, [], ◌∷◌, ◌++◌, map, filter, Option, Some, None, is_some, option_map, nat_le, nat_lt, if◌then◌else◌}
+use Rattle.std.specs.Prelude.{◌≡◌, ℕ, Bool, true, false, List, [], ◌∷◌, map, filter, Option, Some, None, is_some, option_map, nat_lt}
 use Rattle.std.specs.List.{list_all}
-use Rattle.am_wire.specs.Limits.{most}
 use Rattle.am_silence.specs.Mesh.{Mesh}
 use Rattle.am_silence.specs.States.{state_of}
 use Rattle.am_silence.specs.Ids.{id_text}
@@ -17,9 +16,8 @@ use Rattle.am_silence.specs.Plans.{post_of, planned, versions, ended_of}
 use Rattle.am_silence.specs.Refusals.{refusal, end_refusal}
 use Rattle.am_matcher.specs.Matching.{passes, IsVerdict}
 use Rattle.am_matcher.specs.Mutes.{AreMuted}
-use Rattle.am_nflog.specs.Mesh.{Mesh as LogMesh, mesh_version as entry_version, writes_mesh_entry}
+use Rattle.am_nflog.specs.Mesh.{Mesh as LogMesh, mesh_version as entry_version}
 use Rattle.am_nflog.specs.Made.{made_entry, expiry}
-use Rattle.am_nflog.specs.declared.receiver.Receiver.{Receiver}
 use Rattle.am_nflog.specs.declared.entry.LogKey.{LogKey}
 use Rattle.am_dedup.specs.Decisions.{decision, logged, set_of}
 use Rattle.am_merge.specs.Maps.{if_live}

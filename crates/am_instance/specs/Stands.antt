@@ -6,7 +6,7 @@ use Rattle.am_silence.specs.Mesh.{Mesh, mesh_version}
 use Rattle.am_nflog.specs.Mesh.{Mesh as LogMesh, mesh_version as entry_version}
 use Rattle.am_nflog.specs.Keys.{key_cmp}
 use Rattle.am_nflog.specs.declared.entry.LogKey.{LogKey}
-use Rattle.am_merge.specs.Maps.{IsMap, at, swept}
+use Rattle.am_merge.specs.Maps.{at, swept}
 use Rattle.am_collect.specs.Kept.{Kept}
 use Rattle.am_collect.specs.Events.{Events}
 use Rattle.am_collect.specs.Keepers.{IsLeftBy}

@@ -28,7 +28,10 @@ pub enum Request {
 pub enum Event {
     Request(Request),
     /// A frame that came from a peer.
-    Frame { sender: Place, frame: Frame },
+    Frame {
+        sender: Place,
+        frame: Frame,
+    },
     /// A group was notified: its key, the receiver, the hashes of its alerts, and after how many nanoseconds the
     /// notification is to be repeated.
     Notified {
@@ -48,7 +51,9 @@ pub enum Event {
         send_resolved: bool,
     },
     /// Which silences mute an alert with these labels.
-    Mutes { labels: Labels },
+    Mutes {
+        labels: Labels,
+    },
     /// Both views.
     Show,
     /// A collection of both states.

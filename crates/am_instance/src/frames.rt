@@ -25,7 +25,12 @@ use std::alloc::{AllocError, Global};
 
 impl Instance {
     /// Takes what a frame brings, sends on what changed, and answers a Push with the own states.
-    pub(crate) fn receive(&mut self, sender: Place, frame: Frame, now: Moment) -> Result<Outcome, StepError>
+    pub(crate) fn receive(
+        &mut self,
+        sender: Place,
+        frame: Frame,
+        now: Moment,
+    ) -> Result<Outcome, StepError>
         ensures { IsWork self.old (events.Frame sender frame) now result self.new }
     {
         match frame {
@@ -128,8 +133,22 @@ impl Instance {
         };
         let row = part.bytes.as_slice();
         match part.key {
-            StateKey::Sil => take_row::<MeshSilence>(self.alloc, &mut self.silences, row, &taking, outbox, taken),
-            StateKey::Nfl => take_row::<MeshEntry>(self.alloc, &mut self.log, row, &taking, outbox, taken),
+            StateKey::Sil => take_row::<MeshSilence>(
+                self.alloc,
+                &mut self.silences,
+                row,
+                &taking,
+                outbox,
+                taken,
+            ),
+            StateKey::Nfl => take_row::<MeshEntry>(
+                self.alloc,
+                &mut self.log,
+                row,
+                &taking,
+                outbox,
+                taken,
+            ),
         }
     }
 

@@ -42,7 +42,9 @@ impl Instance {
         ensures { IsWork self.old (events.Notified group_key receiver firing resolved repeat) now result self.new }
     {
         let retention = self.config.retention();
-        let entry = make_entry(self.alloc, group_key, receiver, firing, resolved, repeat, retention, now)?;
+        let entry = make_entry(
+            self.alloc, group_key, receiver, firing, resolved, repeat, retention, now,
+        )?;
         match entry {
             Some(entry) => self.put_entry(entry, now),
             None => Ok(quiet(self.alloc, Reply::Logged(false))),
@@ -67,7 +69,11 @@ impl Instance {
         ensures { Sends (deltas_to (peers_but self.now.config self.now.config.place) (only_if (is_changed taken) (OfEntry entry.now))) outbox.old outbox.new }
     {
         if is_changed(taken) {
-            outbox.send_version(self.route(self.config.place()), StateKey::Nfl, entry.canonical());
+            outbox.send_version(
+                self.route(self.config.place()),
+                StateKey::Nfl,
+                entry.canonical(),
+            );
         }
     }
 

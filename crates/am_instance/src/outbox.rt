@@ -78,7 +78,10 @@ impl Outbox {
         Outbox {
             alloc,
             frames: Vec::new(alloc),
-            unsent: Unsent { memory: 0, limit: 0 },
+            unsent: Unsent {
+                memory: 0,
+                limit: 0,
+            },
         }
     }
 
@@ -225,7 +228,13 @@ fn whole_state(
     let silences = row_bytes(alloc, silences, of_silences)?;
     let log = row_bytes(alloc, log, of_log)?;
     let mut parts = Vec::with_capacity(alloc, 2)?;
-    parts.push(Part { key: StateKey::Sil, bytes: silences })?;
-    parts.push(Part { key: StateKey::Nfl, bytes: log })?;
+    parts.push(Part {
+        key: StateKey::Sil,
+        bytes: silences,
+    })?;
+    parts.push(Part {
+        key: StateKey::Nfl,
+        bytes: log,
+    })?;
     Ok(FullState::new(parts))
 }

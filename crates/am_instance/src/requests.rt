@@ -27,7 +27,8 @@ use am_gossip::StateKey;
 use am_matcher::{Filter, verdict};
 use am_merge::{Held, Taken};
 use am_silence::{
-    Matchers, MeshSilence, Plan, Posted, SilenceError, Verdict, fresh_id, plan_expire, plan_post, state_at,
+    Matchers, MeshSilence, Plan, Posted, SilenceError, Verdict, fresh_id, plan_expire, plan_post,
+    state_at,
 };
 use am_version_order::{Moment, Version};
 use am_wire::Text;
@@ -127,7 +128,12 @@ impl Instance {
     }
 
     /// Takes a version of a silence that was made here, and sends it on where that changes the map.
-    fn put_one(&mut self, version: MeshSilence, reply: Reply, now: Moment) -> Result<Outcome, StepError>
+    fn put_one(
+        &mut self,
+        version: MeshSilence,
+        reply: Reply,
+        now: Moment,
+    ) -> Result<Outcome, StepError>
         ensures put { IfOk result (λ outcome. IsPutHere self.old (version ∷ []) reply now outcome self.new) }
         ensures err { IfErr result (λ e. e ≡ errors.Memory 0) }
         ensures unchanged { OnErr result (self.new ≡ self.old) }
@@ -140,7 +146,13 @@ impl Instance {
     }
 
     /// Takes a new silence and the end of another, or neither, and sends on what changes the map.
-    fn put_pair(&mut self, new: MeshSilence, old: MeshSilence, reply: Reply, now: Moment) -> Result<Outcome, StepError>
+    fn put_pair(
+        &mut self,
+        new: MeshSilence,
+        old: MeshSilence,
+        reply: Reply,
+        now: Moment,
+    ) -> Result<Outcome, StepError>
         ensures put { IfOk result (λ outcome. IsPutHere self.old (new ∷ old ∷ []) reply now outcome self.new) }
         ensures err { IfErr result (λ e. e ≡ errors.Memory 0) }
         ensures unchanged { OnErr result (self.new ≡ self.old) }
@@ -159,7 +171,11 @@ impl Instance {
         ensures { Sends (deltas_to (peers_but self.now.config self.now.config.place) (only_if (is_changed taken) (OfSilence version.now))) outbox.old outbox.new }
     {
         if is_changed(taken) {
-            outbox.send_version(self.route(self.config.place()), StateKey::Sil, version.canonical());
+            outbox.send_version(
+                self.route(self.config.place()),
+                StateKey::Sil,
+                version.canonical(),
+            );
         }
     }
 }
@@ -179,7 +195,11 @@ fn is_held(silences: &Held<MeshSilence>, id: &Text) -> bool
 }
 
 /// The silence in view of the identifier that is posted, where one is.
-fn posted_over<'a>(silences: &'a Held<MeshSilence>, id: Option<&Text>, now: Moment) -> Option<&'a MeshSilence>
+fn posted_over<'a>(
+    silences: &'a Held<MeshSilence>,
+    id: Option<&Text>,
+    now: Moment,
+) -> Option<&'a MeshSilence>
     ensures { option_copied result ≡ posted_over now silences.now (option_copied id.entry) }
 {
     match id {
@@ -205,7 +225,11 @@ fn copies_of_one(alloc: Global, version: &MeshSilence) -> Result<Vec<MeshSilence
 }
 
 /// Copies of two versions, in order.
-fn copies_of_pair(alloc: Global, first: &MeshSilence, second: &MeshSilence) -> Result<Vec<MeshSilence>, AllocError>
+fn copies_of_pair(
+    alloc: Global,
+    first: &MeshSilence,
+    second: &MeshSilence,
+) -> Result<Vec<MeshSilence>, AllocError>
     ensures { IfOk result (λ copies. copies.items ≡ first.now ∷ second.now ∷ []) }
 {
     let mut copies = Vec::with_capacity(alloc, 2)?;

@@ -1,4 +1,4 @@
-use Rattle.std.proofs.Common.{◌≡◌, sym, ◌∙◌}
+use Rattle.std.proofs.Common.{◌∙◌}
 use Rattle.std.proofs.lemmas.Result.{err_from_is_err_and}
 use Rattle.am_instance.specs.Deliveries.{first_fault, rows_of}
 use Rattle.am_instance.proofs.Lifts.{silence_fault, log_fault}

@@ -1,4 +1,4 @@
-use Rattle.std.proofs.Common.{◌≡◌, ◌+◌, ap, sym, subst, ◌∙◌, drop}
+use Rattle.std.proofs.Common.{◌+◌, ap, sym, subst, ◌∙◌, drop}
 use Rattle.std.proofs.lemmas.Result.{err_from_is_err_and}
 use Rattle.am_instance.specs.Deliveries.{first_fault, rows_of, rows_in}
 use Rattle.am_instance.specs.Steps.{IsJudgement}

@@ -1,4 +1,4 @@
-use Rattle.std.proofs.Common.{◌≡◌, ◌<◌, ◌+◌, ℕ, length, arith}
+use Rattle.std.proofs.Common.{arith}
 use Rattle.std.proofs.Math.Nat.{lt_of_not-le}
 use Rattle.am_gossip.proofs.Limits.{states_over}
 use Rattle.am_silence.specs.Mesh.{mesh_version}

@@ -1,6 +1,6 @@
 use Rattle.std.proofs.Common.{◌≡◌, ◌<◌, ◌∷◌, List, length, ap, refl, sym, subst, ◌∙◌, arith}
 use Rattle.std.proofs.lemmas.Result.{err_from_is_err_and}
-use Rattle.std.specs.Prelude.{Option, Some, Result, Ok, Err}
+use Rattle.std.specs.Prelude.{Some, Result, Ok, Err}
 use Rattle.am_wire.specs.Inputs.{GivesNext}
 use Rattle.am_wire.specs.declared.error.WireError.{WireError}
 use Rattle.am_instance.specs.Deliveries.{before_fault, first_fault}

@@ -1,4 +1,3 @@
-use Rattle.std.proofs.Common.{◌≡◌, refl}
 use Rattle.am_instance.proofs.instance.Instance.answer.Goals as goal
 
 pub returns-in-List : goal.returns-in-List

@@ -1,4 +1,4 @@
-use Rattle.std.proofs.Common.{◌≡◌, ℕ, List, refl, ap, sym, ◌∙◌}
+use Rattle.std.proofs.Common.{ℕ, List, ap, sym, ◌∙◌}
 use Rattle.am_silence.specs.Plans.{versions}
 use Rattle.am_instance.specs.declared.reply.Reply.TheVariants as replies
 use Rattle.am_instance.proofs.RequestWorks.{carried}

@@ -1,4 +1,4 @@
-use Rattle.std.proofs.Common.{◌≡◌, refl}
+use Rattle.std.proofs.Common.{refl}
 use Rattle.std.proofs.lemmas.Result.{err_from_is_err_and}
 use Rattle.am_instance.proofs.Works.{quiet_work, stopped_work}
 use Rattle.am_instance.proofs.instance.Instance.list.Goals as goal
@@ -11,4 +11,4 @@ returns-in_err-rows c =
 pub returns : goal.returns
 returns c =
     rw (← c.self.view_is) (quiet_work _ _ c.args.now c.quiet.result refl refl refl refl c.quiet.ensures.sent c.quiet.ensures.made
-        (rw c.quiet.ensures.reply c.in_ok-rows.ensures.rows, c.quiet.ensures.made))
+    (rw c.quiet.ensures.reply c.in_ok-rows.ensures.rows, c.quiet.ensures.made))

@@ -1,5 +1,5 @@
 use Rattle.std.proofs.Common.{◌≡◌, ◌<◌, ◌≤◌, ℕ, length, refl, ap, sym, subst, ◌∙◌}
-use Rattle.std.specs.Prelude.{Option, Some, None, IfSome, IsNone, Result, Ok, Err}
+use Rattle.std.specs.Prelude.{Option, IfSome, IsNone, Err}
 use Rattle.std.proofs.Math.Nat.{lt_of_not-le}
 use Rattle.std.proofs.lemmas.Result.{err_from_is_err_and}
 use Rattle.am_wire.specs.Limits.{most}
@@ -15,8 +15,8 @@ returns-in_err-entry c =
     let p = err_from_is_err_and c.from_residual.result c.from_residual.ensures.1 in
     let r : c.retention-retention.result ≡ c.args.self.now.config.retention = c.retention-retention.ensures ∙ ap (λ (s : Stand). s.config.retention) c.self.view_is in
     rw (p.1, p.2) (note_refused c.args.self.now c.args.group_key c.args.receiver c.args.firing c.args.resolved c.args.repeat c.args.now c.in_err-entry.field-0.0 c.in_err-entry.ensures.refused
-        (λ is. subst (λ (n : ℕ). (c.args.now < expiry c.args.repeat n c.args.now) × (most < length (writes_mesh_entry (made_entry c.args.group_key c.args.receiver c.args.firing c.args.resolved c.args.repeat n c.args.now)))) r
-            (c.in_err-entry.ensures.too_large.0 (ap (λ (e : WireError). Err e) is))))
+    (λ is. subst (λ (n : ℕ). (c.args.now < expiry c.args.repeat n c.args.now) × (most < length (writes_mesh_entry (made_entry c.args.group_key c.args.receiver c.args.firing c.args.resolved c.args.repeat n c.args.now)))) r
+    (c.in_err-entry.ensures.too_large.0 (ap (λ (e : WireError). Err e) is))))
 
 pub returns-in-Some : goal.returns-in-Some
 returns-in-Some c =
@@ -28,7 +28,7 @@ returns-in-Some c =
     (made ∙ ap (λ (n : ℕ). made_entry c.args.group_key c.args.receiver c.args.firing c.args.resolved c.args.repeat n c.args.now) r)
     (subst (λ (n : ℕ). c.args.now < expiry c.args.repeat n c.args.now) r comes)
     (subst (λ (n : ℕ). ¬ ((c.args.now < expiry c.args.repeat n c.args.now) × (most < length (writes_mesh_entry (made_entry c.args.group_key c.args.receiver c.args.firing c.args.resolved c.args.repeat n c.args.now))))) r
-        (λ both. let never = known.too_large.1 both in absurd cc))
+    (λ both. let never = known.too_large.1 both in absurd cc))
     c.put_entry.ensures.put c.put_entry.ensures.err c.put_entry.ensures.unchanged
 
 pub returns-in-None : goal.returns-in-None

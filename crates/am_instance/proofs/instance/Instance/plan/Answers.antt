@@ -1,4 +1,4 @@
-use Rattle.std.proofs.Common.{◌≡◌, ℕ, List, refl, ap, sym, subst, ◌∙◌}
+use Rattle.std.proofs.Common.{◌≡◌, ℕ, List, ap, subst, ◌∙◌}
 use Rattle.std.specs.Prelude.{◌≢◌, Option, Some, None, is_some, IfOk, IfErr, OnOk}
 use Rattle.std.specs.Option.{option_copied}
 use Rattle.std.proofs.lemmas.Result.{err_from_is_err_and}
@@ -26,11 +26,11 @@ returns c =
     let stand = c.args.self.now in
     let held = option_copied c.posted_over-held.result in
     let is : held ≡ posted_over c.args.now stand.silences c.args.posted.id =
-        c.posted_over-held.ensures ∙ ap (λ (id : Option (List ℕ)). posted_over c.args.now c.self.inside.silences id) c.as_ref.ensures.value
-        ∙ ap (λ (s : Stand). posted_over c.args.now s.silences c.args.posted.id) c.self.view_is in
+    c.posted_over-held.ensures ∙ ap (λ (id : Option (List ℕ)). posted_over c.args.now c.self.inside.silences id) c.as_ref.ensures.value
+    ∙ ap (λ (s : Stand). posted_over c.args.now s.silences c.args.posted.id) c.self.view_is in
     let known : c.is_held-id_held.result ≡ is_some (silence_at stand.silences (id_text c.args.bits)) =
-        c.is_held-id_held.ensures ∙ ap (λ (id : List ℕ). is_some (silence_at c.self.inside.silences id)) (c.in_ok-fresh.ensures ∙ c.as_str.ensures ∙ c.fresh_id.ensures)
-        ∙ ap (λ (s : Stand). is_some (silence_at s.silences (id_text c.args.bits))) c.self.view_is in
+    c.is_held-id_held.ensures ∙ ap (λ (id : List ℕ). is_some (silence_at c.self.inside.silences id)) (c.in_ok-fresh.ensures ∙ c.as_str.ensures ∙ c.fresh_id.ensures)
+    ∙ ap (λ (s : Stand). is_some (silence_at s.silences (id_text c.args.bits))) c.self.view_is in
     let retention : c.retention-retention.result ≡ stand.config.retention = c.retention-retention.ensures ∙ ap (λ (s : Stand). s.config.retention) c.self.view_is in
     planned_by stand c.args.posted c.args.bits c.args.now c.in_ok-verdict.verdict held c.is_held-id_held.result c.plan_post.result c.in_ok-verdict.ensures is known
     (subst (λ (r : ℕ). IfOk c.plan_post.result (λ plan. plan ≡ planned held (post_of c.args.posted c.args.now c.args.bits r))) retention c.plan_post.ensures.planned)

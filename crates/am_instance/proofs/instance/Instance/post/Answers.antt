@@ -1,4 +1,3 @@
-use Rattle.std.proofs.Common.{◌≡◌, refl}
 use Rattle.am_instance.proofs.RequestWorks.{post_done, post_refused}
 use Rattle.am_instance.proofs.instance.Instance.post.Goals as goal
 

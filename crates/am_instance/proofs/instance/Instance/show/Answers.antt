@@ -1,4 +1,4 @@
-use Rattle.std.proofs.Common.{◌≡◌, List, refl, ap, ◌∙◌}
+use Rattle.std.proofs.Common.{List, refl, ap, ◌∙◌}
 use Rattle.std.proofs.lemmas.Result.{err_from_is_err_and}
 use Rattle.am_silence.specs.declared.matcher.Matcher.{Matcher}
 use Rattle.am_instance.specs.Replies.{silences_shown}
@@ -19,4 +19,4 @@ pub returns : goal.returns
 returns c =
     let rows = c.in_ok-silences.ensures.rows ∙ ap (λ (filters : List Matcher). silences_shown c.args.now filters c.self.inside.silences) c.new.ensures.items in
     rw (← c.self.view_is) (quiet_work _ _ c.args.now c.quiet.result refl refl refl refl c.quiet.ensures.sent c.quiet.ensures.made
-        (rw c.quiet.ensures.reply (rows, c.in_ok-log.ensures), c.quiet.ensures.made))
+    (rw c.quiet.ensures.reply (rows, c.in_ok-log.ensures), c.quiet.ensures.made))

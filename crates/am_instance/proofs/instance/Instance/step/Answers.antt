@@ -1,4 +1,4 @@
-use Rattle.std.proofs.Common.{◌≡◌, refl, ap, sym, ◌∙◌}
+use Rattle.std.proofs.Common.{refl, ap, sym, ◌∙◌}
 use Rattle.am_instance.specs.Stands.{Stand}
 use Rattle.am_instance.proofs.Passing.{silences_left, log_left}
 use Rattle.am_instance.proofs.instance.Instance.step.Goals as goal

@@ -1,4 +1,3 @@
-use Rattle.std.proofs.Common.{◌≡◌}
 use Rattle.std.proofs.lemmas.Result.{err_from_is_err_and}
 use Rattle.am_instance.proofs.FrameWorks.{judged_arrival, stopped_arrival}
 use Rattle.am_instance.proofs.instance.Instance.take_in.Goals as goal

@@ -1,4 +1,4 @@
-use Rattle.std.proofs.Common.{◌≡◌, refl, sym, ◌∙◌}
+use Rattle.std.proofs.Common.{refl, sym, ◌∙◌}
 use Rattle.am_instance.specs.Stands.{Stand}
 use Rattle.am_instance.proofs.Lifts.{silence_fault, log_fault}
 use Rattle.am_instance.proofs.PartTakings.{on_ok, on_err, silences_delivered, silences_counted, silences_sent, silences_stopped, entries_delivered, entries_counted, entries_sent, entries_stopped}

@@ -1,4 +1,4 @@
-use Rattle.std.proofs.Common.{◌≡◌, ◌+◌, ap, refl, sym, subst, ◌∙◌, drop}
+use Rattle.std.proofs.Common.{◌+◌, ap, refl, sym, ◌∙◌, drop}
 use Rattle.std.proofs.lemmas.Result.{err_from_is_err_and}
 use Rattle.am_instance.specs.Configs.{peers_but}
 use Rattle.am_instance.specs.Deliveries.{first_fault, rows_of, rows_in}
@@ -36,4 +36,4 @@ returns-in_err-take_part-clause-stopped c =
     let p = err_from_is_err_and c.from_residual.result c.from_residual.ensures.1 in
     let split = rows_at c.args.parts.now c.loop-part.part-index c.part-item.result c.loop-part-test.true c.part-item.is in
     rw p.1 (stops _ _ _ _ _ (rows_of c.part-item.result) (rows_in (drop (c.loop-part.part-index + 1) c.args.parts.now)) c.loop-part.self c.take_part.new.self _ c.loop-part.taken c.take_part.new.taken _ _
-        c.loop-part.invariant split c.in_err-take_part.ensures.stopped)
+    c.loop-part.invariant split c.in_err-take_part.ensures.stopped)

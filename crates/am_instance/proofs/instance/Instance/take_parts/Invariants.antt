@@ -1,4 +1,4 @@
-use Rattle.std.proofs.Common.{◌≡◌, drop}
+use Rattle.std.proofs.Common.{drop}
 use Rattle.am_instance.specs.Configs.{peers_but}
 use Rattle.am_instance.specs.Deliveries.{before_fault, rows_in}
 use Rattle.am_instance.proofs.Arrivals.{HasDelivered}

@@ -1,4 +1,3 @@
-use Rattle.std.proofs.Common.{◌≡◌, refl}
 use Rattle.am_instance.proofs.instance.Instance.work.Goals as goal
 
 pub returns-in-Request : goal.returns-in-Request

@@ -7,11 +7,11 @@ use Rattle.am_instance.proofs.outbox.Outbox.send_delta.Goals as goal
 pub returns-then-not-delta_fits : goal.returns-then-not-delta_fits
 returns-then-not-delta_fits c =
     let over : fits (Delta (record { key = c.args.key; bytes = delimited c.args.content.now })) ≡ false =
-        sym (c.delta_fits.ensures (record { key = c.args.key; bytes = delimited c.args.content.now }) refl c.delimited_length.ensures) ∙ c.if-not-delta_fits.true in
+    sym (c.delta_fits.ensures (record { key = c.args.key; bytes = delimited c.args.content.now }) refl c.delimited_length.ensures) ∙ c.if-not-delta_fits.true in
     record { fitting = λ fitting. absurd cc; too_long = λ _. c.count_limit.ensures }
 
 pub returns-in-None : goal.returns-in-None
 returns-in-None c =
     let within : fits (Delta (record { key = c.args.key; bytes = delimited c.args.content.now })) ≡ true =
-        sym (c.delta_fits.ensures (record { key = c.args.key; bytes = delimited c.args.content.now }) refl c.delimited_length.ensures) ∙ c.if-not-delta_fits.false in
+    sym (c.delta_fits.ensures (record { key = c.args.key; bytes = delimited c.args.content.now }) refl c.delimited_length.ensures) ∙ c.if-not-delta_fits.false in
     record { fitting = λ _. inr c.count_memory.ensures; too_long = λ over. absurd cc }
