@@ -9,3 +9,4 @@ pub mod Spellings
 pub mod Decomposed
 pub mod Written
 pub mod Greeted
+pub mod Limits

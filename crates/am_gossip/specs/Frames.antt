@@ -1,5 +1,5 @@
 -- The text of a frame: the byte of its kind, the length of its payload, and the payload.
-use Rattle.std.specs.Prelude.{ℕ, List, [], ◌∷◌, ◌++◌, length, Result, Ok}
+use Rattle.std.specs.Prelude.{ℕ, Bool, nat_le, List, [], ◌∷◌, ◌++◌, length, Result, Ok}
 use Rattle.am_wire.specs.Varint.{shortest}
 use Rattle.am_gossip.specs.declared.error.FrameError.{FrameError}
 use Rattle.am_gossip.specs.declared.kind.FrameKind.{FrameKind}
@@ -7,7 +7,9 @@ use Rattle.am_gossip.specs.declared.kind.FrameKind.TheVariants as kinds
 use Rattle.am_gossip.specs.declared.frame.Frame.{Frame}
 use Rattle.am_gossip.specs.declared.frame.Frame.TheVariants.{Delta, Push, Pull, Tick}
 use Rattle.am_gossip.specs.Answers.{◌>>=◌}
-use Rattle.am_gossip.specs.Kinds.{code_of}
+use Rattle.am_gossip.specs.Kinds.{code_of, limit}
+use Rattle.am_gossip.specs.declared.frame.Part.{Part}
+use Rattle.am_gossip.specs.declared.frame.StateKey.TheVariants as keys
 use Rattle.am_gossip.specs.Parts.{reads_part, writes_part, reads_parts, writes_parts}
 
 abbrev pub kind_of : Frame → FrameKind
@@ -26,6 +28,14 @@ payload_text Tick = []
 -- the one text that is written for a frame
 abbrev pub frame_text : Frame → List ℕ
 frame_text f = code_of (kind_of f) ∷ (shortest (length (payload_text f)) ++ payload_text f)
+
+-- the payload keeps the limit of its kind
+abbrev pub fits : Frame → Bool
+fits f = nat_le (length (payload_text f)) (limit (kind_of f))
+
+-- the parts of a full state, by the rows of both states, the silences first
+abbrev pub states : List ℕ → List ℕ → List Part
+states silences log = record { key = keys.Sil; bytes = silences } ∷ record { key = keys.Nfl; bytes = log } ∷ []
 
 -- the frame of a kind that a payload spells, or the first fault in it
 unfoldable pub reads_payload : FrameKind → List ℕ → Result Frame FrameError

@@ -1,14 +1,18 @@
 //! Frames as they are written. How long each part is, is known before anything is written.
 
 ghost use Rattle.std.specs.Prelude.{◌≡◌, ℕ, List, ◌++◌, ◌+◌, ◌<◌, ◌≤◌, ◌^◌, ◌⊎◌, ◌↔◌, Err, length, OnOk, IfOk, IfErr};
+ghost use Rattle.am_wire.specs.Sizes.{counted};
 ghost use Rattle.am_wire.specs.Varint.{shortest};
 ghost use Rattle.am_wire.specs.Writing.{writes_delimited, writes_text};
 ghost use Rattle.am_gossip.specs.Kinds.{limit};
 ghost use Rattle.am_gossip.specs.Parts.{writes_part, writes_parts};
-ghost use Rattle.am_gossip.specs.Frames.{frame_text, kind_of, payload_text};
+ghost use Rattle.am_gossip.specs.Frames.{fits, frame_text, kind_of, payload_text, states};
+ghost use Rattle.am_gossip.specs.declared.frame.Part.{Part};
+ghost use Rattle.am_gossip.specs.declared.frame.Frame.TheVariants as frames;
 
 use crate::error::FrameError;
-use crate::frame::{Frame, Part};
+use crate::frame::{Frame, Part, StateKey};
+use crate::kind::FrameKind;
 use am_wire::write_varint;
 use am_wire::writing::{write_bytes, write_text};
 use std::alloc::{AllocError, Global};
@@ -34,25 +38,35 @@ fn chunk_len(number: u32, size: u64) -> u64
     varint_len(u64::from(number) * 8 + 2) + varint_len(size) + size
 }
 
-/// How many bytes a field of these bytes has; where there are none, it is left out.
-fn bytes_len(number: u32, bytes: &[u8]) -> u64
-    requires { number < 2 ^ 29 }
-    ensures exact { result ≡ length (writes_text number bytes.now) }
-    ensures bounded { result ≤ length bytes.now + 20 }
+/// How many bytes a field of so many bytes has; where there are none, it is left out.
+fn bytes_len(number: u32, size: u64) -> u64
+    requires number { number < 2 ^ 29 }
+    requires size { size + 20 < 2 ^ 64 }
+    ensures exact { (bytes : List ℕ) → length bytes ≡ size → result ≡ length (writes_text number bytes) }
+    ensures bounded { result ≤ size + 20 }
 {
-    if bytes.is_empty() {
+    if size == 0 {
         0
     } else {
-        chunk_len(number, bytes.len() as u64)
+        chunk_len(number, size)
     }
 }
 
+/// How many bytes a part has that holds so many bytes.
 #[tactic(auto, unfolding(crate::specs::Parts::writes_part))]
+fn part_size(key: StateKey, size: u64) -> u64
+    requires { size + 100 < 2 ^ 64 }
+    ensures exact { (part : Part) → part.key ≡ key → length part.bytes ≡ size → result ≡ length (writes_part part) }
+    ensures bounded { result ≤ size + 60 }
+{
+    bytes_len(1, key.as_str().len() as u64) + bytes_len(2, size)
+}
+
 fn part_len(part: &Part) -> u64
     ensures exact { result ≡ length (writes_part part.now) }
     ensures bounded { result + 40 < 2 ^ 64 }
 {
-    bytes_len(1, part.key.as_str().as_bytes()) + bytes_len(2, part.bytes.as_slice())
+    part_size(part.key, part.bytes.as_slice().len() as u64)
 }
 
 /// How many bytes a full state has.
@@ -145,4 +159,30 @@ pub fn encode_frame(alloc: Global, frame: &Frame) -> Result<Vec<u8>, FrameError>
     append_varint(&mut out, size)?;
     push_payload(&mut out, frame)?;
     Ok(out)
+}
+
+/// Whether a Delta keeps its limit whose part holds so many bytes, where [`u64::MAX`] stands for every number that is
+/// no less. It takes no memory.
+pub fn delta_fits(key: StateKey, size: u64) -> bool
+    ensures { (part : Part) → part.key ≡ key → size ≡ counted (length part.bytes) → result ≡ fits (frames.Delta part) }
+{
+    let limit = FrameKind::Delta.limit();
+    size <= limit && part_size(key, size) <= limit
+}
+
+/// Whether a Push, or a Pull, keeps its limit whose parts hold so many bytes of silences and so many of the log. It
+/// takes no memory.
+#[tactic(auto, unfolding(crate::specs::Parts::writes_parts))]
+pub fn states_fit(silences: u64, log: u64) -> bool
+    ensures push { (row_of_silences row_of_log : List ℕ) → length row_of_silences ≡ silences → length row_of_log ≡ log →
+        result ≡ fits (frames.Push (states row_of_silences row_of_log)) }
+    ensures pull { (row_of_silences row_of_log : List ℕ) → length row_of_silences ≡ silences → length row_of_log ≡ log →
+        result ≡ fits (frames.Pull (states row_of_silences row_of_log)) }
+{
+    let limit = FrameKind::Push.limit();
+    if silences > limit || log > limit {
+        return false;
+    }
+    let len = chunk_len(1, part_size(StateKey::Sil, silences)) + chunk_len(1, part_size(StateKey::Nfl, log));
+    len <= limit
 }

@@ -16,7 +16,7 @@ mod payload;
 mod reading;
 
 pub use am_wire::Bytes;
-pub use encode::encode_frame;
+pub use encode::{delta_fits, encode_frame, states_fit};
 pub use error::FrameError;
 pub use feeder::{Fed, Feeder};
 pub use frame::{Frame, FullState, Part, StateKey};

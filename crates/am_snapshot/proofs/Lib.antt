@@ -1,5 +1,4 @@
 pub mod Passing
-pub mod RowTexts
 pub mod Whole
 pub mod Ends
 pub mod RowReads

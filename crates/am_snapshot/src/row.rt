@@ -4,27 +4,25 @@ ghost use Rattle.std.specs.Prelude.{◌≡◌, ◌+◌, ◌<◌, ◌≤◌, ◌^
 ghost use Rattle.std.specs.Option.{SomeIff};
 ghost use Rattle.am_wire.specs.Writing.{delimited};
 ghost use Rattle.am_wire.specs.Limits.{most};
-ghost use Rattle.am_snapshot.specs.Texts.{row_text};
+ghost use Rattle.am_rows.specs.Texts.{row_text};
 ghost use Rattle.am_snapshot.specs.Writing.{Passes, TakesPart};
 ghost use Rattle.am_snapshot.specs.Rows.{Writes};
 ghost use Rattle.am_snapshot.specs.Saving.{IsSavable};
 
 use crate::outgoing::{Outgoing, Stopped};
 use am_merge::Held;
+use am_rows::row_length;
 use am_version_order::Version;
-use am_wire::{MOST_MESSAGE_BYTES, write_varint};
+use am_wire::write_varint;
 use std::alloc::Global;
 use std::io::Write;
-
-/// The most bytes of a row.
-const MOST: u64 = MOST_MESSAGE_BYTES;
 
 /// Why a row was not written.
 #[derive(Clone, Copy)]
 pub enum WriteFault {
     /// A write failed or took nothing, when so many bytes had gone out.
     Write { written: u64 },
-    /// The row has over [`MOST_MESSAGE_BYTES`].
+    /// The row has over 67,108,864 bytes.
     TooLarge,
     Memory,
 }
@@ -37,23 +35,6 @@ impl From<Stopped> for WriteFault {
     fn from(e: Stopped) -> WriteFault {
         WriteFault::Write { written: e.written }
     }
-}
-
-/// How many bytes the row has, where they aren't too many.
-fn row_length<V: Version>(held: &Held<V>) -> Option<u64>
-    ensures length { SomeIff result (length (row_text V.seen held.now) ≤ most) (length (row_text V.seen held.now)) }
-    ensures savable { OnSome result (IsSavable V.seen V.Key.cmp V.is_value held.now) }
-{
-    let mut total: u64 = 0;
-    for version in held.iter() {
-        let length = version.canonical().len() as u64;
-        let prefix = write_varint(length).as_slice().len() as u64;
-        total = total.saturating_add(prefix).saturating_add(length);
-        if total > MOST {
-            return None;
-        }
-    }
-    Some(total)
 }
 
 /// Sends bytes behind their length on their way.

@@ -1,0 +1,14 @@
+pub mod Names
+pub mod Sent
+pub mod TakenRows
+pub mod Lifts
+pub mod Arrivals
+pub mod Judgements
+pub mod Works
+pub mod PartTakings
+pub mod FrameWorks
+pub mod HereWorks
+pub mod RequestWorks
+pub mod NoticeWorks
+pub mod Passing
+pub mod Histories

@@ -1,0 +1,101 @@
+-- What a request does, put together of its parts.
+use Rattle.std.proofs.Common.{◌≡◌, ℕ, List, [], ◌∷◌, Bool, map, ap, refl, sym, subst, ◌∙◌}
+use Rattle.std.specs.Prelude.{◌≢◌, Option, Some, None, Result, Ok, Err, IfOk, IfErr, OnOk, OnErr, is_some}
+use Rattle.am_silence.specs.Mesh.{Mesh}
+use Rattle.am_silence.specs.Ids.{id_text}
+use Rattle.am_silence.specs.Plans.{post_of, planned, versions, ended_of}
+use Rattle.am_silence.specs.Refusals.{refusal, end_refusal}
+use Rattle.am_silence.specs.declared.plan.Posted.{Posted}
+use Rattle.am_silence.specs.declared.plan.Plan.{Plan}
+use Rattle.am_silence.specs.declared.plan.Verdict.{Verdict}
+use Rattle.am_silence.specs.declared.error.SilenceError.{SilenceError}
+use Rattle.am_silence.specs.declared.error.SilenceError.TheVariants as silence_errors
+use Rattle.am_matcher.specs.Matching.{IsVerdict}
+use Rattle.am_instance.specs.declared.error.StepError.{StepError}
+use Rattle.am_instance.specs.declared.error.StepError.TheVariants.{Memory}
+use Rattle.am_instance.specs.declared.event.Event.TheVariants as events
+use Rattle.am_instance.specs.declared.event.Request.TheVariants as requests
+use Rattle.am_instance.specs.declared.reply.Reply.{Reply}
+use Rattle.am_instance.specs.declared.reply.Reply.TheVariants as replies
+use Rattle.am_instance.specs.declared.reply.Outcome.{Outcome}
+use Rattle.am_instance.specs.Deliveries.Delivery.{OfSilence}
+use Rattle.am_instance.specs.Stands.{Stand, silence_at}
+use Rattle.am_instance.specs.Replies.{RefusedOr, IsDone, IsEnded, posted_id, posted_over, silence_in_view}
+use Rattle.am_instance.specs.Steps.{IsWork, IsPlanned, IsPutHere, IsTurnedAway}
+use Rattle.am_instance.proofs.Works.{made_work, quiet_work, stopped_work, made_silences}
+
+-- a plan that was carried out, as that of the versions and the reply that it names
+pub carried : (result : Result Outcome StepError) (old new : Stand) (vs ws : List Mesh) (one other : Reply) (now : ℕ) → vs ≡ ws → one ≡ other →
+    IfOk result (λ outcome. IsPutHere old vs one now outcome new) → IfOk result (λ outcome. IsPutHere old ws other now outcome new)
+carried result old new vs ws one other now same reply done =
+    subst (λ r. IfOk result (λ outcome. IsPutHere old ws r now outcome new)) reply (subst (λ xs. IfOk result (λ outcome. IsPutHere old xs one now outcome new)) same done)
+
+-- what a call answered, with the verdict on what is posted
+pub planned_by : (stand : Stand) (posted : Posted) (bits now : ℕ) (verdict : Verdict) (held : Option Mesh) (id_held : Bool) (result : Result Plan SilenceError) →
+    IsVerdict posted.matchers verdict → held ≡ posted_over now stand.silences posted.id → id_held ≡ is_some (silence_at stand.silences (id_text bits)) →
+    IfOk result (λ plan. plan ≡ planned held (post_of posted now bits stand.config.retention)) →
+    OnOk result (refusal held verdict id_held (post_of posted now bits stand.config.retention) ≡ None) →
+    IfErr result (λ e. e ≢ silence_errors.Memory → refusal held verdict id_held (post_of posted now bits stand.config.retention) ≡ Some e) →
+    IsPlanned stand posted bits now result
+planned_by stand posted bits now verdict held id_held (Ok plan) judged is known plans accepted refused = (
+  verdict,
+  judged,
+  ap (λ (h : Option Mesh). refusal h verdict (is_some (silence_at stand.silences (id_text bits))) (post_of posted now bits stand.config.retention)) (sym is)
+      ∙ ap (λ (b : Bool). refusal held verdict b (post_of posted now bits stand.config.retention)) (sym known) ∙ accepted,
+  plans ∙ ap (λ (h : Option Mesh). planned h (post_of posted now bits stand.config.retention)) is,
+)
+planned_by stand posted bits now verdict held id_held (Err e) judged is known plans accepted refused = λ other. (
+  verdict,
+  judged,
+  ap (λ (h : Option Mesh). refusal h verdict (is_some (silence_at stand.silences (id_text bits))) (post_of posted now bits stand.config.retention)) (sym is)
+      ∙ ap (λ (b : Bool). refusal held verdict b (post_of posted now bits stand.config.retention)) (sym known) ∙ refused other,
+)
+
+-- a post that was planned and carried out
+pub post_done : (old new : Stand) (posted : Posted) (bits now : ℕ) (plan : Plan) (result : Result Outcome StepError) → IsPlanned old posted bits now (Ok plan) →
+    IfOk result (λ outcome. IsPutHere old (versions plan) (replies.Posted (posted_id plan)) now outcome new) → IfErr result (λ e. e ≡ Memory 0) → OnErr result (new ≡ old) →
+    IsWork old (events.Request (requests.Post posted bits)) now result new
+post_done old new posted bits now plan (Ok outcome) plans put memory unchanged =
+    made_work old new (events.Request (requests.Post posted bits)) now outcome (map OfSilence (versions plan)) refl refl refl refl refl
+    (made_silences outcome.made (versions plan) put.made) put.delivered put.sent (record {
+      verdict = plans.0;
+      judged = plans.1;
+      answer = subst (λ r. RefusedOr r (IsDone (planned (posted_over now old.silences posted.id) (post_of posted now bits old.config.retention))) outcome.reply outcome.made) (sym plans.2)
+          (subst (λ p. IsDone p outcome.reply outcome.made) plans.3 (record { answer = put.answer; copies = put.made }));
+    })
+post_done old new posted bits now plan (Err e) plans put memory unchanged = stopped_work old new (events.Request (requests.Post posted bits)) now e memory unchanged
+
+-- a post that was refused
+pub post_refused : (old : Stand) (posted : Posted) (bits now : ℕ) (error : SilenceError) (result : Result Outcome StepError) → IsPlanned old posted bits now (Err error) →
+    IfOk result (IsTurnedAway error) → IfErr result (λ e. e ≡ Memory 0) → IsWork old (events.Request (requests.Post posted bits)) now result old
+post_refused old posted bits now error (Ok outcome) plans away memory =
+    let why = plans away.other in
+    quiet_work old (events.Request (requests.Post posted bits)) now outcome refl refl refl refl away.unsent away.nothing (record {
+      verdict = why.0;
+      judged = why.1;
+      answer = subst (λ r. RefusedOr r (IsDone (planned (posted_over now old.silences posted.id) (post_of posted now bits old.config.retention))) outcome.reply outcome.made) (sym why.2)
+          (record { answer = away.answer; nothing = away.nothing });
+    })
+post_refused old posted bits now error (Err e) plans away memory = stopped_work old old (events.Request (requests.Post posted bits)) now e memory refl
+
+-- a silence that was ended
+pub delete_done : (old new : Stand) (id : List ℕ) (now : ℕ) (held : Option Mesh) (v : Mesh) (result : Result Outcome StepError) → held ≡ silence_in_view now old.silences id →
+    ended_of held now old.config.retention ≡ Some v → end_refusal held now old.config.retention ≡ None →
+    IfOk result (λ outcome. IsPutHere old (v ∷ []) replies.Deleted now outcome new) → IfErr result (λ e. e ≡ Memory 0) → OnErr result (new ≡ old) →
+    IsWork old (events.Request (requests.Delete id)) now result new
+delete_done old new id now held v (Ok outcome) is ended accepted put memory unchanged =
+    made_work old new (events.Request (requests.Delete id)) now outcome (map OfSilence (v ∷ [])) refl refl refl refl refl
+    (made_silences outcome.made (v ∷ []) put.made) put.delivered put.sent
+    (subst (λ h. RefusedOr (end_refusal h now old.config.retention) (IsEnded (ended_of h now old.config.retention)) outcome.reply outcome.made) is
+    (subst (λ r. RefusedOr r (IsEnded (ended_of held now old.config.retention)) outcome.reply outcome.made) (sym accepted)
+    (subst (λ o. IsEnded o outcome.reply outcome.made) (sym ended) (record { answer = put.answer; copies = put.made }))))
+delete_done old new id now held v (Err e) is ended accepted put memory unchanged = stopped_work old new (events.Request (requests.Delete id)) now e memory unchanged
+
+pub delete_refused : (old : Stand) (id : List ℕ) (now : ℕ) (held : Option Mesh) (error : SilenceError) (result : Result Outcome StepError) → held ≡ silence_in_view now old.silences id →
+    (error ≢ silence_errors.Memory → end_refusal held now old.config.retention ≡ Some error) →
+    IfOk result (IsTurnedAway error) → IfErr result (λ e. e ≡ Memory 0) → IsWork old (events.Request (requests.Delete id)) now result old
+delete_refused old id now held error (Ok outcome) is refused away memory =
+    quiet_work old (events.Request (requests.Delete id)) now outcome refl refl refl refl away.unsent away.nothing
+    (subst (λ h. RefusedOr (end_refusal h now old.config.retention) (IsEnded (ended_of h now old.config.retention)) outcome.reply outcome.made) is
+    (subst (λ r. RefusedOr r (IsEnded (ended_of held now old.config.retention)) outcome.reply outcome.made) (sym (refused away.other)) (record { answer = away.answer; nothing = away.nothing })))
+delete_refused old id now held error (Err e) is refused away memory = stopped_work old old (events.Request (requests.Delete id)) now e memory refl

@@ -1,0 +1,48 @@
+-- The members of a cluster, as one of them is told of them.
+use Rattle.std.specs.Prelude.{ℕ, ◌≡◌, ◌<◌, Bool, not, ◌&&◌, ◌==◌, nat_lt, List, [], ◌∷◌, length, filter, IsPermutation}
+use Rattle.std.specs.List.{AllByRecursion, range_with_len}
+use Rattle.std.specs.Ordering.{nat_cmp}
+use Rattle.std.specs.Cmp.Lexicographic.{slice_cmp}
+use Rattle.std.specs.declared.cmp.Ordering.TheVariants.{Less}
+
+-- what contracts see of a configuration: the names of all members in the order of their bytes, the own place among them, and
+-- in nanoseconds how long versions are kept after their end and how long members wait for one another
+pub record Settings : Type 0 where
+  pub members : List (List ℕ)
+  pub place : ℕ
+  pub retention : ℕ
+  pub peer_timeout : ℕ
+
+-- each name is below those after it, so none comes twice
+abbrev pub AreInOrder : List (List ℕ) → Type 0
+AreInOrder [] = Unit {0}
+AreInOrder (name ∷ names) = AllByRecursion (λ other. slice_cmp nat_cmp name other ≡ Less) names × AreInOrder names
+
+-- two of the names are the same
+pub record HasTwice (names : List (List ℕ)) : Type 0 where
+  pub name : List ℕ
+  pub rest : List (List ℕ)
+  pub among : IsPermutation names (name ∷ name ∷ rest)
+
+-- a place of a member, and not the own one
+abbrev pub is_peer : Settings → ℕ → Bool
+is_peer settings place = nat_lt place (length settings.members) && not (place == settings.place)
+
+-- neither of two places
+abbrev pub is_other : ℕ → ℕ → ℕ → Bool
+is_other one other place = not (place == one) && not (place == other)
+
+-- the places of so many members but two of them, in the order of the names
+abbrev pub places_but : ℕ → ℕ → ℕ → List ℕ
+places_but members one other = filter (is_other one other) (range_with_len 0 members)
+
+-- all peers but the one at a place, in the order of their names; at the own place, all peers
+abbrev pub peers_but : Settings → ℕ → List ℕ
+peers_but settings place = places_but (length settings.members) settings.place place
+
+-- a name of no byte, and one of more than 255
+abbrev pub IsEmptyName : List ℕ → Type 0
+IsEmptyName name = length name ≡ 0
+
+abbrev pub IsLongName : List ℕ → Type 0
+IsLongName name = 255 < length name

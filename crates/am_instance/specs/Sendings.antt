@@ -1,0 +1,88 @@
+-- What a step sends.
+use Rattle.std.specs.Prelude.{◌≡◌, ◌⊎◌, ℕ, ◌+◌, ◌-◌, ◌^◌, min, Bool, true, false, List, [], ◌∷◌, ◌++◌, map}
+use Rattle.std.specs.List.{flat_map}
+use Rattle.am_version_order.specs.Versions.{Version}
+use Rattle.am_wire.specs.Writing.{delimited}
+use Rattle.am_silence.specs.Mesh.{Mesh, mesh_version}
+use Rattle.am_nflog.specs.Mesh.{Mesh as LogMesh, mesh_version as entry_version}
+use Rattle.am_gossip.specs.declared.frame.Frame.{Frame}
+use Rattle.am_gossip.specs.declared.frame.Frame.TheVariants.{Delta}
+use Rattle.am_gossip.specs.declared.frame.Part.{Part}
+use Rattle.am_gossip.specs.declared.frame.StateKey.{StateKey}
+use Rattle.am_gossip.specs.declared.frame.StateKey.TheVariants.{Sil, Nfl}
+use Rattle.am_gossip.specs.Frames.{fits, states}
+use Rattle.am_rows.specs.Texts.{row_text}
+use Rattle.am_instance.specs.declared.outbox.Missing.{Missing}
+use Rattle.am_instance.specs.declared.outbox.Missing.TheVariants.{Memory, Limit}
+use Rattle.am_instance.specs.declared.reply.Outcome.{Outcome}
+use Rattle.am_instance.specs.Deliveries.{Delivery}
+use Rattle.am_instance.specs.Deliveries.Delivery.{OfSilence, OfEntry}
+
+-- frames with the places that they go to, and how many were left out, for want of memory or by the limit of their kind
+pub record Sent : Type 0 where
+  pub frames : List (ℕ × Frame)
+  pub memory : ℕ
+  pub limit : ℕ
+
+abbrev pub nothing_sent : Sent
+nothing_sent = record { frames = []; memory = 0; limit = 0 }
+
+-- one more of a count, which stops at the greatest number of 64 bits
+abbrev pub one_more : ℕ → ℕ
+one_more n = min (n + 1) (2 ^ 64 - 1)
+
+-- a frame is handed out, or there is no memory for it, or it is over its limit
+abbrev pub handed_out : ℕ × Frame → Sent → Sent
+handed_out wanted sent = record sent { frames = sent.frames ++ wanted ∷ [] }
+
+abbrev pub no_memory : Sent → Sent
+no_memory sent = record sent { memory = one_more sent.memory }
+
+abbrev pub over_limit : Sent → Sent
+over_limit sent = record sent { limit = one_more sent.limit }
+
+-- What became of a frame that is wanted: one that keeps its limit is handed out, unless there is no memory for it; another is
+-- counted as over its limit, whatever memory there is.
+pub record IsSent (wanted : ℕ × Frame) (old new : Sent) : Type 0 where
+  pub fitting : fits wanted.1 ≡ true → (new ≡ handed_out wanted old) ⊎ (new ≡ no_memory old)
+  pub too_long : fits wanted.1 ≡ false → new ≡ over_limit old
+
+-- each of the wanted frames in turn
+abbrev pub Sends : List (ℕ × Frame) → Sent → Sent → Type 0
+Sends [] old new = new ≡ old
+Sends (wanted ∷ rest) old new = (mid : Sent) × IsSent wanted old mid × Sends rest mid new
+
+-- ---- frames
+
+-- a Delta of one version
+abbrev pub delta : StateKey → List ℕ → Frame
+delta key content = Delta (record { key = key; bytes = delimited content })
+
+abbrev pub delta_of : Delivery → Frame
+delta_of (OfSilence v) = delta Sil (mesh_version v).content
+delta_of (OfEntry e) = delta Nfl (entry_version e).content
+
+-- a frame to each of the places, in their order
+abbrev pub addressed : List ℕ → Frame → List (ℕ × Frame)
+addressed places frame = map (λ place. (place, frame)) places
+
+-- for each version in turn, a Delta to each of the places
+abbrev pub deltas_to : List ℕ → List Delivery → List (ℕ × Frame)
+deltas_to places ds = flat_map (λ d. addressed places (delta_of d)) ds
+
+-- both maps whole, versions that are not live too
+abbrev pub whole_state : List Mesh → List LogMesh → List Part
+whole_state silences log = states (row_text mesh_version silences) (row_text entry_version log)
+
+-- why there is no frame: it is over its limit, or it keeps it and there was no memory
+abbrev pub IsMissing : Bool → Missing → Type 0
+IsMissing fitting Memory = fitting ≡ true
+IsMissing fitting Limit = fitting ≡ false
+
+-- for each version of one state in turn, a Delta to each of the places
+abbrev pub deltas_of : {K X : Type 0} → (X → Version K) → StateKey → List ℕ → List X → List (ℕ × Frame)
+deltas_of seen key places vs = flat_map (λ v. addressed places (delta key (seen v).content)) vs
+
+-- what an outcome sends
+abbrev pub sent_by : Outcome → Sent
+sent_by outcome = record { frames = outcome.frames.items; memory = outcome.unsent.memory; limit = outcome.unsent.limit }

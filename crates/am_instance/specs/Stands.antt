@@ -1,0 +1,48 @@
+-- An instance as contracts see it.
+use Rattle.std.specs.Prelude.{ℕ, List, Option}
+use Rattle.std.specs.Ordering.{nat_cmp}
+use Rattle.std.specs.Cmp.Lexicographic.{slice_cmp}
+use Rattle.am_silence.specs.Mesh.{Mesh, mesh_version}
+use Rattle.am_nflog.specs.Mesh.{Mesh as LogMesh, mesh_version as entry_version}
+use Rattle.am_nflog.specs.Keys.{key_cmp}
+use Rattle.am_nflog.specs.declared.entry.LogKey.{LogKey}
+use Rattle.am_merge.specs.Maps.{at, swept}
+use Rattle.am_collect.specs.Kept.{Kept}
+use Rattle.am_collect.specs.Events.{Events}
+use Rattle.am_collect.specs.Keepers.{IsLeftBy}
+use Rattle.am_instance.specs.Configs.{Settings}
+
+-- its configuration, both maps in the order of their keys, and the moment of its last event
+pub record Stand : Type 0 where
+  pub config : Settings
+  pub silences : List Mesh
+  pub log : List LogMesh
+  pub last : ℕ
+
+-- the silence of an id, and the entry of a log key
+abbrev pub silence_at : List Mesh → List ℕ → Option Mesh
+silence_at silences = at mesh_version (slice_cmp nat_cmp) silences
+
+abbrev pub entry_at : List LogMesh → LogKey → Option LogMesh
+entry_at log = at entry_version key_cmp log
+
+-- what is in view of each map: the held versions that are live
+abbrev pub silences_in_view : ℕ → List Mesh → List Mesh
+silences_in_view now silences = swept mesh_version now silences
+
+abbrev pub log_in_view : ℕ → List LogMesh → List LogMesh
+log_in_view now log = swept entry_version now log
+
+-- each map with the moment of the last event
+abbrev pub kept_silences : Stand → Kept Mesh
+kept_silences stand = record { held = stand.silences; last = stand.last }
+
+abbrev pub kept_log : Stand → Kept LogMesh
+kept_log stand = record { held = stand.log; last = stand.last }
+
+-- the events leave one map of the other
+abbrev pub AreSilencesLeftBy : Kept Mesh → Events Mesh → Kept Mesh → Type 0
+AreSilencesLeftBy = IsLeftBy mesh_version (slice_cmp nat_cmp)
+
+abbrev pub IsLogLeftBy : Kept LogMesh → Events LogMesh → Kept LogMesh → Type 0
+IsLogLeftBy = IsLeftBy entry_version key_cmp

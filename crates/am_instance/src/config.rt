@@ -1,0 +1,234 @@
+//! Who is in the cluster, and how long things are kept and waited for.
+
+ghost use Rattle.std.specs.Prelude.{◌≡◌, ◌≢◌, ◌+◌, ◌*◌, ◌<◌, ◌≤◌, ◌↔◌, ◌⊎◌, ◌∷◌, Any, Contains, Some, None, length, insert, slice_get, false, IsTrue, IfOk, OnOk, OnErr, IfSome, IsPermutation};
+ghost use Rattle.std.specs.Option.{SomeIff};
+ghost use Rattle.am_version_order.specs.Moments.{greatest};
+ghost use Rattle.am_instance.specs.Configs.{AreInOrder, HasTwice, IsEmptyName, IsLongName, is_peer};
+ghost use Rattle.am_instance.specs.declared.error.ConfigError.TheVariants as errors;
+
+use crate::error::ConfigError;
+use crate::event::Place;
+use am_dedup::due;
+use am_version_order::{Interval, Moment};
+use am_wire::Text;
+use std::alloc::{AllocError, Global};
+use std::marker::Model;
+
+/// The most bytes of a member's name.
+const MOST_NAME_BYTES: usize = 255;
+
+/// Whether a name has no byte.
+fn is_empty(name: &Text) -> bool
+    ensures { IsTrue result ↔ IsEmptyName name.now }
+{
+    name.as_str().is_empty()
+}
+
+/// Whether a name has over 255 bytes.
+fn is_long(name: &Text) -> bool
+    ensures { IsTrue result ↔ IsLongName name.now }
+{
+    name.as_str().len() > MOST_NAME_BYTES
+}
+
+/// Whether one of the names has no byte.
+fn any_empty(names: &[Text]) -> bool
+    ensures { IsTrue result ↔ Any IsEmptyName names.now }
+{
+    names.iter().any(is_empty)
+}
+
+/// Whether one of the names has over 255 bytes.
+fn any_long(names: &[Text]) -> bool
+    ensures { IsTrue result ↔ Any IsLongName names.now }
+{
+    names.iter().any(is_long)
+}
+
+/// Whether one of all names has no byte.
+fn has_empty(name: &Text, peers: &[Text]) -> bool
+    ensures { IsTrue result ↔ Any IsEmptyName (name.now ∷ peers.now) }
+{
+    is_empty(name) || any_empty(peers)
+}
+
+/// Whether one of all names has over 255 bytes.
+fn has_long(name: &Text, peers: &[Text]) -> bool
+    ensures { IsTrue result ↔ Any IsLongName (name.now ∷ peers.now) }
+{
+    is_long(name) || any_long(peers)
+}
+
+/// Whether each name has from 1 to 255 bytes.
+fn check_names(name: &Text, peers: &[Text]) -> Result<(), ConfigError>
+    ensures empty_name { (result ≡ Err errors.EmptyName) ↔ Any IsEmptyName (name.now ∷ peers.now) }
+    ensures long_name { (result ≡ Err errors.LongName)
+        ↔ (¬ Any IsEmptyName (name.now ∷ peers.now)) × Any IsLongName (name.now ∷ peers.now) }
+    ensures fine { OnOk result ((¬ Any IsEmptyName (name.now ∷ peers.now)) × (¬ Any IsLongName (name.now ∷ peers.now))) }
+    ensures refused { OnErr result (Any IsEmptyName (name.now ∷ peers.now) ⊎ Any IsLongName (name.now ∷ peers.now)) }
+    ensures same_name { result ≢ Err errors.SameName }
+{
+    if has_empty(name, peers) {
+        return Err(ConfigError::EmptyName);
+    }
+    if has_long(name, peers) {
+        return Err(ConfigError::LongName);
+    }
+    Ok(())
+}
+
+/// Sorts names, and says whether no two are the same. It takes no memory.
+fn sort_names(names: &mut Vec<Text>) -> bool
+    ensures same { IsPermutation names.old.items names.new.items }
+    ensures order { IsTrue result → AreInOrder names.new.items }
+    ensures twice { (result ≡ false) ↔ HasTwice names.old.items }
+{
+    names.sort_unstable();
+    names.is_sorted_by(|one, next| one.cmp(next).is_lt())
+}
+
+/// Where a name goes among names in their order, unless it is there.
+fn place_for(names: &[Text], name: &Text) -> Option<usize>
+    requires { AreInOrder names.now }
+    ensures place { IfSome result (λ place. place ≤ length names.now) }
+    ensures order { IfSome result (λ place. AreInOrder (insert names.now place name.now)) }
+    ensures there { (result ≡ None) ↔ Contains names.now name.now }
+{
+    names.binary_search(name).err()
+}
+
+/// All names in their order, and where the own one stands.
+fn in_order(name: Text, peers: Vec<Text>) -> Result<(Vec<Text>, usize), ConfigError>
+    ensures order { IfOk result (λ all. AreInOrder all.0.items) }
+    ensures members { IfOk result (λ all. IsPermutation (name ∷ peers.items) all.0.items) }
+    ensures within { IfOk result (λ all. all.1 < length all.0.items) }
+    ensures own { IfOk result (λ all. slice_get all.0.items all.1 ≡ Some name) }
+    ensures same_name { (result ≡ Err errors.SameName) ↔ HasTwice (name ∷ peers.items) }
+    ensures empty_name { result ≢ Err errors.EmptyName }
+    ensures long_name { result ≢ Err errors.LongName }
+{
+    let mut names = peers;
+    if !sort_names(&mut names) {
+        return Err(ConfigError::SameName);
+    }
+    let Some(place) = place_for(&names, &name) else {
+        return Err(ConfigError::SameName);
+    };
+    names.insert(place, name)?;
+    Ok((names, place))
+}
+
+/// The members of a cluster, which of them this one is, for how long versions are kept after their end, and for how
+/// long members wait for one another.
+#[derive(Drop)]
+pub struct Config {
+    alloc: Global,
+    members: Vec<Text>,
+    place: Place,
+    retention: Interval,
+    peer_timeout: Interval,
+}
+
+impl Model for Config {
+    ghost use Rattle.std.specs.Prelude.{◌≡◌, ◌<◌, length};
+    ghost use Rattle.am_instance.specs.Configs.{Settings};
+
+    ghost Value = { Settings };
+
+    ghost view = { λ c. record { members = c.members.items; place = c.place; retention = c.retention; peer_timeout = c.peer_timeout } };
+
+    ghost invariant = { λ c. c.place < length c.members.items };
+}
+
+impl Config {
+    /// A member of this name among these peers. Members are known by their places, in the order of their names.
+    ///
+    /// # Errors
+    ///
+    /// The first [`ConfigError`] that applies, in their order.
+    pub fn new(
+        alloc: Global,
+        name: Text,
+        peers: Vec<Text>,
+        retention: Interval,
+        peer_timeout: Interval,
+    ) -> Result<Config, ConfigError>
+        ensures order { IfOk result (λ config. AreInOrder config.members) }
+        ensures members { IfOk result (λ config. IsPermutation (name ∷ peers.items) config.members) }
+        ensures own { IfOk result (λ config. slice_get config.members config.place ≡ Some name) }
+        ensures retention { IfOk result (λ config. config.retention ≡ retention) }
+        ensures peer_timeout { IfOk result (λ config. config.peer_timeout ≡ peer_timeout) }
+        ensures empty_name { (result ≡ Err errors.EmptyName) ↔ Any IsEmptyName (name ∷ peers.items) }
+        ensures long_name { (result ≡ Err errors.LongName)
+            ↔ (¬ Any IsEmptyName (name ∷ peers.items)) × Any IsLongName (name ∷ peers.items) }
+        ensures same_name { (result ≡ Err errors.SameName)
+            ↔ (¬ Any IsEmptyName (name ∷ peers.items)) × (¬ Any IsLongName (name ∷ peers.items)) × HasTwice (name ∷ peers.items) }
+    {
+        check_names(&name, &peers)?;
+        let (members, place) = in_order(name, peers)?;
+        Ok(Config {
+            alloc,
+            members,
+            place: place as u64,
+            retention,
+            peer_timeout,
+        })
+    }
+
+    /// A copy.
+    ///
+    /// # Errors
+    ///
+    /// [`AllocError`] where memory runs out.
+    pub fn try_clone(&self) -> Result<Config, AllocError>
+        ensures { IfOk result (λ copy. copy ≡ self.now) }
+    {
+        let mut members = Vec::with_capacity(self.alloc, self.members.len())?;
+        for name in &self.members {
+            members.push(name.try_clone(self.alloc)?)?;
+        }
+        Ok(Config {
+            alloc: self.alloc,
+            members,
+            place: self.place,
+            retention: self.retention,
+            peer_timeout: self.peer_timeout,
+        })
+    }
+
+    /// The names of all members, in the order of their bytes.
+    pub fn members(&self) -> &[Text]
+        ensures { result.now ≡ self.now.members }
+    {
+        self.members.as_slice()
+    }
+
+    /// The own place.
+    pub fn place(&self) -> Place
+        ensures own { result ≡ self.now.place }
+        ensures within { self.now.place < length self.now.members }
+    {
+        self.place
+    }
+
+    /// How long versions are kept after their end, in nanoseconds.
+    pub fn retention(&self) -> Interval
+        ensures { result ≡ self.now.retention }
+    {
+        self.retention
+    }
+
+    /// Whether a place is that of another member.
+    pub fn is_peer(&self, place: Place) -> bool
+        ensures { result ≡ is_peer self.now place }
+    {
+        place < self.members.len() as u64 && place != self.place
+    }
+
+    /// When this member is due that began to wait at `start`. `None` past [`Moment::GREATEST`]. It takes no memory.
+    pub fn due_from(&self, start: Moment) -> Option<Moment>
+        ensures { let due = start + self.now.place * self.now.peer_timeout in SomeIff result (due ≤ greatest) due }
+    {
+        due(start, self.place, self.peer_timeout)
+    }
+}

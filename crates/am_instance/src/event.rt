@@ -1,0 +1,63 @@
+//! What happens to an instance.
+
+use am_gossip::Frame;
+use am_matcher::{Filter, Labels};
+use am_nflog::{Hashes, Receiver};
+use am_silence::Posted;
+use am_version_order::Interval;
+use am_wire::{Bytes, Text};
+
+/// A member of the cluster: its position, from 0, among all members in the order of their names.
+pub type Place = u64;
+
+/// What a person or a tool asks of the silences.
+#[derive(Drop)]
+pub enum Request {
+    /// The silences in view that pass all filters.
+    List { filters: Vec<Filter> },
+    /// The silence of an identifier.
+    Get { id: Text },
+    /// A silence to be made or updated; a new one gets its identifier by the random bits.
+    Post { posted: Posted, bits: u128 },
+    /// A silence to be ended.
+    Delete { id: Text },
+}
+
+/// One event, which one step answers as a whole.
+#[derive(Drop)]
+pub enum Event {
+    Request(Request),
+    /// A frame that came from a peer.
+    Frame {
+        sender: Place,
+        frame: Frame,
+    },
+    /// A group was notified: its key, the receiver, the hashes of its alerts, and after how many nanoseconds the
+    /// notification is to be repeated.
+    Notified {
+        group_key: Bytes,
+        receiver: Receiver,
+        firing: Hashes,
+        resolved: Hashes,
+        repeat: Interval,
+    },
+    /// Whether a group is to be notified.
+    Decide {
+        group_key: Bytes,
+        receiver: Receiver,
+        firing: Hashes,
+        resolved: Hashes,
+        repeat: Interval,
+        send_resolved: bool,
+    },
+    /// Which silences mute an alert with these labels.
+    Mutes {
+        labels: Labels,
+    },
+    /// Both views.
+    Show,
+    /// A collection of both states.
+    Tick,
+    /// Both states are to be sent to a peer, which answers with its own.
+    PullFrom(Place),
+}

@@ -1,0 +1,211 @@
+//! Frames that peers send to an instance.
+
+ghost use Rattle.std.specs.Prelude.{◌≡◌, ◌+◌, ℕ, Ok, length, None, OnOk, OnErr, IfOk, IfErr};
+ghost use Rattle.am_gossip.specs.declared.frame.Frame.TheVariants as frames;
+ghost use Rattle.am_instance.specs.declared.event.Event.TheVariants as events;
+ghost use Rattle.am_instance.specs.Configs.{peers_but, places_but};
+ghost use Rattle.am_instance.specs.Deliveries.{before_fault, first_fault, rows_in, rows_of};
+ghost use Rattle.am_instance.specs.Stands.{silence_at, entry_at};
+ghost use Rattle.am_instance.specs.Changes.{changed_of};
+ghost use Rattle.am_instance.specs.Sendings.{Sends, deltas_to, nothing_sent, sent_by};
+ghost use Rattle.am_instance.specs.Replies.{IsNothing};
+ghost use Rattle.am_instance.specs.Steps.{Delivers, IsArrival, IsJudgement, IsWork, StopsDelivering};
+
+use crate::error::StepError;
+use crate::event::Place;
+use crate::instance::Instance;
+use crate::outbox::{Outbox, Route};
+use crate::reply::{Made, Outcome, Reply};
+use crate::rows::{Taking, judge_row, take_row};
+use am_gossip::{Frame, Part, StateKey};
+use am_nflog::MeshEntry;
+use am_silence::MeshSilence;
+use am_version_order::Moment;
+use std::alloc::{AllocError, Global};
+
+impl Instance {
+    /// Takes what a frame brings, sends on what changed, and answers a Push with the own states.
+    pub(crate) fn receive(
+        &mut self,
+        sender: Place,
+        frame: Frame,
+        now: Moment,
+    ) -> Result<Outcome, StepError>
+        ensures { IsWork self.old (events.Frame sender frame) now result self.new }
+    {
+        match frame {
+            Frame::Tick => Ok(self.collect(now)),
+            Frame::Delta(part) => {
+                let outbox = self.take_in(sender, &[part], now)?;
+                Ok(outcome(self.alloc, Reply::Nothing, outbox))
+            }
+            Frame::Pull(state) => {
+                let outbox = self.take_in(sender, state.parts(), now)?;
+                Ok(outcome(self.alloc, Reply::Nothing, outbox))
+            }
+            Frame::Push(state) => {
+                let mut outbox = self.take_in(sender, state.parts(), now)?;
+                outbox.send_pull(sender, &self.silences, &self.log);
+                Ok(outcome(self.alloc, Reply::Nothing, outbox))
+            }
+        }
+    }
+
+    /// Drops what isn't live of both states.
+    pub(crate) fn collect(&mut self, now: Moment) -> Outcome
+        ensures tick { IsWork self.old events.Tick now (Ok result) self.new }
+        ensures frame { (sender : ℕ) → IsWork self.old (events.Frame sender frames.Tick) now (Ok result) self.new }
+    {
+        self.silences.sweep(now);
+        self.log.sweep(now);
+        outcome(self.alloc, Reply::Nothing, Outbox::new(self.alloc))
+    }
+
+    /// Sends both states to a peer, which answers with its own.
+    pub(crate) fn pull_from(&mut self, place: Place, now: Moment) -> Outcome
+        ensures { IsWork self.old (events.PullFrom place) now (Ok result) self.new }
+    {
+        let mut outbox = Outbox::new(self.alloc);
+        outbox.send_push(place, &self.silences, &self.log);
+        outcome(self.alloc, Reply::Nothing, outbox)
+    }
+
+    /// Takes the versions in the parts of a frame, once all of them were read. Those that change a map go to all peers
+    /// but the sender.
+    fn take_in(&mut self, sender: Place, parts: &[Part], now: Moment) -> Result<Outbox, StepError>
+        ensures { IsArrival self.old sender parts.now now result self.new }
+    {
+        judge_parts(self.alloc, parts)?;
+        let mut outbox = Outbox::new(self.alloc);
+        let mut taken = 0;
+        match self.take_parts(sender, parts, now, &mut outbox, &mut taken) {
+            Ok(()) => Ok(outbox),
+            Err(_) => Err(StepError::Memory { taken }),
+        }
+    }
+
+    /// Takes the versions in parts in order, and counts them.
+    ///
+    /// # Errors
+    ///
+    /// [`AllocError`] where memory runs out; the versions counted were taken.
+    fn take_parts(
+        &mut self,
+        sender: Place,
+        parts: &[Part],
+        now: Moment,
+        outbox: &mut Outbox,
+        taken: &mut usize,
+    ) -> Result<(), AllocError>
+        requires { first_fault (rows_in parts.now) ≡ None }
+        ensures delivered { OnOk result (Delivers now (before_fault (rows_in parts.now)) self.old self.new) }
+        ensures count { OnOk result (taken.new ≡ taken.old + length (before_fault (rows_in parts.now))) }
+        ensures sent { OnOk result (Sends (deltas_to (peers_but self.old.config sender)
+            (changed_of now (silence_at self.old.silences) (entry_at self.old.log) (before_fault (rows_in parts.now)))) outbox.old outbox.new) }
+        ensures stopped { OnErr result (StopsDelivering now (before_fault (rows_in parts.now)) self.old self.new taken.old taken.new) }
+    {
+        for part in parts {
+            self.take_part(sender, part, now, outbox, taken)?;
+        }
+        Ok(())
+    }
+
+    /// Takes the versions in a part in order, and counts them.
+    fn take_part(
+        &mut self,
+        sender: Place,
+        part: &Part,
+        now: Moment,
+        outbox: &mut Outbox,
+        taken: &mut usize,
+    ) -> Result<(), AllocError>
+        requires { first_fault (rows_of part.now) ≡ None }
+        ensures delivered { OnOk result (Delivers now (before_fault (rows_of part.now)) self.old self.new) }
+        ensures count { OnOk result (taken.new ≡ taken.old + length (before_fault (rows_of part.now))) }
+        ensures sent { OnOk result (Sends (deltas_to (peers_but self.old.config sender)
+            (changed_of now (silence_at self.old.silences) (entry_at self.old.log) (before_fault (rows_of part.now)))) outbox.old outbox.new) }
+        ensures stopped { OnErr result (StopsDelivering now (before_fault (rows_of part.now)) self.old self.new taken.old taken.new) }
+    {
+        let taking = Taking {
+            moment: now,
+            key: part.key,
+            route: self.route(sender),
+        };
+        let row = part.bytes.as_slice();
+        match part.key {
+            StateKey::Sil => take_row::<MeshSilence>(
+                self.alloc,
+                &mut self.silences,
+                row,
+                &taking,
+                outbox,
+                taken,
+            ),
+            StateKey::Nfl => take_row::<MeshEntry>(
+                self.alloc,
+                &mut self.log,
+                row,
+                &taking,
+                outbox,
+                taken,
+            ),
+        }
+    }
+
+    /// The peers but the one at a place; at the own place, all peers.
+    pub(crate) fn route(&self, origin: Place) -> Route
+        ensures places { places_but result.members result.own result.origin ≡ peers_but self.now.config origin }
+        ensures own { result.own ≡ self.now.config.place }
+    {
+        Route {
+            members: self.config.members().len() as u64,
+            own: self.config.place(),
+            origin,
+        }
+    }
+}
+
+/// Reads each version in parts, and keeps none.
+///
+/// # Errors
+///
+/// [`StepError::Frame`] for the first fault in the rows, or [`StepError::Memory`].
+fn judge_parts(alloc: Global, parts: &[Part]) -> Result<(), StepError>
+    ensures sound { OnOk result (first_fault (rows_in parts.now) ≡ None) }
+    ensures fault { IfErr result (IsJudgement (first_fault (rows_in parts.now))) }
+{
+    for part in parts {
+        judge_part(alloc, part)?;
+    }
+    Ok(())
+}
+
+#[tactic(auto, unfolding(crate::specs::Deliveries::rows_of))]
+fn judge_part(alloc: Global, part: &Part) -> Result<(), StepError>
+    ensures sound { OnOk result (first_fault (rows_of part.now) ≡ None) }
+    ensures fault { IfErr result (IsJudgement (first_fault (rows_of part.now))) }
+{
+    let row = part.bytes.as_slice();
+    match part.key {
+        StateKey::Sil => Ok(judge_row::<MeshSilence>(alloc, row)?),
+        StateKey::Nfl => Ok(judge_row::<MeshEntry>(alloc, row)?),
+    }
+}
+
+/// An outcome in which nothing was made here.
+pub(crate) fn outcome(alloc: Global, reply: Reply, outbox: Outbox) -> Outcome
+    ensures reply { result.reply ≡ reply }
+    ensures sent { sent_by result ≡ outbox }
+    ensures made { IsNothing result.made }
+{
+    let (frames, unsent) = outbox.into_parts();
+    Outcome {
+        reply,
+        frames,
+        unsent,
+        made: Made {
+            silences: Vec::new(alloc),
+            log: None,
+        },
+    }
+}

@@ -1,0 +1,194 @@
+//! An instance, and its step.
+
+ghost use Rattle.std.specs.Prelude.{◌≡◌, ◌+◌, ◌*◌, ◌≤◌, true, OnOk, IfOk, IfErr};
+ghost use Rattle.std.specs.Option.{SomeIff};
+ghost use Rattle.am_version_order.specs.Moments.{greatest};
+ghost use Rattle.am_instance.specs.Deliveries.{to_silences, to_log};
+ghost use Rattle.am_instance.specs.Stands.{AreSilencesLeftBy, IsLogLeftBy, kept_silences, kept_log};
+ghost use Rattle.am_instance.specs.Sendings.{Sends, nothing_sent, sent_by};
+ghost use Rattle.am_instance.specs.Replies.{IsReply};
+ghost use Rattle.am_instance.specs.Steps.{AreSwept, IsAccepted, IsAdmitted, IsRefusal, IsRefused, IsUnadmitted, IsWork, collects, counts, peer_of, step_events, wanted};
+
+use crate::config::Config;
+use crate::error::StepError;
+use crate::event::{Event, Place};
+use crate::reply::Outcome;
+use am_merge::Held;
+use am_nflog::{LogKey, MeshEntry};
+use am_silence::MeshSilence;
+use am_version_order::Moment;
+use std::alloc::Global;
+use std::marker::Model;
+
+/// One instance: its configuration, the silences and the notification log that it holds, and the moment of its last
+/// event.
+#[derive(Drop)]
+pub struct Instance {
+    pub(crate) alloc: Global,
+    pub(crate) config: Config,
+    pub(crate) silences: Held<MeshSilence>,
+    pub(crate) log: Held<MeshEntry>,
+    last: Moment,
+}
+
+impl Model for Instance {
+    ghost use Rattle.am_instance.specs.Stands.{Stand};
+
+    ghost Value = { Stand };
+
+    ghost view = { λ i. record { config = i.config; silences = i.silences; log = i.log; last = i.last } };
+}
+
+impl Instance {
+    /// An instance that holds these maps, with `now` as the moment of its last event. It takes no memory.
+    pub fn start(
+        config: Config,
+        silences: Held<MeshSilence>,
+        log: Held<MeshEntry>,
+        now: Moment,
+    ) -> Instance
+        ensures config { result.config ≡ config }
+        ensures silences { result.silences ≡ silences }
+        ensures log { result.log ≡ log }
+        ensures last { result.last ≡ now }
+    {
+        Instance {
+            alloc: silences.allocator(),
+            config,
+            silences,
+            log,
+            last: now,
+        }
+    }
+
+    /// The silences that it holds, live or not. It takes no memory.
+    pub fn silences(&self) -> &Held<MeshSilence>
+        ensures { result.now ≡ self.now.silences }
+    {
+        &self.silences
+    }
+
+    /// The entries of the log that it holds, live or not. It takes no memory.
+    pub fn log(&self) -> &Held<MeshEntry>
+        ensures { result.now ≡ self.now.log }
+    {
+        &self.log
+    }
+
+    /// The moment of the last event. It takes no memory.
+    pub fn last(&self) -> Moment
+        ensures { result ≡ self.now.last }
+    {
+        self.last
+    }
+
+    /// Its configuration. It takes no memory.
+    pub fn config(&self) -> &Config
+        ensures { result.now ≡ self.now.config }
+    {
+        &self.config
+    }
+
+    /// When it is due that began to wait at `start`. `None` past [`Moment::GREATEST`]. It takes no memory.
+    pub fn due_from(&self, start: Moment) -> Option<Moment>
+        ensures { SomeIff result (start + self.now.config.place * self.now.config.peer_timeout ≤ greatest)
+            (start + self.now.config.place * self.now.config.peer_timeout) }
+    {
+        self.config.due_from(start)
+    }
+
+    /// Answers one event as a whole.
+    ///
+    /// # Errors
+    ///
+    /// The first [`StepError`] that applies, in their order; memory may run out before the fault of a frame is found.
+    /// What is refused changes nothing, but where memory ran out: then the moment counts, and what was taken stands.
+    pub fn step(&mut self, event: Event, now: Moment) -> Result<Outcome, StepError>
+        ensures accepted { OnOk result (IsAccepted self.old event now) }
+        ensures refused { IfErr result (IsRefusal self.old event now) }
+        ensures unchanged { IsRefused result → self.new ≡ self.old }
+        ensures config { self.new.config ≡ self.old.config }
+
+        // What the step is to each map: the versions that it delivers are joined in, in order, or all that isn't live goes.
+        ensures silences { AreSilencesLeftBy (kept_silences self.old) (step_events to_silences event now result) (kept_silences self.new) }
+        ensures log { IsLogLeftBy (kept_log self.old) (step_events to_log event now result) (kept_log self.new) }
+        ensures swept { OnOk result (collects event ≡ true → AreSwept now self.old self.new) }
+
+        ensures sent { IfOk result (λ outcome. Sends (wanted self.old event now outcome.made self.new) nothing_sent (sent_by outcome)) }
+        ensures reply { IfOk result (λ outcome. IsReply self.old event now outcome.reply outcome.made) }
+    {
+        self.admit(&event, now)?;
+        let answer = self.work(event, now);
+        if counts(&answer) {
+            self.last = now;
+        }
+        answer
+    }
+
+    /// Refuses a moment before the last one, and a place that is no peer's.
+    fn admit(&self, event: &Event, now: Moment) -> Result<(), StepError>
+        ensures admitted { OnOk result (IsAdmitted self.now event.now now) }
+        ensures refused { IfErr result (IsUnadmitted self.now event.now now) }
+    {
+        if now < self.last {
+            return Err(StepError::MomentBack { last: self.last });
+        }
+        match peer_of(event) {
+            Some(place) if !self.config.is_peer(place) => Err(StepError::UnknownPeer),
+            _ => Ok(()),
+        }
+    }
+
+    /// Does what an event asks for. Its moment is set by the caller.
+    fn work(&mut self, event: Event, now: Moment) -> Result<Outcome, StepError>
+        ensures { IsWork self.old event now result self.new }
+    {
+        match event {
+            Event::Request(request) => self.answer(request, now),
+            Event::Frame { sender, frame } => self.receive(sender, frame, now),
+            Event::Notified {
+                group_key,
+                receiver,
+                firing,
+                resolved,
+                repeat,
+            } => self.note(group_key, receiver, firing, resolved, repeat, now),
+            Event::Decide {
+                group_key,
+                receiver,
+                firing,
+                resolved,
+                repeat,
+                send_resolved,
+            } => {
+                let key = LogKey {
+                    group_key,
+                    receiver,
+                };
+                Ok(self.decide(&key, &firing, &resolved, repeat, send_resolved, now))
+            }
+            Event::Mutes { labels } => self.mute(&labels, now),
+            Event::Show => self.show(now),
+            Event::Tick => Ok(self.collect(now)),
+            Event::PullFrom(place) => Ok(self.pull_from(place, now)),
+        }
+    }
+}
+
+/// The place of a peer that an event names.
+fn peer_of(event: &Event) -> Option<Place>
+    ensures { result ≡ peer_of event.now }
+{
+    match event {
+        Event::Frame { sender, .. } => Some(*sender),
+        Event::PullFrom(place) => Some(*place),
+        _ => None,
+    }
+}
+
+/// Whether the moment of an event counts: it was answered, or memory ran out.
+fn counts(answer: &Result<Outcome, StepError>) -> bool
+    ensures { result ≡ counts answer.now }
+{
+    matches!(answer, Ok(_) | Err(StepError::Memory { .. }))
+}

@@ -1,0 +1,21 @@
+//! One instance: silences and the notification log, and one step for each event.
+#![tactic(auto)]
+
+mod config;
+mod error;
+mod event;
+mod frames;
+mod instance;
+pub mod laws;
+mod notices;
+mod outbox;
+mod reply;
+mod requests;
+mod rows;
+mod views;
+
+pub use config::Config;
+pub use error::{ConfigError, StepError};
+pub use event::{Event, Place, Request};
+pub use instance::Instance;
+pub use reply::{Made, Outcome, Reply, Unsent};

@@ -1,0 +1,58 @@
+//! What a step answers.
+
+use crate::event::Place;
+use am_dedup::Decision;
+use am_gossip::Frame;
+use am_matcher::Mutes;
+use am_nflog::MeshEntry;
+use am_silence::{MeshSilence, SilenceError, State};
+use am_wire::Text;
+
+/// The answer to an event. States are those at the event's moment.
+#[derive(Drop)]
+pub enum Reply {
+    /// Silences by identifier.
+    Silences(Vec<(MeshSilence, State)>),
+    Silence(MeshSilence, State),
+    /// The identifier of the silence that was made or updated.
+    Posted(Text),
+    Deleted,
+    /// A request was refused; never for want of memory.
+    Refused(SilenceError),
+    /// Whether the entry of a notification changed the log.
+    Logged(bool),
+    Decided(Decision),
+    Muted(Mutes),
+    /// The silences in view by identifier, and the entries in view in the order of their keys.
+    Shown {
+        silences: Vec<(MeshSilence, State)>,
+        log: Vec<MeshEntry>,
+    },
+    Nothing,
+}
+
+/// Frames that were left out.
+#[derive(Clone, Copy, Debug, PartialEq, Eq)]
+pub struct Unsent {
+    /// There was no memory for so many.
+    pub memory: usize,
+    /// The payload of so many was over the limit of its kind.
+    pub limit: usize,
+}
+
+/// Copies of the versions that an event made here, in the order in which they were taken.
+#[derive(Drop)]
+pub struct Made {
+    pub silences: Vec<MeshSilence>,
+    pub log: Option<MeshEntry>,
+}
+
+/// What a step gives.
+#[derive(Drop)]
+pub struct Outcome {
+    pub reply: Reply,
+    /// The frames to be sent, in order, each with the place of the peer that it goes to.
+    pub frames: Vec<(Place, Frame)>,
+    pub unsent: Unsent,
+    pub made: Made,
+}

@@ -1,0 +1,276 @@
+//! What people and tools ask of an instance.
+
+ghost use Rattle.std.specs.Prelude.{◌≡◌, [], ◌∷◌, is_some, OnErr, IfOk, IfErr};
+ghost use Rattle.std.specs.Option.{option_copied};
+ghost use Rattle.am_silence.specs.Plans.{versions};
+ghost use Rattle.am_matcher.specs.Matching.{IsVerdict};
+ghost use Rattle.am_instance.specs.Stands.{silence_at};
+ghost use Rattle.am_instance.specs.declared.error.StepError.TheVariants as errors;
+ghost use Rattle.am_instance.specs.declared.event.Event.TheVariants as events;
+ghost use Rattle.am_instance.specs.declared.event.Request.TheVariants as requests;
+ghost use Rattle.am_instance.specs.Configs.{peers_but};
+ghost use Rattle.am_instance.specs.Deliveries.Delivery.{OfSilence};
+ghost use Rattle.am_instance.specs.declared.reply.Reply.TheVariants as replies;
+ghost use Rattle.am_instance.specs.Changes.{only_if};
+ghost use Rattle.am_instance.specs.Sendings.{Sends, deltas_to, nothing_sent, sent_by};
+ghost use Rattle.am_instance.specs.Replies.{AreMade, IsNothing, posted_id, posted_over};
+ghost use Rattle.am_instance.specs.Steps.{IsPlanned, IsPutHere, IsTurnedAway, IsWork, is_changed};
+
+use crate::error::StepError;
+use crate::event::Request;
+use crate::frames::outcome;
+use crate::instance::Instance;
+use crate::outbox::Outbox;
+use crate::reply::{Made, Outcome, Reply};
+use crate::views::{silence_in_view, silences_shown};
+use am_gossip::StateKey;
+use am_matcher::{Filter, verdict};
+use am_merge::{Held, Taken};
+use am_silence::{
+    Matchers, MeshSilence, Plan, Posted, SilenceError, Verdict, fresh_id, plan_expire, plan_post,
+    state_at,
+};
+use am_version_order::{Moment, Version};
+use am_wire::Text;
+use std::alloc::{AllocError, Global};
+
+impl Instance {
+    /// Answers a request.
+    pub(crate) fn answer(&mut self, request: Request, now: Moment) -> Result<Outcome, StepError>
+        ensures { IsWork self.old (events.Request request) now result self.new }
+    {
+        match request {
+            Request::List { filters } => self.list(filters, now),
+            Request::Get { id } => self.get(&id, now),
+            Request::Post { posted, bits } => self.post(posted, bits, now),
+            Request::Delete { id } => self.delete(&id, now),
+        }
+    }
+
+    /// The silences in view that pass all filters.
+    fn list(&self, mut filters: Vec<Filter>, now: Moment) -> Result<Outcome, StepError>
+        ensures { IsWork self.now (events.Request (requests.List filters)) now result self.now }
+    {
+        let rows = silences_shown(self.alloc, &self.silences, &mut filters, now)?;
+        Ok(quiet(self.alloc, Reply::Silences(rows)))
+    }
+
+    /// The silence of an identifier.
+    fn get(&self, id: &Text, now: Moment) -> Result<Outcome, StepError>
+        ensures { IsWork self.now (events.Request (requests.Get id.now)) now result self.now }
+    {
+        let Some(version) = silence_in_view(&self.silences, id, now) else {
+            return Ok(quiet(self.alloc, Reply::Refused(SilenceError::NotFound)));
+        };
+        let state = state_at(version.silence(), now);
+        let copy = version.try_clone(self.alloc)?;
+        Ok(quiet(self.alloc, Reply::Silence(copy, state)))
+    }
+
+    /// Makes or updates a silence.
+    fn post(&mut self, posted: Posted, bits: u128, now: Moment) -> Result<Outcome, StepError>
+        ensures { IsWork self.old (events.Request (requests.Post posted bits)) now result self.new }
+    {
+        match self.plan(posted, bits, now) {
+            Ok(plan) => self.carry_out(plan, now),
+            Err(error) => self.turn_away(error),
+        }
+    }
+
+    /// Answers why a request is refused.
+    fn turn_away(&self, error: SilenceError) -> Result<Outcome, StepError>
+        ensures refused { IfOk result (IsTurnedAway error) }
+        ensures memory { IfErr result (λ e. e ≡ errors.Memory 0) }
+    {
+        match error {
+            SilenceError::Memory => Err(StepError::Memory { taken: 0 }),
+            error => Ok(quiet(self.alloc, Reply::Refused(error))),
+        }
+    }
+
+    /// What a post makes, or why it is refused.
+    fn plan(&self, posted: Posted, bits: u128, now: Moment) -> Result<Plan, SilenceError>
+        ensures { IsPlanned self.now posted bits now result }
+    {
+        let alloc = self.alloc;
+        let verdict = judge(alloc, &posted.matchers)?;
+        let fresh = Text::copied(alloc, fresh_id(bits).as_str())?;
+        let id_held = is_held(&self.silences, &fresh);
+        let held = posted_over(&self.silences, posted.id.as_ref(), now);
+        let retention = self.config.retention();
+        plan_post(alloc, held, posted, verdict, now, bits, id_held, retention)
+    }
+
+    /// Takes the versions of a plan, the new silence first.
+    fn carry_out(&mut self, plan: Plan, now: Moment) -> Result<Outcome, StepError>
+        ensures done { IfOk result (λ outcome. IsPutHere self.old (versions plan) (replies.Posted (posted_id plan)) now outcome self.new) }
+        ensures err { IfErr result (λ e. e ≡ errors.Memory 0) }
+        ensures unchanged { OnErr result (self.new ≡ self.old) }
+    {
+        let id = posted_id(&plan).try_clone(self.alloc)?;
+        let reply = Reply::Posted(id);
+        match plan {
+            Plan::Update(version) => self.put_one(version, reply, now),
+            Plan::Create(version) => self.put_one(version, reply, now),
+            Plan::Replace { new, old } => self.put_pair(new, old, reply, now),
+        }
+    }
+
+    /// Ends a silence.
+    fn delete(&mut self, id: &Text, now: Moment) -> Result<Outcome, StepError>
+        ensures { IsWork self.old (events.Request (requests.Delete id.now)) now result self.new }
+    {
+        let held = silence_in_view(&self.silences, id, now);
+        match plan_expire(self.alloc, held, now, self.config.retention()) {
+            Ok(version) => self.put_one(version, Reply::Deleted, now),
+            Err(error) => self.turn_away(error),
+        }
+    }
+
+    /// Takes a version of a silence that was made here, and sends it on where that changes the map.
+    fn put_one(
+        &mut self,
+        version: MeshSilence,
+        reply: Reply,
+        now: Moment,
+    ) -> Result<Outcome, StepError>
+        ensures put { IfOk result (λ outcome. IsPutHere self.old (version ∷ []) reply now outcome self.new) }
+        ensures err { IfErr result (λ e. e ≡ errors.Memory 0) }
+        ensures unchanged { OnErr result (self.new ≡ self.old) }
+    {
+        let made = copies_of_one(self.alloc, &version)?;
+        let taken = self.silences.take(version, now)?;
+        let mut outbox = Outbox::new(self.alloc);
+        self.send_on(taken, &made[0], &mut outbox);
+        Ok(made_outcome(reply, outbox, made))
+    }
+
+    /// Takes a new silence and the end of another, or neither, and sends on what changes the map.
+    fn put_pair(
+        &mut self,
+        new: MeshSilence,
+        old: MeshSilence,
+        reply: Reply,
+        now: Moment,
+    ) -> Result<Outcome, StepError>
+        ensures put { IfOk result (λ outcome. IsPutHere self.old (new ∷ old ∷ []) reply now outcome self.new) }
+        ensures err { IfErr result (λ e. e ≡ errors.Memory 0) }
+        ensures unchanged { OnErr result (self.new ≡ self.old) }
+    {
+        let alloc = self.alloc;
+        let made = copies_of_pair(alloc, &new, &old)?;
+        let (first, second) = self.silences.take_pair(new, old, now)?;
+        let mut outbox = Outbox::new(alloc);
+        self.send_on(first, &made[0], &mut outbox);
+        self.send_on(second, &made[1], &mut outbox);
+        Ok(made_outcome(reply, outbox, made))
+    }
+
+    /// Sends a version that was made here to all peers, where its taking changed the map.
+    fn send_on(&self, taken: Taken, version: &MeshSilence, outbox: &mut Outbox)
+        ensures { Sends (deltas_to (peers_but self.now.config self.now.config.place) (only_if (is_changed taken) (OfSilence version.now))) outbox.old outbox.new }
+    {
+        if is_changed(taken) {
+            outbox.send_version(
+                self.route(self.config.place()),
+                StateKey::Sil,
+                version.canonical(),
+            );
+        }
+    }
+}
+
+/// The verdict on posted matchers.
+fn judge(alloc: Global, matchers: &Matchers) -> Result<Verdict, AllocError>
+    ensures { IfOk result (IsVerdict matchers.now) }
+{
+    verdict(alloc, matchers.as_slice())
+}
+
+/// Whether an identifier is held, live or not.
+fn is_held(silences: &Held<MeshSilence>, id: &Text) -> bool
+    ensures { result ≡ is_some (silence_at silences.now id.now) }
+{
+    silences.get(id).is_some()
+}
+
+/// The silence in view of the identifier that is posted, where one is.
+fn posted_over<'a>(
+    silences: &'a Held<MeshSilence>,
+    id: Option<&Text>,
+    now: Moment,
+) -> Option<&'a MeshSilence>
+    ensures { option_copied result ≡ posted_over now silences.now (option_copied id.entry) }
+{
+    match id {
+        Some(id) => silence_in_view(silences, id, now),
+        None => None,
+    }
+}
+
+/// Whether a taking is answered Changed.
+pub(crate) fn is_changed(taken: Taken) -> bool
+    ensures { result ≡ is_changed taken }
+{
+    matches!(taken, Taken::Changed)
+}
+
+/// A copy of a version.
+fn copies_of_one(alloc: Global, version: &MeshSilence) -> Result<Vec<MeshSilence>, AllocError>
+    ensures { IfOk result (λ copies. copies.items ≡ version.now ∷ []) }
+{
+    let mut copies = Vec::with_capacity(alloc, 1)?;
+    copies.push(version.try_clone(alloc)?)?;
+    Ok(copies)
+}
+
+/// Copies of two versions, in order.
+fn copies_of_pair(
+    alloc: Global,
+    first: &MeshSilence,
+    second: &MeshSilence,
+) -> Result<Vec<MeshSilence>, AllocError>
+    ensures { IfOk result (λ copies. copies.items ≡ first.now ∷ second.now ∷ []) }
+{
+    let mut copies = Vec::with_capacity(alloc, 2)?;
+    copies.push(first.try_clone(alloc)?)?;
+    copies.push(second.try_clone(alloc)?)?;
+    Ok(copies)
+}
+
+/// The identifier of the silence that a plan makes or updates.
+fn posted_id(plan: &Plan) -> &Text
+    ensures { result.now ≡ posted_id plan.now }
+{
+    match plan {
+        Plan::Update(version) | Plan::Create(version) => version.key(),
+        Plan::Replace { new, .. } => new.key(),
+    }
+}
+
+/// An outcome in which nothing was made here, and nothing is sent.
+pub(crate) fn quiet(alloc: Global, reply: Reply) -> Outcome
+    ensures reply { result.reply ≡ reply }
+    ensures sent { sent_by result ≡ nothing_sent }
+    ensures made { IsNothing result.made }
+{
+    outcome(alloc, reply, Outbox::new(alloc))
+}
+
+/// An outcome in which these silences were made here.
+fn made_outcome(reply: Reply, outbox: Outbox, silences: Vec<MeshSilence>) -> Outcome
+    ensures reply { result.reply ≡ reply }
+    ensures sent { sent_by result ≡ outbox }
+    ensures made { AreMade result.made silences.items }
+{
+    let (frames, unsent) = outbox.into_parts();
+    Outcome {
+        reply,
+        frames,
+        unsent,
+        made: Made {
+            silences,
+            log: None,
+        },
+    }
+}

@@ -1,0 +1,118 @@
+//! The rows of a frame: all are read before any is taken.
+
+ghost use Rattle.std.specs.Prelude.{◌≡◌, ◌≢◌, ◌+◌, ◌<◌, ℕ, List, map, length, take, Some, None, OnOk, OnErr, IfOk, IfErr};
+ghost use Rattle.std.specs.Option.{option_copied};
+ghost use Rattle.am_wire.specs.Inputs.{messages_of};
+ghost use Rattle.am_wire.specs.declared.error.WireError.TheVariants as wire_errors;
+ghost use Rattle.am_merge.specs.Maps.{at, is_above};
+ghost use Rattle.am_collect.specs.Events.{after, after_all};
+ghost use Rattle.am_collect.specs.Events.Event.{Delivered};
+ghost use Rattle.am_instance.specs.Configs.{places_but};
+ghost use Rattle.am_instance.specs.Deliveries.{before_fault, first_fault};
+ghost use Rattle.am_instance.specs.Changes.{IsStoppedRow, changed, changes, only_if, takings};
+ghost use Rattle.am_instance.specs.Sendings.{Sends, deltas_of};
+
+use crate::outbox::{Outbox, Route};
+use am_gossip::StateKey;
+use am_merge::Held;
+use am_version_order::{Moment, Version};
+use am_wire::{Message, Messages, Record, WireError};
+use std::alloc::{AllocError, Global};
+
+/// Reads each version of a row, and keeps none.
+///
+/// # Errors
+///
+/// The row's first fault, or [`WireError::Memory`].
+pub fn judge_row<V: Message>(alloc: Global, row: &[u8]) -> Result<(), WireError>
+    ensures sound { OnOk result (first_fault (messages_of V.reads row.now) ≡ None) }
+    ensures fault { IfErr result (λ e. e ≢ wire_errors.Memory → first_fault (messages_of V.reads row.now) ≡ Some e) }
+{
+    for message in Messages::<V>::new(alloc, row) {
+        message?;
+    }
+    Ok(())
+}
+
+/// What a row's versions are taken with: the moment, their state, and whom those that change a map are sent to.
+#[derive(Clone, Copy)]
+pub struct Taking {
+    pub moment: Moment,
+    pub key: StateKey,
+    pub route: Route,
+}
+
+/// Whether a version is greater than what is held, or the first of its key.
+#[tactic(auto, unfolding(am_version_order::specs::Versions::is_below))]
+fn is_greater<V: Version>(old: Option<&V>, version: &V) -> bool
+    ensures { result ≡ is_above V.seen (option_copied old.entry) version.now }
+{
+    match old {
+        Some(old) => old.compare(version).is_lt(),
+        None => true,
+    }
+}
+
+/// Whether taking a version is answered Changed: it is live, and greater than what is held, or the first of its key.
+fn is_change<V: Version>(held: &Held<V>, version: &V, now: Moment) -> bool
+    ensures { result ≡ changes V.seen now (at V.seen V.Key.cmp held.now) version.now }
+{
+    now < version.expires() && is_greater(held.get(version.key()), version)
+}
+
+/// Takes a version and counts it, and sends it on where that changes the map. Where memory runs out nothing is taken.
+fn take_one<V: Version>(
+    held: &mut Held<V>,
+    version: V,
+    taking: &Taking,
+    outbox: &mut Outbox,
+    taken: &mut usize,
+) -> Result<(), AllocError>
+    ensures map { OnOk result ((key : V.Key) →
+        at V.seen V.Key.cmp held.new key ≡ after V.seen V.Key.cmp (at V.seen V.Key.cmp held.old) (Delivered version) taking.now.moment key) }
+    ensures count { OnOk result (taken.new ≡ taken.old + 1) }
+    ensures sent { OnOk result (Sends (deltas_of V.seen taking.now.key (places_but taking.now.route.members taking.now.route.own taking.now.route.origin)
+        (only_if (changes V.seen taking.now.moment (at V.seen V.Key.cmp held.old) version) version)) outbox.old outbox.new) }
+    ensures held { OnErr result (held.new ≡ held.old) }
+    ensures not_counted { OnErr result (taken.new ≡ taken.old) }
+{
+    let Some(count) = taken.checked_add(1) else {
+        return Err(AllocError);
+    };
+    if is_change(held, &version, taking.moment) {
+        outbox.send_version(taking.route, taking.key, version.canonical());
+    }
+    held.take(version, taking.moment)?;
+    *taken = count;
+    Ok(())
+}
+
+/// Takes the versions of a row in order, and counts them. Those that change the map are sent on.
+///
+/// # Errors
+///
+/// [`AllocError`] where memory runs out; the versions counted so far were taken.
+pub fn take_row<V: Record>(
+    alloc: Global,
+    held: &mut Held<V>,
+    row: &[u8],
+    taking: &Taking,
+    outbox: &mut Outbox,
+    taken: &mut usize,
+) -> Result<(), AllocError>
+    requires { first_fault (messages_of V.reads row.now) ≡ None }
+    ensures map { OnOk result ((key : V.Key) → at V.seen V.Key.cmp held.new key
+        ≡ after_all V.seen V.Key.cmp (at V.seen V.Key.cmp held.old) (takings taking.now.moment (before_fault (messages_of V.reads row.now))) key) }
+    ensures count { OnOk result (taken.new ≡ taken.old + length (before_fault (messages_of V.reads row.now))) }
+    ensures sent { OnOk result (Sends (deltas_of V.seen taking.now.key (places_but taking.now.route.members taking.now.route.own taking.now.route.origin)
+        (changed V.seen V.Key.cmp taking.now.moment (at V.seen V.Key.cmp held.old) (before_fault (messages_of V.reads row.now)))) outbox.old outbox.new) }
+    ensures stopped { OnErr result (IsStoppedRow V.seen V.Key.cmp taking.now.moment held.old (before_fault (messages_of V.reads row.now)) held.new taken.old taken.new) }
+{
+    for message in Messages::<V>::new(alloc, row) {
+        let Ok(version) = message else {
+            return Err(AllocError);
+        };
+        take_one(held, version, taking, outbox, taken)?;
+    }
+    Ok(())
+}

@@ -1,0 +1,123 @@
+//! What is shown of the two maps.
+
+ghost use Rattle.std.specs.Prelude.{◌≡◌, ◌++◌, [], ◌∷◌, IfOk, OnOk};
+ghost use Rattle.std.specs.List.{list_all};
+ghost use Rattle.std.specs.Option.{option_copied};
+ghost use Rattle.am_matcher.specs.Matching.{passes};
+ghost use Rattle.am_merge.specs.Maps.{if_live};
+ghost use Rattle.am_instance.specs.Stands.{log_in_view};
+ghost use Rattle.am_instance.specs.Replies.{entry_in_view, silence_in_view, silences_shown};
+
+use am_matcher::Filter;
+use am_merge::Held;
+use am_nflog::{LogKey, MeshEntry};
+use am_silence::{MeshSilence, Silence, State, state_at};
+use am_version_order::{Moment, Version};
+use am_wire::Text;
+use std::alloc::{AllocError, Global};
+
+/// Whether a silence passes all filters.
+fn passes_all(silence: &Silence, filters: &mut Vec<Filter>) -> Result<bool, AllocError>
+    ensures answer { IfOk result (λ yes. yes ≡ list_all (λ f. passes f silence.now) filters.old.items) }
+    ensures same { filters.new.items ≡ filters.old.items }
+{
+    for filter in filters.iter_mut() {
+        if !filter.passes(silence)? {
+            return Ok(false);
+        }
+    }
+    Ok(true)
+}
+
+/// Shows one silence, if it is in view and passes all filters.
+fn show_silence(
+    alloc: Global,
+    version: &MeshSilence,
+    filters: &mut Vec<Filter>,
+    now: Moment,
+    shown: &mut Vec<(MeshSilence, State)>,
+) -> Result<(), AllocError>
+    ensures shown { OnOk result (shown.new.items ≡ shown.old.items ++ silences_shown now filters.old.items (version.now ∷ [])) }
+    ensures same { filters.new.items ≡ filters.old.items }
+{
+    if now < version.expires() && passes_all(version.silence(), filters)? {
+        let state = state_at(version.silence(), now);
+        shown.push((version.try_clone(alloc)?, state))?;
+    }
+    Ok(())
+}
+
+/// The silences in view that pass all filters, by identifier, with their states.
+///
+/// # Errors
+///
+/// [`AllocError`] where memory runs out.
+pub fn silences_shown(
+    alloc: Global,
+    silences: &Held<MeshSilence>,
+    filters: &mut Vec<Filter>,
+    now: Moment,
+) -> Result<Vec<(MeshSilence, State)>, AllocError>
+    ensures rows { IfOk result (λ rows. rows.items ≡ silences_shown now filters.old.items silences.now) }
+{
+    let mut shown = Vec::new(alloc);
+    for version in silences.iter() {
+        show_silence(alloc, version, filters, now, &mut shown)?;
+    }
+    Ok(shown)
+}
+
+/// The log's entries in view, in the order of their keys.
+///
+/// # Errors
+///
+/// [`AllocError`] where memory runs out.
+pub fn log_shown(
+    alloc: Global,
+    log: &Held<MeshEntry>,
+    now: Moment,
+) -> Result<Vec<MeshEntry>, AllocError>
+    ensures { IfOk result (λ entries. entries.items ≡ log_in_view now log.now) }
+{
+    let mut shown = Vec::new(alloc);
+    for version in log.iter() {
+        if now < version.expires() {
+            shown.push(version.try_clone(alloc)?)?;
+        }
+    }
+    Ok(shown)
+}
+
+/// The version that was found, where it is live.
+fn live_one<'a, V: Version>(found: Option<&'a V>, now: Moment) -> Option<&'a V>
+    ensures { option_copied result ≡ if_live V.seen now (option_copied found.entry) }
+{
+    let version = found?;
+    if now < version.expires() {
+        Some(version)
+    } else {
+        None
+    }
+}
+
+/// The silence of an identifier, where it is in view. It takes no memory.
+pub fn silence_in_view<'a>(
+    silences: &'a Held<MeshSilence>,
+    id: &Text,
+    now: Moment,
+) -> Option<&'a MeshSilence>
+    ensures { option_copied result ≡ silence_in_view now silences.now id.now }
+{
+    live_one(silences.get(id), now)
+}
+
+/// The log's entry of a key, where it is in view. It takes no memory.
+pub fn entry_in_view<'a>(
+    log: &'a Held<MeshEntry>,
+    key: &LogKey,
+    now: Moment,
+) -> Option<&'a MeshEntry>
+    ensures { option_copied result ≡ entry_in_view now log.now key.now }
+{
+    live_one(log.get(key), now)
+}
