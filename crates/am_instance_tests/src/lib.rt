@@ -1,0 +1,11 @@
+//! What the tests of am_instance see of it is public, so they stand here, and no proof of am_instance waits for them.
+#![tactic(auto)]
+
+#[cfg(test)]
+mod fixtures;
+#[cfg(test)]
+mod frames;
+#[cfg(test)]
+mod posts;
+#[cfg(test)]
+mod refusals;
