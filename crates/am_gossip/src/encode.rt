@@ -183,6 +183,7 @@ pub fn states_fit(silences: u64, log: u64) -> bool
     if silences > limit || log > limit {
         return false;
     }
-    let len = chunk_len(1, part_size(StateKey::Sil, silences)) + chunk_len(1, part_size(StateKey::Nfl, log));
+    let len = chunk_len(1, part_size(StateKey::Sil, silences))
+        + chunk_len(1, part_size(StateKey::Nfl, log));
     len <= limit
 }

@@ -61,7 +61,11 @@ pub fn delimited_bytes(alloc: Global, text: &[u8]) -> Result<Bytes, AllocError>
 /// # Errors
 ///
 /// [`AllocError`] where memory runs out.
-pub fn row_bytes<V: Version>(alloc: Global, held: &Held<V>, length: u64) -> Result<Bytes, AllocError>
+pub fn row_bytes<V: Version>(
+    alloc: Global,
+    held: &Held<V>,
+    length: u64,
+) -> Result<Bytes, AllocError>
     ensures { IfOk result (λ bytes. bytes ≡ row_text V.seen held.now) }
 {
     let mut bytes = Vec::with_capacity(alloc, length as usize)?;
