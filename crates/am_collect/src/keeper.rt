@@ -87,6 +87,10 @@ impl<V: Version> Keeper<V> {
     ghost use Rattle.am_collect.specs.Keepers.{IsLeftBy, IsRefusal, IsStepping, IsStop, ShowsBareSet, accepted, event_of, events_of, view_at};
 
     /// A keeper of these versions, of which no two have one key.
+    ///
+    /// # Errors
+    ///
+    /// [`KeeperError::DuplicateKey`] where two have one, and [`KeeperError::Memory`] where memory runs out.
     pub fn start(alloc: Global, versions: Vec<V>, now: Moment) -> Result<Self, KeeperError>
         ensures order { IfOk result (λ keeper. IsMap V.seen V.Key.cmp keeper.held) }
         ensures members { IfOk result (λ keeper. IsPermutation versions.items keeper.held) }
@@ -123,8 +127,11 @@ impl<V: Version> Keeper<V> {
         self.held.get(key).filter(|version| now < version.expires())
     }
 
-    /// Drops each version that isn't live, and says how many went. It takes no memory, and refuses
-    /// only a moment before the last one.
+    /// Drops each version that isn't live, and says how many went. It takes no memory.
+    ///
+    /// # Errors
+    ///
+    /// [`KeeperError::MomentBack`] where the moment is before the last one.
     pub fn collect(&mut self, now: Moment) -> Result<usize, KeeperError>
         ensures back { (result ≡ Err (KeeperError.MomentBack self.old.last)) ↔ (now < self.old.last) }
         ensures only { IsOkUnless result (KeeperError.MomentBack self.old.last) }
@@ -141,7 +148,12 @@ impl<V: Version> Keeper<V> {
         Ok(went)
     }
 
-    /// Takes two versions in order, or neither where memory runs out.
+    /// Takes two versions in order, or neither.
+    ///
+    /// # Errors
+    ///
+    /// [`KeeperError::MomentBack`] where the moment is before the last one, else [`KeeperError::Memory`] where memory
+    /// runs out.
     pub fn take_pair(
         &mut self,
         first: V,
@@ -163,6 +175,11 @@ impl<V: Version> Keeper<V> {
     }
 
     /// Does a step, and says what it did.
+    ///
+    /// # Errors
+    ///
+    /// [`KeeperError::MomentBack`] where the moment is before the last one, else [`KeeperError::Memory`] where memory
+    /// runs out. What is refused changes nothing.
     pub fn step(&mut self, step: Step<V>, now: Moment) -> Result<Stepped, KeeperError>
         ensures back { (result ≡ Err (KeeperError.MomentBack self.old.last)) ↔ (now < self.old.last) }
         ensures refusal { IfErr result (IsRefusal step self.old.last now) }

@@ -135,6 +135,29 @@ fn push_payload(out: &mut Vec<u8>, frame: &Frame) -> Result<(), AllocError>
     }
 }
 
+/// How many bytes a frame's payload has, where it keeps the limit of its kind.
+fn payload_size(frame: &Frame) -> Result<u64, FrameError>
+    ensures exact { IfOk result (λ size. size ≡ length (payload_text frame.now)) }
+    ensures within { OnOk result (length (payload_text frame.now) ≤ limit (kind_of frame.now)) }
+    ensures too_long { IfErr result (λ e. (e ≡ FrameError.Length) × (limit (kind_of frame.now) < length (payload_text frame.now))) }
+{
+    let size = payload_len(frame);
+    if size > u128::from(frame.kind().limit()) {
+        return Err(FrameError::Length);
+    }
+    Ok(size as u64)
+}
+
+/// Writes a frame whose payload has so many bytes.
+fn push_frame(out: &mut Vec<u8>, frame: &Frame, size: u64) -> Result<(), AllocError>
+    requires { size ≡ length (payload_text frame.now) }
+    ensures ok { OnOk result (out.new.items ≡ out.old.items ++ frame_text frame.now) }
+{
+    out.push(frame.kind().code())?;
+    append_varint(out, size)?;
+    push_payload(out, frame)
+}
+
 /// Writes a frame in its one form: the byte of its kind, the length of its payload in the shortest spelling, and
 /// the payload. It takes memory once, for exactly these bytes.
 ///
@@ -148,17 +171,32 @@ pub fn encode_frame(alloc: Global, frame: &Frame) -> Result<Vec<u8>, FrameError>
     ensures too_long { (result ≡ Err FrameError.Length) ↔ (limit (kind_of frame.now) < length (payload_text frame.now)) }
     ensures refused { IfErr result (λ e. (e ≡ FrameError.Length) ⊎ (e ≡ FrameError.Memory)) }
 {
-    let kind = frame.kind();
-    let size = payload_len(frame);
-    if size > u128::from(kind.limit()) {
-        return Err(FrameError::Length);
-    }
-    let size = size as u64;
+    let size = payload_size(frame)?;
     let mut out = Vec::with_capacity(alloc, 1 + (varint_len(size) + size) as usize)?;
-    out.push(kind.code())?;
-    append_varint(&mut out, size)?;
-    push_payload(&mut out, frame)?;
+    push_frame(&mut out, frame, size)?;
     Ok(out)
+}
+
+/// Writes a frame, in the form of [`encode_frame`], behind what `out` holds.
+///
+/// # Errors
+///
+/// As [`encode_frame`].
+pub fn append_frame(out: &mut Vec<u8>, frame: &Frame) -> Result<(), FrameError>
+    ensures written { OnOk result (out.new.items ≡ out.old.items ++ frame_text frame.now) }
+    ensures too_long { (result ≡ Err FrameError.Length) ↔ (limit (kind_of frame.now) < length (payload_text frame.now)) }
+    ensures refused { IfErr result (λ e. (e ≡ FrameError.Length) ⊎ (e ≡ FrameError.Memory)) }
+{
+    let size = payload_size(frame)?;
+    push_frame(out, frame, size)?;
+    Ok(())
+}
+
+/// Whether the payload of a frame keeps the limit of its kind. It takes no memory.
+pub fn frame_fits(frame: &Frame) -> bool
+    ensures { result ≡ fits frame.now }
+{
+    payload_len(frame) <= u128::from(frame.kind().limit())
 }
 
 /// Whether a Delta keeps its limit whose part holds so many bytes, where [`u64::MAX`] stands for every number that is

@@ -116,8 +116,12 @@ impl Feeder {
     /// Reads the next piece of the stream: the frames that end in it, and the fault that stands behind them, if
     /// there is one.
     ///
-    /// Where the pieces are cut makes no difference. After a fault every call is [`FrameError::Ended`]; the only
-    /// other refusal is [`FrameError::Memory`], and it leaves the feeder as it was.
+    /// Where the pieces are cut makes no difference.
+    ///
+    /// # Errors
+    ///
+    /// [`FrameError::Ended`] after a fault, else [`FrameError::Memory`] where memory runs out, which leaves the feeder as
+    /// it was.
     pub fn feed(&mut self, piece: &[u8]) -> Result<Fed, FrameError>
         ensures frames { IfOk result (λ fed. fed.frames.items ≡ (stream_of (rest_bytes self.old ++ piece.now)).frames) }
         ensures fault { IfOk result (λ fed. fed.fault ≡ fault_in (stream_of (rest_bytes self.old ++ piece.now)).ending) }

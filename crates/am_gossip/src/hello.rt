@@ -26,8 +26,10 @@ fn name_from(bytes: &[u8], size: usize, start: usize) -> Result<Option<(&str, us
 /// Reads the greeting at the front of a connection's bytes: the sender's name, and how many bytes the greeting
 /// takes. None says that bytes are wanting. It takes no memory.
 ///
-/// It refuses by [`FrameError::Kind`] where the first byte is not 0, by [`FrameError::Length`] where the name's
-/// length is not 1 to 255, and by a `NotUtf8` at 0 where the name is no text.
+/// # Errors
+///
+/// [`FrameError::Kind`] where the first byte is not 0, [`FrameError::Length`] where the name's length is not 1 to 255,
+/// and a `NotUtf8` at 0 where the name is no text.
 #[tactic(auto, unfolding(crate::specs::Hellos::hello_of))]
 pub fn read_hello(bytes: &[u8]) -> Result<Option<(&str, usize)>, FrameError>
     ensures exact { hello_seen result ≡ hello_of bytes.now }

@@ -16,7 +16,7 @@ mod payload;
 mod reading;
 
 pub use am_wire::Bytes;
-pub use encode::{delta_fits, encode_frame, states_fit};
+pub use encode::{append_frame, delta_fits, encode_frame, frame_fits, states_fit};
 pub use error::FrameError;
 pub use feeder::{Fed, Feeder};
 pub use frame::{Frame, FullState, Part, StateKey};

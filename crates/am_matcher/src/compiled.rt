@@ -122,6 +122,10 @@ impl Compiled {
     }
 
     /// Whether the label's value matches; an absent label is the empty text.
+    ///
+    /// # Errors
+    ///
+    /// [`AllocError`] where memory runs out.
     pub fn matches(&mut self, value: &str) -> Result<bool, AllocError>
         ensures answer { IfOk result (λ yes. yes ≡ matches_value self.old value.now) }
         ensures same { self.new ≡ self.old }

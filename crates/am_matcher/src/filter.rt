@@ -141,6 +141,10 @@ impl Filter {
 
     /// Whether the silence passes: whether the filter matches the labels that its matchers make, name to
     /// pattern, whatever their kinds; of matchers with one name the last one counts.
+    ///
+    /// # Errors
+    ///
+    /// [`AllocError`] where memory runs out.
     pub fn passes(&mut self, silence: &Silence) -> Result<bool, AllocError>
         ensures answer { IfOk result (λ yes. yes ≡ passes self.old silence.now) }
         ensures same { self.new ≡ self.old }

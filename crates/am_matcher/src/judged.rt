@@ -59,6 +59,10 @@ pub fn judge_all(
 
 impl PatternCache {
     /// As [`verdict`], with the patterns kept.
+    ///
+    /// # Errors
+    ///
+    /// [`AllocError`] where memory runs out.
     pub fn verdict(&mut self, matchers: &[Matcher]) -> Result<Verdict, AllocError>
         ensures { IfOk result (IsVerdict matchers.now) }
     {
@@ -74,6 +78,10 @@ impl PatternCache {
 /// What the matchers of a silence that is posted are judged as: [`Verdict::Bad`] where `regex` refuses
 /// one of their patterns, else [`Verdict::AllEmpty`] where each matches the empty text, also where there
 /// are none, else [`Verdict::Fine`].
+///
+/// # Errors
+///
+/// [`AllocError`] where memory runs out.
 pub fn verdict(alloc: Global, matchers: &[Matcher]) -> Result<Verdict, AllocError>
     ensures { IfOk result (IsVerdict matchers.now) }
 {

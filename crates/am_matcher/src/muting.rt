@@ -100,6 +100,10 @@ fn mutes_among(
 
 impl PatternCache {
     /// As [`mutes`], with the patterns kept: each is compiled once.
+    ///
+    /// # Errors
+    ///
+    /// [`AllocError`] where memory runs out.
     pub fn mutes(
         &mut self,
         held: &Held<MeshSilence>,
@@ -123,6 +127,10 @@ impl PatternCache {
 /// every alert. Patterns are compiled for this call alone, and those of an active silence all of them,
 /// since a broken one is told whatever the labels are. Silences that have no pattern and want a label to
 /// be a text that it isn't are not looked at.
+///
+/// # Errors
+///
+/// [`AllocError`] where memory runs out.
 pub fn mutes(
     alloc: Global,
     held: &Held<MeshSilence>,

@@ -75,6 +75,10 @@ impl<V: Version> Held<V> {
     }
 
     /// The map of these versions, of which no two have one key.
+    ///
+    /// # Errors
+    ///
+    /// [`FromVersionsError::DuplicateKey`] where two have one, and [`FromVersionsError::Memory`] where memory runs out.
     pub fn from_versions(alloc: Global, mut versions: Vec<V>) -> Result<Self, FromVersionsError>
         ensures order { IfOk result (IsMap V.seen V.Key.cmp) }
         ensures members { IfOk result (IsPermutation versions.items) }
@@ -90,7 +94,11 @@ impl<V: Version> Held<V> {
         }
     }
 
-    /// A copy, or [`AllocError`] where memory runs out.
+    /// A copy.
+    ///
+    /// # Errors
+    ///
+    /// [`AllocError`] where memory runs out.
     pub fn try_clone(&self) -> Result<Self, AllocError>
         ensures { IfOk result (λ copy. copy ≡ self.now) }
     {
@@ -158,6 +166,10 @@ impl<V: Version> Held<V> {
     }
 
     /// Takes a version: it is held where it is greater than the one that its key has, live or not.
+    ///
+    /// # Errors
+    ///
+    /// [`AllocError`] where memory runs out. Nothing has changed then.
     pub fn take(&mut self, version: V, now: Moment) -> Result<Taken, AllocError>
         ensures taken { IfOk result (IsTaking V.seen V.Key.cmp now self.old version self.new) }
         ensures err { OnErr result (self.new ≡ self.old) }
@@ -169,6 +181,10 @@ impl<V: Version> Held<V> {
 
     /// Takes the first version of its key, and says whether it is that. Where the key has one already
     /// nothing changes.
+    ///
+    /// # Errors
+    ///
+    /// [`AllocError`] where memory runs out. Nothing has changed then.
     pub fn insert_new(&mut self, version: V) -> Result<bool, AllocError>
         ensures answer { IfOk result (λ new.
             new ≡ is_none (at V.seen V.Key.cmp self.old (V.seen version).key)) }
@@ -185,7 +201,11 @@ impl<V: Version> Held<V> {
         }
     }
 
-    /// Takes two versions in order, or neither where memory runs out.
+    /// Takes two versions in order, or neither.
+    ///
+    /// # Errors
+    ///
+    /// [`AllocError`] where memory runs out. Nothing has changed then.
     pub fn take_pair(
         &mut self,
         first: V,

@@ -1,5 +1,5 @@
 -- The rows of events, by the parts that are read together.
-use Rattle.std.proofs.Common.{◌≡◌, ℕ, Bool, List, [], ◌∷◌, drop, Option, Result, Ok, Err, refl}
+use Rattle.std.proofs.Common.{◌≡◌, ℕ, List, [], drop, Option, Result, Ok, Err, refl}
 use Rattle.am_schedule.specs.declared.error.FaultKind.{FaultKind}
 use Rattle.am_schedule.specs.declared.form.Verb.{Verb}
 use Rattle.am_schedule.specs.declared.form.Verb.TheVariants as verbs

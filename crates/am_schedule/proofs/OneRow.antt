@@ -1,7 +1,6 @@
 -- A line stands in one row of the table at most.
-use Rattle.std.proofs.Common.{◌≡◌, ℕ, Bool, true, List, Some, refl}
+use Rattle.std.proofs.Common.{◌≡◌, ℕ, true, List, refl}
 use Rattle.std.specs.Prelude.{codes}
-use Rattle.std.specs.Str.{bytes_eq}
 use Rattle.std.proofs.lemmas.Slice.Eq.{bytes_eq-Decides}
 use Rattle.am_schedule.specs.declared.form.Verb.TheVariants as verbs
 use Rattle.am_schedule.specs.declared.form.VersionForm.TheVariants as versions
@@ -10,7 +9,7 @@ use Rattle.am_schedule.specs.declared.form.Form.TheVariants.{Cluster, Version, O
 use Rattle.am_schedule.specs.Words.{word_at}
 use Rattle.am_schedule.specs.Places.{has_word}
 use Rattle.am_schedule.specs.Rows.{Row, has_count, is_line, event_row, verb_word, silence_row, log_row, stop_row, save_row, lose_row, timely_row, frames_row}
-use Rattle.am_schedule.specs.Forms.{form_in, verb_in, has_verb, is_of}
+use Rattle.am_schedule.specs.Forms.{form_in, verb_in}
 use Rattle.am_schedule.specs.Laws.{OneForm, OneVerb}
 use Rattle.am_schedule.proofs.WrittenWords.{left_true, right_true}
 

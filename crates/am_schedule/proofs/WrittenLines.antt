@@ -1,10 +1,10 @@
 -- What is written of a line is read as that line.
-use Rattle.std.proofs.Common.{◌≡◌, ℕ, ◌+◌, ◌<◌, ◌≤◌, ◌^◌, Bool, true, false, List, [], ◌∷◌, ◌++◌, length, map, drop, Option, Some, None, Result, Ok, Err, refl, sym, ap, ◌∙◌, arith}
+use Rattle.std.proofs.Common.{◌≡◌, ℕ, ◌<◌, ◌≤◌, ◌^◌, Bool, true, false, List, [], ◌∷◌, length, map, Option, Some, Result, Ok, refl, sym, ap, ◌∙◌, arith}
 use Rattle.std.proofs.lemmas.List.{length-map}
-use Rattle.std.specs.Prelude.{not, nat_lt, nat_le, ◌==◌, ◌&&◌, codes, find, if◌then◌else◌}
-use Rattle.std.specs.List.{list_all, position_or_len, before_first, after_first}
+use Rattle.std.specs.Prelude.{not, nat_le, ◌==◌, codes}
+use Rattle.std.specs.List.{list_all}
 use Rattle.std.specs.Str.{bytes_eq}
-use Rattle.std.proofs.lemmas.Bool.{lt-ltb, le-leb, leb-true}
+use Rattle.std.proofs.lemmas.Bool.{lt-ltb, le-leb}
 use Rattle.std.proofs.lemmas.Slice.Eq.{bytes_eq-Decides}
 use Rattle.am_schedule.specs.declared.error.FaultKind.{FaultKind}
 use Rattle.am_schedule.specs.declared.cluster.ClusterLine.{ClusterLine}
@@ -12,28 +12,24 @@ use Rattle.am_schedule.specs.declared.form.Verb.{Verb}
 use Rattle.am_schedule.specs.declared.form.Verb.TheVariants as verbs
 use Rattle.am_schedule.specs.declared.form.VersionForm.{VersionForm}
 use Rattle.am_schedule.specs.declared.form.VersionForm.TheVariants as versions
-use Rattle.am_schedule.specs.declared.form.Form.TheVariants.{Cluster, Version, Other}
+use Rattle.am_schedule.specs.declared.form.Form.TheVariants.{Version}
 use Rattle.am_schedule.specs.declared.step.VersionLine.{VersionLine}
 use Rattle.am_schedule.specs.declared.step.VersionLine.TheVariants.{Silence, Log}
 use Rattle.am_schedule.specs.declared.step.Pair.{Pair}
-use Rattle.am_schedule.specs.declared.step.Versions.{Versions}
-use Rattle.am_schedule.specs.declared.step.GroupLine.{GroupLine}
-use Rattle.am_schedule.specs.declared.step.PostLine.{PostLine}
 use Rattle.am_schedule.specs.declared.step.Event.{Event}
 use Rattle.am_schedule.specs.declared.step.Event.TheVariants as events
 use Rattle.am_schedule.specs.declared.step.Action.TheVariants as actions
 use Rattle.am_schedule.specs.declared.step.Line.{Line}
 use Rattle.am_schedule.specs.declared.step.Line.TheVariants as kinds
 use Rattle.am_schedule.specs.Words.{word_at}
-use Rattle.am_schedule.specs.Lists.{values, pair_in, pairs_in, is_equals, are_new, names_of}
-use Rattle.am_schedule.specs.Labels.{versions_in, is_label}
-use Rattle.am_schedule.specs.Slots.{moment, whole_moment, interval, number, bits, hashes, yes_or_no, member, text, identifier}
+use Rattle.am_schedule.specs.Lists.{values, pair_in, pairs_in, is_equals}
+use Rattle.am_schedule.specs.Slots.{moment, whole_moment, interval, number, bits, hashes, yes_or_no, identifier}
 use Rattle.am_schedule.specs.Forms.{verb_in, form_in}
 use Rattle.am_schedule.specs.VersionLines.{silence_in, log_in, version_in}
 use Rattle.am_schedule.specs.StepLines.{event_in, member_line_in, deliver_in, settle_in, at_line_in, line_in}
 use Rattle.am_schedule.specs.Clusters.{is_name}
 use Rattle.am_schedule.specs.Schedules.{definition_in, said_in, labelled}
-use Rattle.am_schedule.specs.Written.{word_of, pair_word, group_words, event_words, written, written_version, IsSince1970, IsMember, is_writable_pair, ArePairs, IsGroup, IsWritableEvent, IsWritableLine, IsWritableVersion}
+use Rattle.am_schedule.specs.Written.{word_of, pair_word, event_words, written_version, IsSince1970, IsMember, is_writable_pair, ArePairs, IsWritableEvent, IsWritableLine, IsWritableVersion}
 use Rattle.am_schedule.specs.Laws.{LineIsRead, VersionIsRead, OneWay}
 use Rattle.am_schedule.proofs.WrittenWords.{left_true, right_true, cut_place, cut_before, cut_behind, cut_inside, text_read, member_read, word_read}
 

@@ -1,7 +1,7 @@
 -- The word of a value is read as that value in its place.
-use Rattle.std.proofs.Common.{◌≡◌, ℕ, zero, suc, ◌+◌, ◌-◌, ◌*◌, ◌/◌, ◌%◌, ◌^◌, ◌<◌, ◌≤◌, Bool, true, false, List, [], ◌∷◌, ◌++◌, length, take, drop, Option, Some, None, Result, Ok, Err, refl, sym, ap, ◌∙◌, inl, inr, arith, append_assoc, length-append, lit<, lit≤}
-use Rattle.std.specs.Prelude.{not, option_map, option_and_then, nat_lt, nat_le, ◌==◌, ◌&&◌, codes, if◌then◌else◌}
-use Rattle.std.specs.List.{list_all, slice_split, onto_first, position_or_len, before_first, after_first}
+use Rattle.std.proofs.Common.{◌≡◌, ℕ, zero, suc, ◌+◌, ◌*◌, ◌/◌, ◌%◌, ◌^◌, ◌<◌, ◌≤◌, Bool, true, false, List, [], ◌∷◌, ◌++◌, length, Option, Some, None, Ok, refl, ap, ◌∙◌, arith, append_assoc, length-append, lit<, lit≤}
+use Rattle.std.specs.Prelude.{not, nat_lt, nat_le, ◌==◌, ◌&&◌, codes, if◌then◌else◌}
+use Rattle.std.specs.List.{list_all, slice_split, position_or_len, before_first, after_first}
 use Rattle.std.specs.Str.{bytes_eq}
 use Rattle.std.specs.Char.{is_ascii_digit}
 use Rattle.std.specs.Fmt.{decimal}
@@ -11,13 +11,11 @@ use Rattle.std.proofs.lemmas.List.{append-nil}
 use Rattle.std.proofs.lemmas.List.Folds.{list_all-append}
 use Rattle.std.proofs.lemmas.List.Splits.{slice_split_first}
 use Rattle.std.proofs.lemmas.Bool.Decides.{nat_tests}
-use Rattle.std.proofs.lemmas.Bool.{lt-ltb, le-leb, le-ltb, ltb-true, leb-true, cases_lt, ne_eqb}
+use Rattle.std.proofs.lemmas.Bool.{lt-ltb, le-leb, ltb-true, leb-true, ne_eqb}
 use Rattle.std.proofs.lemmas.Fmt.{digits_decimal, digits_value-decimal, decimal_nonempty, length-decimal-le}
-use Rattle.am_version_order.specs.Moments.{seconds_before_1970}
-use Rattle.am_schedule.specs.declared.error.FaultKind.{FaultKind}
 use Rattle.am_schedule.specs.Words.{in_place, text_in}
-use Rattle.am_schedule.specs.Numbers.{decimal_of, decimal_behind, count_in, wanted, number_within, seconds_in, hex_digit_in, hex_behind, bits_in}
-use Rattle.am_schedule.specs.Times.{moment_at, moment_behind, whole_moment_in, fraction_in, is_point, moment_in}
+use Rattle.am_schedule.specs.Numbers.{decimal_of, decimal_behind, count_in, number_within, seconds_in, hex_digit_in, hex_behind, bits_in}
+use Rattle.am_schedule.specs.Times.{moment_behind, whole_moment_in, fraction_in, is_point, moment_in}
 use Rattle.am_schedule.specs.Lists.{values, hashes_in, yes_or_no_in, member_in}
 use Rattle.am_schedule.specs.Slots.{Slot, moment, whole_moment, interval, number, bits, hashes, yes_or_no, member, text, identifier, ValueOf, id_in, value_at}
 use Rattle.am_schedule.specs.Written.{fixed_digits, decimal_digit, hex_digit, seconds_of, more_numbers, numbers_word, answer_word, id_word, word_of, IsSince1970, IsMember, IsId, IsWritable}

@@ -1,5 +1,5 @@
 -- The table of lines: for each verb the places behind it, and what their values make.
-use Rattle.std.specs.Prelude.{ℕ, ◌+◌, Bool, List, [], ◌∷◌, length, drop, Option, Some, None, Result, Ok, ◌==◌, nat_le, ◌&&◌, codes}
+use Rattle.std.specs.Prelude.{ℕ, ◌+◌, Bool, List, [], ◌∷◌, length, drop, Option, None, Result, Ok, ◌==◌, nat_le, ◌&&◌, codes}
 use Rattle.am_schedule.specs.declared.error.FaultKind.{FaultKind}
 use Rattle.am_schedule.specs.declared.form.Verb.{Verb}
 use Rattle.am_schedule.specs.declared.form.Verb.TheVariants as verbs
@@ -20,7 +20,7 @@ use Rattle.am_schedule.specs.Words.{word_at}
 use Rattle.am_schedule.specs.Lists.{pairs_in}
 use Rattle.am_schedule.specs.Labels.{versions_in}
 use Rattle.am_schedule.specs.Places.{has_word}
-use Rattle.am_schedule.specs.Slots.{Slot, moment, whole_moment, interval, number, bits, hashes, yes_or_no, member, text, identifier, ValueOf, value_at}
+use Rattle.am_schedule.specs.Slots.{Slot, whole_moment, interval, number, bits, hashes, yes_or_no, member, text, identifier, ValueOf, value_at}
 
 -- ---- rows
 

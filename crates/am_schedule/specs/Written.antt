@@ -15,7 +15,7 @@ use Rattle.am_schedule.specs.declared.step.Line.{Line}
 use Rattle.am_schedule.specs.declared.step.Line.TheVariants as kinds
 use Rattle.am_schedule.specs.Times.{moment_at}
 use Rattle.am_schedule.specs.Lists.{are_new, names_of}
-use Rattle.am_schedule.specs.Labels.{versions_in, is_label}
+use Rattle.am_schedule.specs.Labels.{versions_in}
 use Rattle.am_schedule.specs.Clusters.{is_name}
 use Rattle.am_schedule.specs.Slots.{Slot, moment, whole_moment, interval, number, bits, hashes, yes_or_no, member, text, identifier, ValueOf}
 

@@ -1,4 +1,4 @@
-use Rattle.std.proofs.Common.{◌≡◌, ℕ, ap, arith, sym, ◌∙◌, length}
+use Rattle.std.proofs.Common.{◌≡◌, arith, sym, ◌∙◌, length}
 use Rattle.std.proofs.lemmas.Bool.{lt-leb}
 use Rattle.am_gossip.proofs.Limits.{part_over}
 use Rattle.am_gossip.proofs.encode.delta_fits.Goals as goal

@@ -1,4 +1,4 @@
-use Rattle.std.proofs.Common.{◌≡◌, ℕ, ◌<◌, ◌+◌, ap, arith, sym, ◌∙◌, length}
+use Rattle.std.proofs.Common.{◌<◌, ◌+◌, arith, sym, length}
 use Rattle.am_gossip.proofs.Limits.{states_over}
 use Rattle.am_gossip.proofs.encode.states_fit.Goals as goal
 use Rattle.am_gossip.proofs.encode.states_fit.Goals.{then-silences-limit-via-then-silences-limit, then-silences-limit-via-else-silences-limit+then-log-limit}
