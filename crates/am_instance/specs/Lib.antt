@@ -5,4 +5,5 @@ pub mod Changes
 pub mod Sendings
 pub mod Replies
 pub mod Steps
+pub mod OneStep
 pub mod Laws

@@ -1,0 +1,53 @@
+//! Why a connection ends before its input does, and why nothing is sent.
+
+ghost use Rattle.std.specs.Prelude.{◌≡◌};
+
+use am_gossip::FrameError;
+use am_http::WriteFault;
+use std::alloc::{AllocError, AllocFailed};
+use thiserror::Error;
+
+/// Why not all was sent.
+#[derive(Clone, Copy, Debug, PartialEq, Eq, Error)]
+pub enum SendError {
+    /// A write failed or took nothing, when so many bytes had gone out.
+    #[error("a write failed after {written} bytes")]
+    Write { written: u64 },
+    #[error("out of memory")]
+    Memory,
+    /// The name has no byte or over 255, or the payload of a frame is over its limit.
+    #[error("the name or a frame is over its limit")]
+    Length,
+}
+
+impl From<AllocError> for SendError {
+    ghost use Rattle.am_connection.specs.declared.error.SendError.TheVariants.{Memory};
+
+    ghost from_gives = { λ _ e. e ≡ Memory };
+
+    fn from(_e: AllocError) -> SendError {
+        SendError::Memory
+    }
+}
+
+impl<T: Drop> From<AllocFailed<T>> for SendError {
+    ghost use Rattle.am_connection.specs.declared.error.SendError.TheVariants.{Memory};
+
+    ghost from_gives = { λ _ e. e ≡ Memory };
+
+    fn from(_e: AllocFailed<T>) -> SendError {
+        SendError::Memory
+    }
+}
+
+impl From<WriteFault> for SendError {
+    ghost use Rattle.am_connection.specs.declared.error.SendError.TheVariants.{Write};
+
+    ghost from_gives = { λ fault e. e ≡ Write fault.written };
+
+    fn from(fault: WriteFault) -> SendError {
+        SendError::Write {
+            written: fault.written,
+        }
+    }
+}
