@@ -4,6 +4,7 @@ ghost use Rattle.std.specs.Prelude.{◌≡◌};
 
 use am_gossip::FrameError;
 use am_http::WriteFault;
+use am_instance::StepError;
 use std::alloc::{AllocError, AllocFailed};
 use thiserror::Error;
 
@@ -49,5 +50,48 @@ impl From<WriteFault> for SendError {
         SendError::Write {
             written: fault.written,
         }
+    }
+}
+
+/// Why a connection ended before its input did: the first of these that stands.
+#[derive(Clone, Copy, Debug, PartialEq, Eq, Error)]
+pub enum Fault {
+    /// A read failed, when so many bytes had come.
+    #[error("a read failed after {at} bytes")]
+    Read { at: u64 },
+    /// A write failed or took nothing, when so many bytes had gone out.
+    #[error("a write failed after {written} bytes")]
+    Write { written: u64 },
+    /// Over 134,217,728 bytes came.
+    #[error("the connection has too many bytes")]
+    TooLarge,
+    /// In the greeting, or in the frames behind it; or memory ran out for them.
+    #[error("{0}")]
+    Frame(FrameError),
+    /// The greeting names no peer.
+    #[error("no peer has this name")]
+    UnknownName,
+    /// The step of a frame was refused.
+    #[error("{0}")]
+    Step(StepError),
+}
+
+impl From<FrameError> for Fault {
+    ghost use Rattle.am_connection.specs.declared.error.Fault.TheVariants.{Frame};
+
+    ghost from_gives = { λ given e. e ≡ Frame given };
+
+    fn from(error: FrameError) -> Fault {
+        Fault::Frame(error)
+    }
+}
+
+impl From<StepError> for Fault {
+    ghost use Rattle.am_connection.specs.declared.error.Fault.TheVariants.{Step};
+
+    ghost from_gives = { λ given e. e ≡ Step given };
+
+    fn from(error: StepError) -> Fault {
+        Fault::Step(error)
     }
 }

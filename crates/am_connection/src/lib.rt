@@ -3,7 +3,11 @@
 #![tactic(auto)]
 
 mod error;
+mod gathered;
+mod hearing;
+mod reading;
 mod sending;
+mod steps;
 
-pub use error::SendError;
+pub use error::{Fault, SendError};
 pub use sending::send;
