@@ -1,2 +1,3 @@
 pub mod Making
 pub mod Listening
+pub mod Greeted

@@ -2,6 +2,7 @@
 use Rattle.std.specs.Prelude.{◌≡◌, ◌⊎◌, ℕ, ◌+◌, ◌^◌, ◌-◌, min, Bool, true, false, ◌||◌, List, [], ◌∷◌, ◌++◌, length, take, drop, ◌≤◌, Option, Some, None, Result, Ok, Err, slice_get, IsOk}
 use Rattle.std.specs.Option.{ForSome, IsSome}
 use Rattle.std.specs.Io.KnownBytes.{Consumes, IsAtEnd}
+use Rattle.am_gossip.specs.declared.error.FrameError.{FrameError}
 use Rattle.am_gossip.specs.declared.error.FrameError.TheVariants.{Memory}
 use Rattle.am_gossip.specs.declared.frame.Frame.{Frame}
 use Rattle.am_gossip.specs.Hellos.{hello_of}
@@ -14,8 +15,9 @@ use Rattle.am_instance.specs.Stands.{Stand}
 use Rattle.am_instance.specs.Sendings.{Sent, nothing_sent, sent_by}
 use Rattle.am_instance.specs.Steps.{collects}
 use Rattle.am_instance.specs.OneStep.{IsStep}
+use Rattle.am_connection.specs.declared.ended.Ended.{Ended}
 use Rattle.am_connection.specs.declared.error.Fault.{Fault}
-use Rattle.am_connection.specs.declared.error.Fault.TheVariants.{Read, TooLarge, Frame as InFrame, Step}
+use Rattle.am_connection.specs.declared.error.Fault.TheVariants.{Read, TooLarge, Frame as InFrame, UnknownName, Step}
 
 -- what steps had for effects besides those on the instance: the frames that they send, and whether a Tick was among them
 pub record Effects : Type 0 where
@@ -123,7 +125,83 @@ pub record Hears (sender now first : ℕ) (fed : List ℕ) (input left : Option 
   pub consumed : Consumes input left (took ++ lost)
   pub ending : EndsHearing sender now (first + length took) (stream_of (fed ++ took)) lost left start nothing new after result
 
+-- ---- a whole connection of a peer
+
 -- the place of the peer of this name
 pub record IsPeerOf (config : Settings) (name : List ℕ) (place : ℕ) : Type 0 where
   pub named : slice_get config.members place ≡ Some name
   pub peer : is_peer config place ≡ true
+
+-- a greeting is read whose name is that of no peer
+abbrev pub NamesNobody : Settings → Result (Option (List ℕ × ℕ)) FrameError → Type 0
+NamesNobody config (Ok (Some greeting)) = (place : ℕ) → ¬ IsPeerOf config greeting.0 place
+NamesNobody config _ = ⊥
+
+-- a connection that goes on, or why it ended
+abbrev pub result_of : Option Fault → Result Unit Fault
+result_of None = Ok tt
+result_of (Some fault) = Err fault
+
+abbrev pub fault_in : Result Unit Fault → Option Fault
+fault_in (Ok _) = None
+fault_in (Err fault) = Some fault
+
+-- No frame was read: the input ended in the greeting, a read failed there, the greeting is at fault or names no peer, or memory
+-- ran out for it.
+abbrev pub IsUngreeted : Settings → List ℕ → Option (List ℕ) → Option Fault → Type 0
+IsUngreeted config came left None = (hello_of came ≡ Ok None) × IsAtEnd left
+IsUngreeted config came left (Some (Read at)) = (hello_of came ≡ Ok None) × (at ≡ length came)
+IsUngreeted config came left (Some TooLarge) = length came ≡ most_bytes + 1
+IsUngreeted config came left (Some (InFrame error)) = (error ≡ Memory) ⊎ (hello_of came ≡ Err error)
+IsUngreeted config came left (Some UnknownName) = NamesNobody config (hello_of came)
+IsUngreeted config came left (Some _) = ⊥
+
+-- what a greeting of this name and length is read as: the place of its peer, or that there is none
+abbrev pub IsNamed : Settings → List ℕ → ℕ → Result (Option (ℕ × ℕ)) Fault → Type 0
+IsNamed config name len (Ok (Some greeted)) = IsPeerOf config name greeted.0 × (greeted.1 ≡ len)
+IsNamed config name len (Err UnknownName) = (place : ℕ) → ¬ IsPeerOf config name place
+IsNamed config name len _ = ⊥
+
+-- What was read of a greeting: the place of the peer that it names and its length, or why no frame is read.
+abbrev pub Greets : Settings → Option (List ℕ) → Option (List ℕ) → List ℕ → Result (Option (ℕ × ℕ)) Fault → Type 0
+Greets config input left bytes (Ok (Some greeted)) =
+    Consumes input left bytes × (length bytes ≤ most_bytes) × (name : List ℕ) × (hello_of bytes ≡ Ok (Some (name, greeted.1))) × IsPeerOf config name greeted.0
+Greets config input left bytes (Ok None) = Consumes input left bytes × IsUngreeted config bytes left None
+Greets config input left bytes (Err fault) = (came : List ℕ) × Consumes input left came × IsUngreeted config came left (Some fault)
+
+-- What came behind a greeting of `len` bytes: what was taken as frames, and what was not.
+pub record HearsPeer (sender now len : ℕ) (piece : List ℕ) (input left : Option (List ℕ)) (old new : Stand) (effects : Effects) (fault : Option Fault) : Type 0 where
+  pub gave : List ℕ
+  pub consumed : Consumes input left gave
+  pub took : List ℕ
+  pub lost : List ℕ
+  pub parts : piece ++ gave ≡ took ++ lost
+  pub ending : EndsHearing sender now (len + length took) (stream_of took) lost left old no_effects new effects (result_of fault)
+
+-- A peer spoke: the bytes begin with its greeting, behind which the steps of its frames were made.
+pub record Speaks (config : Settings) (now : ℕ) (came : List ℕ) (left : Option (List ℕ)) (old new : Stand) (effects : Effects) (fault : Option Fault) : Type 0 where
+  pub name : List ℕ
+  pub len : ℕ
+  pub greeting : hello_of came ≡ Ok (Some (name, len))
+  pub place : ℕ
+  pub peer : IsPeerOf config name place
+  pub took : List ℕ
+  pub lost : List ℕ
+  pub parts : drop len came ≡ took ++ lost
+  pub ending : EndsHearing place now (len + length took) (stream_of took) lost left old no_effects new effects (result_of fault)
+
+-- nobody spoke, and no step was made
+pub record Silence (config : Settings) (came : List ℕ) (left : Option (List ℕ)) (old new : Stand) (effects : Effects) (fault : Option Fault) : Type 0 where
+  pub same : new ≡ old
+  pub nothing : effects ≡ no_effects
+  pub ungreeted : IsUngreeted config came left fault
+
+-- all that comes of a connection of frames
+pub record IsHeard (now : ℕ) (input left : Option (List ℕ)) (old new : Stand) (effects : Effects) (fault : Option Fault) : Type 0 where
+  pub came : List ℕ
+  pub consumed : Consumes input left came
+  pub answer : Silence old.config came left old new effects fault ⊎ Speaks old.config now came left old new effects fault
+
+-- the effects of a connection that has ended
+abbrev pub effects_of : Ended → Effects
+effects_of ended = record { sent = record { frames = ended.frames.items; memory = ended.unsent.memory; limit = ended.unsent.limit }; ticked = ended.ticked }

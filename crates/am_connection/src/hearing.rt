@@ -1,17 +1,20 @@
 //! The frames that a peer sends, and their steps.
 
-ghost use Rattle.std.specs.Prelude.{◌≡◌, ◌++◌, ◌≤◌, List, ℕ, Some};
+ghost use Rattle.std.specs.Prelude.{◌≡◌, ◌+◌, ◌++◌, ◌≤◌, List, [], ℕ, Some, drop, length};
 ghost use Rattle.am_gossip.specs.Streams.{stream_of};
 ghost use Rattle.am_instance.specs.Stands.{Stand};
-ghost use Rattle.am_connection.specs.Incoming.{Effects, HasHeard, Hears, TakesPiece, most_bytes};
+ghost use Rattle.am_connection.specs.Incoming.{Effects, HasHeard, Hears, HearsPeer, IsHeard, TakesPiece, effects_of, fault_in, most_bytes, no_effects};
 
+use crate::ended::Ended;
 use crate::error::Fault;
 use crate::gathered::Gathered;
+use crate::greeting::greet;
 use crate::reading::read_piece;
 use crate::steps::make_steps;
 use am_gossip::Feeder;
 use am_instance::{Instance, Place};
 use am_version_order::Moment;
+use std::alloc::Global;
 use std::io;
 
 /// How many bytes are asked for at once.
@@ -77,5 +80,78 @@ fn listen<R: io::Read>(
         }
         take_piece(instance, incoming, &piece[..read], now)?;
         count += read as u64;
+    }
+}
+
+/// Takes the frames in the bytes behind a greeting, and then those that come.
+fn converse<R: io::Read>(
+    instance: &mut Instance,
+    incoming: &mut Incoming,
+    piece: &[u8],
+    first: u64,
+    reader: &mut R,
+    now: Moment,
+) -> Result<(), Fault>
+    requires within { first ≤ most_bytes }
+    requires fresh { incoming.old.feeder ≡ Some [] }
+    requires nothing { incoming.old.gathered ≡ no_effects }
+    ensures { (len : ℕ) → first ≡ len + length piece.now →
+        HearsPeer incoming.old.sender now len piece.now (R.remaining reader.old) (R.remaining reader.new) instance.old instance.new incoming.new.gathered (fault_in result) }
+{
+    take_piece(instance, incoming, piece, now)?;
+    listen(instance, incoming, reader, first, now)
+}
+
+/// Why a connection ended before its input did.
+fn fault_in(end: Result<(), Fault>) -> Option<Fault>
+    ensures { result ≡ fault_in end }
+{
+    match end {
+        Ok(()) => None,
+        Err(fault) => Some(fault),
+    }
+}
+
+/// Takes the frames of a peer whose greeting has `len` bytes: those in the bytes that came with it, and those behind.
+fn hear_peer<R: io::Read>(
+    alloc: Global,
+    instance: &mut Instance,
+    sender: Place,
+    bytes: &[u8],
+    len: usize,
+    reader: &mut R,
+    now: Moment,
+) -> Ended
+    requires whole { len ≤ length bytes.now }
+    requires within { length bytes.now ≤ most_bytes }
+    ensures { HearsPeer sender now len (drop len bytes.now) (R.remaining reader.old) (R.remaining reader.new) instance.old instance.new (effects_of result) result.fault }
+{
+    let mut incoming = Incoming {
+        sender,
+        feeder: Feeder::new(alloc),
+        gathered: Gathered::none(alloc),
+    };
+    let (_, behind) = bytes.split_at(len);
+    let first = bytes.len() as u64;
+    let fault = fault_in(converse(instance, &mut incoming, behind, first, reader, now));
+    Ended::of(incoming.gathered, fault)
+}
+
+/// Hears a peer: reads its greeting, and makes the step of each frame behind it, until the connection ends.
+///
+/// An end inside the greeting or a frame drops the bytes that are not whole, and is no fault.
+pub fn hear<R: io::Read>(
+    alloc: Global,
+    instance: &mut Instance,
+    reader: &mut R,
+    now: Moment,
+) -> Ended
+    ensures { IsHeard now (R.remaining reader.old) (R.remaining reader.new) instance.old instance.new (effects_of result) result.fault }
+{
+    let mut bytes = Vec::new(alloc);
+    match greet(instance.config(), reader, &mut bytes) {
+        Ok(Some((sender, len))) => hear_peer(alloc, instance, sender, &bytes, len, reader, now),
+        Ok(None) => Ended::idle(alloc, None),
+        Err(fault) => Ended::idle(alloc, Some(fault)),
     }
 }

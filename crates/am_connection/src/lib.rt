@@ -2,12 +2,16 @@
 //! writer.
 #![tactic(auto)]
 
+mod ended;
 mod error;
 mod gathered;
+mod greeting;
 mod hearing;
 mod reading;
 mod sending;
 mod steps;
 
+pub use ended::Ended;
 pub use error::{Fault, SendError};
+pub use hearing::hear;
 pub use sending::send;

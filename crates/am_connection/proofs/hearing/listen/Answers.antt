@@ -20,10 +20,14 @@ returns-in_err-take_piece g c = λ fed start nothing h.
     let p = err_from_is_err_and c.from_residual-in_err-take_piece.result c.from_residual-in_err-take_piece.ensures.1 in
     let so_far = c.loop-read.invariant.2 fed start nothing h in
     rw (p.1, p.2) (hears_stop _ _ _ _ _ _ _ _ c.take_piece.new.incoming.feeder _ _ _ _ _ _ _ _ _ _ so_far c.in_ok-read.ensures
-        (by_sender _ _ _ _ c.take_piece.new.incoming.feeder _ _ _ _ c.in_err-take_piece.field-0.0 c.loop-read.invariant.1 (c.in_err-take_piece.ensures.taken so_far.heard.rest so_far.heard.waits)))
+    (by_sender _ _ _ _ c.take_piece.new.incoming.feeder _ _ _ _ c.in_err-take_piece.field-0.0 c.loop-read.invariant.1 (c.in_err-take_piece.ensures.taken so_far.heard.rest so_far.heard.waits)))
 
 pub loop-read-preserved : goal.loop-read-preserved
-loop-read-preserved g c = (c.in_ok-read.ensures.2, c.in_ok-take_piece.ensures.same ∙ c.loop-read.invariant.1, λ fed start nothing h.
-    let so_far = c.loop-read.invariant.2 fed start nothing h in
-    hears_more _ _ _ _ _ _ _ _ _ _ _ _ _ _ _ _ _ _ so_far c.in_ok-read.ensures
-        (rw c.loop-read.invariant.1 at (c.in_ok-take_piece.ensures.taken so_far.heard.rest so_far.heard.waits)))
+loop-read-preserved g c = (
+  c.in_ok-read.ensures.2,
+  c.in_ok-take_piece.ensures.same ∙ c.loop-read.invariant.1,
+  λ fed start nothing h.
+      let so_far = c.loop-read.invariant.2 fed start nothing h in
+      hears_more _ _ _ _ _ _ _ _ _ _ _ _ _ _ _ _ _ _ so_far c.in_ok-read.ensures
+      (rw c.loop-read.invariant.1 at (c.in_ok-take_piece.ensures.taken so_far.heard.rest so_far.heard.waits)),
+)
