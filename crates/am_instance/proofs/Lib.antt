@@ -12,3 +12,4 @@ pub mod RequestWorks
 pub mod NoticeWorks
 pub mod Passing
 pub mod Histories
+pub mod Alike

@@ -51,13 +51,14 @@ impl Instance {
         }
     }
 
-    /// Drops what isn't live of both states.
+    /// Drops what isn't live of both states, and the patterns that no silence has any more.
     pub(crate) fn collect(&mut self, now: Moment) -> Outcome
         ensures tick { IsWork self.old events.Tick now (Ok result) self.new }
         ensures frame { (sender : ℕ) → IsWork self.old (events.Frame sender frames.Tick) now (Ok result) self.new }
     {
         self.silences.sweep(now);
         self.log.sweep(now);
+        self.patterns.drop_unused(&self.silences);
         outcome(self.alloc, Reply::Nothing, Outbox::new(self.alloc))
     }
 

@@ -13,6 +13,7 @@ use crate::config::Config;
 use crate::error::StepError;
 use crate::event::{Event, Place};
 use crate::reply::Outcome;
+use am_matcher::PatternCache;
 use am_merge::Held;
 use am_nflog::{LogKey, MeshEntry};
 use am_silence::MeshSilence;
@@ -28,6 +29,8 @@ pub struct Instance {
     pub(crate) config: Config,
     pub(crate) silences: Held<MeshSilence>,
     pub(crate) log: Held<MeshEntry>,
+    /// The patterns of silences, compiled.
+    pub(crate) patterns: PatternCache,
     last: Moment,
 }
 
@@ -52,11 +55,13 @@ impl Instance {
         ensures log { result.log ≡ log }
         ensures last { result.last ≡ now }
     {
+        let alloc = silences.allocator();
         Instance {
-            alloc: silences.allocator(),
+            alloc,
             config,
             silences,
             log,
+            patterns: PatternCache::new(alloc),
             last: now,
         }
     }

@@ -1,24 +1,31 @@
 //! What holds of runs of an instance.
 
-ghost use Rattle.std.specs.Prelude.{◌≤◌, ℕ, List};
+ghost use Rattle.std.specs.Prelude.{◌≡◌, ◌≤◌, ℕ, List, [], All, true};
+ghost use Rattle.std.specs.List.{flat_map};
 ghost use Rattle.std.specs.Ordering.{nat_cmp};
 ghost use Rattle.std.specs.Cmp.Lexicographic.{slice_cmp};
-ghost use Rattle.am_silence.specs.Mesh.{mesh_version};
-ghost use Rattle.am_nflog.specs.Mesh.{mesh_version as entry_version};
+ghost use Rattle.am_silence.specs.Mesh.{IsMesh, mesh_version};
+ghost use Rattle.am_nflog.specs.Mesh.{IsMesh as IsLogMesh, mesh_version as entry_version};
 ghost use Rattle.am_nflog.specs.Keys.{key_cmp};
 ghost use Rattle.am_nflog.specs.declared.entry.LogKey.{LogKey};
-ghost use Rattle.am_merge.specs.Maps.{IsMap};
+ghost use Rattle.am_gossip.specs.Streams.{fed_in, stream_of};
+ghost use Rattle.am_merge.specs.Maps.{IsMap, at, if_live, swept};
 ghost use Rattle.am_merge.specs.Views.{IsViewAt};
-ghost use Rattle.am_collect.specs.Events.{taken};
+ghost use Rattle.am_collect.specs.Events.{HaveSame, taken};
 ghost use Rattle.am_collect.specs.Calm.{IsCalm};
 ghost use Rattle.am_instance.specs.Deliveries.{to_silences, to_log};
 ghost use Rattle.am_instance.specs.Stands.{Stand};
-ghost use Rattle.am_instance.specs.Replies.{silence_in_view, entry_in_view};
-ghost use Rattle.am_instance.specs.Laws.{AreMade, Happened, run_events};
+ghost use Rattle.am_instance.specs.declared.event.Event.{Event};
+ghost use Rattle.am_instance.specs.declared.reply.Made.{Made};
+ghost use Rattle.am_instance.specs.declared.reply.Reply.{Reply};
+ghost use Rattle.am_instance.specs.Replies.{IsReply, silence_in_view, entry_in_view};
+ghost use Rattle.am_instance.specs.Laws.{AreCalmSteps, AreMade, Happened, HasMaps, ShowSame, all_entries, all_silences, asks_views, events_of_stream, run_events};
 
-use am_collect::laws::calm_events_show_the_bare_set;
+use am_collect::laws::{calm_events_show_the_bare_set, calm_keepers_agree};
+use am_gossip::laws::cuts_change_nothing;
 use am_nflog::MeshEntry;
 use am_silence::MeshSilence;
+use am_version_order::Version;
 
 /// After any steps from any maps and moment, each map that they were calm for shows, at every key and at every moment
 /// from the last step on, what the bare set of all versions shows that the instance began with or that were delivered.
@@ -34,4 +41,41 @@ pub fn steps_show_the_bare_sets()
 {
     calm_events_show_the_bare_set::<MeshSilence>();
     calm_events_show_the_bare_set::<MeshEntry>();
+}
+
+/// Two instances that began with or were delivered the same versions in calm steps, in any order and however often, show
+/// the same from the later one of their last moments on.
+pub fn equal_sets_show_alike()
+    ensures { (start begin one other : Stand) (steps others : List Happened) (now : ℕ) →
+        AreCalmSteps start steps one → AreCalmSteps begin others other →
+        HaveSame (all_silences start steps) (all_silences begin others) → HaveSame (all_entries start steps) (all_entries begin others) →
+        All IsMesh (all_silences start steps) → All IsLogMesh (all_entries start steps) →
+        one.last ≤ now → other.last ≤ now → ShowSame now one other }
+{
+    calm_keepers_agree::<MeshSilence>();
+    calm_keepers_agree::<MeshEntry>();
+}
+
+/// Maps that show the same at each key have one view.
+fn equal_views_are_one<V: Version>()
+    ensures { (map other : List V) (now : ℕ) → IsMap V.seen V.Key.cmp map → IsMap V.seen V.Key.cmp other →
+        ((key : V.Key) → if_live V.seen now (at V.seen V.Key.cmp map key) ≡ if_live V.seen now (at V.seen V.Key.cmp other key)) →
+        swept V.seen now map ≡ swept V.seen now other }
+{}
+
+/// Two instances that show the same have the same replies to what is answered from the views alone.
+pub fn equal_views_reply_alike()
+    ensures { (one other : Stand) (event : Event) (now : ℕ) (reply : Reply) (made : Made) → HasMaps one → HasMaps other → ShowSame now one other →
+        asks_views event ≡ true → IsReply one event now reply made → IsReply other event now reply made }
+{
+    equal_views_are_one::<MeshSilence>();
+    equal_views_are_one::<MeshEntry>();
+}
+
+/// The frames of a peer's stream are the same events, wherever it was cut.
+pub fn cuts_change_no_event()
+    ensures { (sender : ℕ) (pieces : List (List ℕ)) →
+        events_of_stream sender (fed_in (stream_of []) pieces) ≡ events_of_stream sender (stream_of (flat_map (λ piece. piece) pieces)) }
+{
+    cuts_change_nothing();
 }

@@ -21,7 +21,7 @@ use crate::requests::{is_changed, quiet};
 use crate::views::{entry_in_view, log_shown, silences_shown};
 use am_dedup::decide;
 use am_gossip::StateKey;
-use am_matcher::{Labels, mutes};
+use am_matcher::Labels;
 use am_merge::{Held, Taken};
 use am_nflog::{Entry, Hashes, LogKey, MeshEntry, Receiver, make_entry};
 use am_version_order::{Interval, Moment, Version};
@@ -101,10 +101,10 @@ impl Instance {
     }
 
     /// Which silences mute an alert.
-    pub(crate) fn mute(&self, labels: &Labels, now: Moment) -> Result<Outcome, StepError>
-        ensures { IsWork self.now (events.Mutes labels.now) now result self.now }
+    pub(crate) fn mute(&mut self, labels: &Labels, now: Moment) -> Result<Outcome, StepError>
+        ensures { IsWork self.old (events.Mutes labels.now) now result self.new }
     {
-        let muted = mutes(self.alloc, &self.silences, labels, now)?;
+        let muted = self.patterns.mutes(&self.silences, labels, now)?;
         Ok(quiet(self.alloc, Reply::Muted(muted)))
     }
 

@@ -24,7 +24,7 @@ use crate::outbox::Outbox;
 use crate::reply::{Made, Outcome, Reply};
 use crate::views::{silence_in_view, silences_shown};
 use am_gossip::StateKey;
-use am_matcher::{Filter, verdict};
+use am_matcher::Filter;
 use am_merge::{Held, Taken};
 use am_silence::{
     Matchers, MeshSilence, Plan, Posted, SilenceError, Verdict, fresh_id, plan_expire, plan_post,
@@ -71,7 +71,8 @@ impl Instance {
     fn post(&mut self, posted: Posted, bits: u128, now: Moment) -> Result<Outcome, StepError>
         ensures { IsWork self.old (events.Request (requests.Post posted bits)) now result self.new }
     {
-        match self.plan(posted, bits, now) {
+        let verdict = self.judge(&posted.matchers)?;
+        match self.plan(posted, verdict, bits, now) {
             Ok(plan) => self.carry_out(plan, now),
             Err(error) => self.turn_away(error),
         }
@@ -88,12 +89,26 @@ impl Instance {
         }
     }
 
-    /// What a post makes, or why it is refused.
-    fn plan(&self, posted: Posted, bits: u128, now: Moment) -> Result<Plan, SilenceError>
+    /// The verdict on posted matchers.
+    fn judge(&mut self, matchers: &Matchers) -> Result<Verdict, AllocError>
+        ensures verdict { IfOk result (IsVerdict matchers.now) }
+        ensures same { self.new ≡ self.old }
+    {
+        self.patterns.verdict(matchers.as_slice())
+    }
+
+    /// What a post makes whose matchers were judged, or why it is refused.
+    fn plan(
+        &self,
+        posted: Posted,
+        verdict: Verdict,
+        bits: u128,
+        now: Moment,
+    ) -> Result<Plan, SilenceError>
+        requires { IsVerdict posted.matchers verdict }
         ensures { IsPlanned self.now posted bits now result }
     {
         let alloc = self.alloc;
-        let verdict = judge(alloc, &posted.matchers)?;
         let fresh = Text::copied(alloc, fresh_id(bits).as_str())?;
         let id_held = is_held(&self.silences, &fresh);
         let held = posted_over(&self.silences, posted.id.as_ref(), now);
@@ -178,13 +193,6 @@ impl Instance {
             );
         }
     }
-}
-
-/// The verdict on posted matchers.
-fn judge(alloc: Global, matchers: &Matchers) -> Result<Verdict, AllocError>
-    ensures { IfOk result (IsVerdict matchers.now) }
-{
-    verdict(alloc, matchers.as_slice())
 }
 
 /// Whether an identifier is held, live or not.

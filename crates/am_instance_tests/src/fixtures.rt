@@ -1,23 +1,31 @@
-//! Instances and versions of which the tests speak.
+//! Instances of which the tests speak, and what is seen of their answers.
 
-use am_gossip::{Frame, Part, StateKey};
+use am_gossip::{Feeder, Frame, encode_frame};
 use am_instance::{Config, Instance, Outcome, Place};
 use am_merge::Held;
+use am_nflog::MeshEntry;
 use am_silence::MeshSilence;
-use am_version_order::{Interval, Moment};
-use am_wire::{Bytes, Message, Text};
+use am_version_order::{Interval, Moment, Version};
+use am_wire::{Messages, Text};
 use std::alloc::Global;
 
-/// A row of one version: id `a`, EQUAL job `x`, start 10 s, end 100 s, update 10 s, expiry 200 s.
-pub const V1: [u8; 33] = [
-    0x20, 0x0A, 0x19, 0x0A, 0x01, 0x61, 0x12, 0x08, 0x12, 0x03, 0x6A, 0x6F, 0x62, 0x1A, 0x01, 0x78,
-    0x1A, 0x02, 0x08, 0x0A, 0x22, 0x02, 0x08, 0x64, 0x2A, 0x02, 0x08, 0x0A, 0x12, 0x03, 0x08, 0xC8,
-    0x01,
-];
+/// Seconds and nanoseconds since 1970.
+pub type Time = (i64, u32);
+
+/// Start, end, update moment and expiry of a silence, in seconds and nanoseconds since 1970.
+pub type Moments = [Time; 4];
+
+/// A place, and the bytes of the frame that goes to it.
+pub type Sending = (Place, &'static [u8]);
 
 /// The moment of so many seconds since 1970.
 pub fn at(seconds: i64) -> Moment {
-    Moment::from_parts(seconds, 0).unwrap_or(Moment::LEAST)
+    at_nanos((seconds, 0))
+}
+
+/// The moment of so many seconds and nanoseconds since 1970.
+pub fn at_nanos((seconds, nanos): Time) -> Moment {
+    Moment::from_parts(seconds, nanos).unwrap_or(Moment::LEAST)
 }
 
 /// How long the tests keep versions after their end: 100 s.
@@ -52,25 +60,42 @@ pub fn instance(alloc: Global, seconds: i64) -> Option<Instance> {
     Some(Instance::start(config, Held::new(alloc), Held::new(alloc), at(seconds)))
 }
 
-/// That member at 10 s, which holds the version of a row.
-pub fn holding(alloc: Global, row: &[u8]) -> Option<Instance> {
-    let version = MeshSilence::decode(alloc, row.get(1..)?).ok()?;
+// The silences of a row.
+fn silences_of(alloc: Global, row: &[u8]) -> Option<Held<MeshSilence>> {
     let mut silences = Held::new(alloc);
-    silences.take(version, at(10)).ok()?;
+    for version in Messages::<MeshSilence>::new(alloc, row) {
+        silences.take(version.ok()?, at(10)).ok()?;
+    }
+    Some(silences)
+}
+
+// The entries of a row.
+fn log_of(alloc: Global, row: &[u8]) -> Option<Held<MeshEntry>> {
+    let mut log = Held::new(alloc);
+    for version in Messages::<MeshEntry>::new(alloc, row) {
+        log.take(version.ok()?, at(10)).ok()?;
+    }
+    Some(log)
+}
+
+/// That member at 10 s, which holds the silences of one row and the entries of another.
+pub fn holding_both(alloc: Global, silences: &[u8], log: &[u8]) -> Option<Instance> {
+    let silences = silences_of(alloc, silences)?;
+    let log = log_of(alloc, log)?;
     let config = config(alloc)?;
-    Some(Instance::start(config, silences, Held::new(alloc), at(10)))
+    Some(Instance::start(config, silences, log, at(10)))
 }
 
-/// A part of these bytes.
-pub fn part(alloc: Global, key: StateKey, bytes: &[u8]) -> Option<Part> {
-    let bytes = Bytes::copied(alloc, bytes).ok()?;
-    Some(Part { key, bytes })
+/// That member at 10 s, which holds the silences of a row.
+pub fn holding(alloc: Global, row: &[u8]) -> Option<Instance> {
+    holding_both(alloc, row, &[])
 }
 
-/// A Delta of silences of these bytes.
-pub fn delta(alloc: Global, bytes: &[u8]) -> Option<Frame> {
-    let part = part(alloc, StateKey::Sil, bytes)?;
-    Some(Frame::Delta(part))
+/// The last frame in these bytes.
+pub fn frame_of(alloc: Global, bytes: &[u8]) -> Option<Frame> {
+    let mut feeder = Feeder::new(alloc);
+    let mut fed = feeder.feed(bytes).ok()?;
+    fed.frames.pop()
 }
 
 /// Whether frames to these places were sent in this order, and none was left out.
@@ -86,4 +111,45 @@ pub fn are_sent_to(outcome: &Outcome, places: &[Place]) -> bool {
         left = rest;
     }
     left.is_empty() && outcome.unsent.memory == 0 && outcome.unsent.limit == 0
+}
+
+// Whether a frame has these bytes.
+fn is_frame(alloc: Global, frame: &Frame, bytes: &[u8]) -> bool {
+    match encode_frame(alloc, frame) {
+        Ok(encoded) => encoded.as_slice() == bytes,
+        Err(_) => false,
+    }
+}
+
+// Whether a frame goes to this place, with these bytes.
+fn is_sending(alloc: Global, sent: &(Place, Frame), wanted: &Sending) -> bool {
+    sent.0 == wanted.0 && is_frame(alloc, &sent.1, wanted.1)
+}
+
+// Whether the first of the frames are these, as many as there are of both.
+fn begin_with(alloc: Global, frames: &[(Place, Frame)], wanted: &[Sending]) -> bool {
+    frames
+        .iter()
+        .zip(wanted)
+        .all(|(sent, wanted)| is_sending(alloc, sent, wanted))
+}
+
+/// Whether exactly these frames were sent in this order, and none was left out.
+pub fn are_sent(alloc: Global, outcome: &Outcome, wanted: &[Sending]) -> bool {
+    outcome.frames.len() == wanted.len()
+        && begin_with(alloc, outcome.frames.as_slice(), wanted)
+        && outcome.unsent.memory == 0
+        && outcome.unsent.limit == 0
+}
+
+/// Whether a version is of this silence, with these moments.
+pub fn is_version(version: &MeshSilence, id: &str, wanted: Moments) -> bool {
+    let silence = version.silence();
+    let moments = [
+        silence.starts_at.parts(),
+        silence.ends_at.parts(),
+        version.updated().parts(),
+        version.expires().parts(),
+    ];
+    version.key().as_str() == id && moments == wanted
 }

@@ -2,10 +2,22 @@
 #![tactic(auto)]
 
 #[cfg(test)]
+mod bytes;
+#[cfg(test)]
+mod configs;
+#[cfg(test)]
+mod exchanges;
+#[cfg(test)]
 mod fixtures;
 #[cfg(test)]
 mod frames;
 #[cfg(test)]
+mod notices;
+#[cfg(test)]
 mod posts;
 #[cfg(test)]
 mod refusals;
+#[cfg(test)]
+mod requests;
+#[cfg(test)]
+mod views;

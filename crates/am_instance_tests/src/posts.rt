@@ -1,58 +1,104 @@
-//! Posts and ends of silences, as events.
+//! Posts of silences, as events.
 
-use crate::fixtures::{V1, are_sent_to, at, holding};
+use crate::bytes::{
+    EXPIRED, FRESH_ID, FRESH_ID_NEWER, JUST_ENDED, PENDING, TWO, V1, V1_AND_FRESH_ID, V2,
+};
+use crate::fixtures::{Moments, Time, are_sent_to, at, at_nanos, holding, is_version};
 use am_instance::{Event, Instance, Outcome, Reply, Request};
-use am_silence::{Matcher, MatcherKind, Matchers, MeshSilence, Posted};
-use am_version_order::{Moment, Version};
+use am_silence::SilenceError::{
+    AllMatchEmpty, BadPattern, EndInPast, IdInUse, Newer, NoMatcher, NotFound,
+};
+use am_silence::{Matcher, MatcherKind, Matchers, Posted, SilenceError};
 use am_wire::Text;
 use std::alloc::Global;
+use std::process::Abort;
 
 /// The identifier that bits 0 give.
 const FRESH: &str = "00000000-0000-4000-8000-000000000000";
 
-/// Seconds and nanoseconds since 1970.
-type Time = (i64, u32);
+/// Kind, name and pattern of a matcher.
+type MatcherRow = (MatcherKind, &'static str, &'static str);
 
-/// Start, end, update moment and expiry.
-type Moments = [Time; 4];
+/// Identifier, matchers, start, and end in seconds.
+type Post = (&'static str, &'static [MatcherRow], Time, i64);
 
-// EQUAL job `x`.
-fn job_is_x(alloc: Global) -> Option<Matchers> {
-    let name = Text::copied(alloc, "job").ok()?;
-    let pattern = Text::copied(alloc, "x").ok()?;
+/// What comes of a post at 20 s.
+#[derive(Clone, Copy)]
+enum Wanted {
+    /// Silence `a` has a new version.
+    Updated(Moments),
+    /// There is a new silence.
+    Created(Moments),
+    /// There is a new silence, and then the end of silence `a`.
+    Replaced(Moments, Moments),
+    Refused(SilenceError),
+}
+
+/// The silence that is held, the post, and what comes of it.
+type Row = (&'static [u8], Post, Wanted);
+
+const JOB_IS_X: MatcherRow = (MatcherKind::Equal, "job", "x");
+
+const JOB_IS_Y: MatcherRow = (MatcherKind::Equal, "job", "y");
+
+const JOB_MATCHES_X: MatcherRow = (MatcherKind::Regexp, "job", "x");
+
+const HOST_IS_X: MatcherRow = (MatcherKind::Equal, "host", "x");
+
+const ANYTHING: MatcherRow = (MatcherKind::Regexp, "job", ".*");
+
+const OPEN: MatcherRow = (MatcherKind::Regexp, "env", "(");
+
+/// A version from so many seconds to 200 s that is made at 20 s.
+const fn made_from(starts_at: i64) -> Moments {
+    [(starts_at, 0), (200, 0), (20, 0), (300, 0)]
+}
+
+/// A version from so many seconds that is ended at 20 s.
+const fn ended_from(starts_at: i64) -> Moments {
+    [(starts_at, 0), (20, 0), (20, 0), (120, 0)]
+}
+
+fn matcher(alloc: Global, (kind, name, pattern): MatcherRow) -> Option<Matcher> {
+    let name = Text::copied(alloc, name).ok()?;
+    let pattern = Text::copied(alloc, pattern).ok()?;
+    Some(Matcher {
+        kind,
+        name,
+        pattern,
+    })
+}
+
+fn matchers(alloc: Global, rows: &[MatcherRow]) -> Option<Matchers> {
     let mut matchers = Vec::new(alloc);
-    matchers
-        .push(Matcher {
-            kind: MatcherKind::Equal,
-            name,
-            pattern,
-        })
-        .ok()?;
+    for &row in rows {
+        matchers.push(matcher(alloc, row)?).ok()?;
+    }
     Some(Matchers::new(matchers))
 }
 
-// A post of job `x` under an identifier, until 200 s.
-fn post(alloc: Global, id: &str, starts_at: Moment) -> Option<Event> {
-    let posted = Posted {
-        id: Some(Text::copied(alloc, id).ok()?),
-        matchers: job_is_x(alloc)?,
-        starts_at,
-        ends_at: at(200),
-        created_by: Text::copied(alloc, "ops").ok()?,
-        comment: Text::copied(alloc, "hi").ok()?,
-    };
-    Some(Event::Request(Request::Post { posted, bits: 0 }))
+// An identifier; none where it is empty.
+fn id_of(alloc: Global, id: &str) -> Option<Option<Text>> {
+    if id.is_empty() {
+        return Some(None);
+    }
+    Some(Some(Text::copied(alloc, id).ok()?))
 }
 
-fn is_version(version: &MeshSilence, id: &str, wanted: Moments) -> bool {
-    let silence = version.silence();
-    let moments = [
-        silence.starts_at.parts(),
-        silence.ends_at.parts(),
-        version.updated().parts(),
-        version.expires().parts(),
-    ];
-    version.key().as_str() == id && moments == wanted
+fn posted(alloc: Global, (id, rows, starts_at, ends_at): Post) -> Option<Posted> {
+    Some(Posted {
+        id: id_of(alloc, id)?,
+        matchers: matchers(alloc, rows)?,
+        starts_at: at_nanos(starts_at),
+        ends_at: at(ends_at),
+        created_by: Text::copied(alloc, "ops").ok()?,
+        comment: Text::copied(alloc, "hi").ok()?,
+    })
+}
+
+fn event(alloc: Global, post: Post) -> Option<Event> {
+    let posted = posted(alloc, post)?;
+    Some(Event::Request(Request::Post { posted, bits: 0 }))
 }
 
 // The identifier is the answer to a post.
@@ -63,28 +109,226 @@ fn is_posted(outcome: &Outcome, wanted: &str) -> bool {
     }
 }
 
-// A new silence from 20 s was made, and then the one that is there was ended; both were sent to both peers.
-fn are_replaced(instance: &Instance, outcome: &Outcome) -> bool {
-    let [new, old] = outcome.made.silences.as_slice() else {
-        return false;
-    };
-    is_posted(outcome, FRESH)
-        && is_version(new, FRESH, [(20, 0), (200, 0), (20, 0), (300, 0)])
-        && is_version(old, "a", [(10, 0), (20, 0), (20, 0), (120, 0)])
-        && are_sent_to(outcome, &[1, 2, 1, 2])
-        && instance.silences().len() == 2
+fn is_refused(outcome: &Outcome, wanted: SilenceError) -> bool {
+    match &outcome.reply {
+        Reply::Refused(error) => *error == wanted,
+        _ => false,
+    }
 }
 
-// Posts over the silence that is there, with the start 11 s.
-fn replaces(alloc: Global) -> Option<bool> {
-    let mut instance = holding(alloc, &V1)?;
-    let event = post(alloc, "a", at(11))?;
+// One version of a silence was made, and sent to both peers.
+fn is_made(outcome: &Outcome, id: &str, moments: Moments) -> bool {
+    let [version] = outcome.made.silences.as_slice() else {
+        return false;
+    };
+    is_version(version, id, moments) && is_posted(outcome, id) && are_sent_to(outcome, &[1, 2])
+}
+
+// A new silence was made, and then silence `a` was ended; both were sent to both peers.
+fn are_made(outcome: &Outcome, new: Moments, ended: Moments) -> bool {
+    let [first, second] = outcome.made.silences.as_slice() else {
+        return false;
+    };
+    is_version(first, FRESH, new)
+        && is_version(second, "a", ended)
+        && is_posted(outcome, FRESH)
+        && are_sent_to(outcome, &[1, 2, 1, 2])
+}
+
+// The answer to a post is as wanted.
+fn is_answered(outcome: &Outcome, wanted: &Wanted) -> bool {
+    match wanted {
+        Wanted::Updated(moments) => is_made(outcome, "a", *moments),
+        Wanted::Created(moments) => is_made(outcome, FRESH, *moments),
+        Wanted::Replaced(new, ended) => are_made(outcome, *new, *ended),
+        Wanted::Refused(error) => {
+            is_refused(outcome, *error)
+                && outcome.made.silences.is_empty()
+                && are_sent_to(outcome, &[])
+        }
+    }
+}
+
+/// So many silences are held after a post, where so many were held before.
+fn size_after(size: usize, wanted: &Wanted) -> usize {
+    match wanted {
+        Wanted::Updated(_) | Wanted::Refused(_) => size,
+        Wanted::Created(_) | Wanted::Replaced(..) => size.saturating_add(1),
+    }
+}
+
+// What comes of an event at 20 s; its moment counts, also where it is refused.
+fn comes_of(instance: &mut Instance, event: Event, wanted: &Wanted) -> Option<bool> {
+    let size = size_after(instance.silences().len(), wanted);
     let outcome = instance.step(event, at(20)).ok()?;
-    Some(are_replaced(&instance, &outcome))
+    let answered = is_answered(&outcome, wanted);
+    Some(answered && instance.silences().len() == size && instance.last() == at(20))
+}
+
+fn holds(alloc: Global, row: &Row) -> Option<bool> {
+    let mut instance = holding(alloc, row.0)?;
+    let event = event(alloc, row.1)?;
+    comes_of(&mut instance, event, &row.2)
+}
+
+fn hold(rt: &impl Abort, alloc: Global, rows: &[Row]) {
+    for (i, row) in rows.iter().enumerate() {
+        let holds = holds(alloc, row);
+        assert!(rt; holds == Some(true), "{i}");
+    }
+}
+
+/// The post of silence `a` with the same matcher.
+const fn again(starts_at: Time, ends_at: i64) -> Post {
+    ("a", &[JOB_IS_X], starts_at, ends_at)
+}
+
+/// A new silence from 20 s takes the place of silence `a`, which had begun, or was to begin then.
+fn replaced(starts_at: i64) -> Wanted {
+    Wanted::Replaced(made_from(20), ended_from(starts_at))
+}
+
+/// The silence is updated at 20 s, so it is newer than a post at that moment.
+fn newer() -> Wanted {
+    Wanted::Refused(Newer { held: at(20) })
 }
 
 #[test]
-fn a_post_with_another_start_replaces_an_active_silence(rt: HostRuntime) {
-    let replaces = replaces(rt.alloc());
-    assert_eq!(rt; replaces, Some(true));
+fn a_post_over_an_active_silence(rt: HostRuntime) {
+    let moved = [(10, 900_000_000), (200, 0), (20, 0), (300, 0)];
+    let rows: [Row; 3] = [
+        (&V1, again((10, 900_000_000), 200), Wanted::Updated(moved)),
+        (&V1, again((11, 0), 200), replaced(10)),
+        (&V1, again((10, 0), 20), Wanted::Refused(EndInPast)),
+    ];
+    hold(&rt, rt.alloc(), &rows);
+}
+
+#[test]
+fn a_post_over_a_pending_silence(rt: HostRuntime) {
+    let rows: [Row; 2] = [
+        (
+            &PENDING,
+            again((30, 0), 200),
+            Wanted::Updated(made_from(30)),
+        ),
+        (&PENDING, again((19, 0), 200), replaced(20)),
+    ];
+    hold(&rt, rt.alloc(), &rows);
+}
+
+// What would get a new version is not newer; that comes after an end in the past, and before a fresh identifier in use.
+#[test]
+fn a_post_over_a_newer_silence(rt: HostRuntime) {
+    let rows: [Row; 4] = [
+        (&V2, again((10, 0), 200), newer()),
+        (&V2, again((11, 0), 200), newer()),
+        (&V2, again((10, 0), 20), Wanted::Refused(EndInPast)),
+        (&FRESH_ID_NEWER, (FRESH, &[JOB_IS_X], (11, 0), 200), newer()),
+    ];
+    hold(&rt, rt.alloc(), &rows);
+}
+
+// An expired silence gets no new version, so it may be newer.
+#[test]
+fn a_post_over_an_expired_silence(rt: HostRuntime) {
+    let rows: [Row; 2] = [
+        (
+            &EXPIRED,
+            again((10, 0), 200),
+            Wanted::Created(made_from(20)),
+        ),
+        (
+            &JUST_ENDED,
+            again((10, 0), 200),
+            Wanted::Created(made_from(20)),
+        ),
+    ];
+    hold(&rt, rt.alloc(), &rows);
+}
+
+#[test]
+fn a_post_of_an_unknown_or_no_identifier(rt: HostRuntime) {
+    let anew: Post = ("", &[JOB_IS_X], (30, 0), 200);
+    let rows: [Row; 3] = [
+        (&V1, anew, Wanted::Created(made_from(30))),
+        (&[], again((10, 0), 200), Wanted::Refused(NotFound)),
+        (&FRESH_ID, again((10, 0), 200), Wanted::Refused(NotFound)),
+    ];
+    hold(&rt, rt.alloc(), &rows);
+}
+
+// A fresh identifier that is held is refused, also where that silence is the one to be ended.
+#[test]
+fn a_fresh_identifier_that_is_held_is_refused(rt: HostRuntime) {
+    let anew: Post = ("", &[JOB_IS_X], (30, 0), 200);
+    let over: Post = (FRESH, &[JOB_IS_X], (11, 0), 200);
+    let rows: [Row; 3] = [
+        (&FRESH_ID, anew, Wanted::Refused(IdInUse)),
+        (&FRESH_ID, over, Wanted::Refused(IdInUse)),
+        (
+            &V1_AND_FRESH_ID,
+            again((11, 0), 200),
+            Wanted::Refused(IdInUse),
+        ),
+    ];
+    hold(&rt, rt.alloc(), &rows);
+}
+
+// The same list of matchers stays; any other makes a new silence.
+#[test]
+fn other_matchers_make_a_new_silence(rt: HostRuntime) {
+    let start = (10, 0);
+    let rows: [Row; 6] = [
+        (&V1, ("a", &[JOB_IS_Y], start, 200), replaced(10)),
+        (&V1, ("a", &[JOB_MATCHES_X], start, 200), replaced(10)),
+        (&V1, ("a", &[HOST_IS_X], start, 200), replaced(10)),
+        (&V1, ("a", &[JOB_IS_X, JOB_IS_X], start, 200), replaced(10)),
+        (
+            &TWO,
+            ("a", &[JOB_IS_X, HOST_IS_X], start, 200),
+            Wanted::Updated(made_from(10)),
+        ),
+        (
+            &TWO,
+            ("a", &[HOST_IS_X, JOB_IS_X], start, 200),
+            replaced(10),
+        ),
+    ];
+    hold(&rt, rt.alloc(), &rows);
+}
+
+#[test]
+fn matchers_of_a_post_are_judged(rt: HostRuntime) {
+    let start = (10, 0);
+    let rows: [Row; 3] = [
+        (&V1, ("a", &[], start, 200), Wanted::Refused(NoMatcher)),
+        (
+            &V1,
+            ("a", &[ANYTHING], start, 200),
+            Wanted::Refused(AllMatchEmpty),
+        ),
+        (
+            &V1,
+            ("a", &[ANYTHING, OPEN], start, 200),
+            Wanted::Refused(BadPattern),
+        ),
+    ];
+    hold(&rt, rt.alloc(), &rows);
+}
+
+// What comes of that post at 300 s, over a silence that is held and not live.
+fn late_answer(alloc: Global, row: &[u8], id: &'static str, wanted: SilenceError) -> Option<bool> {
+    let mut instance = holding(alloc, row)?;
+    let event = event(alloc, (id, &[JOB_IS_X], (310, 0), 400))?;
+    let outcome = instance.step(event, at(300)).ok()?;
+    Some(is_refused(&outcome, wanted))
+}
+
+#[test]
+fn a_silence_that_is_not_live_is_not_found_and_keeps_its_identifier(rt: HostRuntime) {
+    let not_found = late_answer(rt.alloc(), &V1, "a", NotFound);
+    assert_eq!(rt; not_found, Some(true));
+    let in_use = late_answer(rt.alloc(), &FRESH_ID, "", IdInUse);
+    assert_eq!(rt; in_use, Some(true));
 }

@@ -11,14 +11,9 @@ use Rattle.am_instance.specs.Stands.{Stand, silence_at}
 use Rattle.am_instance.proofs.RequestWorks.{planned_by}
 use Rattle.am_instance.proofs.instance.Instance.plan.Goals as goal
 
-pub returns-in_err-verdict : goal.returns-in_err-verdict
-returns-in_err-verdict c =
-    let p = err_from_is_err_and c.from_residual.result c.from_residual.ensures.1 in
-    rw p.1 (λ other. absurd (other p.2))
-
 pub returns-in_err-fresh : goal.returns-in_err-fresh
 returns-in_err-fresh c =
-    let p = err_from_is_err_and c.from_residual-in_err-fresh.result c.from_residual-in_err-fresh.ensures.1 in
+    let p = err_from_is_err_and c.from_residual.result c.from_residual.ensures.1 in
     rw p.1 (λ other. absurd (other p.2))
 
 pub returns : goal.returns
@@ -32,7 +27,7 @@ returns c =
     c.is_held-id_held.ensures ∙ ap (λ (id : List ℕ). is_some (silence_at c.self.inside.silences id)) (c.in_ok-fresh.ensures ∙ c.as_str.ensures ∙ c.fresh_id.ensures)
     ∙ ap (λ (s : Stand). is_some (silence_at s.silences (id_text c.args.bits))) c.self.view_is in
     let retention : c.retention-retention.result ≡ stand.config.retention = c.retention-retention.ensures ∙ ap (λ (s : Stand). s.config.retention) c.self.view_is in
-    planned_by stand c.args.posted c.args.bits c.args.now c.in_ok-verdict.verdict held c.is_held-id_held.result c.plan_post.result c.in_ok-verdict.ensures is known
+    planned_by stand c.args.posted c.args.bits c.args.now c.args.verdict held c.is_held-id_held.result c.plan_post.result c.requires is known
     (subst (λ (r : ℕ). IfOk c.plan_post.result (λ plan. plan ≡ planned held (post_of c.args.posted c.args.now c.args.bits r))) retention c.plan_post.ensures.planned)
-    (subst (λ (r : ℕ). OnOk c.plan_post.result (refusal held c.in_ok-verdict.verdict c.is_held-id_held.result (post_of c.args.posted c.args.now c.args.bits r) ≡ None)) retention c.plan_post.ensures.accepted)
-    (subst (λ (r : ℕ). IfErr c.plan_post.result (λ e. e ≢ Memory → refusal held c.in_ok-verdict.verdict c.is_held-id_held.result (post_of c.args.posted c.args.now c.args.bits r) ≡ Some e)) retention c.plan_post.ensures.refused)
+    (subst (λ (r : ℕ). OnOk c.plan_post.result (refusal held c.args.verdict c.is_held-id_held.result (post_of c.args.posted c.args.now c.args.bits r) ≡ None)) retention c.plan_post.ensures.accepted)
+    (subst (λ (r : ℕ). IfErr c.plan_post.result (λ e. e ≢ Memory → refusal held c.args.verdict c.is_held-id_held.result (post_of c.args.posted c.args.now c.args.bits r) ≡ Some e)) retention c.plan_post.ensures.refused)

@@ -1,8 +1,23 @@
+use Rattle.std.proofs.Common.{subst}
+use Rattle.std.proofs.lemmas.Result.{err_from_is_err_and}
+use Rattle.am_instance.specs.declared.event.Event.TheVariants as events
+use Rattle.am_instance.specs.declared.event.Request.TheVariants as requests
+use Rattle.am_instance.specs.Steps.{IsWork}
 use Rattle.am_instance.proofs.RequestWorks.{post_done, post_refused}
+use Rattle.am_instance.proofs.Works.{stopped_work}
 use Rattle.am_instance.proofs.instance.Instance.post.Goals as goal
 
+pub returns-in_err-verdict : goal.returns-in_err-verdict
+returns-in_err-verdict c =
+    let p = err_from_is_err_and c.from_residual.result c.from_residual.ensures.1 in
+    rw p.1 (stopped_work _ _ _ c.args.now _ p.2 c.in_err-verdict.ensures.same)
+
 pub returns-in-Ok : goal.returns-in-Ok
-returns-in-Ok c = post_done c.args.self.now c.carry_out.new.self c.args.posted c.args.bits c.args.now c.in-Ok.plan c.carry_out.result c.in-Ok.ensures c.carry_out.ensures.done c.carry_out.ensures.err c.carry_out.ensures.unchanged
+returns-in-Ok c =
+    subst (λ old. IsWork old (events.Request (requests.Post c.args.posted c.args.bits)) c.args.now c.carry_out.result c.carry_out.new.self) c.in_ok-verdict.ensures.same
+    (post_done _ c.carry_out.new.self c.args.posted c.args.bits c.args.now c.in-Ok.plan c.carry_out.result c.in-Ok.ensures c.carry_out.ensures.done c.carry_out.ensures.err c.carry_out.ensures.unchanged)
 
 pub returns-in-Err : goal.returns-in-Err
-returns-in-Err c = post_refused c.args.self.now c.args.posted c.args.bits c.args.now c.in-Err.error c.turn_away.result c.in-Err.ensures c.turn_away.ensures.refused c.turn_away.ensures.memory
+returns-in-Err c =
+    subst (λ old. IsWork old (events.Request (requests.Post c.args.posted c.args.bits)) c.args.now c.turn_away.result c.judge.new.self) c.in_ok-verdict.ensures.same
+    (post_refused _ c.args.posted c.args.bits c.args.now c.in-Err.error c.turn_away.result c.in-Err.ensures c.turn_away.ensures.refused c.turn_away.ensures.memory)
