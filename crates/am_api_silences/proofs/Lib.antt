@@ -1,1 +1,3 @@
 pub mod FilterRows
+pub mod Statuses
+pub mod Telling

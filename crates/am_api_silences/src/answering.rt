@@ -76,7 +76,7 @@ fn stopped(alloc: Global, error: StepError) -> (u16, Answered)
             let (status, reply) = tell(alloc, Err(&table::clock_ran_back()));
             (status, quiet(alloc, reply))
         }
-        _ => (500, quiet(alloc, no_memory())),
+        _ => (500, quiet(alloc, ReplyBytes::Fixed(no_memory()))),
     }
 }
 

@@ -7,7 +7,7 @@ ghost use Rattle.serde_json.specs.View.{items_of};
 ghost use Rattle.serde_json.specs.Written.{compact_text};
 ghost use Rattle.am_silence_json.specs.Gettables.{AreGettable, IsGettable, posted_data};
 ghost use Rattle.am_http.specs.Lines.{line_seen};
-ghost use Rattle.am_api_silences.specs.Replies.{HasStatus, IsSaid, Says, bytes_of, good_bytes, line_bytes, memory_bytes, said_status};
+ghost use Rattle.am_api_silences.specs.Replies.{HasStatus, IsReplyBytes, IsSaid, Says, bytes_of, good_bytes, line_bytes, memory_bytes, said_status};
 
 use crate::table;
 use am_http::{Refusal, out_of_memory, reply};
@@ -49,7 +49,8 @@ fn list(alloc: Global, rows: &[(MeshSilence, State)]) -> Result<Vec<u8>, AllocEr
         × (bytes.items ≡ good_bytes (compact_text (array (items_of ds))))) }
 {
     let body = write_silences(Vec::new(alloc), rows)?;
-    good(alloc, &body)
+    let bytes = good(alloc, &body)?;
+    Ok(bytes)
 }
 
 /// The reply that shows a silence.
@@ -58,7 +59,8 @@ fn one(alloc: Global, version: &MeshSilence, state: State) -> Result<Vec<u8>, Al
         × (bytes.items ≡ good_bytes (compact_text d))) }
 {
     let body = write_silence(Vec::new(alloc), version.silence(), state)?;
-    good(alloc, &body)
+    let bytes = good(alloc, &body)?;
+    Ok(bytes)
 }
 
 /// The reply that tells the identifier of what was posted.
@@ -66,7 +68,8 @@ fn posted(alloc: Global, id: &str) -> Result<Vec<u8>, AllocError>
     ensures { IfOk result (λ bytes. bytes.items ≡ good_bytes (compact_text (posted_data id.now))) }
 {
     let body = write_posted(Vec::new(alloc), id)?;
-    good(alloc, &body)
+    let bytes = good(alloc, &body)?;
+    Ok(bytes)
 }
 
 /// The reply with a line of the table of statuses.
@@ -74,10 +77,24 @@ fn refused(alloc: Global, line: &Refusal) -> Result<Vec<u8>, AllocError>
     ensures { IfOk result (λ bytes. bytes.items ≡ line_bytes (line_seen line.now)) }
 {
     let body = write_error(Vec::new(alloc), line.text)?;
-    reply(alloc, line.status, line.allow, &body)
+    let bytes = reply(alloc, line.status, line.allow, &body)?;
+    Ok(bytes)
 }
 
-/// The bytes of the reply to a request, or of why it is refused. A reply to another event is told as one without a body.
+/// The bytes of a reply.
+fn replied(alloc: Global, reply: &Reply) -> Result<Vec<u8>, AllocError>
+    ensures { IfOk result (λ bytes. IsReplyBytes reply.now bytes.items) }
+{
+    match reply {
+        Reply::Silences(rows) => list(alloc, rows),
+        Reply::Silence(version, state) => one(alloc, version, *state),
+        Reply::Posted(id) => posted(alloc, id.as_str()),
+        Reply::Refused(error) => refused(alloc, &table::refused(*error)),
+        _ => good(alloc, b""),
+    }
+}
+
+/// The bytes of the reply to a request, or of why it is refused. A reply to another event is told without a body.
 ///
 /// # Errors
 ///
@@ -86,11 +103,7 @@ pub fn to_bytes(alloc: Global, said: Result<&Reply, &Refusal>) -> Result<Vec<u8>
     ensures { IfOk result (λ bytes. IsSaid said.entry bytes.items) }
 {
     match said {
-        Ok(Reply::Silences(rows)) => list(alloc, rows),
-        Ok(Reply::Silence(version, state)) => one(alloc, version, *state),
-        Ok(Reply::Posted(id)) => posted(alloc, id.as_str()),
-        Ok(Reply::Refused(error)) => refused(alloc, &table::refused(*error)),
-        Ok(_) => good(alloc, b""),
+        Ok(reply) => replied(alloc, reply),
         Err(refusal) => refused(alloc, refusal),
     }
 }
@@ -107,10 +120,10 @@ fn status_of(said: Result<&Reply, &Refusal>) -> u16
 }
 
 /// The reply where there is no memory for another.
-pub fn no_memory() -> ReplyBytes
-    ensures { bytes_of result ≡ memory_bytes }
+pub fn no_memory() -> &'static [u8]
+    ensures { result.now ≡ memory_bytes }
 {
-    ReplyBytes::Fixed(out_of_memory())
+    out_of_memory()
 }
 
 /// The reply to a request, or why it is refused, with its status; where there is no memory for it, that is said.
@@ -120,6 +133,6 @@ pub fn tell(alloc: Global, said: Result<&Reply, &Refusal>) -> (u16, ReplyBytes)
 {
     match to_bytes(alloc, said) {
         Ok(bytes) => (status_of(said), ReplyBytes::Own(bytes)),
-        Err(_) => (500, no_memory()),
+        Err(_) => (500, ReplyBytes::Fixed(no_memory())),
     }
 }
