@@ -1,6 +1,6 @@
 //! Requests from any reader, answered to any writer.
 
-ghost use Rattle.std.specs.Prelude.{Result, Option, List, ℕ};
+ghost use Rattle.std.specs.Prelude.{Result, Ok, Option, List, ℕ};
 ghost use Rattle.am_http.specs.declared.receiving.ReadFault.{ReadFault};
 ghost use Rattle.am_http.specs.declared.request.Read.{Read};
 ghost use Rattle.am_instance.specs.Stands.{Stand};
@@ -76,6 +76,30 @@ fn hand_on<W: io::Write>(writer: &mut W, status: u16, answered: Answered) -> Ser
     }
 }
 
+/// Answers what was read, and writes the reply.
+fn reply_to<W: io::Write>(
+    alloc: Global,
+    instance: &mut Instance,
+    writer: &mut W,
+    read: Read,
+    bits: u128,
+    now: Moment,
+) -> Served
+    ensures { IsServed (Ok read) bits now instance.old instance.new (W.contents writer.old) (W.contents writer.new) result }
+{
+    match read {
+        Read::Whole(request) => {
+            let (status, answered) = respond(alloc, instance, &request, bits, now);
+            hand_on(writer, status, answered)
+        }
+        Read::Refused(refusal) => {
+            let (status, answered) = turn_away(alloc, &refusal);
+            hand_on(writer, status, answered)
+        }
+        Read::More => silent(alloc, None),
+    }
+}
+
 /// Reads a request, answers it by one step at `now`, and writes the reply. `bits` are random: a silence that it makes
 /// gets its identifier by them.
 ///
@@ -92,11 +116,8 @@ pub fn serve<R: io::Read, W: io::Write>(
     ensures { (read : Result Read ReadFault) × IsReadBy (R.remaining reader.old) (R.remaining reader.new) read
         × IsServed read bits now instance.old instance.new (W.contents writer.old) (W.contents writer.new) result }
 {
-    let (status, answered) = match receive(alloc, reader) {
-        Ok(Read::Whole(request)) => respond(alloc, instance, &request, bits, now),
-        Ok(Read::Refused(refusal)) => turn_away(alloc, &refusal),
-        Ok(Read::More) => return silent(alloc, None),
-        Err(fault) => return silent(alloc, Some(Fault::Read { at: fault.at })),
-    };
-    hand_on(writer, status, answered)
+    match receive(alloc, reader) {
+        Ok(read) => reply_to(alloc, instance, writer, read, bits, now),
+        Err(fault) => silent(alloc, Some(Fault::Read { at: fault.at })),
+    }
 }
