@@ -1,5 +1,5 @@
 -- Filters, one text after the other.
-use Rattle.std.proofs.Common.{◌≡◌, ℕ, ◌+◌, ◌<◌, ◌≤◌, List, [], ◌∷◌, ◌++◌, length, take, get_or, map, Any, ap, sym, ◌∙◌, arith, Bool, true, false, Result, Ok, Err, is_ok, is_err, if◌then◌else◌}
+use Rattle.std.proofs.Common.{◌≡◌, ℕ, ◌+◌, ◌<◌, ◌≤◌, List, [], ◌∷◌, ◌++◌, length, take, get_or, map, Any, ap, sym, ◌∙◌, false, Result, Ok, Err, is_ok, is_err, if◌then◌else◌}
 use Rattle.std.proofs.lemmas.List.{take_more, map-append, take_all, get_or-map, length-map}
 use Rattle.am_silence.specs.declared.matcher.Matcher.{Matcher}
 use Rattle.am_http.specs.declared.cause.Cause.{Cause}

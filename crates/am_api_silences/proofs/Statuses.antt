@@ -1,5 +1,5 @@
 -- The status that the bytes of a reply have.
-use Rattle.std.proofs.Common.{◌≡◌, ℕ, List, [], Option, Some, None, Result, Ok, Err, Bor, codes, ◌++◌, refl, ◌∙◌, sym, ap}
+use Rattle.std.proofs.Common.{◌≡◌, ℕ, List, [], Option, None, Result, Ok, Err, Bor, codes, ◌++◌, refl, ◌∙◌, ap}
 use Rattle.json.specs.Print.{escape_byte}
 use Rattle.serde_json.specs.Data.{array, string}
 use Rattle.serde_json.specs.View.{items_of}
@@ -10,7 +10,7 @@ use Rattle.am_http.specs.Replies.{reply_bytes}
 use Rattle.am_http.specs.declared.refusal.Refusal.{Refusal}
 use Rattle.am_instance.specs.declared.reply.Reply.{Reply}
 use Rattle.am_instance.specs.declared.reply.Reply.TheVariants as replies
-use Rattle.am_api_silences.specs.Table.{refused_line, memory_line}
+use Rattle.am_api_silences.specs.Table.{refused_line}
 use Rattle.am_api_silences.specs.Replies.{IsReplyBytes, IsSaid, HasStatus, memory_bytes, reply_status, said_status}
 
 reply_has : (reply : Reply) (bytes : List ℕ) → IsReplyBytes reply bytes → HasStatus (reply_status reply) bytes

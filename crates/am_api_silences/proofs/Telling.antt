@@ -1,6 +1,6 @@
 -- What is told in a reply.
 use Rattle.std.proofs.Common.{◌≡◌, ℕ, List, Bor, sym, subst, ◌∙◌, ap}
-use Rattle.am_http.specs.Lines.{Line, line_seen}
+use Rattle.am_http.specs.Lines.{line_seen}
 use Rattle.am_http.specs.declared.refusal.Refusal.{Refusal}
 use Rattle.am_instance.specs.declared.error.StepError.{StepError}
 use Rattle.am_instance.specs.declared.error.StepError.TheVariants.{MomentBack}

@@ -1,4 +1,4 @@
-use Rattle.std.proofs.Common.{inl, ap, Err, ◌∙◌}
+use Rattle.std.proofs.Common.{inl, ap, Err}
 use Rattle.am_api_silences.proofs.filters.filter_of.Goals as goal
 
 pub returns-in-Err-Syntax-clause-refused : goal.returns-in-Err-Syntax-clause-refused

@@ -1,4 +1,4 @@
-use Rattle.std.proofs.Common.{◌≡◌, Any, List, ◌++◌, ◌∷◌, [], ◌+◌, map, take, string_bytes, sym, subst, arith}
+use Rattle.std.proofs.Common.{Any, List, ◌+◌, map, take, string_bytes, sym, subst, arith}
 use Rattle.am_api_silences.specs.Filters.{AreFilters, IsBadFilter}
 use Rattle.am_silence.specs.declared.matcher.Matcher.{Matcher}
 use Rattle.am_api_silences.proofs.FilterRows.{one_more, fault_among, any_bad, pushed}

@@ -1,5 +1,3 @@
-use Rattle.std.proofs.Common.{List, ℕ, subst, sym}
-use Rattle.am_api_silences.specs.Replies.{HasStatus}
 use Rattle.am_api_silences.proofs.Statuses.{said_has, memory_has}
 use Rattle.am_api_silences.proofs.replies.tell.Goals as goal
 
