@@ -1,0 +1,4 @@
+pub mod FilterRows
+pub mod Statuses
+pub mod Telling
+pub mod Handing

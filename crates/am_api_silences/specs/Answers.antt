@@ -1,0 +1,45 @@
+-- What a request is answered: three functions, composed round one step.
+use Rattle.std.specs.Prelude.{◌≡◌, ℕ, List, Result, Ok, Err}
+use Rattle.am_http.specs.Lines.{line_seen}
+use Rattle.am_http.specs.declared.refusal.Refusal.{Refusal}
+use Rattle.am_http.specs.declared.request.Request.{Request}
+use Rattle.am_instance.specs.declared.event.Event.{Event}
+use Rattle.am_instance.specs.declared.error.StepError.{StepError}
+use Rattle.am_instance.specs.declared.error.StepError.TheVariants.{MomentBack}
+use Rattle.am_instance.specs.declared.reply.Outcome.{Outcome}
+use Rattle.am_instance.specs.Sendings.{Sent, nothing_sent, sent_by}
+use Rattle.am_instance.specs.Stands.{Stand}
+use Rattle.am_api_silences.specs.Events.{IsEventOf}
+use Rattle.am_api_silences.specs.Replies.{IsReplyBytes, Says, line_bytes}
+use Rattle.am_api_silences.specs.Steps.{IsStep}
+use Rattle.am_api_silences.specs.Table.{clock_line, memory_line}
+use Rattle.am_api_silences.specs.declared.answering.Answered.{Answered}
+
+-- the frames of an answer, and how many were left out
+abbrev pub sent_with : Answered → Sent
+sent_with answered = record { frames = answered.frames.items; memory = answered.unsent.memory; limit = answered.unsent.limit }
+
+-- No step was made: the refusal is told, the instance is as it was, and nothing is sent.
+pub record IsTurnedAway (refusal : Refusal) (old : Stand) (answered : Answered) (new : Stand) : Type 0 where
+  pub says : Says (λ bytes. bytes ≡ line_bytes (line_seen refusal)) answered.reply
+  pub sent : sent_with answered ≡ nothing_sent
+  pub same : new ≡ old
+
+-- what is told of a step that was refused: a request names no peer and brings no rows, so it is the moment or else memory
+abbrev pub IsErrorBytes : StepError → List ℕ → Type 0
+IsErrorBytes (MomentBack last) bytes = bytes ≡ line_bytes clock_line
+IsErrorBytes _ bytes = bytes ≡ line_bytes memory_line
+
+-- The reply of a step is told, and its frames are handed on; of one that was refused the cause is told.
+abbrev pub TellsStep : Result Outcome StepError → Answered → Type 0
+TellsStep (Ok outcome) answered = Says (IsReplyBytes outcome.reply) answered.reply × (sent_with answered ≡ sent_by outcome)
+TellsStep (Err error) answered = Says (IsErrorBytes error) answered.reply × (sent_with answered ≡ nothing_sent)
+
+-- what comes of an event, by one step, or of a refusal
+abbrev pub ComesOf : Result Event Refusal → Stand → ℕ → Answered → Stand → Type 0
+ComesOf (Ok event) old now answered new = (step : Result Outcome StepError) × IsStep old event now step new × TellsStep step answered
+ComesOf (Err refusal) old now answered new = IsTurnedAway refusal old answered new
+
+-- What a request is answered, and what it leaves of the instance.
+abbrev pub IsAnswered : Stand → Request → ℕ → ℕ → Answered → Stand → Type 0
+IsAnswered old request bits now answered new = (meant : Result Event Refusal) × IsEventOf request bits meant × ComesOf meant old now answered new

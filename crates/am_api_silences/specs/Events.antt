@@ -1,0 +1,71 @@
+-- What a request means to an instance: the event that it asks for, or the first fault that stands.
+use Rattle.std.specs.Prelude.{◌≡◌, ℕ, ◌⊎◌, List, Any, ⊤, Result, Ok, Err, string_bytes}
+use Rattle.serde_json.specs.Data.{Data}
+use Rattle.am_silence_json.specs.Posts.{IsPosted, IsFirstWrong, IsObjectText}
+use Rattle.am_silence_json.specs.declared.key.Key.{Key}
+use Rattle.am_silence_json.specs.declared.key.Key.TheVariants as keys
+use Rattle.am_http.specs.Lines.{line_seen, line_of}
+use Rattle.am_http.specs.Paths.{IsCallOf}
+use Rattle.am_http.specs.Queries.{filter_texts_of}
+use Rattle.am_http.specs.declared.cause.Cause.{Cause}
+use Rattle.am_http.specs.declared.cause.Cause.TheVariants.{BadFilter, BadJson, BadSilence, Memory}
+use Rattle.am_http.specs.declared.cause.PostedKey.{PostedKey}
+use Rattle.am_http.specs.declared.cause.PostedKey.TheVariants as told
+use Rattle.am_http.specs.declared.refusal.Refusal.{Refusal}
+use Rattle.am_http.specs.declared.request.Request.{Request}
+use Rattle.am_http.specs.declared.routes.Call.{Call}
+use Rattle.am_http.specs.declared.routes.Call.TheVariants as calls
+use Rattle.am_instance.specs.declared.event.Event.{Event}
+use Rattle.am_instance.specs.declared.event.Event.TheVariants as events
+use Rattle.am_instance.specs.declared.event.Request.{Request as Asked}
+use Rattle.am_instance.specs.declared.event.Request.TheVariants as requests
+use Rattle.am_api_silences.specs.Filters.{AreFilters, IsBadFilter}
+
+-- the key of a post, as the table of statuses names it
+abbrev pub key_told : Key → PostedKey
+key_told keys.Id = told.Id
+key_told keys.Matchers = told.Matchers
+key_told keys.StartsAt = told.StartsAt
+key_told keys.EndsAt = told.EndsAt
+key_told keys.CreatedBy = told.CreatedBy
+key_told keys.Comment = told.Comment
+
+-- What a call with this body asks of an instance: the silences that pass all filters of the query, the silence of an
+-- identifier, the post of the object that the body is, or the end of a silence.
+abbrev pub Asks : Call → List ℕ → ℕ → Asked → Type 0
+Asks (calls.List query) body bits (requests.List filters) = AreFilters (filter_texts_of query.now) filters.items
+Asks (calls.Get id) body bits (requests.Get asked) = asked ≡ id.now
+Asks calls.Post body bits (requests.Post posted given) = (given ≡ bits) × (d : Data) × IsObjectText body d × IsPosted d posted
+Asks (calls.Delete id) body bits (requests.Delete asked) = asked ≡ id.now
+Asks _ body bits _ = ⊥
+
+-- What is at fault with a call: a filter, or the body that is posted. Memory may run out in any of them.
+abbrev pub HasFault : Call → List ℕ → Cause → Type 0
+HasFault call body Memory = ⊤
+HasFault (calls.List query) body BadFilter = Any IsBadFilter (filter_texts_of query.now)
+HasFault calls.Post body BadJson = (d : Data) → ¬ IsObjectText body d
+HasFault calls.Post body (BadSilence key) = (d : Data) × (wrong : Key) × IsObjectText body d × IsFirstWrong d wrong × (key ≡ key_told wrong)
+HasFault _ body _ = ⊥
+
+-- what is asked, or what is at fault
+abbrev pub IsAsk : Call → List ℕ → ℕ → Result Asked Cause → Type 0
+IsAsk call body bits (Ok asked) = Asks call body bits asked
+IsAsk call body bits (Err cause) = HasFault call body cause
+
+-- the call that a request is, or that it is none
+abbrev pub IsCall : Request → Result Call Cause → Type 0
+IsCall request call = IsCallOf (string_bytes request.method) (string_bytes request.target) call
+
+-- why a request is refused: its path names nothing, or has no such method; or something is at fault with its call
+abbrev pub IsRefusedFor : Request → Cause → Type 0
+IsRefusedFor request cause = IsCall request (Err cause) ⊎ ((call : Call) × IsCall request (Ok call) × HasFault call request.body.items cause)
+
+-- what a request asks for, by its call
+abbrev pub IsMeant : Request → ℕ → Asked → Type 0
+IsMeant request bits asked = (call : Call) × IsCall request (Ok call) × Asks call request.body.items bits asked
+
+-- What a request means: the event that its call asks for, or the line of the first fault that stands.
+abbrev pub IsEventOf : Request → ℕ → Result Event Refusal → Type 0
+IsEventOf request bits (Ok (events.Request asked)) = IsMeant request bits asked
+IsEventOf request bits (Ok _) = ⊥
+IsEventOf request bits (Err refusal) = (cause : Cause) × (line_seen refusal ≡ line_of cause) × IsRefusedFor request cause

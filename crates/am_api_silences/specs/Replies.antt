@@ -1,0 +1,64 @@
+-- The bytes of replies (API v2, in HTTP/1.1 and JSON).
+use Rattle.std.specs.Prelude.{◌≡◌, ℕ, List, [], Option, None, Result, Ok, Err}
+use Rattle.std.specs.Borrow.{Bor}
+use Rattle.serde_json.specs.Data.{Data, array, string}
+use Rattle.serde_json.specs.View.{items_of}
+use Rattle.serde_json.specs.Written.{compact_text}
+use Rattle.am_silence_json.specs.Gettables.{IsGettable, AreGettable, posted_data}
+use Rattle.am_http.specs.Lines.{Line, line_seen}
+use Rattle.am_http.specs.Replies.{reply_bytes}
+use Rattle.am_http.specs.declared.refusal.Refusal.{Refusal}
+use Rattle.am_instance.specs.declared.reply.Reply.{Reply}
+use Rattle.am_instance.specs.declared.reply.Reply.TheVariants as replies
+use Rattle.am_api_silences.specs.Table.{refused_line, memory_line}
+use Rattle.am_api_silences.specs.declared.replies.ReplyBytes.{ReplyBytes}
+use Rattle.am_api_silences.specs.declared.replies.ReplyBytes.TheVariants.{Own, Fixed}
+
+-- the reply 200 with this body
+abbrev pub good_bytes : List ℕ → List ℕ
+good_bytes body = reply_bytes 200 None body
+
+-- the reply of a line of the table of statuses: its text as a string of JSON
+abbrev pub line_bytes : Line → List ℕ
+line_bytes line = reply_bytes line.status line.allow (compact_text (string line.text))
+
+-- The bytes of a reply to a request. Only requests on silences have a body.
+abbrev pub IsReplyBytes : Reply → List ℕ → Type 0
+IsReplyBytes (replies.Silences rows) bytes = (ds : List Data) × AreGettable rows.items ds × (bytes ≡ good_bytes (compact_text (array (items_of ds))))
+IsReplyBytes (replies.Silence version state) bytes = (d : Data) × IsGettable version.silence state d × (bytes ≡ good_bytes (compact_text d))
+IsReplyBytes (replies.Posted id) bytes = bytes ≡ good_bytes (compact_text (posted_data id))
+IsReplyBytes (replies.Refused error) bytes = bytes ≡ line_bytes (refused_line error)
+IsReplyBytes _ bytes = bytes ≡ good_bytes []
+
+-- the bytes of a reply, or of a refusal
+abbrev pub IsSaid : Result (Bor Reply) (Bor Refusal) → List ℕ → Type 0
+IsSaid (Ok reply) bytes = IsReplyBytes reply.now bytes
+IsSaid (Err refusal) bytes = bytes ≡ line_bytes (line_seen refusal.now)
+
+-- the status of a reply, and of either
+abbrev pub reply_status : Reply → ℕ
+reply_status (replies.Refused error) = (refused_line error).status
+reply_status _ = 200
+
+abbrev pub said_status : Result (Bor Reply) (Bor Refusal) → ℕ
+said_status (Ok reply) = reply_status reply.now
+said_status (Err refusal) = refusal.now.status
+
+-- the bytes are a reply with this status
+abbrev pub HasStatus : ℕ → List ℕ → Type 0
+HasStatus status bytes = (allow : Option (List ℕ)) × (body : List ℕ) × (bytes ≡ reply_bytes status allow body)
+
+-- ---- bytes that go out
+
+abbrev pub bytes_of : ReplyBytes → List ℕ
+bytes_of (Own bytes) = bytes.items
+bytes_of (Fixed bytes) = bytes.now
+
+-- the reply where there is no memory for another
+abbrev pub memory_bytes : List ℕ
+memory_bytes = line_bytes memory_line
+
+-- the bytes are such a reply; or there was no memory for it, and that is what they say
+abbrev pub Says : (List ℕ → Type 0) → ReplyBytes → Type 0
+Says IsMeant (Own bytes) = IsMeant bytes.items
+Says IsMeant (Fixed bytes) = bytes.now ≡ memory_bytes

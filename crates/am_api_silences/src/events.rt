@@ -1,0 +1,92 @@
+//! What requests mean.
+
+ghost use Rattle.std.specs.Prelude.{◌≡◌, IfOk, IfErr};
+ghost use Rattle.am_http.specs.declared.cause.Cause.TheVariants as causes;
+ghost use Rattle.am_http.specs.declared.routes.Call.TheVariants as calls;
+ghost use Rattle.am_api_silences.specs.Events.{IsAsk, IsEventOf, IsMeant, IsRefusedFor, key_told};
+
+use crate::filters::filters_in;
+use am_http::{Call, Cause, PostedKey, Refusal, Request, call_of};
+use am_instance::{Event, Request as Asked};
+use am_silence_json::{BodyError, Key, read_post};
+use am_wire::Text;
+use std::alloc::Global;
+
+/// The key of a post, as the table of statuses names it.
+fn key_told(key: Key) -> PostedKey
+    ensures { result ≡ key_told key }
+{
+    match key {
+        Key::Id => PostedKey::Id,
+        Key::Matchers => PostedKey::Matchers,
+        Key::StartsAt => PostedKey::StartsAt,
+        Key::EndsAt => PostedKey::EndsAt,
+        Key::CreatedBy => PostedKey::CreatedBy,
+        Key::Comment => PostedKey::Comment,
+    }
+}
+
+/// An identifier of its own.
+fn identifier(alloc: Global, id: &str) -> Result<Text, Cause>
+    ensures copied { IfOk result (λ copy. copy ≡ id.now) }
+    ensures refused { IfErr result (λ cause. cause ≡ causes.Memory) }
+{
+    match Text::copied(alloc, id) {
+        Ok(copy) => Ok(copy),
+        Err(_) => Err(Cause::Memory),
+    }
+}
+
+/// The post of a body.
+fn post(alloc: Global, body: &[u8], bits: u128) -> Result<Asked, Cause>
+    ensures { IsAsk calls.Post body.now bits result }
+{
+    match read_post(alloc, body) {
+        Ok(posted) => Ok(Asked::Post { posted, bits }),
+        Err(BodyError::BadJson) => Err(Cause::BadJson),
+        Err(BodyError::Wrong(key)) => Err(Cause::BadSilence(key_told(key))),
+        Err(BodyError::Memory) => Err(Cause::Memory),
+    }
+}
+
+/// What a call with this body asks of an instance.
+fn ask(alloc: Global, call: Call<'_>, body: &[u8], bits: u128) -> Result<Asked, Cause>
+    ensures { IsAsk call.entry body.now bits result }
+{
+    match call {
+        Call::List { query } => Ok(Asked::List {
+            filters: filters_in(alloc, query)?,
+        }),
+        Call::Get { id } => Ok(Asked::Get {
+            id: identifier(alloc, id)?,
+        }),
+        Call::Post => post(alloc, body, bits),
+        Call::Delete { id } => Ok(Asked::Delete {
+            id: identifier(alloc, id)?,
+        }),
+    }
+}
+
+/// What a request asks of an instance.
+fn asked(alloc: Global, request: &Request, bits: u128) -> Result<Asked, Cause>
+    ensures asked { IfOk result (IsMeant request.now bits) }
+    ensures refused { IfErr result (IsRefusedFor request.now) }
+{
+    let call = call_of(&request.method, &request.target)?;
+    let asked = ask(alloc, call, &request.body, bits)?;
+    Ok(asked)
+}
+
+/// What a request means. `bits` are random: a silence that it makes gets its identifier by them.
+///
+/// # Errors
+///
+/// The line of the first fault that stands: the path, the method, a filter or the body, or that memory ran out.
+pub fn to_event(alloc: Global, request: &Request, bits: u128) -> Result<Event, Refusal>
+    ensures { IsEventOf request.now bits result }
+{
+    match asked(alloc, request, bits) {
+        Ok(asked) => Ok(Event::Request(asked)),
+        Err(cause) => Err(cause.refusal()),
+    }
+}

@@ -1,0 +1,16 @@
+//! The silences of API v2, from the bytes of a request to the bytes of its reply: what a request means, one step of an
+//! instance, and what is answered; over any reader and writer.
+#![tactic(auto)]
+
+mod answering;
+mod events;
+mod filters;
+mod replies;
+mod serving;
+mod table;
+
+pub use am_http::{Read, Refusal, Request, read_request};
+pub use answering::{Answered, answer};
+pub use events::to_event;
+pub use replies::{ReplyBytes, to_bytes};
+pub use serving::{Fault, Served, serve};

@@ -1,0 +1,138 @@
+//! The bytes of replies.
+
+ghost use Rattle.std.specs.Prelude.{◌≡◌, List, IfOk};
+ghost use Rattle.std.specs.Option.{option_copied};
+ghost use Rattle.serde_json.specs.Data.{Data, array};
+ghost use Rattle.serde_json.specs.View.{items_of};
+ghost use Rattle.serde_json.specs.Written.{compact_text};
+ghost use Rattle.am_silence_json.specs.Gettables.{AreGettable, IsGettable, posted_data};
+ghost use Rattle.am_http.specs.Lines.{line_seen};
+ghost use Rattle.am_api_silences.specs.Replies.{HasStatus, IsReplyBytes, IsSaid, Says, bytes_of, good_bytes, line_bytes, memory_bytes, said_status};
+
+use crate::table;
+use am_http::{Refusal, out_of_memory, reply};
+use am_instance::Reply;
+use am_silence::{MeshSilence, State};
+use am_silence_json::{write_error, write_posted, write_silence, write_silences};
+use std::alloc::{AllocError, Global};
+
+/// A whole reply, to be written.
+#[derive(Drop)]
+pub enum ReplyBytes {
+    Own(Vec<u8>),
+    /// That there is no memory for another; this one takes none.
+    Fixed(&'static [u8]),
+}
+
+impl ReplyBytes {
+    /// The bytes.
+    pub fn as_slice(&self) -> &[u8]
+        ensures { result.now ≡ bytes_of self.now }
+    {
+        match self {
+            ReplyBytes::Own(bytes) => bytes.as_slice(),
+            ReplyBytes::Fixed(bytes) => bytes,
+        }
+    }
+}
+
+/// The reply 200 with this body.
+fn good(alloc: Global, body: &[u8]) -> Result<Vec<u8>, AllocError>
+    ensures { IfOk result (λ bytes. bytes.items ≡ good_bytes body.now) }
+{
+    reply(alloc, 200, None, body)
+}
+
+/// The reply that lists silences.
+fn list(alloc: Global, rows: &[(MeshSilence, State)]) -> Result<Vec<u8>, AllocError>
+    ensures { IfOk result (λ bytes. (ds : List Data) × AreGettable rows.now ds
+        × (bytes.items ≡ good_bytes (compact_text (array (items_of ds))))) }
+{
+    let body = write_silences(Vec::new(alloc), rows)?;
+    let bytes = good(alloc, &body)?;
+    Ok(bytes)
+}
+
+/// The reply that shows a silence.
+fn one(alloc: Global, version: &MeshSilence, state: State) -> Result<Vec<u8>, AllocError>
+    ensures { IfOk result (λ bytes. (d : Data) × IsGettable version.now.silence state d
+        × (bytes.items ≡ good_bytes (compact_text d))) }
+{
+    let body = write_silence(Vec::new(alloc), version.silence(), state)?;
+    let bytes = good(alloc, &body)?;
+    Ok(bytes)
+}
+
+/// The reply that tells the identifier of what was posted.
+fn posted(alloc: Global, id: &str) -> Result<Vec<u8>, AllocError>
+    ensures { IfOk result (λ bytes. bytes.items ≡ good_bytes (compact_text (posted_data id.now))) }
+{
+    let body = write_posted(Vec::new(alloc), id)?;
+    let bytes = good(alloc, &body)?;
+    Ok(bytes)
+}
+
+/// The reply with a line of the table of statuses.
+fn refused(alloc: Global, line: &Refusal) -> Result<Vec<u8>, AllocError>
+    ensures { IfOk result (λ bytes. bytes.items ≡ line_bytes (line_seen line.now)) }
+{
+    let body = write_error(Vec::new(alloc), line.text)?;
+    let bytes = reply(alloc, line.status, line.allow, &body)?;
+    Ok(bytes)
+}
+
+/// The bytes of a reply.
+fn replied(alloc: Global, reply: &Reply) -> Result<Vec<u8>, AllocError>
+    ensures { IfOk result (λ bytes. IsReplyBytes reply.now bytes.items) }
+{
+    match reply {
+        Reply::Silences(rows) => list(alloc, rows),
+        Reply::Silence(version, state) => one(alloc, version, *state),
+        Reply::Posted(id) => posted(alloc, id.as_str()),
+        Reply::Refused(error) => refused(alloc, &table::refused(*error)),
+        _ => good(alloc, b""),
+    }
+}
+
+/// The bytes of the reply to a request, or of why it is refused. A reply to another event is told without a body.
+///
+/// # Errors
+///
+/// [`AllocError`] where memory ran out.
+pub fn to_bytes(alloc: Global, said: Result<&Reply, &Refusal>) -> Result<Vec<u8>, AllocError>
+    ensures { IfOk result (λ bytes. IsSaid said.entry bytes.items) }
+{
+    match said {
+        Ok(reply) => replied(alloc, reply),
+        Err(refusal) => refused(alloc, refusal),
+    }
+}
+
+/// The status of the reply.
+fn status_of(said: Result<&Reply, &Refusal>) -> u16
+    ensures { result ≡ said_status said.entry }
+{
+    match said {
+        Ok(Reply::Refused(error)) => table::refused(*error).status,
+        Ok(_) => 200,
+        Err(refusal) => refusal.status,
+    }
+}
+
+/// The reply where there is no memory for another.
+pub fn no_memory() -> &'static [u8]
+    ensures { result.now ≡ memory_bytes }
+{
+    out_of_memory()
+}
+
+/// The reply to a request, or why it is refused, with its status; where there is no memory for it, that is said.
+pub fn tell(alloc: Global, said: Result<&Reply, &Refusal>) -> (u16, ReplyBytes)
+    ensures says { Says (IsSaid said.entry) result.1 }
+    ensures status { HasStatus result.0 (bytes_of result.1) }
+{
+    match to_bytes(alloc, said) {
+        Ok(bytes) => (status_of(said), ReplyBytes::Own(bytes)),
+        Err(_) => (500, ReplyBytes::Fixed(no_memory())),
+    }
+}

@@ -1,0 +1,94 @@
+//! Readers and writers that fail.
+
+use crate::exchanges::{Seen, member, moment, serve_it};
+use crate::streams::{Stop, stepwise, writer};
+use am_api_silences::Fault;
+use am_instance::Instance;
+use std::alloc::Global;
+
+/// A post.
+const POST: &[u8] =
+    b"POST /api/v2/silences HTTP/1.1\r\ncontent-length: 156\r\n\r\n{\"matchers\":[{\"name\":\"job\",\"value\":\"x\",\"isRegex\":false}],\"startsAt\":\"1970-01-01T00:00:10Z\",\"endsAt\":\"1970-01-01T00:01:40Z\",\"createdBy\":\"ops\",\"comment\":\"hi\"}";
+
+/// What is served of a post whose bytes come one by one, where a read fails, and how many bytes are written.
+fn served_in_part(alloc: Global, instance: &mut Instance, fails_at: usize) -> (Seen, usize) {
+    let mut reader = stepwise(POST, 1, fails_at);
+    let mut writer = writer(alloc, 0, Stop::Fails);
+    let seen = serve_it(
+        alloc,
+        instance,
+        &mut reader,
+        &mut writer,
+        0,
+        moment((10, 0)),
+    );
+    (seen, writer.taken.len())
+}
+
+/// The first read whose failing is told otherwise, or after which the instance is another.
+fn first_wrong_read(alloc: Global) -> Option<Option<usize>> {
+    let mut instance = member(alloc, &["b"])?;
+    for k in 1..POST.len() + 1 {
+        let wanted = Seen {
+            status: None,
+            frames: 0,
+            unsent: false,
+            fault: Some(Fault::Read { at: k - 1 }),
+        };
+        if served_in_part(alloc, &mut instance, k) != (wanted, 0) {
+            return Some(Some(k));
+        }
+        if instance.silences().len() > 0 || instance.last() != moment((0, 0)) {
+            return Some(Some(k));
+        }
+    }
+    Some(None)
+}
+
+#[test]
+fn a_read_that_fails_makes_no_step(rt: HostRuntime) {
+    let wrong = first_wrong_read(rt.alloc());
+    assert!(rt; wrong == Some(None), "{wrong:?}");
+}
+
+/// What is served of a post whose reply is written in pieces of ten bytes, where a write stops.
+fn served_to(alloc: Global, instance: &mut Instance, stops_at: usize, stop: Stop) -> (Seen, usize) {
+    let mut reader = stepwise(POST, 1_000, 0);
+    let mut writer = writer(alloc, stops_at, stop);
+    writer.step = 10;
+    let seen = serve_it(
+        alloc,
+        instance,
+        &mut reader,
+        &mut writer,
+        0,
+        moment((10, 0)),
+    );
+    (seen, writer.taken.len())
+}
+
+/// What is served by a new member of two, and whether the silence is held then.
+fn posted_to(alloc: Global, stops_at: usize, stop: Stop) -> Option<(Seen, usize, bool)> {
+    let mut instance = member(alloc, &["b"])?;
+    let (seen, taken) = served_to(alloc, &mut instance, stops_at, stop);
+    Some((seen, taken, instance.silences().len() == 1))
+}
+
+#[test]
+fn the_step_stands_where_a_write_stops(rt: HostRuntime) {
+    for stop in [Stop::Fails, Stop::TakesNothing] {
+        for k in 1..15usize {
+            let taken = 10 * (k - 1);
+            let wanted = Seen {
+                status: Some(200),
+                frames: 1,
+                unsent: false,
+                fault: Some(Fault::Write {
+                    written: taken as u64,
+                }),
+            };
+            let served = posted_to(rt.alloc(), k, stop);
+            assert!(rt; served == Some((wanted, taken, true)), "{k}: {served:?}");
+        }
+    }
+}
