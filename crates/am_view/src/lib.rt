@@ -1,0 +1,12 @@
+//! What instances show, as printed lines: texts and lists as words, and the views of two maps.
+#![tactic(auto)]
+
+pub mod laws;
+mod lines;
+mod lists;
+mod view;
+mod words;
+
+pub use lists::{Numbers, Texts};
+pub use view::write_view;
+pub use words::{ListedWord, Word};
