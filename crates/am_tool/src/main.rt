@@ -1,6 +1,16 @@
 //! The program: folds a row of versions to the ones that count, and shows a snapshot.
 #![tactic(auto)]
 
+ghost use Rattle.std.specs.Prelude.{ℕ, List, [], None, IfSome, OnOk};
+ghost use Rattle.std.specs.Io.KnownBytes.{Appends};
+ghost use Rattle.am_nflog.specs.Mesh as entries;
+ghost use Rattle.am_nflog.specs.MeshTable.{reads_mesh_entry};
+ghost use Rattle.am_silence.specs.Mesh as silences;
+ghost use Rattle.am_silence.specs.MeshTable.{reads_mesh_silence};
+ghost use Rattle.am_snapshot.specs.Folds.{IsFold};
+ghost use Rattle.am_snapshot.specs.Loads.{IsLoaded};
+ghost use Rattle.am_view.specs.Views.{view_text};
+
 mod fault;
 mod status;
 mod words;
@@ -40,36 +50,50 @@ fn run(rt: &HostRuntime, job: Job) -> Result<u64, Fault> {
 
 // What was read is forgotten in each job: the process ends then, and its memory with it.
 
+/// Writes the fold of the row that stands on the input.
 fn fold_row<V: Version + Message, R: Read, W: Write>(
     alloc: Global,
     input: &mut R,
     output: &mut W,
     now: Moment,
-) -> Result<u64, Fault> {
+) -> Result<u64, Fault>
+    ensures folded { OnOk result (IfSome (R.remaining input.old) (λ bytes.
+        (row : List ℕ) × IsFold V.seen V.Key.cmp V.reads bytes row × Appends (W.contents output.old) (W.contents output.new) row)) }
+{
     let folded = fold_held::<V, _, _>(alloc, input, output, now)?;
     let written = folded.written;
     mem::forget(folded);
     Ok(written)
 }
 
+/// Prints the view of the silences whose snapshot stands on the input.
 fn show_silences<R: Read, W: Write>(
     alloc: Global,
     input: &mut R,
     output: &mut W,
     now: Moment,
-) -> Result<u64, Fault> {
+) -> Result<u64, Fault>
+    ensures shown { OnOk result (IfSome (R.remaining input.old) (λ bytes.
+        (held : List silences.Mesh) × IsLoaded silences.mesh_version reads_mesh_silence bytes held ×
+        Appends (W.contents output.old) (W.contents output.new) (view_text None now held []))) }
+{
     let silences = load::<MeshSilence, _>(alloc, input)?;
     let written = write_view(alloc, &silences, &Held::new(alloc), None, now, output);
     mem::forget(silences);
     Ok(written?)
 }
 
+/// Prints the view of the log whose snapshot stands on the input.
 fn show_log<R: Read, W: Write>(
     alloc: Global,
     input: &mut R,
     output: &mut W,
     now: Moment,
-) -> Result<u64, Fault> {
+) -> Result<u64, Fault>
+    ensures shown { OnOk result (IfSome (R.remaining input.old) (λ bytes.
+        (held : List entries.Mesh) × IsLoaded entries.mesh_version reads_mesh_entry bytes held ×
+        Appends (W.contents output.old) (W.contents output.new) (view_text None now [] held))) }
+{
     let log = load::<MeshEntry, _>(alloc, input)?;
     let written = write_view(alloc, &Held::new(alloc), &log, None, now, output);
     mem::forget(log);

@@ -7,6 +7,7 @@ mod lists;
 mod view;
 mod words;
 
+pub use lines::Owner;
 pub use lists::{Numbers, Texts};
-pub use view::write_view;
+pub use view::{append_view, write_view};
 pub use words::{ListedWord, Word};

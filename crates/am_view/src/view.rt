@@ -64,32 +64,29 @@ fn append_log(
     Ok(())
 }
 
-/// All lines of the view.
-fn view_text(
-    alloc: Global,
+/// Appends the view of two maps at a moment, a line for each held version that is live: the silences by id with their
+/// states, and the entries of the log by key. Where an instance is named, each line begins with the name, and a line
+/// with the two counts comes first.
+///
+/// # Errors
+///
+/// [`AllocError`] where memory runs out; a part of the lines may have been appended then.
+pub fn append_view(
+    out: &mut String,
     silences: &Held<MeshSilence>,
     log: &Held<MeshEntry>,
     name: Option<&str>,
     now: Moment,
-) -> Result<String, AllocError>
-    ensures { IfOk result (λ text. string_bytes text ≡ view_text (option_copied name.entry) now silences.now log.now) }
+) -> Result<(), AllocError>
+    ensures appended { OnOk result (string_bytes out.new ≡ string_bytes out.old ++ view_text (option_copied name.entry) now silences.now log.now) }
 {
-    let mut text = String::new(alloc);
     let owner = Owner(name);
-    append_shows(
-        &mut text,
-        name,
-        live_count(silences, now),
-        live_count(log, now),
-    )?;
-    append_silences(&mut text, owner, silences, now)?;
-    append_log(&mut text, owner, log, now)?;
-    Ok(text)
+    append_shows(out, name, live_count(silences, now), live_count(log, now))?;
+    append_silences(out, owner, silences, now)?;
+    append_log(out, owner, log, now)
 }
 
-/// Writes the view of two maps at a moment, a line for each held version that is live: the silences by id with their
-/// states, and the entries of the log by key. Answers how many bytes went out. Where an instance is named, each line
-/// begins with the name, and a line with the two counts comes first.
+/// Writes the view of two maps at a moment, in the lines of [`append_view`]. Answers how many bytes went out.
 ///
 /// # Errors
 ///
@@ -108,7 +105,8 @@ pub fn write_view<W: Write>(
 
     ensures stopped { IfErr result (StopsWriting W.contents writer.old writer.new (view_text (option_copied name.entry) now silences.now log.now)) }
 {
-    let text = view_text(alloc, silences, log, name, now)?;
+    let mut text = String::new(alloc);
+    append_view(&mut text, silences, log, name, now)?;
     match send(writer, text.as_bytes()) {
         Ok(()) => Ok(text.len() as u64),
         Err(fault) => Err(SnapshotError::Write {
