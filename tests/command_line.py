@@ -24,7 +24,12 @@ SECOND = FIRST.replace(bytes.fromhex("2a02080a"), bytes.fromhex("2a020814"))
 # Group key `g`, receiver `r`, `w`, 0, timestamp 10 s, firing 1 and 2, expiry 200 s.
 ENTRY = bytes.fromhex("1a0a130a016712060a01721201772a02080a32020102120308c801")
 
+# Versions of two keys.
+TWO_KEYS = SECOND + SECOND.replace(b"\x01a", b"\x01b")
+
 FOLD = ["fold", "--state", "sil", "--now", "0"]
+SHOW = ["show", "--state", "sil", "--now"]
+SHOW_LOG = ["show", "--state", "nfl", "--now"]
 
 HELP = """The state that instances of Alertmanager share
 
@@ -32,6 +37,7 @@ Usage: am_tool <COMMAND>
 
 Commands:
   fold  Reads a row of versions, and writes the one that counts of each key, in key order
+  show  Reads a snapshot, and prints a line for each version that is live, in key order
   help  Print this message or the help of the given subcommand(s)
 
 Options:
@@ -48,8 +54,19 @@ Options:
   -h, --help               Print help
 """
 
+SHOW_HELP = """Reads a snapshot, and prints a line for each version that is live, in key order
+
+Usage: am_tool show --state <STATE> --now <NANOSECONDS>
+
+Options:
+      --state <STATE>      The state that the snapshot is of: silences or the notification log [possible values: sil, nfl]
+      --now <NANOSECONDS>  The moment of the view, in whole nanoseconds since 1970-01-01T00:00:00Z
+  -h, --help               Print help
+"""
+
 USAGE = "\nUsage: am_tool <COMMAND>\n\nFor more information, try '--help'.\n"
 FOLD_USAGE = "\nUsage: am_tool fold --state <STATE> --now <NANOSECONDS>\n\nFor more information, try '--help'.\n"
+SHOW_USAGE = FOLD_USAGE.replace("fold", "show")
 
 TWICE = "error: the argument '{}' cannot be used multiple times\n" + FOLD_USAGE
 MISSING = "error: the following required arguments were not provided:\n{}" + FOLD_USAGE
@@ -122,8 +139,29 @@ CASES = [
     (["--now", "0"], b"", 2, b"", UNEXPECTED.format("--now") + USAGE),
     (["--version"], b"", 2, b"", UNEXPECTED.format("--version") + USAGE),
     (["unfold"], b"", 2, b"", UNKNOWN.format("unfold") + "\n  tip: a similar subcommand exists: 'fold'\n" + USAGE),
-    (["show"], b"", 2, b"", UNKNOWN.format("show") + USAGE),
+    (["replay"], b"", 2, b"", UNKNOWN.format("replay") + USAGE),
     ([""], b"", 2, b"", UNKNOWN.format("") + USAGE),
+    # views
+    (SHOW + ["50000000000"], SECOND, 0, b"sil a active\n", ""),
+    (SHOW + ["200000000000"], SECOND, 0, b"", ""),
+    (SHOW_LOG + ["50000000000"], ENTRY, 0, b"nfl g r w 0 1,2 -\n", ""),
+    (SHOW + ["9999999999"], SECOND, 0, b"sil a pending\n", ""),
+    (SHOW + ["10000000000"], SECOND, 0, b"sil a active\n", ""),
+    (SHOW + ["99999999999"], SECOND, 0, b"sil a active\n", ""),
+    (SHOW + ["100000000000"], SECOND, 0, b"sil a expired\n", ""),
+    (SHOW + ["199999999999"], SECOND, 0, b"sil a expired\n", ""),
+    (["show", "--now=50000000000", "--state=sil"], TWO_KEYS, 0, b"sil a active\nsil b active\n", ""),
+    (SHOW + ["50000000000"], b"", 0, b"", ""),
+    (SHOW + ["50000000000"], SECOND.replace(b"\x01a", b"\x01 "), 0, b"sil %20 active\n", ""),
+    (SHOW + ["50000000000"], SECOND.replace(b"\x01a", b"\x01-"), 0, b"sil %2D active\n", ""),
+    (SHOW + ["0"], FIRST + SECOND, 1, b"", "am_tool: DuplicateKey\n"),
+    (SHOW + ["0"], SECOND + FIRST[:-1], 1, b"", "am_tool: Wire Truncated 33\n"),
+    (SHOW_LOG + ["0"], SECOND, 1, b"", "am_tool: Wire WrongType 13\n"),
+    (["show", "--help"], b"", 0, SHOW_HELP.encode(), ""),
+    (["help", "show"], b"", 0, SHOW_HELP.encode(), ""),
+    (["show"], b"", 2, b"", MISSING.format("  --state <STATE>\n  --now <NANOSECONDS>\n").replace("fold", "show")),
+    (SHOW + ["0", "extra"], b"", 2, b"", UNEXPECTED.format("extra") + SHOW_USAGE),
+    (SHOW + ["+5"], SECOND, 2, b"", BAD_NOW),
     # words that are not UTF-8
     ([b"\xff"], b"", 2, b"", NOT_UTF8),
     (["fold", "--state", b"sil\xc3", "--now", "0"], FIRST, 2, b"", NOT_UTF8),
@@ -134,8 +172,7 @@ CASES = [
     (FOLD, bytes.fromhex("81808020"), 1, b"", "am_tool: Wire TooLarge\n"),
 ]
 
-# Versions of two keys, and how many bytes of them a file takes.
-TWO_KEYS = SECOND + SECOND.replace(b"\x01a", b"\x01b")
+# How many bytes a file takes.
 CUT = 40
 
 passed, failed = 0, 0
@@ -176,12 +213,14 @@ def test_streams():
         on_full = {"stdout": full}
         compare("a full disk", run(FOLD, **row, **on_full), (3, None, stopped))
         compare("nothing to write on a full disk", run(FOLD, **on_full), (0, None, ""))
+        compare("a view on a full disk", run(SHOW + ["50000000000"], input=SECOND, **on_full), (3, None, stopped))
         compare("help on a full disk", run(["--help"], **on_full), (3, None, stopped))
         compare("a mistake told on a full disk", run(["fold"], stderr=full), (2, b"", None))
         compare("a fault told on a full disk", run(FOLD, input=FIRST[:9], stderr=full), (1, b"", None))
     compare("a closed output", run(FOLD, **row, **closing(1)), (3, b"", stopped))
     compare("help on a closed output", run(["--help"], **closing(1)), (3, b"", stopped))
     compare("a closed input", run(FOLD, **closing(0)), (3, b"", "am_tool: Read 0\n"))
+    compare("a view of a closed input", run(SHOW + ["0"], **closing(0)), (3, b"", "am_tool: Read 0\n"))
     directory = os.open("/", os.O_RDONLY)
     compare("a directory as input", run(FOLD, stdin=directory), (3, b"", "am_tool: Read 0\n"))
     os.close(directory)
@@ -224,6 +263,8 @@ def test_memory():
     """Wherever memory is refused, the program says so and nothing else."""
     refused = (4, b"", "am_tool: Memory\n")
     compare("refused memory", outcomes_under_limits(FOLD, input=FIRST), [refused, (0, FIRST, "")])
+    view = outcomes_under_limits(SHOW + ["50000000000"], input=SECOND)
+    compare("refused memory for a view", view, [refused, (0, b"sil a active\n", "")])
     many = FOLD + ["x"] * 20_000
     mistake = (2, b"", UNEXPECTED.format("x") + FOLD_USAGE)
     compare("refused memory among many words", outcomes_under_limits(many), [refused, mistake])

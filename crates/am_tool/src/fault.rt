@@ -1,40 +1,60 @@
 //! What is printed of a fault.
 
 use crate::status;
-use am_snapshot::FoldError;
+use am_snapshot::{FoldError, SnapshotError};
 use am_wire::WireError;
 use std::fmt;
 
 /// Prints a fault on standard error, and answers the exit status of the program.
-pub fn report<R: Eprint>(rt: &R, error: FoldError) -> u8 {
-    let line = FaultLine(error);
-    let _ = eprintln!(rt; "am_tool: {line}");
-    line.status()
+pub fn report<R: Eprint>(rt: &R, fault: Fault) -> u8 {
+    let _ = eprintln!(rt; "am_tool: {fault}");
+    fault.status()
 }
 
-/// A fault as it is printed: its names from outer to inner, and its number.
+/// Why a job was not done. It is printed as its names from outer to inner, and its number.
 #[derive(Clone, Copy)]
-pub struct FaultLine(pub FoldError);
+pub struct Fault(pub SnapshotError);
 
-impl FaultLine {
+impl Fault {
     /// The exit status of the program.
     pub fn status(self) -> u8 {
         match self.0 {
-            FoldError::Wire(_) | FoldError::TooLarge => status::REFUSED,
-            FoldError::Read { .. } | FoldError::Write { .. } => status::OUTSIDE,
-            FoldError::Memory => status::MEMORY,
+            SnapshotError::Wire(_) | SnapshotError::DuplicateKey | SnapshotError::TooLarge => {
+                status::REFUSED
+            }
+            SnapshotError::Read { .. } | SnapshotError::Write { .. } => status::OUTSIDE,
+            SnapshotError::Memory => status::MEMORY,
         }
     }
 }
 
-impl fmt::Display for FaultLine {
+impl From<SnapshotError> for Fault {
+    fn from(error: SnapshotError) -> Fault {
+        Fault(error)
+    }
+}
+
+impl From<FoldError> for Fault {
+    fn from(error: FoldError) -> Fault {
+        Fault(match error {
+            FoldError::Read { at } => SnapshotError::Read { at },
+            FoldError::Write { written } => SnapshotError::Write { written },
+            FoldError::Wire(error) => SnapshotError::Wire(error),
+            FoldError::TooLarge => SnapshotError::TooLarge,
+            FoldError::Memory => SnapshotError::Memory,
+        })
+    }
+}
+
+impl fmt::Display for Fault {
     fn fmt<W: fmt::Write>(&self, f: &mut fmt::Formatter<W>) -> fmt::Result {
         match self.0 {
-            FoldError::Read { at } => write!(f, "Read {at}"),
-            FoldError::Write { written } => write!(f, "Write {written}"),
-            FoldError::Wire(error) => write_wire_error(error, f),
-            FoldError::TooLarge => write!(f, "TooLarge"),
-            FoldError::Memory => write!(f, "Memory"),
+            SnapshotError::Read { at } => write!(f, "Read {at}"),
+            SnapshotError::Write { written } => write!(f, "Write {written}"),
+            SnapshotError::Wire(error) => write_wire_error(error, f),
+            SnapshotError::DuplicateKey => write!(f, "DuplicateKey"),
+            SnapshotError::TooLarge => write!(f, "TooLarge"),
+            SnapshotError::Memory => write!(f, "Memory"),
         }
     }
 }

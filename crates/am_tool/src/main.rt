@@ -1,52 +1,110 @@
-//! The program: folds a row of versions to the ones that count.
+//! The program: folds a row of versions to the ones that count, and shows a snapshot.
 #![tactic(auto)]
 
-ghost use Rattle.std.specs.Prelude.{◌≡◌};
+ghost use Rattle.std.specs.Prelude.{ℕ, List, [], None, IfSome, OnOk};
+ghost use Rattle.std.specs.Io.KnownBytes.{Appends};
+ghost use Rattle.am_nflog.specs.Mesh as entries;
+ghost use Rattle.am_nflog.specs.MeshTable.{reads_mesh_entry};
+ghost use Rattle.am_silence.specs.Mesh as silences;
+ghost use Rattle.am_silence.specs.MeshTable.{reads_mesh_silence};
+ghost use Rattle.am_snapshot.specs.Folds.{IsFold};
+ghost use Rattle.am_snapshot.specs.Loads.{IsLoaded};
+ghost use Rattle.am_view.specs.Views.{view_text};
 
 mod fault;
 mod status;
 mod words;
 
+use am_merge::Held;
 use am_nflog::MeshEntry;
 use am_silence::MeshSilence;
-pub use am_snapshot::{FoldError, Folded, fold_held};
-use am_version_order::Version;
-use std::io::BufReader;
+pub use am_snapshot::{SnapshotError, fold_held, load};
+use am_version_order::{Moment, Version};
+pub use am_view::write_view;
+use am_wire::Message;
+use fault::Fault;
+use std::alloc::Global;
+use std::io::{BufReader, Read, Write};
 use std::mem;
 use std::process::ExitCode;
-use words::{Job, StateName};
+use words::{Job, StateName, Task};
 
-fn run(rt: &HostRuntime, job: Job) -> Result<u64, FoldError> {
+fn run(rt: &HostRuntime, job: Job) -> Result<u64, Fault> {
     let alloc = rt.alloc();
     let Ok(mut input) = BufReader::new(alloc, rt.stdin()) else {
-        return Err(FoldError::Memory);
+        return Err(Fault::from(SnapshotError::Memory));
     };
     let mut output = rt.stdout();
-    let Job::Fold { state, now } = job;
-    Ok(match state {
-        StateName::Silences => {
-            written_by(fold_held::<MeshSilence, _, _>(alloc, &mut input, &mut output, now)?)
+    let Job { task, state, now } = job;
+    match (task, state) {
+        (Task::Fold, StateName::Silences) => {
+            fold_row::<MeshSilence, _, _>(alloc, &mut input, &mut output, now)
         }
-        StateName::Log => {
-            written_by(fold_held::<MeshEntry, _, _>(alloc, &mut input, &mut output, now)?)
+        (Task::Fold, StateName::Log) => {
+            fold_row::<MeshEntry, _, _>(alloc, &mut input, &mut output, now)
         }
-    })
+        (Task::Show, StateName::Silences) => show_silences(alloc, &mut input, &mut output, now),
+        (Task::Show, StateName::Log) => show_log(alloc, &mut input, &mut output, now),
+    }
 }
 
-/// How many bytes a fold wrote. Its versions are forgotten: the process ends now, and its memory with it.
-fn written_by<V: Version>(folded: Folded<V>) -> u64
-    ensures { result ≡ folded.written }
+// What was read is forgotten in each job: the process ends then, and its memory with it.
+
+/// Writes the fold of the row that stands on the input.
+fn fold_row<V: Version + Message, R: Read, W: Write>(
+    alloc: Global,
+    input: &mut R,
+    output: &mut W,
+    now: Moment,
+) -> Result<u64, Fault>
+    ensures folded { OnOk result (IfSome (R.remaining input.old) (λ bytes.
+        (row : List ℕ) × IsFold V.seen V.Key.cmp V.reads bytes row × Appends (W.contents output.old) (W.contents output.new) row)) }
 {
+    let folded = fold_held::<V, _, _>(alloc, input, output, now)?;
     let written = folded.written;
     mem::forget(folded);
-    written
+    Ok(written)
+}
+
+/// Prints the view of the silences whose snapshot stands on the input.
+fn show_silences<R: Read, W: Write>(
+    alloc: Global,
+    input: &mut R,
+    output: &mut W,
+    now: Moment,
+) -> Result<u64, Fault>
+    ensures shown { OnOk result (IfSome (R.remaining input.old) (λ bytes.
+        (held : List silences.Mesh) × IsLoaded silences.mesh_version reads_mesh_silence bytes held ×
+        Appends (W.contents output.old) (W.contents output.new) (view_text None now held []))) }
+{
+    let silences = load::<MeshSilence, _>(alloc, input)?;
+    let written = write_view(alloc, &silences, &Held::new(alloc), None, now, output);
+    mem::forget(silences);
+    Ok(written?)
+}
+
+/// Prints the view of the log whose snapshot stands on the input.
+fn show_log<R: Read, W: Write>(
+    alloc: Global,
+    input: &mut R,
+    output: &mut W,
+    now: Moment,
+) -> Result<u64, Fault>
+    ensures shown { OnOk result (IfSome (R.remaining input.old) (λ bytes.
+        (held : List entries.Mesh) × IsLoaded entries.mesh_version reads_mesh_entry bytes held ×
+        Appends (W.contents output.old) (W.contents output.new) (view_text None now [] held))) }
+{
+    let log = load::<MeshEntry, _>(alloc, input)?;
+    let written = write_view(alloc, &Held::new(alloc), &log, None, now, output);
+    mem::forget(log);
+    Ok(written?)
 }
 
 fn main(rt: HostRuntime) -> ExitCode {
     let status = match words::job_of(&rt) {
         Ok(job) => match run(&rt, job) {
             Ok(_) => status::DONE,
-            Err(error) => fault::report(&rt, error),
+            Err(fault) => fault::report(&rt, fault),
         },
         Err(error) => words::report(&rt, &error),
     };

@@ -1,4 +1,4 @@
-use crate::fault::FaultLine;
+use crate::fault::Fault;
 use am_nflog::MeshEntry;
 use am_silence::MeshSilence;
 use am_snapshot::{FoldError, SnapshotError, fold, load, save};
@@ -147,7 +147,7 @@ fn the_first_fault_is_told(rt: HostRuntime) -> Result<(), Fail> {
         (&[0x81, 0x80, 0x80, 0x20], "Wire TooLarge"),
     ];
     for (input, line) in faults {
-        let fault = FaultLine(fault_of(alloc, input).ok_or("no fault")?);
+        let fault = Fault::from(fault_of(alloc, input).ok_or("no fault")?);
         assert_eq!(rt; fault.to_string(alloc)?.as_str(), line);
         assert_eq!(rt; fault.status(), 1);
     }

@@ -2,8 +2,9 @@
 
 ghost use Rattle.std.specs.Prelude.{◌≡◌, ◌≢◌};
 
-use crate::{fault, status};
-use am_snapshot::FoldError;
+use crate::fault::{self, Fault};
+use crate::status;
+use am_snapshot::SnapshotError;
 use am_version_order::Moment;
 use clap::error::ErrorKind;
 use clap::{Arg, ArgAction, ArgMatches, Command};
@@ -13,9 +14,19 @@ use std::{env, io};
 
 /// What the words ask for.
 #[derive(Clone, Copy, Debug)]
-pub enum Job {
-    /// Fold a row of versions of a state, which are taken at `now`.
-    Fold { state: StateName, now: Moment },
+pub struct Job {
+    pub task: Task,
+    pub state: StateName,
+    pub now: Moment,
+}
+
+/// What is to be done with what stands on standard input.
+#[derive(Clone, Copy, Debug)]
+pub enum Task {
+    /// Fold a row of versions, which are taken at the moment.
+    Fold,
+    /// Show what of a snapshot is live at the moment.
+    Show,
 }
 
 /// A state that instances share.
@@ -65,7 +76,8 @@ impl From<clap::Error> for WordsError {
 pub fn job_of<R: Env + AllocGlobal>(rt: &R) -> Result<Job, WordsError> {
     let words = words_of(rt)?;
     if words.len() <= 1 {
-        return Ok(Job::Fold {
+        return Ok(Job {
+            task: Task::Fold,
             state: StateName::Silences,
             now: since_1970(0),
         });
@@ -97,17 +109,17 @@ pub fn report<R: Print + Eprint + AllocGlobal>(rt: &R, error: &WordsError) -> u8
             let _ = text.print(rt);
             status::WORDS
         }
-        WordsError::Memory => fault::report(rt, FoldError::Memory),
+        WordsError::Memory => fault::report(rt, Fault::from(SnapshotError::Memory)),
     }
 }
 
 fn print_help<R: Print + Eprint + AllocGlobal>(rt: &R, help: &clap::Error) -> u8 {
     let Ok(text) = help.to_string(rt.alloc()) else {
-        return fault::report(rt, FoldError::Memory);
+        return fault::report(rt, Fault::from(SnapshotError::Memory));
     };
     match print_counted(rt, text.as_str()) {
         Ok(()) => status::DONE,
-        Err(written) => fault::report(rt, FoldError::Write { written }),
+        Err(written) => fault::report(rt, Fault::from(SnapshotError::Write { written })),
     }
 }
 
@@ -125,38 +137,65 @@ fn print_counted<R: Print>(rt: &R, text: &str) -> Result<(), u64> {
 }
 
 fn command<'a>(alloc: Global) -> Result<Command<'a>, AllocError> {
-    let state = Arg::new(alloc, "state")
-        .long("state")
-        .value_name("STATE")
-        .help("The state that the row is of: silences or the notification log")
-        .required(true)
-        .action(ArgAction::Set)
-        .value_parser(["sil", "nfl"].as_slice());
-    let now = Arg::new(alloc, "now")
-        .long("now")
-        .value_name("NANOSECONDS")
-        .help("The moment of taking, in whole nanoseconds since 1970-01-01T00:00:00Z")
-        .required(true)
-        .action(ArgAction::Set);
-    let fold = Command::new(alloc, "fold")
-        .about("Reads a row of versions, and writes the one that counts of each key, in key order")
-        .arg(state)?
-        .arg(now)?;
     Command::new(alloc, "am_tool")
         .about("The state that instances of Alertmanager share")
         .subcommand_required(true)
-        .subcommand(fold)
+        .subcommand(fold_command(alloc)?)?
+        .subcommand(show_command(alloc)?)
+}
+
+fn fold_command<'a>(alloc: Global) -> Result<Command<'a>, AllocError> {
+    let about = "Reads a row of versions, and writes the one that counts of each key, in key order";
+    let state = "The state that the row is of: silences or the notification log";
+    let now = "The moment of taking, in whole nanoseconds since 1970-01-01T00:00:00Z";
+    Command::new(alloc, FOLD)
+        .about(about)
+        .arg(state_flag(alloc, state))?
+        .arg(now_flag(alloc, now))
+}
+
+fn show_command<'a>(alloc: Global) -> Result<Command<'a>, AllocError> {
+    let about = "Reads a snapshot, and prints a line for each version that is live, in key order";
+    let state = "The state that the snapshot is of: silences or the notification log";
+    let now = "The moment of the view, in whole nanoseconds since 1970-01-01T00:00:00Z";
+    Command::new(alloc, SHOW)
+        .about(about)
+        .arg(state_flag(alloc, state))?
+        .arg(now_flag(alloc, now))
+}
+
+fn state_flag<'a>(alloc: Global, help: &'a str) -> Arg<'a> {
+    Arg::new(alloc, "state")
+        .long("state")
+        .value_name("STATE")
+        .help(help)
+        .required(true)
+        .action(ArgAction::Set)
+        .value_parser(["sil", "nfl"].as_slice())
+}
+
+fn now_flag<'a>(alloc: Global, help: &'a str) -> Arg<'a> {
+    Arg::new(alloc, "now")
+        .long("now")
+        .value_name("NANOSECONDS")
+        .help(help)
+        .required(true)
+        .action(ArgAction::Set)
 }
 
 fn read_job(command: &mut Command<'_>, matches: &ArgMatches<'_>) -> Result<Job, WordsError> {
-    let fold = matches.subcommand_matches("fold");
-    let state = match fold.and_then(|fold| fold.get_str("state")) {
+    let (task, flags) = match matches.subcommand_matches(SHOW) {
+        Some(flags) => (Task::Show, Some(flags)),
+        None => (Task::Fold, matches.subcommand_matches(FOLD)),
+    };
+    let state = match flags.and_then(|flags| flags.get_str("state")) {
         Some("nfl") => StateName::Log,
         _ => StateName::Silences,
     };
-    let now = fold.and_then(|fold| fold.get_str("now"));
+    let now = flags.and_then(|flags| flags.get_str("now"));
     match now.and_then(whole_number) {
-        Some(nanos) => Ok(Job::Fold {
+        Some(nanos) => Ok(Job {
+            task,
             state,
             now: since_1970(nanos),
         }),
@@ -166,6 +205,11 @@ fn read_job(command: &mut Command<'_>, matches: &ArgMatches<'_>) -> Result<Job, 
         }
     }
 }
+
+/// The names of the tasks.
+const FOLD: &str = "fold";
+
+const SHOW: &str = "show";
 
 const BAD_NOW: &str =
     "invalid value for '--now <NANOSECONDS>': a whole number below 2^64 is wanted, in digits alone";

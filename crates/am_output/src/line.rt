@@ -1,0 +1,129 @@
+//! The lines that are printed beside views.
+
+ghost use Rattle.std.specs.Prelude.{◌≡◌, ◌++◌, OnOk, codes, string_bytes};
+ghost use Rattle.am_output.specs.Lines.{line_text};
+
+use crate::names::{decision_name, kind_name, refusal_name, yes_or_no};
+use crate::refusal::Refusal;
+use am_dedup::Decision;
+use am_gossip::FrameKind;
+use am_view::{Owner, Texts, Word};
+use am_wire::Text;
+use std::alloc::AllocError;
+use std::fmt::{self, Display};
+
+/// A line that a player prints. Members are told by their names.
+#[derive(Clone, Copy)]
+pub enum Line<'a> {
+    /// A silence was made or updated.
+    Posted {
+        name: &'a str,
+        id: &'a str,
+    },
+    /// A silence was ended.
+    Expired {
+        name: &'a str,
+        id: &'a str,
+    },
+    /// Whether the entry of a notification changed the log.
+    Logged {
+        name: &'a str,
+        changed: bool,
+    },
+    /// Whether a group is notified.
+    Decided {
+        name: &'a str,
+        decision: Decision,
+    },
+    /// Which silences mute a label set, and which are broken.
+    Muted {
+        name: &'a str,
+        ids: &'a [Text],
+        broken: &'a [Text],
+    },
+    /// All members agree.
+    Settled,
+    /// Whether the run is timely so far.
+    Timely {
+        is_timely: bool,
+    },
+    /// A frame in flight.
+    Frame {
+        number: u64,
+        sender: &'a str,
+        addressee: &'a str,
+        kind: FrameKind,
+    },
+    /// A step was refused, of a member or of none.
+    Refused {
+        name: Option<&'a str>,
+        refusal: Refusal,
+    },
+    /// A member's events were calm.
+    Calm {
+        name: &'a str,
+    },
+    /// They were not, from the step of this line on.
+    Uncalm {
+        name: &'a str,
+        line: u64,
+    },
+}
+
+impl Display for Line<'_> {
+    ghost use Rattle.std.specs.Prelude.{Some};
+
+    ghost output = { λ line. Some (line_text line) };
+
+    #[tactic(auto, unfolding(crate::specs::Lines::line_text))]
+    fn fmt<W: fmt::Write>(&self, f: &mut fmt::Formatter<W>) -> fmt::Result {
+        match *self {
+            Line::Posted { name, id } => write!(f, "{} posted {}", word(name), word(id)),
+            Line::Expired { name, id } => write!(f, "{} expired {}", word(name), word(id)),
+            Line::Logged { name, changed } => {
+                write!(f, "{} logged {}", word(name), yes_or_no(changed))
+            }
+            Line::Decided { name, decision } => {
+                write!(f, "{} decide {}", word(name), decision_name(decision))
+            }
+            Line::Muted { name, ids, broken } => {
+                let (ids, broken) = (Texts(ids), Texts(broken));
+                write!(f, "{} mutes {ids} broken {broken}", word(name))
+            }
+            Line::Settled => f.write_str("settled"),
+            Line::Timely { is_timely } => write!(f, "timely {}", yes_or_no(is_timely)),
+            Line::Frame {
+                number,
+                sender,
+                addressee,
+                kind,
+            } => {
+                let (sender, addressee) = (word(sender), word(addressee));
+                write!(f, "frame {number} {sender} {addressee} {}", kind_name(kind))
+            }
+            Line::Refused { name, refusal } => {
+                write!(f, "{}refused {}", Owner(name), refusal_name(refusal))
+            }
+            Line::Calm { name } => write!(f, "calm {}", word(name)),
+            Line::Uncalm { name, line } => write!(f, "uncalm {} line {line}", word(name)),
+        }
+    }
+}
+
+/// A text as a word.
+fn word(text: &str) -> Word<'_>
+    ensures { result.0.now ≡ text.now }
+{
+    Word(text.as_bytes())
+}
+
+/// Appends a line and its end.
+///
+/// # Errors
+///
+/// [`AllocError`] where memory runs out.
+pub fn append_line(out: &mut String, line: &Line<'_>) -> Result<(), AllocError>
+    ensures appended { OnOk result (string_bytes out.new ≡ string_bytes out.old ++ line_text line.now ++ codes "\n") }
+{
+    writeln!(out, "{line}")
+}

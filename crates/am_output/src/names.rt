@@ -1,0 +1,64 @@
+//! How answers are named in a line.
+
+ghost use Rattle.std.specs.Prelude.{◌≡◌};
+ghost use Rattle.am_output.specs.Lines.{decision_word, kind_word, refusal_word, yes_or_no};
+
+use crate::refusal::Refusal;
+use am_dedup::{Decision, Reason};
+use am_gossip::FrameKind;
+
+pub fn yes_or_no(answer: bool) -> &'static str
+    ensures { result.now ≡ yes_or_no answer }
+{
+    if answer { "yes" } else { "no" }
+}
+
+/// Why a group is notified, or that it isn't.
+pub fn decision_name(decision: Decision) -> &'static str
+    ensures { result.now ≡ decision_word decision }
+{
+    match decision {
+        Decision::Skip => "Skip",
+        Decision::Notify(Reason::First) => "First",
+        Decision::Notify(Reason::NewFiring) => "NewFiring",
+        Decision::Notify(Reason::AllResolved) => "AllResolved",
+        Decision::Notify(Reason::NewResolved) => "NewResolved",
+        Decision::Notify(Reason::Repeat) => "Repeat",
+    }
+}
+
+pub fn kind_name(kind: FrameKind) -> &'static str
+    ensures { result.now ≡ kind_word kind }
+{
+    match kind {
+        FrameKind::Delta => "Delta",
+        FrameKind::Push => "Push",
+        FrameKind::Pull => "Pull",
+        FrameKind::Tick => "Tick",
+    }
+}
+
+/// The name of a kind of refusal.
+pub fn refusal_name(refusal: Refusal) -> &'static str
+    ensures { result.now ≡ refusal_word refusal }
+{
+    match refusal {
+        Refusal::NotFound => "NotFound",
+        Refusal::NoMatcher => "NoMatcher",
+        Refusal::EmptyName => "EmptyName",
+        Refusal::BadPattern => "BadPattern",
+        Refusal::AllMatchEmpty => "AllMatchEmpty",
+        Refusal::EndNotAfterStart => "EndNotAfterStart",
+        Refusal::EndInPast => "EndInPast",
+        Refusal::AlreadyExpired => "AlreadyExpired",
+        Refusal::Newer => "Newer",
+        Refusal::IdInUse => "IdInUse",
+        Refusal::TooLarge => "TooLarge",
+        Refusal::Memory => "Memory",
+        Refusal::MomentBack => "MomentBack",
+        Refusal::UnknownPeer => "UnknownPeer",
+        Refusal::Stopped => "Stopped",
+        Refusal::Running => "Running",
+        Refusal::NoFrame => "NoFrame",
+    }
+}

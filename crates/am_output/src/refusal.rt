@@ -1,0 +1,55 @@
+//! Why a step of a schedule was refused.
+
+use am_silence::SilenceError;
+
+/// The kind of a refusal.
+#[derive(Clone, Copy, Debug, PartialEq, Eq)]
+pub enum Refusal {
+    // a silence is not posted, or not ended
+    NotFound,
+    NoMatcher,
+    EmptyName,
+    BadPattern,
+    AllMatchEmpty,
+    EndNotAfterStart,
+    EndInPast,
+    AlreadyExpired,
+    Newer,
+    IdInUse,
+    TooLarge,
+    Memory,
+    /// The moment is before the last one.
+    MomentBack,
+    /// There is no such peer.
+    UnknownPeer,
+    /// The member doesn't run.
+    Stopped,
+    /// The member runs already.
+    Running,
+    /// No frame of that number is in flight.
+    NoFrame,
+}
+
+impl From<SilenceError> for Refusal {
+    ghost use Rattle.std.specs.Prelude.{◌≡◌};
+    ghost use Rattle.am_output.specs.Refusals.{kind_of};
+
+    ghost from_gives = { λ error refusal. refusal ≡ kind_of error };
+
+    fn from(error: SilenceError) -> Refusal {
+        match error {
+            SilenceError::NotFound => Refusal::NotFound,
+            SilenceError::NoMatcher => Refusal::NoMatcher,
+            SilenceError::EmptyName => Refusal::EmptyName,
+            SilenceError::BadPattern => Refusal::BadPattern,
+            SilenceError::AllMatchEmpty => Refusal::AllMatchEmpty,
+            SilenceError::EndNotAfterStart => Refusal::EndNotAfterStart,
+            SilenceError::EndInPast => Refusal::EndInPast,
+            SilenceError::AlreadyExpired => Refusal::AlreadyExpired,
+            SilenceError::Newer { .. } => Refusal::Newer,
+            SilenceError::IdInUse => Refusal::IdInUse,
+            SilenceError::TooLarge => Refusal::TooLarge,
+            SilenceError::Memory => Refusal::Memory,
+        }
+    }
+}
