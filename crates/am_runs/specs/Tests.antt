@@ -1,0 +1,100 @@
+-- The questions about a run, as tests that go over its steps.
+-- X is the type of versions, and `seen` is what the merge sees of one.
+use Rattle.std.specs.Prelude.{◌≡◌, ℕ, ◌+◌, List, [], ◌∷◌, ◌++◌, Bool, true, false, not, ◌&&◌, ◌||◌, ◌==◌, max, Option, Some, None, if◌then◌else◌, nat_lt, nat_le, slice_get, option_map}
+use Rattle.std.specs.List.{list_any, list_all}
+use Rattle.std.specs.declared.cmp.Ordering.{Ordering}
+use Rattle.am_version_order.specs.Versions.{Version, is_below, is_live}
+use Rattle.am_merge.specs.Maps.{greater_of, at}
+use Rattle.am_runs.specs.declared.step.Source.{Source}
+use Rattle.am_runs.specs.declared.step.Source.TheVariants.{Made, Written, Arrived, Lent}
+use Rattle.am_runs.specs.Steps.{Step, Flight, is_at, is_back_at, flights_of, delivered_by, moment}
+use Rattle.am_runs.specs.Steps.Step.{Took, Ticked, Back, Refused, Saved, Stopped, Started}
+
+-- ---- whether a member runs
+
+abbrev pub runs_after : {X : Type 0} → ℕ → Bool → Step X → Bool
+runs_after q runs (Took place now source versions frames) = runs
+runs_after q runs (Ticked place now) = runs
+runs_after q runs (Back place now) = runs
+runs_after q runs (Refused now) = runs
+runs_after q runs (Saved place) = runs
+runs_after q runs (Stopped place) = if place == q then false else runs
+runs_after q runs (Started place now) = if place == q then true else runs
+
+abbrev pub runs_from : {X : Type 0} → ℕ → Bool → List (Step X) → Bool
+runs_from q runs [] = runs
+runs_from q runs (step ∷ steps) = runs_from q (runs_after q runs step) steps
+
+-- ---- whether it is calm
+
+-- of a member and of what is saved of it, the greatest version taken of a key
+pub record Tops (X : Type 0) : Type 0 where
+  pub top : Option X
+  pub saved : Option X
+
+-- and the greatest moment of a collection
+pub record Lasts : Type 0 where
+  pub last : Option ℕ
+  pub saved : Option ℕ
+
+abbrev pub later : Option ℕ → ℕ → Option ℕ
+later None now = Some now
+later (Some last) now = Some (max last now)
+
+abbrev pub lasted : {X : Type 0} → Lasts → Step X → Lasts
+lasted l (Took place now source versions frames) = l
+lasted l (Ticked place now) = record { last = later l.last now; saved = l.saved }
+lasted l (Back place now) = l
+lasted l (Refused now) = l
+lasted l (Saved place) = record { last = l.last; saved = l.last }
+lasted l (Stopped place) = l
+lasted l (Started place now) = record { last = l.saved; saved = l.saved }
+
+abbrev pub lasts_after : {X : Type 0} → ℕ → Lasts → Step X → Lasts
+lasts_after q l step = if is_at q step then lasted l step else l
+
+abbrev pub lasts_from : {X : Type 0} → ℕ → Lasts → List (Step X) → Lasts
+lasts_from q l [] = l
+lasts_from q l (step ∷ steps) = lasts_from q (lasts_after q l step) steps
+
+-- a collection had this moment or a later one
+abbrev pub has_reached : Option ℕ → ℕ → Bool
+has_reached None moment = false
+has_reached (Some last) moment = nat_le moment last
+
+module _ {K X : Type 0} (seen : X → Version K) (cmp : K → K → Ordering) where
+  abbrev pub top_among : K → Option X → List X → Option X
+  top_among key top [] = top
+  top_among key top (v ∷ vs) = top_among key (greater_of seen top (at seen cmp (v ∷ []) key)) vs
+
+  abbrev pub topped : K → Tops X → Step X → Tops X
+  topped key t (Took place now source versions frames) = record { top = top_among key t.top versions; saved = t.saved }
+  topped key t (Ticked place now) = t
+  topped key t (Back place now) = t
+  topped key t (Refused now) = t
+  topped key t (Saved place) = record { top = t.top; saved = t.top }
+  topped key t (Stopped place) = t
+  topped key t (Started place now) = record { top = t.saved; saved = t.saved }
+
+  abbrev pub tops_after : ℕ → K → Tops X → Step X → Tops X
+  tops_after q key t step = if is_at q step then topped key t step else t
+
+  abbrev pub tops_from : ℕ → K → Tops X → List (Step X) → Tops X
+  tops_from q key t [] = t
+  tops_from q key t (step ∷ steps) = tops_from q key (tops_after q key t step) steps
+
+  -- whether a version comes in time, by the greatest taken of its key and the last collection
+  abbrev pub in_time : Option X → Option ℕ → ℕ → X → Bool
+  in_time None last now v = true
+  in_time (Some g) last now v = not (is_live now (seen v) && (is_below (seen v) (seen g) && has_reached last (seen g).expires))
+
+  -- the greatest taken of a key by a member in steps, and its last collection
+  abbrev pub top_in : ℕ → K → List (Step X) → Option X
+  top_in q key steps = (tops_from q key (record { top = None; saved = None }) steps).top
+
+  abbrev pub last_in : ℕ → List (Step X) → Option ℕ
+  last_in q steps = (lasts_from q (record { last = None; saved = None }) steps).last
+
+  -- whether a version of an event comes in time, after the steps before and the versions before it
+  abbrev pub comes_in_time : ℕ → List (Step X) → ℕ → List X → X → Bool
+  comes_in_time q before now done v = in_time (top_among (seen v).key (top_in q (seen v).key before) done) (last_in q before) now v
