@@ -1,7 +1,7 @@
 -- What holds of each element of a list, with those before it.
-use Rattle.std.proofs.Common.{◌≡◌, ℕ, ◌<◌, ◌+◌, List, [], ◌∷◌, ◌++◌, refl, sym, ap, ◌∙◌, subst, arith, map, take, drop, get_or, length, append_assoc, append-nil}
-use Rattle.std.proofs.lemmas.List.{take_more, map-append}
-use Rattle.am_runs.specs.Steps.{EachStep}
+use Rattle.std.proofs.Common.{◌≡◌, ℕ, ◌<◌, ◌+◌, List, [], ◌∷◌, ◌++◌, suc, ◌≤◌, drop-cons, length-take-le, refl, sym, ap, ◌∙◌, subst, arith, map, take, drop, get_or, length, append_assoc, append-nil}
+use Rattle.std.proofs.lemmas.List.{length-map, take_more, take_all, take-append-drop, map-append}
+use Rattle.am_runs.specs.Steps.{EachStep, IsFirstWithout}
 
 module _ {A : Type 0} where
   head_same : (x y : A) (xs ys : List A) → x ∷ xs ≡ y ∷ ys → x ≡ y
@@ -50,6 +50,35 @@ module _ {A : Type 0} where
   pub each_weaker : (P Q : List A → A → Type 0) (xs : List A) → ((before : List A) (x : A) → P before x → Q before x) → EachStep xs P → EachStep xs Q
   each_weaker P Q xs weaker each before t rest e = weaker before t (each before t rest e)
 
+  -- the cut at a place
+  pub cut_at : (xs : List A) (n : ℕ) (x : A) → n < length xs → x ≡ get_or xs n x → take n xs ++ x ∷ drop (n + 1) xs ≡ xs
+  cut_at xs n x within is =
+      let next : n + 1 ≡ suc n = omega arith in
+      ap (λ ys. take n xs ++ ys) (ap (λ y. y ∷ drop (n + 1) xs) is ∙ ap (λ m. get_or xs n x ∷ drop m xs) next ∙ sym (drop-cons xs n x within))
+      ∙ take-append-drop n xs
+
+  pub each_take_more : (P : List A → A → Type 0) (xs : List A) (n : ℕ) (x : A) → n < length xs → x ≡ get_or xs n x → EachStep (take n xs) P → P (take n xs) x → EachStep (take (n + 1) xs) P
+  each_take_more P xs n x within is each here =
+      let more : take (n + 1) xs ≡ take n xs ++ x ∷ [] = take_more xs n x within ∙ ap (λ y. take n xs ++ y ∷ []) (sym is) in
+      subst (λ ys. EachStep ys P) (sym more) (each_push P (take n xs) x each here)
+
+  pub first_at : (P : List A → A → Type 0) (xs : List A) (n : ℕ) (x : A) → n < length xs → x ≡ get_or xs n x → EachStep (take n xs) P → ¬ P (take n xs) x → IsFirstWithout xs P n
+  first_at P xs n x within is each fails = record {
+    before = take n xs;
+    step = x;
+    rest = drop (n + 1) xs;
+    parts = cut_at xs n x within is;
+    place = length-take-le n xs (omega arith);
+    holds = each;
+    fails = fails;
+  }
+
+  pub not_each : (P : List A → A → Type 0) (xs : List A) (n : ℕ) (x : A) → n < length xs → x ≡ get_or xs n x → ¬ P (take n xs) x → ¬ EachStep xs P
+  not_each P xs n x within is fails each = fails (each (take n xs) x (drop (n + 1) xs) (cut_at xs n x within is))
+
+  pub each_all : (P : List A → A → Type 0) (xs : List A) (n : ℕ) → length xs ≤ n → EachStep (take n xs) P → EachStep xs P
+  each_all P xs n past each = subst (λ ys. EachStep ys P) (take_all n xs past) each
+
   -- what holds at first, and goes on from each element to the next, holds all along
   pub carried : (Q : List A → Type 0) (steps past more rest : List A) → past ++ (more ++ rest) ≡ steps → ((before : List A) (s : A) (after : List A) → before ++ s ∷ after ≡ steps → Q before → Q (before ++ s ∷ [])) → Q past → Q (past ++ more)
   carried Q steps past [] rest e next here = subst Q (sym (append-nil past)) here
@@ -64,3 +93,28 @@ each_map f P (x ∷ xs) each = each_cons P (f x) (map f xs) (each [] x xs refl) 
 
 pub each_unmap : {A B : Type 0} (f : A → B) (P : List B → B → Type 0) (xs : List A) → EachStep (map f xs) P → EachStep xs (λ before x. P (map f before) (f x))
 each_unmap f P xs each before x rest e = each (map f before) (f x) (map f rest) (sym (map-append f before (x ∷ rest)) ∙ ap (map f) e)
+
+pub first_map : {A B : Type 0} (f : A → B) (P : List B → B → Type 0) (xs : List A) (n : ℕ) → IsFirstWithout xs (λ before x. P (map f before) (f x)) n → IsFirstWithout (map f xs) P n
+first_map f P xs n first = record {
+  before = map f first.before;
+  step = f first.step;
+  rest = map f first.rest;
+  parts = sym (map-append f first.before (first.step ∷ first.rest)) ∙ ap (map f) first.parts;
+  place = length-map first.before f ∙ first.place;
+  holds = each_map f P first.before first.holds;
+  fails = first.fails;
+}
+
+-- of two properties that are one where the first has held so far
+pub first_same : {A : Type 0} (P Q : List A → A → Type 0) (xs : List A) (n : ℕ) → ((before : List A) (x : A) (rest : List A) → before ++ x ∷ rest ≡ xs → (EachStep before P → EachStep before Q) × (Q before x → P before x)) → IsFirstWithout xs P n → IsFirstWithout xs Q n
+first_same P Q xs n same first =
+    let both = same first.before first.step first.rest first.parts in
+    record {
+      before = first.before;
+      step = first.step;
+      rest = first.rest;
+      parts = first.parts;
+      place = first.place;
+      holds = both.0 first.holds;
+      fails = λ q. first.fails (both.1 q);
+    }

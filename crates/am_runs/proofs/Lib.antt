@@ -1,2 +1,5 @@
 pub mod Cuts
 pub mod Pasts
+pub mod Calmed
+pub mod Knowns
+pub mod Faults

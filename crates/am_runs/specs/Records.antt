@@ -2,6 +2,10 @@
 use Rattle.std.specs.Prelude.{ℕ, List, map}
 use Rattle.am_runs.specs.declared.step.Step.{Step as Kept}
 use Rattle.am_runs.specs.declared.step.Step.TheVariants.{Took as KeptTook, Ticked as KeptTicked, Back as KeptBack, Refused as KeptRefused, Saved as KeptSaved, Stopped as KeptStopped, Started as KeptStarted}
+use Rattle.std.specs.Option.{option_copied}
+use Rattle.am_runs.specs.declared.calm.Lasts.{Lasts as KeptLasts}
+use Rattle.am_runs.specs.declared.calm.Tops.{Tops as KeptTops}
+use Rattle.am_runs.specs.Tests.{Lasts, Tops}
 use Rattle.am_runs.specs.Steps.{Step}
 use Rattle.am_runs.specs.Steps.Step.{Took, Ticked, Back, Refused, Saved, Stopped, Started}
 
@@ -20,3 +24,10 @@ pub record Record (X : Type 0) : Type 0 where
   pub members : ℕ
   pub steps : List (Step X)
   pub room : ℕ
+
+-- what the tests of calm go on with
+abbrev pub lasts_seen : KeptLasts → Lasts
+lasts_seen l = record { last = l.last; saved = l.saved }
+
+abbrev pub tops_seen : {X : Type 0} → KeptTops X → Tops X
+tops_seen t = record { top = option_copied t.top; saved = option_copied t.saved }

@@ -9,7 +9,7 @@ use Rattle.am_collect.specs.Events.Event.{Delivered}
 use Rattle.am_collect.specs.Calm.{IsCalm}
 use Rattle.am_runs.specs.declared.step.Source.{Source}
 use Rattle.am_runs.specs.declared.step.Source.TheVariants.{Made, Written, Arrived, Lent}
-use Rattle.am_runs.specs.Steps.{Step, EachStep, flights_of, is_back_at}
+use Rattle.am_runs.specs.Steps.{Step, EachStep, IsFirstWithout, flights_of, is_back_at}
 use Rattle.am_runs.specs.Steps.Step.{Took, Ticked, Back, Refused, Saved, Stopped, Started}
 use Rattle.am_runs.specs.Members.{passes, member_of, last_of, map_of}
 
@@ -77,11 +77,5 @@ module _ {K X : Type 0} (seen : X → Version K) where
   IsCalmAt members q steps = EachStep steps (IsCalmStep members q)
 
   -- the step of this number, counted from 0, is the first with which the member is not calm
-  pub record IsFirstFault (members q : ℕ) (steps : List (Step X)) (number : ℕ) : Type 0 where
-    pub before : List (Step X)
-    pub step : Step X
-    pub rest : List (Step X)
-    pub parts : before ++ step ∷ rest ≡ steps
-    pub place : length before ≡ number
-    pub calm : IsCalmAt members q before
-    pub fault : ¬ IsCalmStep members q before step
+  abbrev pub IsFirstFault : ℕ → ℕ → List (Step X) → ℕ → Type 0
+  IsFirstFault members q steps number = IsFirstWithout steps (IsCalmStep members q) number

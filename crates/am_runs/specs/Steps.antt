@@ -1,6 +1,6 @@
 -- Steps of a cluster of replicas, each as what it did to versions of one type. A run is a list of them.
 -- X is the type of versions.
-use Rattle.std.specs.Prelude.{◌≡◌, ℕ, List, [], ◌∷◌, ◌++◌, Bool, false, ◌==◌, Option, Some, None, map}
+use Rattle.std.specs.Prelude.{◌≡◌, ℕ, List, [], ◌∷◌, ◌++◌, Bool, false, ◌==◌, Option, Some, None, map, length}
 use Rattle.std.specs.List.{flat_map}
 use Rattle.am_runs.specs.declared.step.Source.{Source}
 
@@ -28,6 +28,16 @@ pub record Flight (X : Type 0) : Type 0 where
 -- of each element of a list it holds, with those before it
 abbrev pub EachStep : {A : Type 0} → List A → (List A → A → Type 0) → Type 0
 EachStep {A} steps P = (before : List A) (step : A) (rest : List A) → before ++ step ∷ rest ≡ steps → P before step
+
+-- the element of this number, counted from 0, is the first of which it doesn't hold
+pub record IsFirstWithout {A : Type 0} (steps : List A) (P : List A → A → Type 0) (number : ℕ) : Type 0 where
+  pub before : List A
+  pub step : A
+  pub rest : List A
+  pub parts : before ++ step ∷ rest ≡ steps
+  pub place : length before ≡ number
+  pub holds : EachStep before P
+  pub fails : ¬ P before step
 
 module _ {X : Type 0} where
   -- the moment that is written in a step

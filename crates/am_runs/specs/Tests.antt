@@ -7,7 +7,7 @@ use Rattle.am_version_order.specs.Versions.{Version, is_below, is_live}
 use Rattle.am_merge.specs.Maps.{greater_of, at}
 use Rattle.am_runs.specs.declared.step.Source.{Source}
 use Rattle.am_runs.specs.declared.step.Source.TheVariants.{Made, Written, Arrived, Lent}
-use Rattle.am_runs.specs.Steps.{Step, Flight, is_at, is_back_at, flights_of, delivered_by, moment}
+use Rattle.am_runs.specs.Steps.{Step, EachStep, Flight, is_at, is_back_at, flights_of, delivered_by, moment}
 use Rattle.am_runs.specs.Steps.Step.{Took, Ticked, Back, Refused, Saved, Stopped, Started}
 
 -- ---- whether a member runs
@@ -62,6 +62,16 @@ abbrev pub has_reached : Option ℕ → ℕ → Bool
 has_reached None moment = false
 has_reached (Some last) moment = nat_le moment last
 
+-- the last collection of a member in steps
+abbrev pub last_in : {X : Type 0} → ℕ → List (Step X) → Option ℕ
+last_in q steps = (lasts_from q (record { last = None; saved = None }) steps).last
+
+module _ {K X : Type 0} (seen : X → Version K) where
+  -- whether a version comes in time, by the greatest taken of its key and the last collection
+  abbrev pub in_time : Option X → Option ℕ → ℕ → X → Bool
+  in_time None last now v = true
+  in_time (Some g) last now v = not (is_live now (seen v) && (is_below (seen v) (seen g) && has_reached last (seen g).expires))
+
 module _ {K X : Type 0} (seen : X → Version K) (cmp : K → K → Ordering) where
   abbrev pub top_among : K → Option X → List X → Option X
   top_among key top [] = top
@@ -83,18 +93,20 @@ module _ {K X : Type 0} (seen : X → Version K) (cmp : K → K → Ordering) wh
   tops_from q key t [] = t
   tops_from q key t (step ∷ steps) = tops_from q key (tops_after q key t step) steps
 
-  -- whether a version comes in time, by the greatest taken of its key and the last collection
-  abbrev pub in_time : Option X → Option ℕ → ℕ → X → Bool
-  in_time None last now v = true
-  in_time (Some g) last now v = not (is_live now (seen v) && (is_below (seen v) (seen g) && has_reached last (seen g).expires))
-
-  -- the greatest taken of a key by a member in steps, and its last collection
+  -- the greatest taken of a key by a member in steps
   abbrev pub top_in : ℕ → K → List (Step X) → Option X
   top_in q key steps = (tops_from q key (record { top = None; saved = None }) steps).top
 
-  abbrev pub last_in : ℕ → List (Step X) → Option ℕ
-  last_in q steps = (lasts_from q (record { last = None; saved = None }) steps).last
-
   -- whether a version of an event comes in time, after the steps before and the versions before it
   abbrev pub comes_in_time : ℕ → List (Step X) → ℕ → List X → X → Bool
-  comes_in_time q before now done v = in_time (top_among (seen v).key (top_in q (seen v).key before) done) (last_in q before) now v
+  comes_in_time q before now done v = in_time seen (top_among (seen v).key (top_in q (seen v).key before) done) (last_in q before) now v
+
+  -- with this step a member that was calm stays so
+  abbrev pub StaysCalm : ℕ → List (Step X) → Step X → Type 0
+  StaysCalm q before (Took place now source versions frames) = (place == q) ≡ true → EachStep versions (λ done v. comes_in_time q before now done v ≡ true)
+  StaysCalm q before (Ticked place now) = Unit {0}
+  StaysCalm q before (Back place now) = (place == q) ≡ false
+  StaysCalm q before (Refused now) = Unit {0}
+  StaysCalm q before (Saved place) = Unit {0}
+  StaysCalm q before (Stopped place) = Unit {0}
+  StaysCalm q before (Started place now) = Unit {0}
