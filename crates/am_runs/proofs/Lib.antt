@@ -3,3 +3,6 @@ pub mod Pasts
 pub mod Calmed
 pub mod Knowns
 pub mod Faults
+pub mod Loops
+pub mod Spreads
+pub mod Starts

@@ -5,7 +5,8 @@ use Rattle.am_runs.specs.declared.step.Step.TheVariants.{Took as KeptTook, Ticke
 use Rattle.std.specs.Option.{option_copied}
 use Rattle.am_runs.specs.declared.calm.Lasts.{Lasts as KeptLasts}
 use Rattle.am_runs.specs.declared.calm.Tops.{Tops as KeptTops}
-use Rattle.am_runs.specs.Tests.{Lasts, Tops}
+use Rattle.am_runs.specs.declared.timely.Watch.{Watch}
+use Rattle.am_runs.specs.Tests.{Lasts, Tops, Watched}
 use Rattle.am_runs.specs.Steps.{Step}
 use Rattle.am_runs.specs.Steps.Step.{Took, Ticked, Back, Refused, Saved, Stopped, Started}
 
@@ -31,3 +32,7 @@ lasts_seen l = record { last = l.last; saved = l.saved }
 
 abbrev pub tops_seen : {X : Type 0} → KeptTops X → Tops X
 tops_seen t = record { top = option_copied t.top; saved = option_copied t.saved }
+
+-- what the test of a version's spread goes on with
+abbrev pub watch_seen : Watch → Watched
+watch_seen w = record { runs = w.runs; has = w.has; saved = w.saved }

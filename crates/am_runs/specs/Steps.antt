@@ -39,6 +39,11 @@ pub record IsFirstWithout {A : Type 0} (steps : List A) (P : List A → A → Ty
   pub holds : EachStep before P
   pub fails : ¬ P before step
 
+-- the last moment written, after a moment or none
+abbrev pub clock_after : ℕ → Option ℕ → ℕ
+clock_after clock None = clock
+clock_after clock (Some now) = now
+
 module _ {X : Type 0} where
   -- the moment that is written in a step
   abbrev pub moment : Step X → Option ℕ
@@ -53,7 +58,7 @@ module _ {X : Type 0} where
   -- the last moment written in steps, after a first one
   abbrev pub clock_from : ℕ → List (Step X) → ℕ
   clock_from clock [] = clock
-  clock_from clock (step ∷ steps) = clock_from (elim (moment step) [ None ↦ clock | Some now ↦ now ]) steps
+  clock_from clock (step ∷ steps) = clock_from (clock_after clock (moment step)) steps
 
   -- the versions that a step delivered
   abbrev pub delivered_by : Step X → List X

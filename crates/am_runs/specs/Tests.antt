@@ -1,13 +1,14 @@
 -- The questions about a run, as tests that go over its steps.
 -- X is the type of versions, and `seen` is what the merge sees of one.
-use Rattle.std.specs.Prelude.{◌≡◌, ℕ, ◌+◌, List, [], ◌∷◌, ◌++◌, Bool, true, false, not, ◌&&◌, ◌||◌, ◌==◌, max, Option, Some, None, if◌then◌else◌, nat_lt, nat_le, slice_get, option_map}
+use Rattle.std.specs.Prelude.{◌≡◌, ℕ, ◌+◌, ◌-◌, ◌<◌, length, List, [], ◌∷◌, ◌++◌, Bool, true, false, not, ◌&&◌, ◌||◌, ◌==◌, max, Option, Some, None, if◌then◌else◌, nat_lt, nat_le, slice_get, option_map}
 use Rattle.std.specs.List.{list_any, list_all}
 use Rattle.std.specs.declared.cmp.Ordering.{Ordering}
+use Rattle.std.specs.Ordering.{eq_by_cmp}
 use Rattle.am_version_order.specs.Versions.{Version, is_below, is_live}
 use Rattle.am_merge.specs.Maps.{greater_of, at}
 use Rattle.am_runs.specs.declared.step.Source.{Source}
 use Rattle.am_runs.specs.declared.step.Source.TheVariants.{Made, Written, Arrived, Lent}
-use Rattle.am_runs.specs.Steps.{Step, EachStep, Flight, is_at, is_back_at, flights_of, delivered_by, moment}
+use Rattle.am_runs.specs.Steps.{Step, EachStep, clock_after, is_at, flights_by, moment}
 use Rattle.am_runs.specs.Steps.Step.{Took, Ticked, Back, Refused, Saved, Stopped, Started}
 
 -- ---- whether a member runs
@@ -110,3 +111,78 @@ module _ {K X : Type 0} (seen : X → Version K) (cmp : K → K → Ordering) wh
   StaysCalm q before (Saved place) = Unit {0}
   StaysCalm q before (Stopped place) = Unit {0}
   StaysCalm q before (Started place now) = Unit {0}
+
+-- ---- whether the run is timely
+
+-- no moment before the last one written
+abbrev pub is_onward : ℕ → Option ℕ → Bool
+is_onward clock None = true
+is_onward clock (Some now) = nat_le clock now
+
+abbrev pub are_onward : {X : Type 0} → ℕ → List (Step X) → Bool
+are_onward clock [] = true
+are_onward clock (step ∷ steps) = is_onward clock (moment step) && are_onward (clock_after clock (moment step)) steps
+
+-- when the frame of this number was sent
+abbrev pub sent_in : {X : Type 0} → ℕ → List (Step X) → Option ℕ
+sent_in number [] = None
+sent_in number (step ∷ steps) = if nat_lt number (length (flights_by step)) then moment step else sent_in (number - length (flights_by step)) steps
+
+-- a delivery at now of what was sent then
+abbrev pub flies_short : ℕ → ℕ → Option ℕ → Bool
+flies_short flight now None = true
+flies_short flight now (Some sent) = nat_le now (sent + flight)
+
+-- when the versions of a source were sent, if they were
+abbrev pub sent_at : {X : Type 0} → List (Step X) → Source → Option ℕ
+sent_at steps Made = None
+sent_at steps (Written sent) = Some sent
+sent_at steps (Arrived number) = sent_in number steps
+sent_at steps (Lent place) = None
+
+-- a step, among all steps
+abbrev pub is_swift : {X : Type 0} → ℕ → List (Step X) → Step X → Bool
+is_swift flight steps (Took place now source versions frames) = flies_short flight now (sent_at steps source)
+is_swift flight steps (Ticked place now) = true
+is_swift flight steps (Back place now) = true
+is_swift flight steps (Refused now) = true
+is_swift flight steps (Saved place) = true
+is_swift flight steps (Stopped place) = true
+is_swift flight steps (Started place now) = true
+
+-- of a member and of what is saved of it: it runs, and its set has a version or a greater one of its key
+pub record Watched : Type 0 where
+  pub runs : Bool
+  pub has : Bool
+  pub saved : Bool
+
+-- a version is old enough to have come, and the member runs without it
+abbrev pub is_wanting : ℕ → Watched → Option ℕ → Bool
+is_wanting due w None = false
+is_wanting due w (Some now) = nat_le due now && (w.runs && not w.has)
+
+module _ {K X : Type 0} (seen : X → Version K) (cmp : K → K → Ordering) where
+  -- a version that was taken is this one, or a greater one of its key
+  abbrev pub counts_for : X → X → Bool
+  counts_for v taken = eq_by_cmp cmp (seen taken).key (seen v).key && not (is_below (seen taken) (seen v))
+
+  abbrev pub watched : X → Watched → Step X → Watched
+  watched v w (Took place now source versions frames) = record { runs = w.runs; has = w.has || list_any (counts_for v) versions; saved = w.saved }
+  watched v w (Ticked place now) = w
+  watched v w (Back place now) = w
+  watched v w (Refused now) = w
+  watched v w (Saved place) = record { runs = w.runs; has = w.has; saved = w.has }
+  watched v w (Stopped place) = record { runs = false; has = w.has; saved = w.saved }
+  watched v w (Started place now) = record { runs = true; has = w.saved; saved = w.saved }
+
+  abbrev pub watch_after : ℕ → X → Watched → Step X → Watched
+  watch_after q v w step = if is_at q step then watched v w step else w
+
+  -- at no step that begins when a version should have come does the member run without it
+  abbrev pub comes : ℕ → ℕ → X → Watched → List (Step X) → Bool
+  comes spread q v w [] = true
+  comes spread q v w (step ∷ steps) = not (is_wanting ((seen v).updated + spread) w (moment step)) && comes spread q v (watch_after q v w step) steps
+
+  -- it comes to each of so many members
+  abbrev pub ComesToAll : ℕ → ℕ → List (Step X) → X → Type 0
+  ComesToAll spread members steps v = (q : ℕ) → q < members → comes spread q v (record { runs = true; has = false; saved = false }) steps ≡ true

@@ -1,13 +1,13 @@
 //! Whether what a member took came in time.
 
-ghost use Rattle.std.specs.Prelude.{◌≡◌, [], ◌∷◌, map, IsTrue, ◌↔◌, true};
+ghost use Rattle.std.specs.Prelude.{◌≡◌, [], ◌∷◌, map, IsTrue, ◌↔◌, true, MatchOption};
 ghost use Rattle.std.specs.Option.{option_copied};
 ghost use Rattle.std.specs.Ordering.{eq_by_cmp};
 ghost use Rattle.am_version_order.specs.Versions.{is_below};
 ghost use Rattle.am_merge.specs.Maps.{greater_of, at};
 ghost use Rattle.am_runs.specs.Records.{step_of, lasts_seen, tops_seen};
-ghost use Rattle.am_runs.specs.Steps.{EachStep};
-ghost use Rattle.am_runs.specs.Tests.{has_reached, in_time, later, lasts_after, lasts_from, top_among, top_in, tops_after, tops_from, last_in, comes_in_time};
+ghost use Rattle.am_runs.specs.Steps.{EachStep, IsFirstWithout};
+ghost use Rattle.am_runs.specs.Tests.{has_reached, in_time, later, lasts_after, lasts_from, top_among, top_in, tops_after, tops_from, last_in, comes_in_time, StaysCalm};
 
 use crate::step::Step;
 use am_version_order::{Moment, Version};
@@ -208,4 +208,33 @@ fn come_in_time<V: Version>(member: usize, before: &[Step<V>], now: Moment, vers
         }
     }
     true
+}
+
+/// Whether a member that was calm stays so with a step.
+fn stays_calm<V: Version>(member: usize, before: &[Step<V>], step: &Step<V>) -> bool
+    ensures { IsTrue result ↔ StaysCalm V.seen V.Key.cmp member (map step_of before.now) (step_of step.now) }
+{
+    match step {
+        Step::Took {
+            place,
+            now,
+            versions,
+            ..
+        } => *place != member || come_in_time(member, before, *now, versions),
+        Step::Back { place, .. } => *place != member,
+        _ => true,
+    }
+}
+
+/// The number of the first step, counted from 0, with which a calm member doesn't stay so.
+pub fn first_fault<V: Version>(member: usize, steps: &[Step<V>]) -> Option<usize>
+    ensures { MatchOption result (EachStep (map step_of steps.now) (StaysCalm V.seen V.Key.cmp member))
+        (IsFirstWithout (map step_of steps.now) (StaysCalm V.seen V.Key.cmp member)) }
+{
+    for place in 0..steps.len() {
+        if !stays_calm(member, &steps[..place], &steps[place]) {
+            return Some(place);
+        }
+    }
+    None
 }

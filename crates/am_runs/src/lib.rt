@@ -4,7 +4,11 @@
 
 pub mod laws;
 mod calm;
+mod run;
 mod running;
+mod spans;
 mod step;
+mod timely;
 
+pub use run::Run;
 pub use step::{Source, Step};

@@ -1,8 +1,8 @@
 //! The steps of a run.
 
-ghost use Rattle.std.specs.Prelude.{◌≡◌};
+ghost use Rattle.std.specs.Prelude.{◌≡◌, length};
 ghost use Rattle.am_runs.specs.Records.{step_of};
-ghost use Rattle.am_runs.specs.Steps.{is_at};
+ghost use Rattle.am_runs.specs.Steps.{is_at, moment, delivered_by, flights_by};
 
 use am_version_order::Moment;
 
@@ -58,6 +58,40 @@ impl<V> Step<V> {
             | Step::Stopped { place }
             | Step::Started { place, .. } => *place == member,
             Step::Refused { .. } => false,
+        }
+    }
+
+    /// The moment that is written in it.
+    pub fn moment(&self) -> Option<Moment>
+        ensures { result ≡ moment (step_of self.now) }
+    {
+        match self {
+            Step::Took { now, .. }
+            | Step::Ticked { now, .. }
+            | Step::Back { now, .. }
+            | Step::Refused { now }
+            | Step::Started { now, .. } => Some(*now),
+            Step::Saved { .. } | Step::Stopped { .. } => None,
+        }
+    }
+
+    /// The versions that it delivered.
+    pub fn versions(&self) -> &[V]
+        ensures { result.now ≡ delivered_by (step_of self.now) }
+    {
+        match self {
+            Step::Took { versions, .. } => versions.as_slice(),
+            _ => &[],
+        }
+    }
+
+    /// How many frames it sent.
+    pub fn sendings(&self) -> usize
+        ensures { result ≡ length (flights_by (step_of self.now)) }
+    {
+        match self {
+            Step::Took { frames, .. } => frames.len(),
+            _ => 0,
         }
     }
 }
