@@ -6,3 +6,6 @@ pub mod Faults
 pub mod Loops
 pub mod Spreads
 pub mod Starts
+pub mod Views
+pub mod Goods
+pub mod Agrees

@@ -49,6 +49,9 @@ module _ {X : Type 0} where
   collections-append : (past events : Events X) → collections (past ++ events) ≡ collections past ++ collections events
   collections-append past events = flat_map-append (λ e. collected e.0 e.1) past events
 
+  pub collections-push : (past : Events X) (e : Event X × ℕ) → collections (past ++ e ∷ []) ≡ collections past ++ collected e.0 e.1
+  collections-push past e = collections-append past (e ∷ []) ∙ ap (λ ms. collections past ++ ms) (append-nil (collected e.0 e.1))
+
   collections-deliveries : (now : ℕ) (vs : List X) → collections (map (λ v. (Delivered v, now)) vs) ≡ []
   collections-deliveries now [] = refl
   collections-deliveries now (v ∷ vs) = collections-deliveries now vs

@@ -4,3 +4,4 @@ pub mod Members
 pub mod Runs
 pub mod Timely
 pub mod Tests
+pub mod Examples

@@ -1,14 +1,15 @@
 //! The record of a run.
 
-ghost use Rattle.std.specs.Prelude.{◌≡◌, ◌++◌, [], ◌∷◌, ◌+◌, ◌<◌, ◌≤◌, MatchOption, IsTrue, ◌↔◌, OnOk, OnErr};
+ghost use Rattle.std.specs.Prelude.{◌≡◌, ◌++◌, ℕ, [], ◌∷◌, ◌+◌, ◌<◌, ◌≤◌, MatchOption, IsTrue, ◌↔◌, OnOk, OnErr};
 ghost use Rattle.am_runs.specs.Members.{member_of};
 ghost use Rattle.am_runs.specs.Records.{step_of};
 ghost use Rattle.am_runs.specs.Runs.{IsPossible, IsCalmAt, IsFirstFault};
 ghost use Rattle.am_runs.specs.Timely.{IsTimely};
 
 use crate::calm::first_fault;
-use crate::laws::one_step_more;
+use crate::laws::{one_step_more, timely_runs_are_calm};
 use crate::running::runs_from;
+use crate::spans::is_some_time;
 use crate::step::Step;
 use crate::timely::is_timely;
 use am_version_order::{Interval, Version};
@@ -98,7 +99,10 @@ impl<V: Version> Run<V> {
     /// Whether the run keeps a spread and a flight time. It takes no memory.
     pub fn timely(&self, spread: Interval, flight: Interval) -> bool
         ensures exactly { IsTrue result ↔ IsTimely V.seen spread flight self.now.members self.now.steps }
+        ensures calm { IsTrue result → (place : ℕ) → IsCalmAt V.seen self.now.members place self.now.steps }
     {
+        timely_runs_are_calm::<V>();
+        is_some_time(spread);
         is_timely(spread, flight, self.members, &self.steps)
     }
 }
