@@ -1,0 +1,49 @@
+-- Worked runs, which show what the definitions mean. There is one key, and moments are whole numbers.
+use Rattle.std.specs.Prelude.{ℕ, List, [], ◌∷◌}
+use Rattle.am_version_order.specs.Versions.{Version}
+use Rattle.am_runs.specs.declared.step.Source.TheVariants.{Made, Written}
+use Rattle.am_runs.specs.Steps.{Step}
+use Rattle.am_runs.specs.Steps.Step.{Took, Ticked, Stopped, Started}
+
+abbrev pub version : ℕ → ℕ → Version ℕ
+version updated expires = record { key = 0; updated = updated; expires = expires; content = [] }
+
+-- the greater one goes sooner
+abbrev pub greater : Version ℕ
+greater = version 6 10
+
+abbrev pub lesser : Version ℕ
+lesser = version 3 100
+
+-- member 0 takes the greater one, collects it, and then takes the lesser one; member 1 takes both before it collects
+abbrev pub forgotten : List (Step (Version ℕ))
+forgotten =
+    Took 0 7 (Written 6) (greater ∷ []) []
+    ∷ (Ticked 0 12
+    ∷ (Took 0 20 (Written 3) (lesser ∷ []) []
+    ∷ (Took 1 20 (Written 3) (lesser ∷ []) []
+    ∷ (Took 1 21 (Written 6) (greater ∷ []) []
+    ∷ (Ticked 1 22
+    ∷ [])))))
+
+abbrev pub spreading : Version ℕ
+spreading = version 10 200
+
+-- member 0 restarts from nothing after the version came to both
+abbrev pub restarted : List (Step (Version ℕ))
+restarted =
+    Took 0 10 (Written 10) (spreading ∷ []) []
+    ∷ (Took 1 10 (Written 10) (spreading ∷ []) []
+    ∷ (Stopped 0
+    ∷ (Started 0 11
+    ∷ [])))
+
+-- and it acts when the version should have come to it
+abbrev pub behind : List (Step (Version ℕ))
+behind =
+    Took 0 10 (Written 10) (spreading ∷ []) []
+    ∷ (Took 1 10 (Written 10) (spreading ∷ []) []
+    ∷ (Stopped 0
+    ∷ (Started 0 11
+    ∷ (Took 0 15 Made [] []
+    ∷ []))))

@@ -1,0 +1,7 @@
+pub mod Steps
+pub mod Records
+pub mod Members
+pub mod Runs
+pub mod Timely
+pub mod Tests
+pub mod Examples

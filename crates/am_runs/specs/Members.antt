@@ -1,0 +1,54 @@
+-- What steps make of a member. A copy of a member is told by its past: the events that made it of the empty map at the
+-- first moment. Its map, its bare set, its collections and its last moment follow from that.
+-- X is the type of versions, and `seen` is what the merge sees of one.
+use Rattle.std.specs.Prelude.{◌≡◌, ℕ, List, [], ◌∷◌, ◌++◌, Bool, true, false, Option, None, if◌then◌else◌, map, nat_lt}
+use Rattle.std.specs.declared.cmp.Ordering.{Ordering}
+use Rattle.am_version_order.specs.Versions.{Version}
+use Rattle.am_collect.specs.Events.{Event, Events, taken, last_moment, after_all}
+use Rattle.am_collect.specs.Events.Event.{Delivered, Collected, Passed}
+use Rattle.am_runs.specs.Steps.{Step, is_at}
+use Rattle.am_runs.specs.Steps.Step.{Took, Ticked, Back, Refused, Saved, Stopped, Started}
+
+-- the past of what a member has, the past of what was last saved of it (or none), and whether it runs
+pub record Member (X : Type 0) : Type 0 where
+  pub past : Events X
+  pub saved : Events X
+  pub runs : Bool
+
+module _ {X : Type 0} where
+  -- an event at a moment that delivers versions: the moment passes, then one version comes after the other
+  abbrev pub passes : ℕ → List X → Events X
+  passes now versions = (Passed, now) ∷ map (λ v. (Delivered v, now)) versions
+
+  -- what a step makes of the member that it is one of; a start brings back what was saved, whatever came since
+  abbrev pub stepped : Member X → Step X → Member X
+  stepped m (Took place now source versions frames) = record { past = m.past ++ passes now versions; saved = m.saved; runs = m.runs }
+  stepped m (Ticked place now) = record { past = m.past ++ (Collected, now) ∷ []; saved = m.saved; runs = m.runs }
+  stepped m (Back place now) = m
+  stepped m (Refused now) = m
+  stepped m (Saved place) = record { past = m.past; saved = m.past; runs = m.runs }
+  stepped m (Stopped place) = record { past = m.past; saved = m.saved; runs = false }
+  stepped m (Started place now) = record { past = m.saved ++ (Passed, now) ∷ []; saved = m.saved; runs = true }
+
+  -- and of a member q
+  abbrev pub member_after : ℕ → Member X → Step X → Member X
+  member_after q m step = if is_at q step then stepped m step else m
+
+  abbrev pub member_from : ℕ → Member X → List (Step X) → Member X
+  member_from q m [] = m
+  member_from q m (step ∷ steps) = member_from q (member_after q m step) steps
+
+  -- a member q of so many after steps; at first each of them runs, is empty and has nothing saved
+  abbrev pub member_of : ℕ → ℕ → List (Step X) → Member X
+  member_of members q steps = member_from q (record { past = []; saved = []; runs = nat_lt q members }) steps
+
+  -- its bare set, and the moment of its last event or start
+  abbrev pub set_of : Member X → List X
+  set_of m = taken [] m.past
+
+  abbrev pub last_of : Member X → ℕ
+  last_of m = last_moment 0 m.past
+
+-- the map that a past leaves, as the function from a key to its version
+abbrev pub map_of : {K X : Type 0} → (X → Version K) → (K → K → Ordering) → Events X → K → Option X
+map_of seen cmp past = after_all seen cmp (λ key. None) past

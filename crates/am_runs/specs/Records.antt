@@ -1,0 +1,38 @@
+-- A run as contracts see it.
+use Rattle.std.specs.Prelude.{ℕ, List, map}
+use Rattle.am_runs.specs.declared.step.Step.{Step as Kept}
+use Rattle.am_runs.specs.declared.step.Step.TheVariants.{Took as KeptTook, Ticked as KeptTicked, Back as KeptBack, Refused as KeptRefused, Saved as KeptSaved, Stopped as KeptStopped, Started as KeptStarted}
+use Rattle.std.specs.Option.{option_copied}
+use Rattle.am_runs.specs.declared.calm.Lasts.{Lasts as KeptLasts}
+use Rattle.am_runs.specs.declared.calm.Tops.{Tops as KeptTops}
+use Rattle.am_runs.specs.declared.timely.Watch.{Watch}
+use Rattle.am_runs.specs.Tests.{Lasts, Tops, Watched}
+use Rattle.am_runs.specs.Steps.{Step}
+use Rattle.am_runs.specs.Steps.Step.{Took, Ticked, Back, Refused, Saved, Stopped, Started}
+
+-- a step without where its versions lie in memory
+abbrev pub step_of : {X : Type 0} → Kept X → Step X
+step_of (KeptTook place now source versions frames) = Took place now source versions.items (map (λ frame. frame.items) frames.items)
+step_of (KeptTicked place now) = Ticked place now
+step_of (KeptBack place now) = Back place now
+step_of (KeptRefused now) = Refused now
+step_of (KeptSaved place) = Saved place
+step_of (KeptStopped place) = Stopped place
+step_of (KeptStarted place now) = Started place now
+
+-- how many members there are, the steps so far, and for how many more steps there is room
+pub record Record (X : Type 0) : Type 0 where
+  pub members : ℕ
+  pub steps : List (Step X)
+  pub room : ℕ
+
+-- what the tests of calm go on with
+abbrev pub lasts_seen : KeptLasts → Lasts
+lasts_seen l = record { last = l.last; saved = l.saved }
+
+abbrev pub tops_seen : {X : Type 0} → KeptTops X → Tops X
+tops_seen t = record { top = option_copied t.top; saved = option_copied t.saved }
+
+-- what the test of a version's spread goes on with
+abbrev pub watch_seen : Watch → Watched
+watch_seen w = record { runs = w.runs; has = w.has; saved = w.saved }

@@ -1,0 +1,188 @@
+-- The questions about a run, as tests that go over its steps.
+-- X is the type of versions, and `seen` is what the merge sees of one.
+use Rattle.std.specs.Prelude.{◌≡◌, ℕ, ◌+◌, ◌-◌, ◌<◌, length, List, [], ◌∷◌, ◌++◌, Bool, true, false, not, ◌&&◌, ◌||◌, ◌==◌, max, Option, Some, None, if◌then◌else◌, nat_lt, nat_le, slice_get, option_map}
+use Rattle.std.specs.List.{list_any, list_all}
+use Rattle.std.specs.declared.cmp.Ordering.{Ordering}
+use Rattle.std.specs.Ordering.{eq_by_cmp}
+use Rattle.am_version_order.specs.Versions.{Version, is_below, is_live}
+use Rattle.am_merge.specs.Maps.{greater_of, at}
+use Rattle.am_runs.specs.declared.step.Source.{Source}
+use Rattle.am_runs.specs.declared.step.Source.TheVariants.{Made, Written, Arrived, Lent}
+use Rattle.am_runs.specs.Steps.{Step, EachStep, clock_after, is_at, flights_by, moment}
+use Rattle.am_runs.specs.Steps.Step.{Took, Ticked, Back, Refused, Saved, Stopped, Started}
+
+-- ---- whether a member runs
+
+abbrev pub runs_after : {X : Type 0} → ℕ → Bool → Step X → Bool
+runs_after q runs (Took place now source versions frames) = runs
+runs_after q runs (Ticked place now) = runs
+runs_after q runs (Back place now) = runs
+runs_after q runs (Refused now) = runs
+runs_after q runs (Saved place) = runs
+runs_after q runs (Stopped place) = if place == q then false else runs
+runs_after q runs (Started place now) = if place == q then true else runs
+
+abbrev pub runs_from : {X : Type 0} → ℕ → Bool → List (Step X) → Bool
+runs_from q runs [] = runs
+runs_from q runs (step ∷ steps) = runs_from q (runs_after q runs step) steps
+
+-- ---- whether it is calm
+
+-- of a member and of what is saved of it, the greatest version taken of a key
+pub record Tops (X : Type 0) : Type 0 where
+  pub top : Option X
+  pub saved : Option X
+
+-- and the greatest moment of a collection
+pub record Lasts : Type 0 where
+  pub last : Option ℕ
+  pub saved : Option ℕ
+
+abbrev pub later : Option ℕ → ℕ → Option ℕ
+later None now = Some now
+later (Some last) now = Some (max last now)
+
+abbrev pub lasted : {X : Type 0} → Lasts → Step X → Lasts
+lasted l (Took place now source versions frames) = l
+lasted l (Ticked place now) = record { last = later l.last now; saved = l.saved }
+lasted l (Back place now) = l
+lasted l (Refused now) = l
+lasted l (Saved place) = record { last = l.last; saved = l.last }
+lasted l (Stopped place) = l
+lasted l (Started place now) = record { last = l.saved; saved = l.saved }
+
+abbrev pub lasts_after : {X : Type 0} → ℕ → Lasts → Step X → Lasts
+lasts_after q l step = if is_at q step then lasted l step else l
+
+abbrev pub lasts_from : {X : Type 0} → ℕ → Lasts → List (Step X) → Lasts
+lasts_from q l [] = l
+lasts_from q l (step ∷ steps) = lasts_from q (lasts_after q l step) steps
+
+-- a collection had this moment or a later one
+abbrev pub has_reached : Option ℕ → ℕ → Bool
+has_reached None moment = false
+has_reached (Some last) moment = nat_le moment last
+
+-- the last collection of a member in steps
+abbrev pub last_in : {X : Type 0} → ℕ → List (Step X) → Option ℕ
+last_in q steps = (lasts_from q (record { last = None; saved = None }) steps).last
+
+module _ {K X : Type 0} (seen : X → Version K) where
+  -- whether a version comes in time, by the greatest taken of its key and the last collection
+  abbrev pub in_time : Option X → Option ℕ → ℕ → X → Bool
+  in_time None last now v = true
+  in_time (Some g) last now v = not (is_live now (seen v) && (is_below (seen v) (seen g) && has_reached last (seen g).expires))
+
+module _ {K X : Type 0} (seen : X → Version K) (cmp : K → K → Ordering) where
+  abbrev pub top_among : K → Option X → List X → Option X
+  top_among key top [] = top
+  top_among key top (v ∷ vs) = top_among key (greater_of seen top (at seen cmp (v ∷ []) key)) vs
+
+  abbrev pub topped : K → Tops X → Step X → Tops X
+  topped key t (Took place now source versions frames) = record { top = top_among key t.top versions; saved = t.saved }
+  topped key t (Ticked place now) = t
+  topped key t (Back place now) = t
+  topped key t (Refused now) = t
+  topped key t (Saved place) = record { top = t.top; saved = t.top }
+  topped key t (Stopped place) = t
+  topped key t (Started place now) = record { top = t.saved; saved = t.saved }
+
+  abbrev pub tops_after : ℕ → K → Tops X → Step X → Tops X
+  tops_after q key t step = if is_at q step then topped key t step else t
+
+  abbrev pub tops_from : ℕ → K → Tops X → List (Step X) → Tops X
+  tops_from q key t [] = t
+  tops_from q key t (step ∷ steps) = tops_from q key (tops_after q key t step) steps
+
+  -- the greatest taken of a key by a member in steps
+  abbrev pub top_in : ℕ → K → List (Step X) → Option X
+  top_in q key steps = (tops_from q key (record { top = None; saved = None }) steps).top
+
+  -- whether a version of an event comes in time, after the steps before and the versions before it
+  abbrev pub comes_in_time : ℕ → List (Step X) → ℕ → List X → X → Bool
+  comes_in_time q before now done v = in_time seen (top_among (seen v).key (top_in q (seen v).key before) done) (last_in q before) now v
+
+  -- with this step a member that was calm stays so
+  abbrev pub StaysCalm : ℕ → List (Step X) → Step X → Type 0
+  StaysCalm q before (Took place now source versions frames) = (place == q) ≡ true → EachStep versions (λ done v. comes_in_time q before now done v ≡ true)
+  StaysCalm q before (Ticked place now) = Unit {0}
+  StaysCalm q before (Back place now) = (place == q) ≡ false
+  StaysCalm q before (Refused now) = Unit {0}
+  StaysCalm q before (Saved place) = Unit {0}
+  StaysCalm q before (Stopped place) = Unit {0}
+  StaysCalm q before (Started place now) = Unit {0}
+
+-- ---- whether the run is timely
+
+-- no moment before the last one written
+abbrev pub is_onward : ℕ → Option ℕ → Bool
+is_onward clock None = true
+is_onward clock (Some now) = nat_le clock now
+
+abbrev pub are_onward : {X : Type 0} → ℕ → List (Step X) → Bool
+are_onward clock [] = true
+are_onward clock (step ∷ steps) = is_onward clock (moment step) && are_onward (clock_after clock (moment step)) steps
+
+-- when the frame of this number was sent
+abbrev pub sent_in : {X : Type 0} → ℕ → List (Step X) → Option ℕ
+sent_in number [] = None
+sent_in number (step ∷ steps) = if nat_lt number (length (flights_by step)) then moment step else sent_in (number - length (flights_by step)) steps
+
+-- a delivery at now of what was sent then
+abbrev pub flies_short : ℕ → ℕ → Option ℕ → Bool
+flies_short flight now None = true
+flies_short flight now (Some sent) = nat_le now (sent + flight)
+
+-- when the versions of a source were sent, if they were
+abbrev pub sent_at : {X : Type 0} → List (Step X) → Source → Option ℕ
+sent_at steps Made = None
+sent_at steps (Written sent) = Some sent
+sent_at steps (Arrived number) = sent_in number steps
+sent_at steps (Lent place) = None
+
+-- a step, among all steps
+abbrev pub is_swift : {X : Type 0} → ℕ → List (Step X) → Step X → Bool
+is_swift flight steps (Took place now source versions frames) = flies_short flight now (sent_at steps source)
+is_swift flight steps (Ticked place now) = true
+is_swift flight steps (Back place now) = true
+is_swift flight steps (Refused now) = true
+is_swift flight steps (Saved place) = true
+is_swift flight steps (Stopped place) = true
+is_swift flight steps (Started place now) = true
+
+-- of a member and of what is saved of it: it runs, and its set has a version or a greater one of its key
+pub record Watched : Type 0 where
+  pub runs : Bool
+  pub has : Bool
+  pub saved : Bool
+
+-- a version is old enough to have come, and the member runs without it
+abbrev pub is_wanting : ℕ → Watched → Option ℕ → Bool
+is_wanting due w None = false
+is_wanting due w (Some now) = nat_le due now && (w.runs && not w.has)
+
+module _ {K X : Type 0} (seen : X → Version K) (cmp : K → K → Ordering) where
+  -- a version that was taken is this one, or a greater one of its key
+  abbrev pub counts_for : X → X → Bool
+  counts_for v taken = eq_by_cmp cmp (seen taken).key (seen v).key && not (is_below (seen taken) (seen v))
+
+  abbrev pub watched : X → Watched → Step X → Watched
+  watched v w (Took place now source versions frames) = record { runs = w.runs; has = w.has || list_any (counts_for v) versions; saved = w.saved }
+  watched v w (Ticked place now) = w
+  watched v w (Back place now) = w
+  watched v w (Refused now) = w
+  watched v w (Saved place) = record { runs = w.runs; has = w.has; saved = w.has }
+  watched v w (Stopped place) = record { runs = false; has = w.has; saved = w.saved }
+  watched v w (Started place now) = record { runs = true; has = w.saved; saved = w.saved }
+
+  abbrev pub watch_after : ℕ → X → Watched → Step X → Watched
+  watch_after q v w step = if is_at q step then watched v w step else w
+
+  -- at no step that begins when a version should have come does the member run without it
+  abbrev pub comes : ℕ → ℕ → X → Watched → List (Step X) → Bool
+  comes spread q v w [] = true
+  comes spread q v w (step ∷ steps) = not (is_wanting ((seen v).updated + spread) w (moment step)) && comes spread q v (watch_after q v w step) steps
+
+  -- it comes to each of so many members
+  abbrev pub ComesToAll : ℕ → ℕ → List (Step X) → X → Type 0
+  ComesToAll spread members steps v = (q : ℕ) → q < members → comes spread q v (record { runs = true; has = false; saved = false }) steps ≡ true

@@ -1,0 +1,14 @@
+//! Runs of a cluster of replicas: what each step did to the versions of one type, and what can be told from that: whether
+//! a member is calm, and whether the run keeps a spread and a flight time.
+#![tactic(auto)]
+
+pub mod laws;
+mod calm;
+mod run;
+mod running;
+mod spans;
+mod step;
+mod timely;
+
+pub use run::Run;
+pub use step::{Source, Step};

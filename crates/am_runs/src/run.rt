@@ -1,0 +1,108 @@
+//! The record of a run.
+
+ghost use Rattle.std.specs.Prelude.{◌≡◌, ◌++◌, ℕ, [], ◌∷◌, ◌+◌, ◌<◌, ◌≤◌, MatchOption, IsTrue, ◌↔◌, OnOk, OnErr};
+ghost use Rattle.am_runs.specs.Members.{member_of};
+ghost use Rattle.am_runs.specs.Records.{step_of};
+ghost use Rattle.am_runs.specs.Runs.{IsPossible, IsCalmAt, IsFirstFault};
+ghost use Rattle.am_runs.specs.Timely.{IsTimely};
+
+use crate::calm::first_fault;
+use crate::laws::{one_step_more, timely_runs_are_calm};
+use crate::running::runs_from;
+use crate::spans::is_some_time;
+use crate::step::Step;
+use crate::timely::is_timely;
+use am_version_order::{Interval, Version};
+use std::alloc::{AllocError, Global};
+use std::marker::Model;
+
+/// What happened in a cluster so far, to the versions of one type.
+///
+/// Contracts see it as the number of the members, the list of the steps, which is a run, and the room for more.
+#[derive(Drop)]
+pub struct Run<V: Version> {
+    members: usize,
+    steps: Vec<Step<V>>,
+}
+
+impl<V: Version> Model for Run<V> {
+    ghost use Rattle.std.specs.Prelude.{◌-◌, map, vec_len, vec_capacity};
+    ghost use Rattle.am_runs.specs.Records.{Record, step_of};
+    ghost use Rattle.am_runs.specs.Runs.{IsRun};
+
+    ghost Value = { Record V };
+
+    ghost view = { λ run. record {
+      members = run.members;
+      steps = map step_of run.steps.items;
+      room = vec_capacity run.steps - vec_len run.steps;
+    } };
+
+    ghost invariant = { λ run. IsRun V.seen V.Key.cmp run.members (map step_of run.steps.items) };
+}
+
+impl<V: Version> Run<V> {
+    /// A run of so many members in which nothing happened yet: all of them run, and are empty. It takes no memory.
+    pub fn new(alloc: Global, members: usize) -> Self
+        ensures members { result.members ≡ members }
+        ensures steps { result.steps ≡ [] }
+    {
+        Run {
+            members,
+            steps: Vec::new(alloc),
+        }
+    }
+
+    /// Makes room for one step.
+    ///
+    /// # Errors
+    ///
+    /// [`AllocError`] where memory runs out.
+    pub fn make_room(&mut self) -> Result<(), AllocError>
+        ensures members { self.new.members ≡ self.old.members }
+        ensures steps { self.new.steps ≡ self.old.steps }
+        ensures room { OnOk result (0 < self.new.room) }
+        ensures err { OnErr result (self.new.room ≡ self.old.room) }
+    {
+        self.steps.reserve(1)?;
+        Ok(())
+    }
+
+    /// Writes down what happened. It takes no memory.
+    pub fn append(&mut self, step: Step<V>)
+        requires room { 0 < self.old.room }
+        requires possible { IsPossible V.seen V.Key.cmp self.old.members self.old.steps (step_of step) }
+        ensures members { self.new.members ≡ self.old.members }
+        ensures steps { self.new.steps ≡ self.old.steps ++ step_of step ∷ [] }
+        ensures room { self.old.room ≤ self.new.room + 1 }
+    {
+        one_step_more::<V>();
+        self.steps.push_reserved(step);
+    }
+
+    /// Whether a member runs. It takes no memory.
+    pub fn runs(&self, place: usize) -> bool
+        ensures { result ≡ (member_of self.now.members place self.now.steps).runs }
+    {
+        runs_from(place, place < self.members, &self.steps)
+    }
+
+    /// The number of the first step, counted from 0, with which a member is not calm, or `None` where it is calm. It
+    /// takes no memory.
+    pub fn first_fault(&self, place: usize) -> Option<usize>
+        ensures { MatchOption result (IsCalmAt V.seen self.now.members place self.now.steps)
+            (IsFirstFault V.seen self.now.members place self.now.steps) }
+    {
+        first_fault(place, &self.steps)
+    }
+
+    /// Whether the run keeps a spread and a flight time. It takes no memory.
+    pub fn timely(&self, spread: Interval, flight: Interval) -> bool
+        ensures exactly { IsTrue result ↔ IsTimely V.seen spread flight self.now.members self.now.steps }
+        ensures calm { IsTrue result → (place : ℕ) → IsCalmAt V.seen self.now.members place self.now.steps }
+    {
+        timely_runs_are_calm::<V>();
+        is_some_time(spread);
+        is_timely(spread, flight, self.members, &self.steps)
+    }
+}

@@ -1,0 +1,97 @@
+//! The steps of a run.
+
+ghost use Rattle.std.specs.Prelude.{◌≡◌, length};
+ghost use Rattle.am_runs.specs.Records.{step_of};
+ghost use Rattle.am_runs.specs.Steps.{is_at, moment, delivered_by, flights_by};
+
+use am_version_order::Moment;
+
+/// Where the versions that a step delivers come from.
+#[derive(Clone, Copy, Debug, PartialEq, Eq)]
+pub enum Source {
+    /// The step made them.
+    Made,
+    /// They were written into a frame that counts as sent at this moment, the least update moment of all its versions,
+    /// also of those that want of memory left out.
+    Written(Moment),
+    /// They came in the frame of this number among all that were ever sent, counted from 0.
+    Arrived(usize),
+    /// The member at this place lent them from its map as it stands.
+    Lent(usize),
+}
+
+/// What a step did, to the versions of one type.
+#[derive(Drop)]
+pub enum Step<V> {
+    /// An event of a member: the versions that it delivered, in order, and the versions in each frame that it sent.
+    Took {
+        place: usize,
+        now: Moment,
+        source: Source,
+        versions: Vec<V>,
+        frames: Vec<Vec<V>>,
+    },
+    /// A member collected.
+    Ticked { place: usize, now: Moment },
+    /// Refused to a member, since the moment is before that member's last one.
+    Back { place: usize, now: Moment },
+    /// Refused for another cause.
+    Refused { now: Moment },
+    /// A member's copy was saved.
+    Saved { place: usize },
+    /// A member was stopped.
+    Stopped { place: usize },
+    /// A member was started from its saved copy, or from nothing where none was saved.
+    Started { place: usize, now: Moment },
+}
+
+impl<V> Step<V> {
+    /// Whether it is a step of this member.
+    pub fn is_at(&self, member: usize) -> bool
+        ensures { result ≡ is_at member (step_of self.now) }
+    {
+        match self {
+            Step::Took { place, .. }
+            | Step::Ticked { place, .. }
+            | Step::Back { place, .. }
+            | Step::Saved { place }
+            | Step::Stopped { place }
+            | Step::Started { place, .. } => *place == member,
+            Step::Refused { .. } => false,
+        }
+    }
+
+    /// The moment that is written in it.
+    pub fn moment(&self) -> Option<Moment>
+        ensures { result ≡ moment (step_of self.now) }
+    {
+        match self {
+            Step::Took { now, .. }
+            | Step::Ticked { now, .. }
+            | Step::Back { now, .. }
+            | Step::Refused { now }
+            | Step::Started { now, .. } => Some(*now),
+            Step::Saved { .. } | Step::Stopped { .. } => None,
+        }
+    }
+
+    /// The versions that it delivered.
+    pub fn versions(&self) -> &[V]
+        ensures { result.now ≡ delivered_by (step_of self.now) }
+    {
+        match self {
+            Step::Took { versions, .. } => versions.as_slice(),
+            _ => &[],
+        }
+    }
+
+    /// How many frames it sent.
+    pub fn sendings(&self) -> usize
+        ensures { result ≡ length (flights_by (step_of self.now)) }
+    {
+        match self {
+            Step::Took { frames, .. } => frames.len(),
+            _ => 0,
+        }
+    }
+}

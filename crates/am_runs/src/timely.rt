@@ -1,0 +1,268 @@
+//! Whether a run keeps a spread and a flight time.
+
+ghost use Rattle.std.specs.Prelude.{◌≡◌, ◌+◌, ◌<◌, ◌≤◌, ◌↔◌, IsTrue, All, true, false, map};
+ghost use Rattle.std.specs.List.{list_all, list_any};
+ghost use Rattle.am_runs.specs.Records.{step_of, watch_seen};
+ghost use Rattle.am_runs.specs.Steps.{clock_after, delivered_by, delivered_in, moment};
+ghost use Rattle.am_runs.specs.Runs.{IsRun};
+ghost use Rattle.am_runs.specs.Timely.{IsTimely};
+ghost use Rattle.am_runs.specs.Tests.{is_onward, are_onward, sent_in, sent_at, flies_short, is_swift, is_wanting, counts_for, watched, watch_after, comes, ComesToAll};
+
+use crate::calm::{has_key, is_below};
+use crate::spans::{both_end_by, ends_by, is_within};
+use crate::step::{Source, Step};
+use am_version_order::{Interval, Moment, Version};
+
+fn is_onward(clock: Moment, now: Option<Moment>) -> bool
+    ensures { result ≡ is_onward clock now }
+{
+    match now {
+        Some(now) => clock <= now,
+        None => true,
+    }
+}
+
+/// Whether the moments written in steps never fall.
+fn are_onward<V>(steps: &[Step<V>]) -> bool
+    ensures { result ≡ are_onward 0 (map step_of steps.now) }
+{
+    let mut clock = Moment::LEAST;
+    for step in steps {
+        if !is_onward(clock, step.moment()) {
+            return false;
+        }
+        clock = step.moment().unwrap_or(clock);
+    }
+    true
+}
+
+/// Whether a version lives for the spread and the flight time at least.
+fn is_lasting<V: Version>(version: &V, spread: Interval, flight: Interval) -> bool
+    ensures { IsTrue result ↔ (((V.seen version.now).updated + spread) + flight ≤ (V.seen version.now).expires) }
+{
+    both_end_by(version.updated(), spread, flight, version.expires())
+}
+
+/// Whether each of the versions lives for the spread and the flight time at least.
+fn are_lasting<V: Version>(versions: &[V], spread: Interval, flight: Interval) -> bool
+    ensures { IsTrue result ↔ All (λ v. ((V.seen v).updated + spread) + flight ≤ (V.seen v).expires) versions.now }
+{
+    for version in versions {
+        if !is_lasting(version, spread, flight) {
+            return false;
+        }
+    }
+    true
+}
+
+/// Whether each version delivered in steps does.
+fn all_lasting<V: Version>(steps: &[Step<V>], spread: Interval, flight: Interval) -> bool
+    ensures { IsTrue result ↔ All (λ v. ((V.seen v).updated + spread) + flight ≤ (V.seen v).expires) (delivered_in (map step_of steps.now)) }
+{
+    for step in steps {
+        if !are_lasting(step.versions(), spread, flight) {
+            return false;
+        }
+    }
+    true
+}
+
+/// When the frame of this number was sent.
+fn sent_in<V>(number: usize, steps: &[Step<V>]) -> Option<Moment>
+    ensures { result ≡ sent_in number (map step_of steps.now) }
+{
+    let mut left = number;
+    for step in steps {
+        let sendings = step.sendings();
+        if left < sendings {
+            return step.moment();
+        }
+        left -= sendings;
+    }
+    None
+}
+
+/// When the versions of a source were sent, if they were.
+fn sent_at<V>(steps: &[Step<V>], source: Source) -> Option<Moment>
+    ensures { result ≡ sent_at (map step_of steps.now) source }
+{
+    match source {
+        Source::Written(sent) => Some(sent),
+        Source::Arrived(number) => sent_in(number, steps),
+        Source::Made | Source::Lent(_) => None,
+    }
+}
+
+fn flies_short(flight: Interval, now: Moment, sent: Option<Moment>) -> bool
+    ensures { result ≡ flies_short flight now sent }
+{
+    match sent {
+        Some(sent) => is_within(now, sent, flight),
+        None => true,
+    }
+}
+
+/// Whether what a step delivered came in time.
+fn is_swift<V>(flight: Interval, steps: &[Step<V>], step: &Step<V>) -> bool
+    ensures { result ≡ is_swift flight (map step_of steps.now) (step_of step.now) }
+{
+    match step {
+        Step::Took { now, source, .. } => flies_short(flight, *now, sent_at(steps, *source)),
+        _ => true,
+    }
+}
+
+fn are_swift<V>(flight: Interval, steps: &[Step<V>]) -> bool
+    ensures { result ≡ list_all (is_swift flight (map step_of steps.now)) (map step_of steps.now) }
+{
+    for step in steps {
+        if !is_swift(flight, steps, step) {
+            return false;
+        }
+    }
+    true
+}
+
+/// Of a member and of what is saved of it: whether it runs, and whether it has a version or a greater one of its key.
+#[derive(Clone, Copy)]
+struct Watch {
+    runs: bool,
+    has: bool,
+    saved: bool,
+}
+
+/// Whether a version should have come, and the member runs without it.
+fn is_wanting<V: Version>(spread: Interval, version: &V, watch: Watch, now: Option<Moment>) -> bool
+    ensures { result ≡ is_wanting ((V.seen version.now).updated + spread) (watch_seen watch) now }
+{
+    match now {
+        Some(now) => ends_by(version.updated(), spread, now) && watch.runs && !watch.has,
+        None => false,
+    }
+}
+
+/// Whether a version that was taken is this one, or a greater one of its key.
+fn counts_for<V: Version>(version: &V, taken: &V) -> bool
+    ensures { result ≡ counts_for V.seen V.Key.cmp version.now taken.now }
+{
+    has_key(version.key(), taken) && !is_below(taken, version)
+}
+
+fn any_counts<V: Version>(version: &V, taken: &[V]) -> bool
+    ensures { result ≡ list_any (counts_for V.seen V.Key.cmp version.now) taken.now }
+{
+    for one in taken {
+        if counts_for(version, one) {
+            return true;
+        }
+    }
+    false
+}
+
+fn watch_after<V: Version>(member: usize, version: &V, watch: Watch, step: &Step<V>) -> Watch
+    ensures { watch_seen result ≡ watch_after V.seen V.Key.cmp member version.now (watch_seen watch) (step_of step.now) }
+{
+    let Watch { runs, has, saved } = watch;
+    if !step.is_at(member) {
+        return watch;
+    }
+    match step {
+        Step::Took { versions, .. } => Watch {
+            runs,
+            has: has || any_counts(version, versions),
+            saved,
+        },
+        Step::Saved { .. } => Watch {
+            runs,
+            has,
+            saved: has,
+        },
+        Step::Stopped { .. } => Watch {
+            runs: false,
+            has,
+            saved,
+        },
+        Step::Started { .. } => Watch {
+            runs: true,
+            has: saved,
+            saved,
+        },
+        _ => watch,
+    }
+}
+
+/// Whether at no step that begins when a version should have come the member runs without it.
+fn comes<V: Version>(spread: Interval, member: usize, version: &V, steps: &[Step<V>]) -> bool
+    ensures { result ≡ comes V.seen V.Key.cmp spread member version.now (record { runs = true; has = false; saved = false }) (map step_of steps.now) }
+{
+    let mut watch = Watch {
+        runs: true,
+        has: false,
+        saved: false,
+    };
+    for step in steps {
+        if is_wanting(spread, version, watch, step.moment()) {
+            return false;
+        }
+        watch = watch_after(member, version, watch, step);
+    }
+    true
+}
+
+/// Whether a version comes to each member.
+fn comes_to_all<V: Version>(spread: Interval, members: usize, steps: &[Step<V>], version: &V) -> bool
+    ensures { IsTrue result ↔ ComesToAll V.seen V.Key.cmp spread members (map step_of steps.now) version.now }
+{
+    for member in 0..members {
+        if !comes(spread, member, version, steps) {
+            return false;
+        }
+    }
+    true
+}
+
+/// Whether each of the versions does.
+fn come_to_all<V: Version>(spread: Interval, members: usize, steps: &[Step<V>], versions: &[V]) -> bool
+    ensures { IsTrue result ↔ All (ComesToAll V.seen V.Key.cmp spread members (map step_of steps.now)) versions.now }
+{
+    for version in versions {
+        if !comes_to_all(spread, members, steps, version) {
+            return false;
+        }
+    }
+    true
+}
+
+/// Whether each version delivered in some of the steps does.
+fn all_come_to_all<V: Version>(spread: Interval, members: usize, steps: &[Step<V>]) -> bool
+    ensures { IsTrue result ↔ All (ComesToAll V.seen V.Key.cmp spread members (map step_of steps.now)) (delivered_in (map step_of steps.now)) }
+{
+    for step in steps {
+        if !come_to_all(spread, members, steps, step.versions()) {
+            return false;
+        }
+    }
+    true
+}
+
+/// Whether a run keeps a spread and a flight time.
+pub fn is_timely<V: Version>(
+    spread: Interval,
+    flight: Interval,
+    members: usize,
+    steps: &[Step<V>],
+) -> bool
+    requires { IsRun V.seen V.Key.cmp members (map step_of steps.now) }
+    ensures { IsTrue result ↔ IsTimely V.seen spread flight members (map step_of steps.now) }
+{
+    if !are_onward(steps) {
+        return false;
+    }
+    if !all_lasting(steps, spread, flight) {
+        return false;
+    }
+    if !are_swift(flight, steps) {
+        return false;
+    }
+    all_come_to_all(spread, members, steps)
+}
