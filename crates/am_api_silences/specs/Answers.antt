@@ -11,7 +11,7 @@ use Rattle.am_instance.specs.Sendings.{Sent, nothing_sent, sent_by}
 use Rattle.am_instance.specs.Stands.{Stand}
 use Rattle.am_api_silences.specs.Events.{IsEventOf}
 use Rattle.am_api_silences.specs.Replies.{IsReplyBytes, Says, line_bytes}
-use Rattle.am_api_silences.specs.Steps.{IsStep}
+use Rattle.am_instance.specs.OneStep.{IsStep}
 use Rattle.am_api_silences.specs.Table.{clock_line, memory_line}
 use Rattle.am_api_silences.specs.declared.answering.Answered.{Answered}
 

@@ -7,7 +7,7 @@ ghost use Rattle.am_instance.specs.Sendings.{nothing_sent};
 ghost use Rattle.am_instance.specs.Stands.{Stand};
 ghost use Rattle.am_api_silences.specs.Answers.{ComesOf, IsAnswered, IsTurnedAway, TellsStep, sent_with};
 ghost use Rattle.am_api_silences.specs.Replies.{HasStatus, bytes_of};
-ghost use Rattle.am_api_silences.specs.Steps.{IsStep};
+ghost use Rattle.am_instance.specs.OneStep.{IsStep};
 
 use crate::events::to_event;
 use crate::replies::{ReplyBytes, no_memory, tell};

@@ -1,15 +1,16 @@
 -- Requests that come piece by piece.
-use Rattle.std.proofs.Common.{◌≡◌, ℕ, ◌≤◌, Bool, true, false, List, length, Option, Result, Ok, Err, refl, sym, subst, arith, inl, inr}
+use Rattle.std.proofs.Common.{◌≡◌, ℕ, ◌≤◌, Bool, true, false, List, [], length, Option, None, Some, Result, Ok, Err, IfOk, refl, sym, subst, arith, inl, inr}
 use Rattle.std.proofs.KnownBytes.{Consumes-trans}
 use Rattle.std.proofs.lemmas.Bool.{false≢true}
 use Rattle.std.specs.Io.KnownBytes.{Consumes, IsAtEnd}
 use Rattle.am_http.specs.Lines.{line_seen, line_of}
 use Rattle.am_http.specs.Requests.{IsRequestIn, IsTakenFrom, HasFault, IsReadOf, IsUnfinished, IsOpenBody}
 use Rattle.am_http.specs.Pieces.{HasGrown, GrowsTo}
-use Rattle.am_http.specs.Receiving.{IsReceived}
+use Rattle.am_http.specs.Receiving.{IsReceived, behind}
 use Rattle.am_http.specs.declared.cause.Cause.{Cause}
 use Rattle.am_http.specs.declared.cause.Cause.TheVariants.{Memory}
 use Rattle.am_http.specs.declared.refusal.Refusal.{Refusal}
+use Rattle.am_http.specs.declared.receiving.ReadFault.{ReadFault}
 use Rattle.am_http.specs.declared.receiving.Stop.{Stop}
 use Rattle.am_http.specs.declared.receiving.Stop.TheVariants as stop
 use Rattle.am_http.specs.declared.request.Read.{Read}
@@ -58,3 +59,12 @@ pub received_memory : (old new : Option (List ℕ)) (bytes : List ℕ) (refusal 
     → line_seen refusal ≡ line_of Memory → IsReceived old new (Refused refusal)
 received_memory old new bytes refusal consumed few line =
     record { came = bytes; ended = false; consumed = consumed; at_end = λ e. absurd (false≢true e); few = few; answer = inr line }
+
+-- where nothing came before
+pub behind_nothing : (left : Option (List ℕ)) → behind [] left ≡ left
+behind_nothing None = refl
+behind_nothing (Some bytes) = refl
+
+pub received_whole : (first : List ℕ) (old new : Option (List ℕ)) (r : Result Read ReadFault) → first ≡ [] → IfOk r (IsReceived (behind first old) new) → IfOk r (IsReceived old new)
+received_whole first old new r none h =
+    subst (λ (input : Option (List ℕ)). IfOk r (IsReceived input new)) (behind_nothing old) (subst (λ (b : List ℕ). IfOk r (IsReceived (behind b old) new)) none h)

@@ -1,5 +1,5 @@
 -- What is read of a reader, and what a writer takes.
-use Rattle.std.specs.Prelude.{◌≡◌, ℕ, ◌<◌, ◌≤◌, ◌⊎◌, Bool, List, [], length, take, Option, IsTrue}
+use Rattle.std.specs.Prelude.{◌≡◌, ℕ, ◌<◌, ◌≤◌, ◌⊎◌, Bool, List, [], ◌++◌, length, take, Option, None, Some, IsTrue}
 use Rattle.std.specs.Io.KnownBytes.{Appends, Consumes, IsAtEnd}
 use Rattle.am_http.specs.Lines.{line_seen, line_of}
 use Rattle.am_http.specs.Requests.{IsReadOf, IsUnfinished}
@@ -10,6 +10,11 @@ use Rattle.am_http.specs.declared.request.Read.TheVariants.{More, Refused}
 -- the most bytes that a request is read from: a head and a body
 abbrev pub most_bytes : ℕ
 most_bytes = 1064960
+
+-- what a reader has, where it says so, with bytes that came before it
+abbrev pub behind : List ℕ → Option (List ℕ) → Option (List ℕ)
+behind first None = None
+behind first (Some left) = Some (first ++ left)
 
 -- there was no memory for the bytes that come
 abbrev pub IsWantOfMemory : Read → Type 0

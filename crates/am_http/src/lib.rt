@@ -17,7 +17,7 @@ mod standing;
 
 pub use cause::{Cause, PostedKey, Resource};
 pub use filters::filter_texts;
-pub use receiving::{ReadFault, receive};
+pub use receiving::{ReadFault, receive, receive_behind};
 pub use refusal::Refusal;
 pub use replies::{out_of_memory, reply};
 pub use request::{Read, Request, read_request};

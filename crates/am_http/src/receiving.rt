@@ -1,9 +1,9 @@
 //! Requests from any reader.
 
-ghost use Rattle.std.specs.Prelude.{◌≡◌, ◌<◌, Err, IfOk, IfErr, vec_len};
+ghost use Rattle.std.specs.Prelude.{◌≡◌, ◌<◌, ◌≤◌, Err, IfOk, IfErr, length, vec_len};
 ghost use Rattle.am_http.specs.Pieces.{GrowsTo, IsUndecided};
 ghost use Rattle.am_http.specs.Requests.{IsUnfinished};
-ghost use Rattle.am_http.specs.Receiving.{IsReceived, StopsReading};
+ghost use Rattle.am_http.specs.Receiving.{IsReceived, StopsReading, behind, most_bytes};
 
 use crate::cause::Cause;
 use crate::head::MOST_HEAD_BYTES;
@@ -75,20 +75,13 @@ fn read_more<R: io::Read>(
     }
 }
 
-/// Reads a request. No read asks for bytes behind a head or a body that is known to end, so none waits for what the
-/// request doesn't have.
-///
-/// [`Read::More`] is answered where the input ended before its first byte, and the line `out of memory` also where
-/// there was no memory for the bytes that came.
-///
-/// # Errors
-///
-/// [`ReadFault`] at the first read that fails; it is not tried again.
-pub fn receive<R: io::Read>(alloc: Global, reader: &mut R) -> Result<Read, ReadFault>
-    ensures read { IfOk result (IsReceived (R.remaining reader.old) (R.remaining reader.new)) }
-    ensures stopped { IfErr result (λ e. StopsReading (R.remaining reader.old) (R.remaining reader.new) e.at) }
+/// Reads a request behind bytes that came.
+fn read_on<R: io::Read>(alloc: Global, first: Vec<u8>, reader: &mut R) -> Result<Read, ReadFault>
+    requires { length first.items ≤ most_bytes }
+    ensures read { IfOk result (IsReceived (behind first.items (R.remaining reader.old)) (R.remaining reader.new)) }
+    ensures stopped { IfErr result (λ e. StopsReading (behind first.items (R.remaining reader.old)) (R.remaining reader.new) e.at) }
 {
-    let mut bytes = Vec::new(alloc);
+    let mut bytes = first;
     loop {
         let end = match standing_of(&bytes) {
             Standing::Head => None,
@@ -103,4 +96,40 @@ pub fn receive<R: io::Read>(alloc: Global, reader: &mut R) -> Result<Read, ReadF
             Err(Stop::Memory) => return Ok(Read::Refused(Cause::Memory.refusal())),
         }
     }
+}
+
+/// Reads a request whose first bytes came already, as [`receive`] does.
+///
+/// # Errors
+///
+/// As [`receive`].
+pub fn receive_behind<R: io::Read>(
+    alloc: Global,
+    first: &[u8],
+    reader: &mut R,
+) -> Result<Read, ReadFault>
+    requires { length first.now ≤ most_bytes }
+    ensures read { IfOk result (IsReceived (behind first.now (R.remaining reader.old)) (R.remaining reader.new)) }
+    ensures stopped { IfErr result (λ e. StopsReading (behind first.now (R.remaining reader.old)) (R.remaining reader.new) e.at) }
+{
+    match first.to_vec(alloc) {
+        Ok(bytes) => read_on(alloc, bytes, reader),
+        Err(_) => Ok(Read::Refused(Cause::Memory.refusal())),
+    }
+}
+
+/// Reads a request. No read asks for bytes behind a head or a body that is known to end, so none waits for what the
+/// request doesn't have.
+///
+/// [`Read::More`] is answered where the input ended before its first byte, and the line `out of memory` also where
+/// there was no memory for the bytes that came.
+///
+/// # Errors
+///
+/// [`ReadFault`] at the first read that fails; it is not tried again.
+pub fn receive<R: io::Read>(alloc: Global, reader: &mut R) -> Result<Read, ReadFault>
+    ensures read { IfOk result (IsReceived (R.remaining reader.old) (R.remaining reader.new)) }
+    ensures stopped { IfErr result (λ e. StopsReading (R.remaining reader.old) (R.remaining reader.new) e.at) }
+{
+    read_on(alloc, Vec::new(alloc), reader)
 }

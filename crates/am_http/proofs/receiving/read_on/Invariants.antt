@@ -1,10 +1,11 @@
 use Rattle.std.proofs.Common.{length, ◌-◌, ◌≤◌}
 use Rattle.std.specs.Io.KnownBytes.{Consumes}
-use Rattle.am_http.proofs.receiving.receive.Given as goal
+use Rattle.am_http.specs.Receiving.{behind}
+use Rattle.am_http.proofs.receiving.read_on.Given as goal
 
 abbrev pub invariant-loop-end : goal.invariant-loop-end
 invariant-loop-end g l = record {
-  consumed : Consumes (g.R.Read.remaining l.fn.reader) (g.R.Read.remaining l.reader) l.bytes.items;
+  consumed : Consumes (behind l.fn.first.items (g.R.Read.remaining l.fn.reader)) (g.R.Read.remaining l.reader) l.bytes.items;
   few : length l.bytes.items ≤ 1064960;
 }
 
