@@ -57,3 +57,7 @@ IsServed (Err fault) bits now old new before after served = IsSilent (Some (faul
 IsServed (Ok More) bits now old new before after served = IsSilent None old new before after served
 IsServed (Ok read) bits now old new before after served =
     (answered : Answered) × IsAnswerTo read old bits now answered new × IsHandedOn before after answered served
+
+-- What is served of an input: what the reader gave, and what came of it.
+abbrev pub Serves : ℕ → ℕ → Option (List ℕ) → Option (List ℕ) → Stand → Stand → Option (List ℕ) → Option (List ℕ) → Served → Type 0
+Serves bits now input left old new before after served = (read : Result Read ReadFault) × IsReadBy input left read × IsServed read bits now old new before after served

@@ -13,4 +13,4 @@ pub use am_http::{Read, Refusal, Request, read_request};
 pub use answering::{Answered, answer};
 pub use events::to_event;
 pub use replies::{ReplyBytes, to_bytes};
-pub use serving::{Fault, Served, serve};
+pub use serving::{Fault, Served, serve, serve_behind};

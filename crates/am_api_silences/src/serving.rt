@@ -1,15 +1,14 @@
 //! Requests from any reader, answered to any writer.
 
-ghost use Rattle.std.specs.Prelude.{Result, Ok, Option, List, ℕ};
-ghost use Rattle.am_http.specs.declared.receiving.ReadFault.{ReadFault};
-ghost use Rattle.am_http.specs.declared.request.Read.{Read};
+ghost use Rattle.std.specs.Prelude.{◌≤◌, Ok, Option, List, ℕ, length};
+ghost use Rattle.am_http.specs.Receiving.{behind, most_bytes};
 ghost use Rattle.am_instance.specs.Stands.{Stand};
 ghost use Rattle.am_api_silences.specs.Replies.{HasStatus, bytes_of};
-ghost use Rattle.am_api_silences.specs.Serving.{GoesOut, IsHandedOn, IsReadBy, IsServed, IsSilent};
+ghost use Rattle.am_api_silences.specs.Serving.{GoesOut, IsHandedOn, IsServed, IsSilent, Serves};
 
 use crate::answering::{Answered, respond, turn_away};
 use am_gossip::Frame;
-use am_http::{Read, receive, send};
+use am_http::{Read, receive, receive_behind, send};
 use am_instance::{Instance, Place, Unsent};
 use am_version_order::Moment;
 use std::alloc::Global;
@@ -113,10 +112,28 @@ pub fn serve<R: io::Read, W: io::Write>(
     bits: u128,
     now: Moment,
 ) -> Served
-    ensures { (read : Result Read ReadFault) × IsReadBy (R.remaining reader.old) (R.remaining reader.new) read
-        × IsServed read bits now instance.old instance.new (W.contents writer.old) (W.contents writer.new) result }
+    ensures { Serves bits now (R.remaining reader.old) (R.remaining reader.new) instance.old instance.new (W.contents writer.old) (W.contents writer.new) result }
 {
     match receive(alloc, reader) {
+        Ok(read) => reply_to(alloc, instance, writer, read, bits, now),
+        Err(fault) => silent(alloc, Some(Fault::Read { at: fault.at })),
+    }
+}
+
+/// Serves a request whose first bytes came already, as [`serve`] does.
+pub fn serve_behind<R: io::Read, W: io::Write>(
+    alloc: Global,
+    instance: &mut Instance,
+    first: &[u8],
+    reader: &mut R,
+    writer: &mut W,
+    bits: u128,
+    now: Moment,
+) -> Served
+    requires { length first.now ≤ most_bytes }
+    ensures { Serves bits now (behind first.now (R.remaining reader.old)) (R.remaining reader.new) instance.old instance.new (W.contents writer.old) (W.contents writer.new) result }
+{
+    match receive_behind(alloc, first, reader) {
         Ok(read) => reply_to(alloc, instance, writer, read, bits, now),
         Err(fault) => silent(alloc, Some(Fault::Read { at: fault.at })),
     }

@@ -7,11 +7,12 @@ use Rattle.std.specs.Io.KnownBytes.{Consumes}
 use Rattle.am_gossip.specs.declared.error.FrameError.TheVariants.{Memory}
 use Rattle.am_gossip.specs.Hellos.{hello_of}
 use Rattle.am_gossip.proofs.Greeted.{hello_found, hello_more}
+use Rattle.am_http.specs.Receiving.{behind}
 use Rattle.am_instance.specs.Configs.{Settings}
 use Rattle.am_instance.specs.Stands.{Stand}
 use Rattle.am_connection.specs.declared.error.Fault.{Fault}
 use Rattle.am_connection.specs.declared.error.Fault.TheVariants.{Read, Write, TooLarge, Frame as InFrame, UnknownName, Step}
-use Rattle.am_connection.specs.Incoming.{Effects, Greets, HearsPeer, IsHeard, IsPeerOf, IsPiece}
+use Rattle.am_connection.specs.Incoming.{Effects, Greets, HearsPeer, IsHeard, IsPeerOf, IsPiece, IsUngreeted, no_effects}
 
 -- there was no piece
 pub greets_fault : (config : Settings) (input mid_input left : Option (List ℕ)) (bytes buffer : List ℕ) (count : ℕ) (fault : Fault) →
@@ -81,3 +82,16 @@ pub greets_peer : (config same : Settings) (input left : Option (List ℕ)) (byt
     config ≡ same → greeted ≡ Some (place, len) → Greets config input left bytes (Ok greeted) → Greets same input left bytes (Ok (Some (place, len)))
 greets_peer config same input left bytes greeted place len is some h =
     subst (λ (g : Option (ℕ × ℕ)). Greets same input left bytes (Ok g)) some (subst (λ (c : Settings). Greets c input left bytes (Ok greeted)) is h)
+
+-- there was no memory for the first byte
+pub no_room : (now : ℕ) (first : List ℕ) (left : Option (List ℕ)) (old : Stand) (effects : Effects) (fault : Option Fault) →
+    effects ≡ no_effects → fault ≡ Some (InFrame Memory) → IsHeard now (behind first left) left old old effects fault
+no_room now first left old effects fault nothing is = record {
+  came = first;
+  consumed = comes_first first left;
+  answer = inl (record { same = refl; nothing = nothing; ungreeted = subst (λ (f : Option Fault). IsUngreeted old.config first left f) (sym is) (inl refl) });
+}
+  where
+    comes_first : (first : List ℕ) (left : Option (List ℕ)) → Consumes (behind first left) left first
+    comes_first first None = tt
+    comes_first first (Some bytes) = refl

@@ -1,7 +1,8 @@
 //! The greeting that a peer's connection begins with.
 
-ghost use Rattle.std.specs.Prelude.{◌≡◌, ◌↔◌, ℕ, [], Some, None, slice_get, IfSome, IsTrue};
-ghost use Rattle.am_connection.specs.Incoming.{Greets, IsNamed, IsPeerOf};
+ghost use Rattle.std.specs.Prelude.{◌≡◌, ◌↔◌, ◌≤◌, ℕ, Some, None, length, slice_get, IfSome, IsTrue};
+ghost use Rattle.am_http.specs.Receiving.{behind};
+ghost use Rattle.am_connection.specs.Incoming.{Greets, IsNamed, IsPeerOf, most_bytes};
 
 use crate::error::Fault;
 use crate::reading::read_piece;
@@ -52,8 +53,8 @@ fn named(config: &Config, name: &str, len: usize) -> Result<Option<(Place, usize
     }
 }
 
-/// Reads the greeting at the front of a connection: the place of the peer that it names, and how many bytes it takes;
-/// none where the input ended in it. What came is in `bytes` then.
+/// Reads the greeting at the front of a connection, of which `bytes` came already: the place of the peer that it names,
+/// and how many bytes it takes; none where the input ended in it. What came is in `bytes` then.
 ///
 /// # Errors
 ///
@@ -63,8 +64,8 @@ pub fn greet<R: io::Read>(
     reader: &mut R,
     bytes: &mut Vec<u8>,
 ) -> Result<Option<(Place, usize)>, Fault>
-    requires { bytes.old.items ≡ [] }
-    ensures { Greets config.now (R.remaining reader.old) (R.remaining reader.new) bytes.new.items result }
+    requires { length bytes.old.items ≤ most_bytes }
+    ensures { Greets config.now (behind bytes.old.items (R.remaining reader.old)) (R.remaining reader.new) bytes.new.items result }
 {
     let mut piece = [0u8; PIECE];
     loop {

@@ -1,7 +1,8 @@
 //! The frames that a peer sends, and their steps.
 
-ghost use Rattle.std.specs.Prelude.{◌≡◌, ◌+◌, ◌++◌, ◌≤◌, List, [], ℕ, Some, drop, length};
+ghost use Rattle.std.specs.Prelude.{◌≡◌, ◌+◌, ◌++◌, ◌≤◌, List, [], ◌∷◌, ℕ, Some, drop, length};
 ghost use Rattle.am_gossip.specs.Streams.{stream_of};
+ghost use Rattle.am_http.specs.Receiving.{behind};
 ghost use Rattle.am_instance.specs.Stands.{Stand};
 ghost use Rattle.am_connection.specs.Incoming.{Effects, HasHeard, Hears, HearsPeer, IsHeard, TakesPiece, effects_of, fault_in, most_bytes, no_effects};
 
@@ -11,7 +12,7 @@ use crate::gathered::Gathered;
 use crate::greeting::greet;
 use crate::reading::read_piece;
 use crate::steps::make_steps;
-use am_gossip::Feeder;
+use am_gossip::{Feeder, FrameError};
 use am_instance::{Instance, Place};
 use am_version_order::Moment;
 use std::alloc::Global;
@@ -137,21 +138,40 @@ fn hear_peer<R: io::Read>(
     Ended::of(incoming.gathered, fault)
 }
 
-/// Hears a peer: reads its greeting, and makes the step of each frame behind it, until the connection ends.
+/// Hears a peer, of whose bytes these came already: reads its greeting, and makes the step of each frame behind it, until
+/// the connection ends.
+fn hear_behind<R: io::Read>(
+    alloc: Global,
+    instance: &mut Instance,
+    first: Vec<u8>,
+    reader: &mut R,
+    now: Moment,
+) -> Ended
+    requires { length first.items ≤ most_bytes }
+    ensures { IsHeard now (behind first.items (R.remaining reader.old)) (R.remaining reader.new) instance.old instance.new (effects_of result) result.fault }
+{
+    let mut bytes = first;
+    match greet(instance.config(), reader, &mut bytes) {
+        Ok(Some((sender, len))) => hear_peer(alloc, instance, sender, &bytes, len, reader, now),
+        Ok(None) => Ended::idle(alloc, None),
+        Err(fault) => Ended::idle(alloc, Some(fault)),
+    }
+}
+
+/// Hears a peer, of whose connection the first byte came already.
 ///
 /// An end inside the greeting or a frame drops the bytes that are not whole, and is no fault.
 pub fn hear<R: io::Read>(
     alloc: Global,
     instance: &mut Instance,
+    first: u8,
     reader: &mut R,
     now: Moment,
 ) -> Ended
-    ensures { IsHeard now (R.remaining reader.old) (R.remaining reader.new) instance.old instance.new (effects_of result) result.fault }
+    ensures { IsHeard now (behind (first ∷ []) (R.remaining reader.old)) (R.remaining reader.new) instance.old instance.new (effects_of result) result.fault }
 {
-    let mut bytes = Vec::new(alloc);
-    match greet(instance.config(), reader, &mut bytes) {
-        Ok(Some((sender, len))) => hear_peer(alloc, instance, sender, &bytes, len, reader, now),
-        Ok(None) => Ended::idle(alloc, None),
-        Err(fault) => Ended::idle(alloc, Some(fault)),
+    match [first].to_vec(alloc) {
+        Ok(bytes) => hear_behind(alloc, instance, bytes, reader, now),
+        Err(_) => Ended::idle(alloc, Some(Fault::Frame(FrameError::Memory))),
     }
 }

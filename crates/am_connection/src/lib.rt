@@ -9,9 +9,10 @@ mod greeting;
 mod hearing;
 mod reading;
 mod sending;
+mod serving;
 mod steps;
 
 pub use ended::Ended;
 pub use error::{Fault, SendError};
-pub use hearing::hear;
 pub use sending::send;
+pub use serving::connection;
