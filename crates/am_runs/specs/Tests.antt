@@ -26,6 +26,24 @@ abbrev pub runs_from : {X : Type 0} → ℕ → Bool → List (Step X) → Bool
 runs_from q runs [] = runs
 runs_from q runs (step ∷ steps) = runs_from q (runs_after q runs step) steps
 
+-- ---- the moment of its last event or start
+
+abbrev pub acted : {X : Type 0} → ℕ → Step X → ℕ
+acted last (Took place now source versions frames) = now
+acted last (Ticked place now) = now
+acted last (Back place now) = last
+acted last (Refused now) = last
+acted last (Saved place) = last
+acted last (Stopped place) = last
+acted last (Started place now) = now
+
+abbrev pub last_after : {X : Type 0} → ℕ → ℕ → Step X → ℕ
+last_after q last step = if is_at q step then acted last step else last
+
+abbrev pub last_from : {X : Type 0} → ℕ → ℕ → List (Step X) → ℕ
+last_from q last [] = last
+last_from q last (step ∷ steps) = last_from q (last_after q last step) steps
+
 -- ---- whether it is calm
 
 -- of a member and of what is saved of it, the greatest version taken of a key
