@@ -3,7 +3,7 @@ use Rattle.std.proofs.Common.{◌≡◌, ℕ, Bool, true, false, cond, eqb, List
 use Rattle.am_runs.specs.Steps.{Step, is_at}
 use Rattle.am_runs.specs.Steps.Step.{Took, Ticked, Back, Refused, Saved, Stopped, Started}
 use Rattle.am_runs.specs.Members.{Member, stepped, member_after, member_from, last_of}
-use Rattle.am_runs.specs.Tests.{runs_after, runs_from, acted, last_after, last_from}
+use Rattle.am_runs.specs.Tests.{runs_after, runs_from, acted, last_from}
 use Rattle.am_collect.specs.Events.Event.{Collected, Passed}
 use Rattle.am_runs.proofs.Pasts.{last-passes, last-one}
 

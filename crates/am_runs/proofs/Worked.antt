@@ -15,7 +15,7 @@ use Rattle.am_runs.specs.declared.step.Source.TheVariants.{Made, Written, Arrive
 use Rattle.am_runs.specs.Steps.{Step}
 use Rattle.am_runs.specs.Steps.Step.{Took, Ticked, Stopped, Started}
 use Rattle.am_runs.specs.Members.{member_of, map_of, passes}
-use Rattle.am_runs.specs.Runs.{IsPossible, IsRun, IsSent, IsCalmAt, changed}
+use Rattle.am_runs.specs.Runs.{IsRun, IsSent, IsCalmAt, changed}
 use Rattle.am_runs.specs.Timely.{IsTimely}
 use Rattle.am_runs.specs.Tests.{ComesToAll, comes}
 use Rattle.am_runs.specs.Examples.{version, greater, lesser, forgotten, spreading, restarted, behind, passing, late}
@@ -67,7 +67,6 @@ restarted_is_run =
     (each_cons _ _ _ refl
     (each_cons _ _ _ (record { member = lit< tt; stopped = refl; forward = lit≤ tt })
     (each_nil _))))
-
 
 abbrev Lasting : Version ℕ → Type 0
 Lasting v = (v.updated + 5) + 5 ≤ v.expires
@@ -127,10 +126,12 @@ unfolding is_below
 late_comes = (refl, refl)
 
 pub late_timely : IsRun (λ v. v) nat_cmp 2 late × IsTimely (λ v. v) 5 5 2 late
-late_timely = (late_is_run,
-    timely_from (λ v. v) nat_cmp keys 5 5 2 late late_is_run refl
-    (All-cons Lasting passing (passing ∷ (passing ∷ [])) (lit≤ tt) (All-cons Lasting passing (passing ∷ []) (lit≤ tt) (All-cons Lasting passing [] (lit≤ tt) (All-nil Lasting))))
-    refl
-    (All-cons (ComesToAll (λ w. w) nat_cmp 5 2 late) passing (passing ∷ (passing ∷ [])) (to_both late passing late_comes)
-    (All-cons (ComesToAll (λ w. w) nat_cmp 5 2 late) passing (passing ∷ []) (to_both late passing late_comes)
-    (All-cons (ComesToAll (λ w. w) nat_cmp 5 2 late) passing [] (to_both late passing late_comes) (All-nil (ComesToAll (λ w. w) nat_cmp 5 2 late))))))
+late_timely = (
+  late_is_run,
+  timely_from (λ v. v) nat_cmp keys 5 5 2 late late_is_run refl
+      (All-cons Lasting passing (passing ∷ (passing ∷ [])) (lit≤ tt) (All-cons Lasting passing (passing ∷ []) (lit≤ tt) (All-cons Lasting passing [] (lit≤ tt) (All-nil Lasting))))
+      refl
+      (All-cons (ComesToAll (λ w. w) nat_cmp 5 2 late) passing (passing ∷ (passing ∷ [])) (to_both late passing late_comes)
+      (All-cons (ComesToAll (λ w. w) nat_cmp 5 2 late) passing (passing ∷ []) (to_both late passing late_comes)
+      (All-cons (ComesToAll (λ w. w) nat_cmp 5 2 late) passing [] (to_both late passing late_comes) (All-nil (ComesToAll (λ w. w) nat_cmp 5 2 late))))),
+)

@@ -1,7 +1,7 @@
 -- The questions about a run, as tests that go over its steps.
 -- X is the type of versions, and `seen` is what the merge sees of one.
-use Rattle.std.specs.Prelude.{◌≡◌, ℕ, ◌+◌, ◌-◌, ◌<◌, length, List, [], ◌∷◌, ◌++◌, Bool, true, false, not, ◌&&◌, ◌||◌, ◌==◌, max, Option, Some, None, if◌then◌else◌, nat_lt, nat_le, slice_get, option_map}
-use Rattle.std.specs.List.{list_any, list_all}
+use Rattle.std.specs.Prelude.{◌≡◌, ℕ, ◌+◌, ◌-◌, ◌<◌, length, List, [], ◌∷◌, Bool, true, false, not, ◌&&◌, ◌||◌, ◌==◌, max, Option, Some, None, if◌then◌else◌, nat_lt, nat_le}
+use Rattle.std.specs.List.{list_any}
 use Rattle.std.specs.declared.cmp.Ordering.{Ordering}
 use Rattle.std.specs.Ordering.{eq_by_cmp}
 use Rattle.am_version_order.specs.Versions.{Version, is_below, is_live}

@@ -52,7 +52,8 @@ pub fn views_agree<V: Version>()
         IsRun V.seen V.Key.cmp members steps → IsTimely V.seen spread flight members steps →
         All V.is_value (delivered_in steps) → moment step ≡ Some now →
         All (λ v. (V.seen v).key ≡ key → (V.seen v).updated + spread ≤ now) (delivered_in steps) →
-        (place other : ℕ) → (member_of members place before).runs ≡ true → (member_of members other before).runs ≡ true →
+        (place other : ℕ) → (member_of members place before).runs ≡ true →
+        (member_of members other before).runs ≡ true →
         if_live V.seen now (map_of V.seen V.Key.cmp (member_of members place before).past key)
         ≡ if_live V.seen now (map_of V.seen V.Key.cmp (member_of members other before).past key) }
 {}
