@@ -125,7 +125,10 @@ fn write_down(
 }
 
 fn is_timely(run: &Run<Note>, spread: u64, flight: u64) -> bool {
-    match (Interval::from_seconds(spread), Interval::from_seconds(flight)) {
+    match (
+        Interval::from_seconds(spread),
+        Interval::from_seconds(flight),
+    ) {
         (Some(spread), Some(flight)) => run.timely(spread, flight),
         _ => false,
     }

@@ -37,12 +37,20 @@ const SPREAD: [Act; 6] = [
 const WANTING: [Act; 2] = [(Verb::Take, 0, 10, LASTING), (Verb::Tick, 0, 15, NONE)];
 
 // It comes too late.
-const TOO_LATE: [Act; 3] = [(Verb::Take, 0, 10, LASTING), (Verb::Take, 1, 15, LASTING), (Verb::Tick, 0, 16, NONE)];
+const TOO_LATE: [Act; 3] = [
+    (Verb::Take, 0, 10, LASTING),
+    (Verb::Take, 1, 15, LASTING),
+    (Verb::Tick, 0, 16, NONE),
+];
 
 const BACK: [Act; 2] = [(Verb::Tick, 0, 10, NONE), (Verb::Back, 0, 5, NONE)];
 
 // A member that was stopped does nothing, and its save isn't asked for a moment.
-const STOPPED: [Act; 3] = [(Verb::Save, 0, 0, NONE), (Verb::Stop, 0, 0, NONE), (Verb::Tick, 0, 1, NONE)];
+const STOPPED: [Act; 3] = [
+    (Verb::Save, 0, 0, NONE),
+    (Verb::Stop, 0, 0, NONE),
+    (Verb::Tick, 0, 1, NONE),
+];
 
 fn tell(done: usize, first: Option<usize>, timely: bool) -> Told {
     Told {
