@@ -1,20 +1,18 @@
 -- Members that took the same, or caught up with one another, show the same.
-use Rattle.std.proofs.Common.{◌≡◌, ◌≢◌, ◌↔◌, ◌⊎◌, inl, inr, ℕ, ◌+◌, ◌<◌, ◌≤◌, Bool, true, false, List, [], ◌∷◌, ◌++◌, Option, Some, None, refl, sym, ap, ◌∙◌, subst, arith, ltb}
-use Rattle.std.specs.Prelude.{Contains, All, IfSome}
+use Rattle.std.proofs.Common.{◌≡◌, ◌≢◌, ◌↔◌, inl, inr, ℕ, ◌+◌, ◌<◌, ◌≤◌, Bool, true, false, List, [], ◌∷◌, ◌++◌, Option, Some, None, refl, sym, ap, ◌∙◌, subst, arith, ltb}
+use Rattle.std.specs.Prelude.{Contains, All}
 use Rattle.std.specs.declared.cmp.Ordering.{Ordering}
 use Rattle.std.proofs.lemmas.Bool.{cases_lt, false≢true}
 use Rattle.std.proofs.lemmas.List.Elements.{All-contains}
 use Rattle.am_version_order.specs.Versions.{Version, is_below}
-use Rattle.am_version_order.proofs.Ranks.{below_up, below_past, tied}
+use Rattle.am_version_order.proofs.Ranks.{below_up, tied}
 use Rattle.am_merge.specs.Maps.{if_live}
 use Rattle.am_merge.specs.Views.{IsBest, IsInView, IsViewAt}
 use Rattle.am_merge.proofs.Keys.{IsKeyOrder}
-use Rattle.am_collect.specs.Events.{Events, taken, last_moment}
 use Rattle.am_collect.specs.Calm.{IsCalm}
-use Rattle.am_collect.proofs.Greatest.{live_kept}
-use Rattle.am_runs.specs.Steps.{Step, EachStep, moment, delivered_in, clock_from}
-use Rattle.am_runs.specs.Members.{Member, member_of, set_of, last_of, map_of}
-use Rattle.am_runs.specs.Runs.{IsRun, IsCalmStep, IsCalmAt}
+use Rattle.am_runs.specs.Steps.{Step, moment, delivered_in, clock_from}
+use Rattle.am_runs.specs.Members.{member_of, set_of, last_of, map_of}
+use Rattle.am_runs.specs.Runs.{IsRun, IsCalmAt}
 use Rattle.am_runs.specs.Timely.{IsTimely, IsSpread, HasCaughtUp}
 use Rattle.am_runs.specs.Tests.{top_among}
 use Rattle.am_runs.proofs.Cuts.{carried}

@@ -1,23 +1,23 @@
 -- Whether a version comes in time can be told from the greatest taken of its key and the last collection.
-use Rattle.std.proofs.Common.{◌≡◌, ◌≢◌, ◌↔◌, ◌⊎◌, inl, inr, ℕ, ◌<◌, ◌≤◌, Bool, true, false, not, ◌&&◌, cond, max, List, [], ◌∷◌, ◌++◌, Option, Some, None, refl, sym, ap, ◌∙◌, subst, arith, map, append_assoc, append-nil, ltb, leb}
+use Rattle.std.proofs.Common.{◌≡◌, ◌≢◌, ◌↔◌, inl, inr, ℕ, ◌<◌, ◌≤◌, Bool, true, false, not, ◌&&◌, cond, List, [], ◌∷◌, ◌++◌, Option, Some, None, refl, sym, ap, ◌∙◌, subst, arith, map, append_assoc, append-nil, ltb}
 use Rattle.std.specs.Prelude.{Contains, All, MatchOption}
 use Rattle.std.specs.declared.cmp.Ordering.{Ordering}
 use Rattle.std.specs.Ordering.{eq_by_cmp}
-use Rattle.std.proofs.lemmas.List.Elements.{Contains-append_left, Contains-push, Contains-push_cases, All-contains}
-use Rattle.am_version_order.specs.Versions.{Version, is_below, IsLive}
+use Rattle.std.proofs.lemmas.List.Elements.{Contains-append_left, Contains-push, Contains-push_cases}
+use Rattle.am_version_order.specs.Versions.{Version, is_below}
 use Rattle.am_version_order.proofs.Ranks.{below_itself, below_trans, tied}
 use Rattle.am_merge.specs.Maps.{greater_of, at}
 use Rattle.am_merge.specs.Views.{IsBest}
 use Rattle.am_merge.proofs.Keys.{IsKeyOrder, eq_itself, same_key}
 use Rattle.am_collect.proofs.Greatest.{second_taken, first_kept}
 use Rattle.am_collect.specs.Events.{Event, Events, taken, collections, last_moment}
-use Rattle.am_collect.specs.Events.Event.{Delivered, Collected, Passed}
-use Rattle.am_collect.specs.Calm.{IsCalm, IsCalmAt, IsInTime, IsOvertaken}
-use Rattle.std.proofs.lemmas.Bool.{lt-ltb, le-ltb, ltb-true, ltb-false, le-leb, leb-true, not-true, and_parts, and_from, false≢true}
+use Rattle.am_collect.specs.Events.Event.{Delivered, Passed}
+use Rattle.am_collect.specs.Calm.{IsCalm, IsCalmAt, IsInTime}
+use Rattle.std.proofs.lemmas.Bool.{lt-ltb, ltb-true, not-true, and_parts, and_from, false≢true}
 use Rattle.am_runs.specs.Steps.{EachStep}
 use Rattle.am_runs.specs.Members.{passes}
 use Rattle.am_runs.specs.Tests.{top_among, has_reached, in_time}
-use Rattle.am_runs.proofs.Cuts.{each_append, each_back, each_cons, each_front, each_map, each_rest, each_unmap}
+use Rattle.am_runs.proofs.Cuts.{each_append, each_back, each_cons, each_map, each_rest, each_unmap}
 use Rattle.am_runs.proofs.Pasts.{taken-passes, collections-passes, last-passes}
 
 module _ {K X : Type 0} (seen : X → Version K) where
@@ -38,26 +38,38 @@ module _ {K X : Type 0} (seen : X → Version K) where
     -- one version more
     top_other : (set : List X) (key : K) (top : Option X) (v : X) → (seen v).key ≢ key → IsTop set key top → IsTop (set ++ v ∷ []) key top
     top_other set key None v other none = λ w c same. elim (Contains-push_cases set v w c) [ inl old ↦ none w old same | inr new ↦ other (ap (λ y. (seen y).key) new ∙ same) ]
-    top_other set key (Some g) v other found = (record {
-      member = Contains-append_left set (v ∷ []) g found.0.member;
-      unbeaten = λ w c same. elim (Contains-push_cases set v w c) [ inl old ↦ found.0.unbeaten w old same | inr new ↦ absurd (other (ap (λ y. (seen y).key) new ∙ (same ∙ found.1))) ];
-    }, found.1)
+    top_other set key (Some g) v other found = (
+      record {
+        member = Contains-append_left set (v ∷ []) g found.0.member;
+        unbeaten = λ w c same. elim (Contains-push_cases set v w c) [ inl old ↦ found.0.unbeaten w old same | inr new ↦ absurd (other (ap (λ y. (seen y).key) new ∙ (same ∙ found.1))) ];
+      },
+      found.1,
+    )
 
     top_own : (set : List X) (key : K) (top : Option X) (v : X) → (seen v).key ≡ key → IsTop set key top → IsTop (set ++ v ∷ []) key (greater_of seen top (Some v))
-    top_own set key None v own none = (record {
-      member = Contains-push set v;
-      unbeaten = λ w c same. elim (Contains-push_cases set v w c) [ inl old ↦ absurd (none w old (same ∙ own)) | inr new ↦ subst (λ y. is_below (seen v) (seen y) ≡ false) new (below_itself (seen v)) ];
-    }, own)
+    top_own set key None v own none = (
+      record {
+        member = Contains-push set v;
+        unbeaten = λ w c same. elim (Contains-push_cases set v w c) [ inl old ↦ absurd (none w old (same ∙ own)) | inr new ↦ subst (λ y. is_below (seen v) (seen y) ≡ false) new (below_itself (seen v)) ];
+      },
+      own,
+    )
     top_own set key (Some g) v own found = by (is_below (seen g) (seen v)) refl where
       by : (b : Bool) → is_below (seen g) (seen v) ≡ b → IsTop (set ++ v ∷ []) key (greater_of seen (Some g) (Some v))
-      by true up = subst (IsTop (set ++ v ∷ []) key) (sym (second_taken seen g v up)) (record {
-        member = Contains-push set v;
-        unbeaten = λ w c same. elim (Contains-push_cases set v w c) [ inl old ↦ below_less g v w up (found.0.unbeaten w old (same ∙ (own ∙ sym found.1))) | inr new ↦ subst (λ y. is_below (seen v) (seen y) ≡ false) new (below_itself (seen v)) ];
-      }, own)
-      by false kept = subst (IsTop (set ++ v ∷ []) key) (sym (first_kept seen g v kept)) (record {
-        member = Contains-append_left set (v ∷ []) g found.0.member;
-        unbeaten = λ w c same. elim (Contains-push_cases set v w c) [ inl old ↦ found.0.unbeaten w old same | inr new ↦ subst (λ y. is_below (seen g) (seen y) ≡ false) new kept ];
-      }, found.1)
+      by true up = subst (IsTop (set ++ v ∷ []) key) (sym (second_taken seen g v up)) (
+        record {
+          member = Contains-push set v;
+          unbeaten = λ w c same. elim (Contains-push_cases set v w c) [ inl old ↦ below_less g v w up (found.0.unbeaten w old (same ∙ (own ∙ sym found.1))) | inr new ↦ subst (λ y. is_below (seen v) (seen y) ≡ false) new (below_itself (seen v)) ];
+        },
+        own,
+      )
+      by false kept = subst (IsTop (set ++ v ∷ []) key) (sym (first_kept seen g v kept)) (
+        record {
+          member = Contains-append_left set (v ∷ []) g found.0.member;
+          unbeaten = λ w c same. elim (Contains-push_cases set v w c) [ inl old ↦ found.0.unbeaten w old same | inr new ↦ subst (λ y. is_below (seen g) (seen y) ≡ false) new kept ];
+        },
+        found.1,
+      )
 
     none_more : (top : Option X) → greater_of seen top None ≡ top
     none_more None = refl

@@ -1,5 +1,5 @@
 -- The tests of calm answer as the definition says.
-use Rattle.std.proofs.Common.{◌≡◌, ◌↔◌, ℕ, ◌<◌, ◌≤◌, Bool, true, false, cond, eqb, List, [], ◌∷◌, ◌++◌, Option, Some, None, refl, sym, ap, ◌∙◌, subst, arith}
+use Rattle.std.proofs.Common.{◌≡◌, ℕ, ◌≤◌, Bool, true, false, cond, eqb, List, [], ◌∷◌, ◌++◌, Option, Some, None, refl, sym, subst, arith}
 use Rattle.std.specs.Prelude.{MatchOption}
 use Rattle.std.specs.declared.cmp.Ordering.{Ordering}
 use Rattle.std.proofs.lemmas.Bool.{eqb-true}
@@ -8,14 +8,14 @@ use Rattle.am_merge.proofs.Keys.{IsKeyOrder}
 use Rattle.am_collect.specs.Events.{Event, Events, taken, collections, last_moment}
 use Rattle.am_collect.specs.Events.Event.{Delivered, Collected, Passed}
 use Rattle.am_collect.specs.Calm.{IsCalm, IsCalmAt as IsCalmEvent, IsInTime}
-use Rattle.am_runs.specs.Steps.{Step, EachStep, IsFirstWithout, is_at, is_back_at}
+use Rattle.am_runs.specs.Steps.{Step, EachStep, IsFirstWithout, is_back_at}
 use Rattle.am_runs.specs.Steps.Step.{Took, Ticked, Back, Refused, Saved, Stopped, Started}
-use Rattle.am_runs.specs.Members.{Member, passes, stepped, member_after, member_of, set_of, last_of}
+use Rattle.am_runs.specs.Members.{Member, passes, member_after, member_of, set_of, last_of}
 use Rattle.am_runs.specs.Runs.{IsPossible, IsRun, IsCalmStep, IsCalmAt, IsFirstFault}
 use Rattle.am_runs.specs.Tests.{StaysCalm, comes_in_time, top_among, top_in, last_in}
 use Rattle.am_runs.proofs.Cuts.{carried, each_front, each_nil, each_push, each_weaker, first_same}
 use Rattle.am_runs.proofs.Pasts.{member_of-push, last-passes, last-one}
-use Rattle.am_runs.proofs.Calmed.{calm_passes, passes_calm, to_in_time, from_in_time, top_all, IsTop}
+use Rattle.am_runs.proofs.Calmed.{calm_passes, passes_calm, to_in_time, from_in_time, top_all}
 use Rattle.am_runs.proofs.Knowns.{known_of}
 
 module _ {K X : Type 0} (seen : X → Version K) where

@@ -1,15 +1,15 @@
 -- A timely run keeps what is held and what flies good, so each step of it is calm.
-use Rattle.std.proofs.Common.{◌≡◌, ◌⊎◌, inl, inr, ℕ, ◌+◌, ◌<◌, ◌≤◌, Bool, true, false, cond, eqb, List, [], ◌∷◌, ◌++◌, Option, Some, None, refl, sym, ap, ◌∙◌, subst, arith, map, append_assoc, append-nil, slice_get}
+use Rattle.std.proofs.Common.{◌≡◌, ◌⊎◌, inl, inr, ℕ, ◌+◌, ◌<◌, ◌≤◌, Bool, true, false, cond, List, [], ◌∷◌, ◌++◌, Option, Some, None, refl, sym, ◌∙◌, subst, arith, map, append_assoc, slice_get}
 use Rattle.std.specs.Prelude.{Contains, All, IfSome, IsSomeAnd}
 use Rattle.std.specs.declared.cmp.Ordering.{Ordering}
-use Rattle.std.proofs.lemmas.Bool.{cases_lt, false≢true, eqb-true}
+use Rattle.std.proofs.lemmas.Bool.{cases_lt}
 use Rattle.std.proofs.lemmas.Grind.{flat_map-append}
 use Rattle.std.proofs.lemmas.Option.{slice_get_within, get_or_from_slice_get}
 use Rattle.std.proofs.lemmas.List.Elements.{All-contains, Contains-append_left, Contains-append_right, Contains-append_cases, Contains-push}
 use Rattle.am_version_order.specs.Versions.{Version, is_below}
 use Rattle.am_version_order.proofs.Ranks.{below_up, below-updated}
 use Rattle.am_merge.proofs.Keys.{IsKeyOrder}
-use Rattle.am_collect.specs.Events.{Event, Events, taken, collections, last_moment}
+use Rattle.am_collect.specs.Events.{Events, taken, collections, last_moment}
 use Rattle.am_collect.specs.Events.Event.{Delivered, Collected, Passed}
 use Rattle.am_collect.specs.Calm.{IsCalm, IsInTime}
 use Rattle.am_runs.specs.declared.step.Source.{Source}
@@ -18,10 +18,10 @@ use Rattle.am_runs.specs.Steps.{Step, EachStep, Flight, moment, clock_after, clo
 use Rattle.am_runs.specs.Steps.Step.{Took, Ticked, Back, Refused, Saved, Stopped, Started}
 use Rattle.am_runs.specs.Members.{Member, passes, stepped, member_after, member_of, set_of, last_of, map_of}
 use Rattle.am_runs.specs.Runs.{IsPossible, IsRun, AreFrom, IsSent, IsCalmStep, IsCalmAt, changed}
-use Rattle.am_runs.specs.Timely.{IsTimely, IsSpread, IsSwift, IsSwiftFrom, HasCaughtUp}
+use Rattle.am_runs.specs.Timely.{IsTimely, IsSpread, IsSwift, IsSwiftFrom}
 use Rattle.am_runs.proofs.Cuts.{carried}
 use Rattle.am_runs.proofs.Loops.{all_from}
-use Rattle.am_runs.proofs.Pasts.{member_of-push, flights_of-push, map_of-append, taken-append, taken-passes, taken-tick, taken-pass, last-passes, last-one}
+use Rattle.am_runs.proofs.Pasts.{member_of-push, flights_of-push, map_of-append, taken-passes, taken-tick, taken-pass, last-passes, last-one}
 use Rattle.am_runs.proofs.Faults.{IsFit, fit_begin, fit_pass, fit_tick, fit_start}
 use Rattle.am_runs.proofs.Views.{empty, one_same, collected_before, held_beaten, changed_unbeaten}
 

@@ -1,16 +1,16 @@
 -- What the tests of calm go on with is what they are to know of a member.
-use Rattle.std.proofs.Common.{◌≡◌, ◌≢◌, ◌↔◌, ℕ, ◌<◌, ◌≤◌, Bool, true, false, cond, max, List, [], ◌∷◌, ◌++◌, Option, Some, None, refl, sym, ap, ◌∙◌, subst, arith}
+use Rattle.std.proofs.Common.{◌≢◌, ℕ, ◌<◌, Bool, true, false, cond, max, List, [], ◌∷◌, ◌++◌, Option, Some, None, refl, sym, subst, arith}
 use Rattle.std.specs.Prelude.{Contains, All}
 use Rattle.std.specs.declared.cmp.Ordering.{Ordering}
 use Rattle.std.proofs.lemmas.Bool.{lt-leb, leb-false}
 use Rattle.std.proofs.lemmas.List.Elements.{All-push, All-weaker, All-nil, All-contains, Contains-push, Contains-append_left, All-contains_itself}
 use Rattle.am_version_order.specs.Versions.{Version}
 use Rattle.am_merge.proofs.Keys.{IsKeyOrder}
-use Rattle.am_collect.specs.Events.{Events, taken, collections}
+use Rattle.am_collect.specs.Events.{taken, collections}
 use Rattle.am_runs.specs.Steps.{Step, is_at}
 use Rattle.am_runs.specs.Steps.Step.{Took, Ticked, Back, Refused, Saved, Stopped, Started}
 use Rattle.am_runs.specs.Members.{Member, stepped, member_after, member_from, member_of}
-use Rattle.am_runs.specs.Tests.{Tops, Lasts, later, lasted, lasts_after, lasts_from, last_in, has_reached, topped, tops_after, tops_from, top_in, top_among}
+use Rattle.am_runs.specs.Tests.{Tops, Lasts, later, lasted, lasts_after, lasts_from, last_in, topped, tops_after, tops_from, top_in, top_among}
 use Rattle.am_runs.proofs.Pasts.{taken-passes, taken-tick, taken-pass, collections-passes, collections-tick, collections-pass}
 use Rattle.am_runs.proofs.Calmed.{IsTop, IsLast, top_all}
 
@@ -24,7 +24,7 @@ all_last P xs x all = All-contains P (xs ++ x ∷ []) x all (Contains-push xs x)
 last_push : (last : Option ℕ) (moments : List ℕ) (now : ℕ) → IsLast last moments → IsLast (later last now) (moments ++ now ∷ [])
 last_push None moments now ends = λ m. (
   λ not. All-push (λ n. n < m) moments now ((ends m).0 refl) (leb-false m now not),
-  λ all. lt-leb m now (all_last (λ n. n < m) moments now all)
+  λ all. lt-leb m now (all_last (λ n. n < m) moments now all),
 )
 last_push (Some last) moments now ends = λ m. (
   λ not.
@@ -35,7 +35,7 @@ last_push (Some last) moments now ends = λ m. (
   λ all.
       let old : last < m = leb-false m last ((ends m).1 (all_front (λ n. n < m) moments now all)) in
       let new : now < m = all_last (λ n. n < m) moments now all in
-      lt-leb m (max last now) (omega arith)
+      lt-leb m (max last now) (omega arith),
 )
 
 module _ {K X : Type 0} (seen : X → Version K) (cmp : K → K → Ordering) (keys : IsKeyOrder cmp) (key : K) where

@@ -9,3 +9,5 @@ pub mod Starts
 pub mod Views
 pub mod Goods
 pub mod Agrees
+pub mod Worked
+pub mod Settled

@@ -1,24 +1,23 @@
 -- The tests of a timely run answer as the definition says.
-use Rattle.std.proofs.Common.{◌≡◌, ◌≢◌, ◌↔◌, ◌⊎◌, inl, inr, ℕ, ◌+◌, ◌-◌, ◌<◌, ◌≤◌, zero, suc, Bool, true, false, not, ◌&&◌, ◌||◌, cond, eqb, ltb, leb, List, [], ◌∷◌, ◌++◌, Option, Some, None, refl, sym, ap, ◌∙◌, subst, arith, map, length, slice_get, option_map}
-use Rattle.std.specs.Prelude.{All, Contains, IfSome, IsSomeAnd, MatchOption}
-use Rattle.std.specs.List.{list_all, list_any, flat_map}
+use Rattle.std.proofs.Common.{◌≡◌, ◌↔◌, ◌⊎◌, inl, inr, ℕ, ◌+◌, ◌-◌, ◌<◌, ◌≤◌, zero, suc, Bool, true, false, not, ◌&&◌, ◌||◌, cond, eqb, ltb, leb, List, [], ◌∷◌, ◌++◌, Option, Some, None, refl, sym, ap, ◌∙◌, subst, arith, map, length, slice_get, option_map}
+use Rattle.std.specs.Prelude.{All, IfSome, IsSomeAnd}
+use Rattle.std.specs.List.{list_all, list_any}
 use Rattle.std.specs.declared.cmp.Ordering.{Ordering}
 use Rattle.std.specs.Ordering.{eq_by_cmp}
-use Rattle.std.proofs.lemmas.Bool.{eqb-true, lt-ltb, ltb-true, ltb-false, le-ltb, leb-true, le-leb, and_parts, and_from, or_cases, or_left, not-true, false≢true, cases_lt}
-use Rattle.std.proofs.lemmas.Option.{slice_get-map, slice_get_within}
+use Rattle.std.proofs.lemmas.Bool.{eqb-true, lt-ltb, ltb-true, ltb-false, leb-true, le-leb, and_parts, and_from, or_cases, or_left, not-true, false≢true}
+use Rattle.std.proofs.lemmas.Option.{slice_get_within}
 use Rattle.std.proofs.lemmas.Grind.{flat_map-append}
 use Rattle.std.proofs.lemmas.List.Elements.{All-contains, Contains-append_left, Contains-append_right, Contains-append_cases, Contains-push_cases, Contains-push}
 use Rattle.am_version_order.specs.Versions.{Version, is_below}
 use Rattle.am_merge.proofs.Keys.{IsKeyOrder, eq_itself, same_key}
-use Rattle.am_collect.specs.Events.{Events, taken}
-use Rattle.am_runs.specs.declared.step.Source.{Source}
+use Rattle.am_collect.specs.Events.{taken}
 use Rattle.am_runs.specs.declared.step.Source.TheVariants.{Made, Written, Arrived, Lent}
-use Rattle.am_runs.specs.Steps.{Step, EachStep, Flight, moment, clock_after, clock_from, delivered_by, delivered_in, flights_by, flights_of, is_at}
+use Rattle.am_runs.specs.Steps.{Step, EachStep, Flight, moment, clock_after, clock_from, delivered_in, flights_by, flights_of, is_at}
 use Rattle.am_runs.specs.Steps.Step.{Took, Ticked, Back, Refused, Saved, Stopped, Started}
 use Rattle.am_runs.specs.Members.{Member, stepped, member_after, member_from, member_of, set_of}
 use Rattle.am_runs.specs.Runs.{IsPossible, IsRun}
-use Rattle.am_runs.specs.Timely.{IsOnward, IsSwift, IsSwiftFrom, HasCaughtUp, IsSpread, IsTimely}
-use Rattle.am_runs.specs.Tests.{Watched, is_onward, are_onward, sent_in, sent_at, flies_short, is_swift, is_wanting, counts_for, watched, watch_after, comes, ComesToAll}
+use Rattle.am_runs.specs.Timely.{IsSwift, HasCaughtUp, IsSpread, IsTimely}
+use Rattle.am_runs.specs.Tests.{Watched, is_onward, are_onward, sent_in, flies_short, is_swift, is_wanting, counts_for, watched, watch_after, comes, ComesToAll}
 use Rattle.am_runs.proofs.Cuts.{carried, each_cons, each_nil, each_rest}
 use Rattle.am_runs.proofs.Loops.{all_from}
 use Rattle.am_runs.proofs.Pasts.{member_of-push, taken-passes, taken-tick, taken-pass}
@@ -198,7 +197,7 @@ module _ {K X : Type 0} (seen : X → Version K) where
     tells_more : (v : X) (has : Bool) (set versions : List X) → ((has ≡ true) ↔ HasCaughtUp seen set v) → ((has || list_any (counts_for seen cmp v) versions) ≡ true) ↔ HasCaughtUp seen (set ++ versions) v
     tells_more v has set versions told = (
       λ e. elim (or_cases has (list_any (counts_for seen cmp v) versions) e) [ inl old ↦ caught_left set versions v (told.0 old) | inr new ↦ caught_right set versions v (to_caught v versions new) ],
-      λ h. elim (caught_cases set versions v h) [ inl old ↦ or_left has (list_any (counts_for seen cmp v) versions) (told.1 old) | inr new ↦ or_right has (list_any (counts_for seen cmp v) versions) (from_caught v versions new) ]
+      λ h. elim (caught_cases set versions v h) [ inl old ↦ or_left has (list_any (counts_for seen cmp v) versions) (told.1 old) | inr new ↦ or_right has (list_any (counts_for seen cmp v) versions) (from_caught v versions new) ],
     )
 
     tells_stepped : (v : X) (w : Watched) (m : Member X) (s : Step X) → Tells v w m → Tells v (watched seen cmp v w s) (stepped m s)

@@ -1,9 +1,11 @@
--- Whether a member runs is told by its stops and starts.
+-- Whether a member runs is told by its stops and starts, and its last moment by its events and starts.
 use Rattle.std.proofs.Common.{◌≡◌, ℕ, Bool, true, false, cond, eqb, List, [], ◌∷◌, refl, sym, ap, ◌∙◌}
 use Rattle.am_runs.specs.Steps.{Step, is_at}
 use Rattle.am_runs.specs.Steps.Step.{Took, Ticked, Back, Refused, Saved, Stopped, Started}
-use Rattle.am_runs.specs.Members.{Member, stepped, member_after, member_from}
-use Rattle.am_runs.specs.Tests.{runs_after, runs_from}
+use Rattle.am_runs.specs.Members.{Member, stepped, member_after, member_from, last_of}
+use Rattle.am_runs.specs.Tests.{runs_after, runs_from, acted, last_from}
+use Rattle.am_collect.specs.Events.Event.{Collected, Passed}
+use Rattle.am_runs.proofs.Pasts.{last-passes, last-one}
 
 module _ {X : Type 0} where
   same_where : (b : Bool) (m n : Member X) → n.runs ≡ m.runs → (cond b n m).runs ≡ m.runs
@@ -26,3 +28,20 @@ module _ {X : Type 0} where
   pub runs_told : (q : ℕ) (m : Member X) (steps : List (Step X)) → runs_from q m.runs steps ≡ (member_from q m steps).runs
   runs_told q m [] = refl
   runs_told q m (s ∷ steps) = ap (λ b. runs_from q b steps) (sym (runs_step q m s)) ∙ runs_told q (member_after q m s) steps
+
+  acted_told : (m : Member X) (s : Step X) → last_of (stepped m s) ≡ acted (last_of m) s
+  acted_told m (Took place now source versions frames) = last-passes m.past now versions
+  acted_told m (Ticked place now) = last-one m.past Collected now
+  acted_told m (Back place now) = refl
+  acted_told m (Refused now) = refl
+  acted_told m (Saved place) = refl
+  acted_told m (Stopped place) = refl
+  acted_told m (Started place now) = last-one m.saved Passed now
+
+  last_where : (b : Bool) (m n : Member X) (last : ℕ) → last_of n ≡ last → last_of (cond b n m) ≡ cond b last (last_of m)
+  last_where true m n last e = e
+  last_where false m n last e = refl
+
+  pub last_told : (q : ℕ) (m : Member X) (steps : List (Step X)) → last_from q (last_of m) steps ≡ last_of (member_from q m steps)
+  last_told q m [] = refl
+  last_told q m (s ∷ steps) = ap (λ t. last_from q t steps) (sym (last_where (is_at q s) m (stepped m s) (acted (last_of m) s) (acted_told m s))) ∙ last_told q (member_after q m s) steps

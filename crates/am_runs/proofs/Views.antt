@@ -1,20 +1,19 @@
 -- What a calm past shows, and what follows for what is held, changed and collected.
-use Rattle.std.proofs.Common.{◌≡◌, ◌⊎◌, inl, inr, ℕ, ◌<◌, ◌≤◌, Bool, true, false, ◌&&◌, cond, ltb, List, [], ◌∷◌, ◌++◌, Option, Some, None, refl, sym, ap, ◌∙◌, subst, arith, map, append_assoc, append-nil}
-use Rattle.std.specs.Prelude.{Contains, All}
+use Rattle.std.proofs.Common.{◌≡◌, ◌⊎◌, inl, inr, ℕ, ◌<◌, ◌≤◌, Bool, true, false, ◌&&◌, cond, List, [], ◌∷◌, ◌++◌, Option, Some, None, refl, sym, ap, ◌∙◌, subst, arith, map, append_assoc, append-nil}
+use Rattle.std.specs.Prelude.{Contains}
 use Rattle.std.specs.declared.cmp.Ordering.{Ordering}
-use Rattle.std.specs.Ordering.{eq_by_cmp}
 use Rattle.std.proofs.lemmas.Bool.{cases_lt, ltb-true, and_parts, false≢true}
-use Rattle.std.proofs.lemmas.List.Elements.{Contains-append_left, Contains-append_right, Contains-append_cases, Contains-push, Contains-push_cases}
+use Rattle.std.proofs.lemmas.List.Elements.{Contains-append_left, Contains-append_cases, Contains-push_cases}
 use Rattle.am_version_order.specs.Versions.{Version, is_below, is_live}
 use Rattle.am_merge.specs.Maps.{greater_of, is_above, if_live, at}
-use Rattle.am_merge.specs.Views.{IsBest, IsInView, IsViewAt}
+use Rattle.am_merge.specs.Views.{IsViewAt}
 use Rattle.am_merge.proofs.Keys.{IsKeyOrder, eq_itself}
-use Rattle.am_collect.specs.Events.{Event, Events, taken, collections, collected, last_moment, after, after_all}
+use Rattle.am_collect.specs.Events.{Event, Events, taken, collections, collected, last_moment, after}
 use Rattle.am_collect.specs.Events.Event.{Delivered, Collected, Passed}
-use Rattle.am_collect.specs.Calm.{IsCalm, IsCalmAt, IsInTime}
+use Rattle.am_collect.specs.Calm.{IsCalm, IsCalmAt}
 use Rattle.am_collect.proofs.Greatest.{live_kept, second_taken}
 use Rattle.am_collect.proofs.Histories.{calm_shows, last_moment-append}
-use Rattle.am_runs.specs.Members.{passes, map_of}
+use Rattle.am_runs.specs.Members.{map_of}
 use Rattle.am_runs.specs.Runs.{changed}
 use Rattle.am_runs.proofs.Cuts.{carried, each_front}
 use Rattle.am_runs.proofs.Pasts.{map_of-append, taken-append, last-one, collections-push}
@@ -96,7 +95,7 @@ module _ {K X : Type 0} (seen : X → Version K) where
                 let both = and_parts (is_live now (seen w)) (is_above seen (map_of seen cmp past (seen w).key) w) test in
                 let kept = changed_best past now w h first both.0 both.1 has (same ∙ ap (λ y. (seen y).key) (sym is)) in
                 false≢true (sym kept ∙ subst (λ y. is_below (seen y) (seen h) ≡ true) (sym is) below)
-              )
+                )
             | inr there ↦ rest there
           ]
           by false test first rest c = rest c

@@ -1,7 +1,7 @@
 -- Worked runs, which show what the definitions mean. There is one key, and moments are whole numbers.
 use Rattle.std.specs.Prelude.{ℕ, List, [], ◌∷◌}
 use Rattle.am_version_order.specs.Versions.{Version}
-use Rattle.am_runs.specs.declared.step.Source.TheVariants.{Made, Written}
+use Rattle.am_runs.specs.declared.step.Source.TheVariants.{Made, Written, Arrived}
 use Rattle.am_runs.specs.Steps.{Step}
 use Rattle.am_runs.specs.Steps.Step.{Took, Ticked, Stopped, Started}
 
@@ -47,3 +47,15 @@ behind =
     ∷ (Started 0 11
     ∷ (Took 0 15 Made [] []
     ∷ []))))
+
+abbrev pub passing : Version ℕ
+passing = version 10 20
+
+-- member 0 makes a version and sends it; later it sends its whole map, in which the version has expired
+abbrev pub late : List (Step (Version ℕ))
+late =
+    Took 0 10 Made (passing ∷ []) ((passing ∷ []) ∷ [])
+    ∷ (Took 1 12 (Arrived 0) (passing ∷ []) []
+    ∷ (Took 0 25 Made [] ((passing ∷ []) ∷ [])
+    ∷ (Took 1 26 (Arrived 1) (passing ∷ []) []
+    ∷ [])))

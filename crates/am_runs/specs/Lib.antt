@@ -5,3 +5,4 @@ pub mod Runs
 pub mod Timely
 pub mod Tests
 pub mod Examples
+pub mod Settles

@@ -1,10 +1,10 @@
 -- What steps make of a member. A copy of a member is told by its past: the events that made it of the empty map at the
 -- first moment. Its map, its bare set, its collections and its last moment follow from that.
 -- X is the type of versions, and `seen` is what the merge sees of one.
-use Rattle.std.specs.Prelude.{◌≡◌, ℕ, List, [], ◌∷◌, ◌++◌, Bool, true, false, Option, None, if◌then◌else◌, map, nat_lt}
+use Rattle.std.specs.Prelude.{ℕ, List, [], ◌∷◌, ◌++◌, Bool, true, false, Option, None, if◌then◌else◌, map, nat_lt}
 use Rattle.std.specs.declared.cmp.Ordering.{Ordering}
 use Rattle.am_version_order.specs.Versions.{Version}
-use Rattle.am_collect.specs.Events.{Event, Events, taken, last_moment, after_all}
+use Rattle.am_collect.specs.Events.{Events, taken, last_moment, after_all}
 use Rattle.am_collect.specs.Events.Event.{Delivered, Collected, Passed}
 use Rattle.am_runs.specs.Steps.{Step, is_at}
 use Rattle.am_runs.specs.Steps.Step.{Took, Ticked, Back, Refused, Saved, Stopped, Started}

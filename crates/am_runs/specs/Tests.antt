@@ -1,7 +1,7 @@
 -- The questions about a run, as tests that go over its steps.
 -- X is the type of versions, and `seen` is what the merge sees of one.
-use Rattle.std.specs.Prelude.{◌≡◌, ℕ, ◌+◌, ◌-◌, ◌<◌, length, List, [], ◌∷◌, ◌++◌, Bool, true, false, not, ◌&&◌, ◌||◌, ◌==◌, max, Option, Some, None, if◌then◌else◌, nat_lt, nat_le, slice_get, option_map}
-use Rattle.std.specs.List.{list_any, list_all}
+use Rattle.std.specs.Prelude.{◌≡◌, ℕ, ◌+◌, ◌-◌, ◌<◌, length, List, [], ◌∷◌, Bool, true, false, not, ◌&&◌, ◌||◌, ◌==◌, max, Option, Some, None, if◌then◌else◌, nat_lt, nat_le}
+use Rattle.std.specs.List.{list_any}
 use Rattle.std.specs.declared.cmp.Ordering.{Ordering}
 use Rattle.std.specs.Ordering.{eq_by_cmp}
 use Rattle.am_version_order.specs.Versions.{Version, is_below, is_live}
@@ -25,6 +25,24 @@ runs_after q runs (Started place now) = if place == q then true else runs
 abbrev pub runs_from : {X : Type 0} → ℕ → Bool → List (Step X) → Bool
 runs_from q runs [] = runs
 runs_from q runs (step ∷ steps) = runs_from q (runs_after q runs step) steps
+
+-- ---- the moment of its last event or start
+
+abbrev pub acted : {X : Type 0} → ℕ → Step X → ℕ
+acted last (Took place now source versions frames) = now
+acted last (Ticked place now) = now
+acted last (Back place now) = last
+acted last (Refused now) = last
+acted last (Saved place) = last
+acted last (Stopped place) = last
+acted last (Started place now) = now
+
+abbrev pub last_after : {X : Type 0} → ℕ → ℕ → Step X → ℕ
+last_after q last step = if is_at q step then acted last step else last
+
+abbrev pub last_from : {X : Type 0} → ℕ → ℕ → List (Step X) → ℕ
+last_from q last [] = last
+last_from q last (step ∷ steps) = last_from q (last_after q last step) steps
 
 -- ---- whether it is calm
 

@@ -1,6 +1,6 @@
 -- Runs that keep two times: after the spread each version has come to all members, and no frame flies for longer than the flight time.
 -- X is the type of versions, and `seen` is what the merge sees of one.
-use Rattle.std.specs.Prelude.{◌≡◌, ℕ, ◌+◌, ◌≤◌, List, Bool, true, false, IfSome, slice_get, All, Contains}
+use Rattle.std.specs.Prelude.{◌≡◌, ℕ, ◌+◌, ◌≤◌, List, true, false, IfSome, slice_get, All, Contains}
 use Rattle.am_version_order.specs.Versions.{Version, is_below}
 use Rattle.am_runs.specs.declared.step.Source.{Source}
 use Rattle.am_runs.specs.declared.step.Source.TheVariants.{Made, Written, Arrived, Lent}

@@ -95,7 +95,8 @@ pub fn has_key<V: Version>(key: &V::Key, version: &V) -> bool
 
 /// The greater one of two versions where the second has the key, else the first.
 fn greater<'a, V: Version>(key: &V::Key, top: Option<&'a V>, version: &'a V) -> Option<&'a V>
-    ensures { option_copied result ≡ greater_of V.seen (option_copied top.entry) (at V.seen V.Key.cmp (version.now ∷ []) key.now) }
+    ensures { option_copied result
+        ≡ greater_of V.seen (option_copied top.entry) (at V.seen V.Key.cmp (version.now ∷ []) key.now) }
 {
     if !has_key(key, version) {
         return top;

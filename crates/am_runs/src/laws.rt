@@ -1,13 +1,17 @@
 //! What holds of runs.
 
-ghost use Rattle.std.specs.Prelude.{◌≡◌, ◌≢◌, ◌↔◌, ◌+◌, ◌<◌, ◌≤◌, ℕ, List, [], ◌∷◌, ◌++◌, true, false, None, Some, All, Contains};
+ghost use Rattle.std.specs.Prelude.{◌≡◌, ◌≢◌, ◌↔◌, ◌+◌, ◌<◌, ◌≤◌, ℕ, List, [], ◌∷◌, ◌++◌, true, false, Option, None, Some, All, Contains, IfSome};
 ghost use Rattle.am_version_order.specs.Versions.{is_below};
-ghost use Rattle.am_merge.specs.Maps.{if_live};
+ghost use Rattle.am_merge.specs.Maps.{IsMap, at, greater_of, if_live};
+ghost use Rattle.am_collect.specs.Events.{Events};
 ghost use Rattle.am_merge.specs.Views.{IsBest, IsInView, IsViewAt};
 ghost use Rattle.am_runs.specs.Steps.{Step, delivered_in, moment};
-ghost use Rattle.am_runs.specs.Members.{last_of, map_of, member_after, member_of, set_of};
+ghost use Rattle.am_runs.specs.Members.{last_of, map_of, member_after, member_of, passes, set_of};
 ghost use Rattle.am_runs.specs.Runs.{IsPossible, IsRun, IsCalmStep, IsCalmAt};
 ghost use Rattle.am_runs.specs.Timely.{IsTimely};
+ghost use Rattle.am_runs.specs.Settles.{join_of};
+ghost use Rattle.am_runs.specs.Examples.{behind, forgotten, late, lesser, restarted};
+ghost use Rattle.std.specs.Ordering.{nat_cmp};
 
 use am_version_order::Version;
 
@@ -48,7 +52,8 @@ pub fn views_agree<V: Version>()
         IsRun V.seen V.Key.cmp members steps → IsTimely V.seen spread flight members steps →
         All V.is_value (delivered_in steps) → moment step ≡ Some now →
         All (λ v. (V.seen v).key ≡ key → (V.seen v).updated + spread ≤ now) (delivered_in steps) →
-        (place other : ℕ) → (member_of members place before).runs ≡ true → (member_of members other before).runs ≡ true →
+        (place other : ℕ) → (member_of members place before).runs ≡ true →
+        (member_of members other before).runs ≡ true →
         if_live V.seen now (map_of V.seen V.Key.cmp (member_of members place before).past key)
         ≡ if_live V.seen now (map_of V.seen V.Key.cmp (member_of members other before).past key) }
 {}
@@ -74,4 +79,33 @@ pub fn nothing_shown_after_a_spread<V: Version>()
         member.runs ≡ true → if_live V.seen now (map_of V.seen V.Key.cmp member.past (V.seen v).key) ≡ None →
         (greatest : V) × IsBest V.seen (set_of member) greatest × ((V.seen greatest).key ≡ (V.seen v).key)
         × (is_below (V.seen greatest) (V.seen v) ≡ false) × ((V.seen greatest).expires ≤ now) }
+{}
+
+/// Taking the versions of a map in an event joins what is held with that map.
+pub fn taking_a_map_joins_it<V: Version>()
+    ensures { (past : Events V) (now : ℕ) (versions : List V) (key : V.Key) → IsMap V.seen V.Key.cmp versions →
+        map_of V.seen V.Key.cmp (past ++ passes now versions) key
+        ≡ greater_of V.seen (map_of V.seen V.Key.cmp past key) (at V.seen V.Key.cmp versions key) }
+{}
+
+/// What is the join of all members' maps stays so when it is joined to the map of one of them: so after a settle, in
+/// which the first member takes the maps of the others and then they take its map, all of them hold that join.
+pub fn settled<V: Version>()
+    ensures { (members place : ℕ) (maps : ℕ → V.Key → Option V) (key : V.Key) →
+        ((other : ℕ) → other < members → IfSome (maps other key) (λ v. ((V.seen v).key ≡ key) × V.is_value v)) →
+        place < members →
+        greater_of V.seen (maps place key) (join_of V.seen members maps key) ≡ join_of V.seen members maps key }
+{}
+
+/// Worked runs of two members. What a member forgot makes it uncalm, and it shows another version than one that took
+/// the same before it collected. After a restart from nothing a run is timely until that member acts while a version
+/// should have come to it again. And a version may come late in a timely run.
+pub fn worked_runs()
+    ensures forgotten { IsRun (λ v. v) nat_cmp 2 forgotten }
+    ensures shown { if_live (λ v. v) 22 (map_of (λ v. v) nat_cmp (member_of 2 0 forgotten).past 0) ≡ Some lesser }
+    ensures hidden { if_live (λ v. v) 22 (map_of (λ v. v) nat_cmp (member_of 2 1 forgotten).past 0) ≡ None }
+    ensures uncalm { ¬ IsCalmAt (λ v. v) 2 0 forgotten }
+    ensures timely { IsTimely (λ v. v) 5 5 2 restarted }
+    ensures untimely { ¬ IsTimely (λ v. v) 5 5 2 behind }
+    ensures late { IsRun (λ v. v) nat_cmp 2 late × IsTimely (λ v. v) 5 5 2 late }
 {}

@@ -1,9 +1,9 @@
-//! Runs of a cluster of replicas: what each step did to the versions of one type, and what can be told from that: whether
-//! a member is calm, and whether the run keeps a spread and a flight time.
+//! Runs of a cluster of replicas: what each step did to the versions of one type, and what can be told from
+//! that: whether a member is calm, and whether the run keeps a spread and a flight time.
 #![tactic(auto)]
 
-pub mod laws;
 mod calm;
+pub mod laws;
 mod run;
 mod running;
 mod spans;

@@ -1,18 +1,18 @@
 //! The record of a run.
 
 ghost use Rattle.std.specs.Prelude.{◌≡◌, ◌++◌, ℕ, [], ◌∷◌, ◌+◌, ◌<◌, ◌≤◌, MatchOption, IsTrue, ◌↔◌, OnOk, OnErr};
-ghost use Rattle.am_runs.specs.Members.{member_of};
+ghost use Rattle.am_runs.specs.Members.{last_of, member_of};
 ghost use Rattle.am_runs.specs.Records.{step_of};
 ghost use Rattle.am_runs.specs.Runs.{IsPossible, IsCalmAt, IsFirstFault};
 ghost use Rattle.am_runs.specs.Timely.{IsTimely};
 
 use crate::calm::first_fault;
 use crate::laws::{one_step_more, timely_runs_are_calm};
-use crate::running::runs_from;
+use crate::running::{last_from, runs_from};
 use crate::spans::is_some_time;
 use crate::step::Step;
 use crate::timely::is_timely;
-use am_version_order::{Interval, Version};
+use am_version_order::{Interval, Moment, Version};
 use std::alloc::{AllocError, Global};
 use std::marker::Model;
 
@@ -85,6 +85,13 @@ impl<V: Version> Run<V> {
         ensures { result ≡ (member_of self.now.members place self.now.steps).runs }
     {
         runs_from(place, place < self.members, &self.steps)
+    }
+
+    /// The moment of a member's last event or start, or the first moment where it had none. It takes no memory.
+    pub fn last(&self, place: usize) -> Moment
+        ensures { result ≡ last_of (member_of self.now.members place self.now.steps) }
+    {
+        last_from(place, &self.steps)
     }
 
     /// The number of the first step, counted from 0, with which a member is not calm, or `None` where it is calm. It

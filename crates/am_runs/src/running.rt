@@ -1,10 +1,11 @@
-//! Whether a member runs.
+//! Whether a member runs, and its last moment.
 
 ghost use Rattle.std.specs.Prelude.{◌≡◌, map};
 ghost use Rattle.am_runs.specs.Records.{step_of};
-ghost use Rattle.am_runs.specs.Tests.{runs_after, runs_from};
+ghost use Rattle.am_runs.specs.Tests.{runs_after, runs_from, last_after, last_from};
 
 use crate::step::Step;
+use am_version_order::Moment;
 
 /// Whether a member runs after a step, where it ran before that or not.
 fn runs_after<V>(member: usize, runs: bool, step: &Step<V>) -> bool
@@ -26,4 +27,28 @@ pub fn runs_from<V>(member: usize, runs: bool, steps: &[Step<V>]) -> bool
         runs = runs_after(member, runs, step);
     }
     runs
+}
+
+/// The moment of a member's last event or start after a step, where it was this before that.
+fn last_after<V>(member: usize, last: Moment, step: &Step<V>) -> Moment
+    ensures { result ≡ last_after member last (step_of step.now) }
+{
+    if !step.is_at(member) {
+        return last;
+    }
+    match step {
+        Step::Took { now, .. } | Step::Ticked { now, .. } | Step::Started { now, .. } => *now,
+        _ => last,
+    }
+}
+
+/// The moment of its last event or start in steps, or the first moment.
+pub fn last_from<V>(member: usize, steps: &[Step<V>]) -> Moment
+    ensures { result ≡ last_from member 0 (map step_of steps.now) }
+{
+    let mut last = Moment::LEAST;
+    for step in steps {
+        last = last_after(member, last, step);
+    }
+    last
 }

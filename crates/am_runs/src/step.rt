@@ -32,17 +32,32 @@ pub enum Step<V> {
         frames: Vec<Vec<V>>,
     },
     /// A member collected.
-    Ticked { place: usize, now: Moment },
+    Ticked {
+        place: usize,
+        now: Moment,
+    },
     /// Refused to a member, since the moment is before that member's last one.
-    Back { place: usize, now: Moment },
+    Back {
+        place: usize,
+        now: Moment,
+    },
     /// Refused for another cause.
-    Refused { now: Moment },
+    Refused {
+        now: Moment,
+    },
     /// A member's copy was saved.
-    Saved { place: usize },
+    Saved {
+        place: usize,
+    },
     /// A member was stopped.
-    Stopped { place: usize },
+    Stopped {
+        place: usize,
+    },
     /// A member was started from its saved copy, or from nothing where none was saved.
-    Started { place: usize, now: Moment },
+    Started {
+        place: usize,
+        now: Moment,
+    },
 }
 
 impl<V> Step<V> {

@@ -57,7 +57,8 @@ fn are_lasting<V: Version>(versions: &[V], spread: Interval, flight: Interval) -
 
 /// Whether each version delivered in steps does.
 fn all_lasting<V: Version>(steps: &[Step<V>], spread: Interval, flight: Interval) -> bool
-    ensures { IsTrue result ↔ All (λ v. ((V.seen v).updated + spread) + flight ≤ (V.seen v).expires) (delivered_in (map step_of steps.now)) }
+    ensures { IsTrue result ↔ All (λ v. ((V.seen v).updated + spread) + flight ≤ (V.seen v).expires)
+        (delivered_in (map step_of steps.now)) }
 {
     for step in steps {
         if !are_lasting(step.versions(), spread, flight) {
@@ -160,7 +161,8 @@ fn any_counts<V: Version>(version: &V, taken: &[V]) -> bool
 }
 
 fn watch_after<V: Version>(member: usize, version: &V, watch: Watch, step: &Step<V>) -> Watch
-    ensures { watch_seen result ≡ watch_after V.seen V.Key.cmp member version.now (watch_seen watch) (step_of step.now) }
+    ensures { watch_seen result
+        ≡ watch_after V.seen V.Key.cmp member version.now (watch_seen watch) (step_of step.now) }
 {
     let Watch { runs, has, saved } = watch;
     if !step.is_at(member) {
@@ -193,7 +195,8 @@ fn watch_after<V: Version>(member: usize, version: &V, watch: Watch, step: &Step
 
 /// Whether at no step that begins when a version should have come the member runs without it.
 fn comes<V: Version>(spread: Interval, member: usize, version: &V, steps: &[Step<V>]) -> bool
-    ensures { result ≡ comes V.seen V.Key.cmp spread member version.now (record { runs = true; has = false; saved = false }) (map step_of steps.now) }
+    ensures { result ≡ comes V.seen V.Key.cmp spread member version.now
+        (record { runs = true; has = false; saved = false }) (map step_of steps.now) }
 {
     let mut watch = Watch {
         runs: true,
@@ -210,7 +213,12 @@ fn comes<V: Version>(spread: Interval, member: usize, version: &V, steps: &[Step
 }
 
 /// Whether a version comes to each member.
-fn comes_to_all<V: Version>(spread: Interval, members: usize, steps: &[Step<V>], version: &V) -> bool
+fn comes_to_all<V: Version>(
+    spread: Interval,
+    members: usize,
+    steps: &[Step<V>],
+    version: &V,
+) -> bool
     ensures { IsTrue result ↔ ComesToAll V.seen V.Key.cmp spread members (map step_of steps.now) version.now }
 {
     for member in 0..members {
@@ -222,7 +230,12 @@ fn comes_to_all<V: Version>(spread: Interval, members: usize, steps: &[Step<V>],
 }
 
 /// Whether each of the versions does.
-fn come_to_all<V: Version>(spread: Interval, members: usize, steps: &[Step<V>], versions: &[V]) -> bool
+fn come_to_all<V: Version>(
+    spread: Interval,
+    members: usize,
+    steps: &[Step<V>],
+    versions: &[V],
+) -> bool
     ensures { IsTrue result ↔ All (ComesToAll V.seen V.Key.cmp spread members (map step_of steps.now)) versions.now }
 {
     for version in versions {
@@ -235,7 +248,8 @@ fn come_to_all<V: Version>(spread: Interval, members: usize, steps: &[Step<V>], 
 
 /// Whether each version delivered in some of the steps does.
 fn all_come_to_all<V: Version>(spread: Interval, members: usize, steps: &[Step<V>]) -> bool
-    ensures { IsTrue result ↔ All (ComesToAll V.seen V.Key.cmp spread members (map step_of steps.now)) (delivered_in (map step_of steps.now)) }
+    ensures { IsTrue result ↔ All (ComesToAll V.seen V.Key.cmp spread members (map step_of steps.now))
+        (delivered_in (map step_of steps.now)) }
 {
     for step in steps {
         if !come_to_all(spread, members, steps, step.versions()) {

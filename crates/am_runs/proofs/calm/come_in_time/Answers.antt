@@ -1,8 +1,8 @@
-use Rattle.std.proofs.Common.{◌≡◌, List, true, map, sym, ◌∙◌, subst}
+use Rattle.std.proofs.Common.{◌≡◌, List, true, map, sym, ◌∙◌}
 use Rattle.std.proofs.lemmas.Bool.{false≢true}
 use Rattle.am_runs.specs.Records.{step_of}
 use Rattle.am_runs.specs.Tests.{comes_in_time}
-use Rattle.am_runs.proofs.Cuts.{each_nil, each_take_more, each_all, not_each}
+use Rattle.am_runs.proofs.Cuts.{each_nil, each_take_more, not_each}
 use Rattle.am_runs.proofs.calm.come_in_time.Goals as goal
 
 pub loop-place-init : goal.loop-place-init

@@ -1,4 +1,3 @@
-use Rattle.std.proofs.Common.{◌≡◌}
 use Rattle.am_runs.proofs.calm.comes_in_time.Goals as goal
 
 pub returns : goal.returns

@@ -1,4 +1,4 @@
-use Rattle.std.proofs.Common.{◌≡◌, map, drop}
+use Rattle.std.proofs.Common.{◌≡◌, drop}
 use Rattle.std.specs.Option.{option_copied}
 use Rattle.am_runs.specs.Tests.{top_among}
 use Rattle.am_runs.proofs.calm.top_among.Given as goal

@@ -8,10 +8,12 @@ use Rattle.am_runs.proofs.timely.all_come_to_all.Goals as goal
 
 pub returns-then-not-come_to_all : goal.returns-then-not-come_to_all
 returns-then-not-come_to_all g c =
-    let P = ComesToAll g.V.Version.seen g.V.Key.Ord.cmp c.args.spread c.args.members (map step_of c.args.steps.now) in
-    (λ t. absurd (false≢true t), λ all.
-    absurd (false≢true (sym c.if-not-come_to_all.true ∙ c.come_to_all.ensures.1
-    (subst (All P) (sym c.versions.ensures) (delivered_one step_of P c.args.steps.now c.loop-step.step-index c.step-item.result c.loop-step-test.true c.step-item.is all)))))
+    let P = ComesToAll g.V.Version.seen g.V.Key.Ord.cmp c.args.spread c.args.members (map step_of c.args.steps.now) in (
+      λ t. absurd (false≢true t),
+      λ all.
+          absurd (false≢true (sym c.if-not-come_to_all.true ∙ c.come_to_all.ensures.1
+          (subst (All P) (sym c.versions.ensures) (delivered_one step_of P c.args.steps.now c.loop-step.step-index c.step-item.result c.loop-step-test.true c.step-item.is all)))),
+    )
 
 pub loop-step-preserved : goal.loop-step-preserved
 loop-step-preserved g c =

@@ -1,5 +1,5 @@
 use Rattle.std.proofs.Common.{◌≤◌, ◌+◌}
-use Rattle.am_runs.proofs.Loops.{all_more, all_done}
+use Rattle.am_runs.proofs.Loops.{all_more}
 use Rattle.am_runs.proofs.timely.are_lasting.Goals as goal
 
 pub loop-version-preserved : goal.loop-version-preserved
