@@ -184,7 +184,7 @@ impl Instance {
 fn judge(alloc: Global, matchers: &Matchers) -> Result<Verdict, AllocError>
     ensures { IfOk result (IsVerdict matchers.now) }
 {
-    verdict(alloc, matchers.as_slice())
+    verdict(alloc, matchers)
 }
 
 /// Whether an identifier is held, live or not.

@@ -2,7 +2,7 @@
 
 use crate::fixtures::{V1, are_sent_to, at, holding};
 use am_instance::{Event, Instance, Outcome, Reply, Request};
-use am_silence::{Matcher, MatcherKind, Matchers, MeshSilence, Posted};
+use am_silence::{MatcherKind, MatcherRef, Matchers, MeshSilence, Posted};
 use am_version_order::{Moment, Version};
 use am_wire::Text;
 use std::alloc::Global;
@@ -18,17 +18,11 @@ type Moments = [Time; 4];
 
 // EQUAL job `x`.
 fn job_is_x(alloc: Global) -> Option<Matchers> {
-    let name = Text::copied(alloc, "job").ok()?;
-    let pattern = Text::copied(alloc, "x").ok()?;
-    let mut matchers = Vec::new(alloc);
+    let mut matchers = Matchers::none(alloc);
     matchers
-        .push(Matcher {
-            kind: MatcherKind::Equal,
-            name,
-            pattern,
-        })
+        .push(&MatcherRef::new(MatcherKind::Equal, "job", "x"))
         .ok()?;
-    Some(Matchers::new(matchers))
+    Some(matchers)
 }
 
 // A post of job `x` under an identifier, until 200 s.

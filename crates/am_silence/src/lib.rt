@@ -7,6 +7,7 @@ mod comment;
 mod error;
 mod ids;
 mod matcher;
+mod matchers;
 mod mesh;
 mod plan;
 mod record;
@@ -18,7 +19,8 @@ mod versions;
 
 pub use error::SilenceError;
 pub use ids::{IdText, fresh_id};
-pub use matcher::{Matcher, MatcherDraft, MatcherKind, Matchers};
+pub use matcher::{Matcher, MatcherDraft, MatcherKind, MatcherRef};
+pub use matchers::Matchers;
 pub use mesh::{MeshSilence, MeshSilenceDraft};
 pub use plan::{Plan, Posted, Verdict, plan_expire, plan_post};
 pub use silence::{Silence, SilenceDraft};
