@@ -18,9 +18,9 @@ type Moments = [Time; 4];
 
 // EQUAL job `x`.
 fn job_is_x(alloc: Global) -> Option<Matchers> {
-    let mut matchers = Matchers::none(alloc);
+    let mut matchers = Matchers::none();
     matchers
-        .push(&MatcherRef::new(MatcherKind::Equal, "job", "x"))
+        .push(alloc, &MatcherRef::new(MatcherKind::Equal, "job", "x"))
         .ok()?;
     Some(matchers)
 }

@@ -118,8 +118,8 @@ fn pattern_verdict(
     patterns: &mut PatternCache,
     pattern: &str,
 ) -> Result<Verdict, AllocError> {
-    let mut matchers = Matchers::none(alloc);
-    matchers.push(&MatcherRef::new(MatcherKind::Regexp, "", pattern))?;
+    let mut matchers = Matchers::none();
+    matchers.push(alloc, &MatcherRef::new(MatcherKind::Regexp, "", pattern))?;
     patterns.verdict(&matchers)
 }
 

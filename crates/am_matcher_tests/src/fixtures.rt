@@ -60,9 +60,9 @@ pub fn matcher(alloc: Global, (kind, name, pattern): MatcherRow) -> Result<Match
 
 /// The matchers of these rows.
 pub fn matchers(alloc: Global, rows: &[MatcherRow]) -> Result<Matchers, AllocError> {
-    let mut matchers = Matchers::none(alloc);
+    let mut matchers = Matchers::none();
     for &(kind, name, pattern) in rows {
-        matchers.push(&MatcherRef::new(kind, name, pattern))?;
+        matchers.push(alloc, &MatcherRef::new(kind, name, pattern))?;
     }
     Ok(matchers)
 }

@@ -7,7 +7,7 @@ use Rattle.std.proofs.lemmas.Str.{IsUtf8-append, IsUtf8-drop, IsCharBoundary-fro
 use Rattle.std.proofs.Math.Seq.{drop-append_seam, take-append_seam}
 use Rattle.am_silence.specs.declared.matcher.Matcher.{Matcher}
 use Rattle.am_silence.specs.declared.matcher.MatcherKind.{MatcherKind}
-use Rattle.am_silence.specs.declared.matchers.Mark.{Mark}
+use Rattle.am_silence.specs.declared.listed.Mark.{Mark}
 use Rattle.am_silence.specs.Marks.{marked, IsMark}
 
 module _ (text more : List ℕ) where

@@ -2,7 +2,7 @@
 use Rattle.std.specs.Prelude.{ℕ, ◌≤◌, List, slice_range}
 use Rattle.std.specs.Str.{IsCharBoundary}
 use Rattle.am_silence.specs.declared.matcher.Matcher.{Matcher}
-use Rattle.am_silence.specs.declared.matchers.Mark.{Mark}
+use Rattle.am_silence.specs.declared.listed.Mark.{Mark}
 
 -- the matcher that stands at a mark
 abbrev pub marked : List ℕ → Mark → Matcher

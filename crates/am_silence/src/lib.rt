@@ -6,6 +6,7 @@ mod checks;
 mod comment;
 mod error;
 mod ids;
+mod listed;
 mod matcher;
 mod matchers;
 mod mesh;

@@ -110,7 +110,7 @@ impl<'a> Draft<'a> for SilenceDraft<'a> {
         SilenceDraft {
             alloc,
             id: LastText::none(),
-            matchers: Matchers::none(alloc),
+            matchers: Matchers::none(),
             starts_at: Submessage::none(alloc),
             ends_at: Submessage::none(alloc),
             updated_at: Submessage::none(alloc),

@@ -39,9 +39,9 @@ const A: &[u8] =
     b"\x0A\x19\x0A\x01a\x12\x08\x12\x03job\x1A\x01x\x1A\x02\x08\x0A\x22\x02\x08\x64\x2A\x02\x08\x0A\x12\x03\x08\xC8\x01";
 
 fn matchers(alloc: Global, rows: &[MatcherRow]) -> Result<Matchers, AllocError> {
-    let mut matchers = Matchers::none(alloc);
+    let mut matchers = Matchers::none();
     for &(kind, name, pattern) in rows {
-        matchers.push(&MatcherRef::new(kind, name, pattern))?;
+        matchers.push(alloc, &MatcherRef::new(kind, name, pattern))?;
     }
     Ok(matchers)
 }

@@ -31,9 +31,9 @@ pub fn retention() -> Interval {
 
 /// The matchers of these rows.
 pub fn matchers(alloc: Global, rows: &[MatcherRow]) -> Result<Matchers, AllocError> {
-    let mut matchers = Matchers::none(alloc);
+    let mut matchers = Matchers::none();
     for &(kind, name, pattern) in rows {
-        matchers.push(&MatcherRef::new(kind, name, pattern))?;
+        matchers.push(alloc, &MatcherRef::new(kind, name, pattern))?;
     }
     Ok(matchers)
 }

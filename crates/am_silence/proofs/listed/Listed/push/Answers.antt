@@ -2,7 +2,7 @@ use Rattle.std.proofs.Common.{◌≡◌, ◌∷◌, [], ◌++◌, List, ℕ, str
 use Rattle.std.proofs.lemmas.Str.{IsUtf8-string_bytes}
 use Rattle.am_silence.specs.declared.matcher.Matcher.{Matcher}
 use Rattle.am_silence.proofs.Marks.{all_more, all_grown, all_with_last, with_last, matcher_of}
-use Rattle.am_silence.proofs.matchers.Matchers.push.Goals as goal
+use Rattle.am_silence.proofs.listed.Listed.push.Goals as goal
 
 pub invariant_of-self-in_err-pattern : goal.invariant_of-self-in_err-pattern
 invariant_of-self-in_err-pattern c =
