@@ -325,14 +325,14 @@ fn a_matcher_is_written_as_it_is_read(rt: HostRuntime) {
     holds(&rt, is_matcher_kept(rt.alloc(), &JOB_IS_X_TEXT));
 }
 
-fn is_copied(alloc: Global, matchers: &Matchers, row: MatcherRow) -> Result<bool, WireError> {
+fn is_matcher_copied(alloc: Global, matchers: &Matchers, row: MatcherRow) -> Result<bool, WireError> {
     let copy = matchers.try_clone(alloc)?;
     Ok(is_matcher(&copy, row))
 }
 
 fn are_copied(alloc: Global, rows: &[MatcherRow; 1]) -> Result<bool, WireError> {
     let matchers = matchers(alloc, rows)?;
-    is_copied(alloc, &matchers, rows[0])
+    is_matcher_copied(alloc, &matchers, rows[0])
 }
 
 #[test]
