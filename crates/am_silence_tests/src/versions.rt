@@ -325,7 +325,11 @@ fn a_matcher_is_written_as_it_is_read(rt: HostRuntime) {
     holds(&rt, is_matcher_kept(rt.alloc(), &JOB_IS_X_TEXT));
 }
 
-fn is_matcher_copied(alloc: Global, matchers: &Matchers, row: MatcherRow) -> Result<bool, WireError> {
+fn is_matcher_copied(
+    alloc: Global,
+    matchers: &Matchers,
+    row: MatcherRow,
+) -> Result<bool, WireError> {
     let copy = matchers.try_clone(alloc)?;
     Ok(is_matcher(&copy, row))
 }
