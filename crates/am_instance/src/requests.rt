@@ -94,7 +94,7 @@ impl Instance {
         ensures verdict { IfOk result (IsVerdict matchers.now) }
         ensures same { self.new ≡ self.old }
     {
-        self.patterns.verdict(matchers.as_slice())
+        self.patterns.verdict(matchers)
     }
 
     /// What a post makes whose matchers were judged, or why it is refused.

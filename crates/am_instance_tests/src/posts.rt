@@ -8,7 +8,7 @@ use am_instance::{Event, Instance, Outcome, Reply, Request};
 use am_silence::SilenceError::{
     AllMatchEmpty, BadPattern, EndInPast, IdInUse, Newer, NoMatcher, NotFound,
 };
-use am_silence::{Matcher, MatcherKind, Matchers, Posted, SilenceError};
+use am_silence::{MatcherKind, MatcherRef, Matchers, Posted, SilenceError};
 use am_wire::Text;
 use std::alloc::Global;
 use std::process::Abort;
@@ -59,22 +59,13 @@ const fn ended_from(starts_at: i64) -> Moments {
     [(starts_at, 0), (20, 0), (20, 0), (120, 0)]
 }
 
-fn matcher(alloc: Global, (kind, name, pattern): MatcherRow) -> Option<Matcher> {
-    let name = Text::copied(alloc, name).ok()?;
-    let pattern = Text::copied(alloc, pattern).ok()?;
-    Some(Matcher {
-        kind,
-        name,
-        pattern,
-    })
-}
-
 fn matchers(alloc: Global, rows: &[MatcherRow]) -> Option<Matchers> {
-    let mut matchers = Vec::new(alloc);
-    for &row in rows {
-        matchers.push(matcher(alloc, row)?).ok()?;
+    let mut matchers = Matchers::none();
+    for &(kind, name, pattern) in rows {
+        let matcher = MatcherRef::new(kind, name, pattern);
+        matchers.push(alloc, &matcher).ok()?;
     }
-    Some(Matchers::new(matchers))
+    Some(matchers)
 }
 
 // An identifier; none where it is empty.

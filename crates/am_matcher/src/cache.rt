@@ -6,7 +6,7 @@ ghost use Rattle.am_matcher.specs.Patterns.{is_match, IsSound, IsBroken};
 use crate::compiled::BuildError;
 use crate::kept::Kept;
 use am_merge::Held;
-use am_silence::{Matcher, MeshSilence};
+use am_silence::{Matchers, MeshSilence};
 use std::alloc::Global;
 use std::collections::HashMap;
 use std::marker::Model;
@@ -92,10 +92,11 @@ impl PatternCache {
         }
     }
 
-    fn mark_all(&mut self, matchers: &[Matcher]) {
-        for matcher in matchers {
-            if matcher.kind.is_regexp() {
-                self.mark(matcher.pattern.as_str());
+    fn mark_all(&mut self, matchers: &Matchers) {
+        for index in 0..matchers.len() {
+            let matcher = matchers.at(index);
+            if matcher.kind().is_regexp() {
+                self.mark(matcher.pattern());
             }
         }
     }
@@ -106,7 +107,7 @@ impl PatternCache {
             return;
         }
         for version in held.iter() {
-            self.mark_all(version.silence().matchers.as_slice());
+            self.mark_all(&version.silence().matchers);
         }
         self.kept.retain(|_, kept| kept.take_mark());
     }

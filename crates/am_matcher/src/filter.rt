@@ -1,16 +1,15 @@
 //! The filters of a query.
 
-ghost use Rattle.std.specs.Prelude.{◌≡◌, ◌≢◌, List, ℕ, chars, IfOk, IsErrOf};
+ghost use Rattle.std.specs.Prelude.{◌≡◌, ◌≢◌, List, ℕ, chars, IfOk, IsErrOf, if◌then◌else◌};
 ghost use Rattle.am_silence.specs.declared.matcher.Matcher.{Matcher};
 ghost use Rattle.am_matcher.specs.Filters.{IsFilter};
-ghost use Rattle.am_matcher.specs.Labels.{last_named};
+ghost use Rattle.am_matcher.specs.Texts.{is_text};
 ghost use Rattle.am_matcher.specs.Matching.{IsSoundMatcher, IsBrokenMatcher, pattern_in, passes};
-ghost use Rattle.std.specs.Option.{option_copied};
 
 use crate::compiled::{BuildError, Compiled};
 use crate::filter_text::parts_of;
 use crate::pieces::{inside_of, pieces_of, text_of, text_of_pieces};
-use am_silence::{Matcher, Silence};
+use am_silence::{Matcher, MatcherRef, Matchers, Silence};
 use am_wire::Text;
 use std::alloc::{AllocError, Global};
 use std::marker::Model;
@@ -84,24 +83,26 @@ fn read_filter(alloc: Global, text: &str) -> Result<Matcher, FilterError>
     })
 }
 
-/// The last matcher with this name.
-fn last_matcher<'a>(matchers: &'a [Matcher], name: &str) -> Option<&'a Matcher>
-    ensures { option_copied result ≡ last_named (λ m. m.name) name.now matchers.now }
+/// The pattern of the matcher where it has this name, else that of one before it.
+fn later_pattern<'a>(before: &'a str, matcher: &MatcherRef<'a>, name: &str) -> &'a str
+    ensures { result.now ≡ (if is_text matcher.now.name name.now then matcher.now.pattern else before.now) }
 {
-    matchers
-        .iter()
-        .rev()
-        .find(|matcher| matcher.name.as_str() == name)
+    if matcher.name() == name {
+        matcher.pattern()
+    } else {
+        before
+    }
 }
 
 /// The pattern of the last matcher with this name, or the empty text.
-fn pattern_of<'a>(matchers: &'a [Matcher], name: &str) -> &'a str
+fn pattern_of<'a>(matchers: &'a Matchers, name: &str) -> &'a str
     ensures { result.now ≡ pattern_in matchers.now name.now }
 {
-    match last_matcher(matchers, name) {
-        Some(matcher) => matcher.pattern.as_str(),
-        None => "",
+    let mut pattern = "";
+    for index in 0..matchers.len() {
+        pattern = later_pattern(pattern, &matchers.at(index), name);
     }
+    pattern
 }
 
 /// A filter of a query, as `job=~"x|y"`: a matcher that a silence's own matchers are asked about.
@@ -150,7 +151,7 @@ impl Filter {
         ensures same { self.new ≡ self.old }
     {
         let name = self.compiled.matcher().name.as_str();
-        let pattern = pattern_of(silence.matchers.as_slice(), name);
+        let pattern = pattern_of(&silence.matchers, name);
         self.compiled.matches(pattern)
     }
 }

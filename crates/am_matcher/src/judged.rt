@@ -1,36 +1,32 @@
 //! Matchers that are asked once.
 
 ghost use Rattle.std.specs.Prelude.{◌≡◌, List, ℕ, [], true, All, Any, IfOk, OnOk, IsErrOf};
-ghost use Rattle.am_silence.specs.Kinds.{is_regexp};
 ghost use Rattle.am_matcher.specs.Labels.{value_in};
-ghost use Rattle.am_matcher.specs.Patterns.{IsSound, IsBroken};
-ghost use Rattle.am_matcher.specs.Matching.{is_met, IsSoundMatcher, IsBrokenMatcher, match_all, IsVerdict};
+ghost use Rattle.am_matcher.specs.Matching.{matches_value, IsSoundMatcher, IsBrokenMatcher, match_all, IsVerdict};
 
 use crate::cache::PatternCache;
 use crate::compiled::BuildError;
 use crate::labels::{Label, value_of};
-use am_silence::{Matcher, MatcherKind, Verdict};
+use am_silence::{MatcherKind, MatcherRef, Matchers, Verdict};
 use std::alloc::{AllocError, Global};
 
-/// Whether the value of the label `name` matches.
+/// Whether the value of a matcher's label matches.
 fn judge(
     patterns: &mut PatternCache,
-    kind: MatcherKind,
-    name: &str,
-    pattern: &str,
+    matcher: &MatcherRef<'_>,
     labels: &[Label],
 ) -> Result<bool, BuildError>
-    ensures answer { IfOk result (λ yes. yes ≡ is_met kind pattern.now (value_in labels.now name.now)) }
-    ensures sound { OnOk result (is_regexp kind ≡ true → IsSound pattern.now) }
-    ensures broken { IsErrOf result BuildError.BadPattern → (is_regexp kind ≡ true) × IsBroken pattern.now }
+    ensures answer { IfOk result (λ yes. yes ≡ matches_value matcher.now (value_in labels.now matcher.now.name)) }
+    ensures sound { OnOk result (IsSoundMatcher matcher.now) }
+    ensures broken { IsErrOf result BuildError.BadPattern → IsBrokenMatcher matcher.now }
 {
-    let value = value_of(labels, name);
-    let found = if kind.is_regexp() {
-        patterns.is_match(pattern, value)?
+    let value = value_of(labels, matcher.name());
+    let found = if matcher.kind().is_regexp() {
+        patterns.is_match(matcher.pattern(), value)?
     } else {
-        pattern == value
+        matcher.pattern() == value
     };
-    Ok(match kind {
+    Ok(match matcher.kind() {
         MatcherKind::Equal | MatcherKind::Regexp => found,
         MatcherKind::NotEqual | MatcherKind::NotRegexp => !found,
     })
@@ -40,7 +36,7 @@ fn judge(
 /// labels are.
 pub fn judge_all(
     patterns: &mut PatternCache,
-    matchers: &[Matcher],
+    matchers: &Matchers,
     labels: &[Label],
 ) -> Result<bool, BuildError>
     ensures answer { IfOk result (λ yes. yes ≡ match_all matchers.now labels.now) }
@@ -48,10 +44,8 @@ pub fn judge_all(
     ensures broken { IsErrOf result BuildError.BadPattern → Any IsBrokenMatcher matchers.now }
 {
     let mut all = true;
-    for matcher in matchers {
-        let name = matcher.name.as_str();
-        let pattern = matcher.pattern.as_str();
-        let matches = judge(patterns, matcher.kind, name, pattern, labels)?;
+    for index in 0..matchers.len() {
+        let matches = judge(patterns, &matchers.at(index), labels)?;
         all &= matches;
     }
     Ok(all)
@@ -63,7 +57,7 @@ impl PatternCache {
     /// # Errors
     ///
     /// [`AllocError`] where memory runs out.
-    pub fn verdict(&mut self, matchers: &[Matcher]) -> Result<Verdict, AllocError>
+    pub fn verdict(&mut self, matchers: &Matchers) -> Result<Verdict, AllocError>
         ensures { IfOk result (IsVerdict matchers.now) }
     {
         match judge_all(self, matchers, &[]) {
@@ -82,7 +76,7 @@ impl PatternCache {
 /// # Errors
 ///
 /// [`AllocError`] where memory runs out.
-pub fn verdict(alloc: Global, matchers: &[Matcher]) -> Result<Verdict, AllocError>
+pub fn verdict(alloc: Global, matchers: &Matchers) -> Result<Verdict, AllocError>
     ensures { IfOk result (IsVerdict matchers.now) }
 {
     PatternCache::of_nothing(alloc).verdict(matchers)

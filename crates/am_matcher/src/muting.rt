@@ -49,7 +49,7 @@ fn effect_of(
     if !is_active(version, now) {
         return Ok(Effect::Idle);
     }
-    match judge_all(patterns, version.silence().matchers.as_slice(), labels) {
+    match judge_all(patterns, &version.silence().matchers, labels) {
         Ok(true) => Ok(Effect::Mutes),
         Ok(false) => Ok(Effect::Passes),
         Err(BuildError::BadPattern) => Ok(Effect::Broken),

@@ -4,8 +4,8 @@ use crate::fixtures::{BROKEN, MatcherRow, PATTERNS, matchers};
 use crate::muting::{JOBS, hold_four, kept_mutes_are, labels_of};
 use am_matcher::PatternCache;
 use am_merge::Held;
-use am_silence::{Matcher, MatcherKind, MeshSilence, Verdict};
-use am_wire::{Text, WireError};
+use am_silence::{MatcherKind, MatcherRef, Matchers, MeshSilence, Verdict};
+use am_wire::WireError;
 use std::alloc::{AllocError, Global};
 
 /// So many patterns are more than a cache keeps.
@@ -18,7 +18,7 @@ fn verdict_by(
     row: MatcherRow,
 ) -> Result<Verdict, AllocError> {
     let matchers = matchers(alloc, &[row])?;
-    patterns.verdict(matchers.as_slice())
+    patterns.verdict(&matchers)
 }
 
 /// The first of the patterns on which the verdict isn't this.
@@ -105,15 +105,22 @@ fn mutes_stay_the_same(rt: HostRuntime) {
     assert_eq!(rt; wrong, Ok([None; 3]));
 }
 
-/// A matcher with a pattern that no other number has; of an odd number it is broken.
-fn numbered(alloc: Global, number: usize) -> Result<Matcher, AllocError> {
+/// A pattern that no other number has; that of an odd number is broken.
+fn numbered(alloc: Global, number: usize) -> Result<String, AllocError> {
     let end = if number % 2 == 0 { "x" } else { "(" };
     let pattern = format!(in alloc; "{number}|{end}")?;
-    Ok(Matcher {
-        kind: MatcherKind::Regexp,
-        name: Text::new(String::new(alloc)),
-        pattern: Text::new(pattern),
-    })
+    Ok(pattern)
+}
+
+/// The verdict on one matcher with this pattern.
+fn pattern_verdict(
+    alloc: Global,
+    patterns: &mut PatternCache,
+    pattern: &str,
+) -> Result<Verdict, AllocError> {
+    let mut matchers = Matchers::none();
+    matchers.push(alloc, &MatcherRef::new(MatcherKind::Regexp, "", pattern))?;
+    patterns.verdict(&matchers)
 }
 
 fn numbered_verdict(
@@ -121,9 +128,8 @@ fn numbered_verdict(
     patterns: &mut PatternCache,
     number: usize,
 ) -> Result<Verdict, AllocError> {
-    let mut matchers = Vec::new(alloc);
-    matchers.push(numbered(alloc, number)?)?;
-    patterns.verdict(matchers.as_slice())
+    let pattern = numbered(alloc, number)?;
+    pattern_verdict(alloc, patterns, &pattern)
 }
 
 /// The first number whose verdict is wrong.

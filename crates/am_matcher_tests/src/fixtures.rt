@@ -1,6 +1,6 @@
 //! Patterns, matchers and silences of which the tests speak.
 
-use am_silence::{Matcher, MatcherKind, Matchers, Silence};
+use am_silence::{Matcher, MatcherKind, MatcherRef, Matchers, Silence};
 use am_version_order::Moment;
 use am_wire::Text;
 use std::alloc::{AllocError, Global};
@@ -60,11 +60,11 @@ pub fn matcher(alloc: Global, (kind, name, pattern): MatcherRow) -> Result<Match
 
 /// The matchers of these rows.
 pub fn matchers(alloc: Global, rows: &[MatcherRow]) -> Result<Matchers, AllocError> {
-    let mut matchers = Vec::new(alloc);
-    for &row in rows {
-        matchers.push(matcher(alloc, row)?)?;
+    let mut matchers = Matchers::none();
+    for &(kind, name, pattern) in rows {
+        matchers.push(alloc, &MatcherRef::new(kind, name, pattern))?;
     }
-    Ok(Matchers::new(matchers))
+    Ok(matchers)
 }
 
 /// The silence of these matchers, from 10 s until 100 s.

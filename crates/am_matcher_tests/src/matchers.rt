@@ -105,7 +105,7 @@ fn a_compiled_matcher_keeps_its_parts(rt: HostRuntime) {
 /// The verdict on the matchers of these rows.
 pub fn verdict_on(alloc: Global, rows: &[MatcherRow]) -> Result<Verdict, AllocError> {
     let matchers = matchers(alloc, rows)?;
-    verdict(alloc, matchers.as_slice())
+    verdict(alloc, &matchers)
 }
 
 /// A matcher of the kind has this verdict.

@@ -1,11 +1,8 @@
 -- Where the bucket of a silence stands in its canonical text.
-use Rattle.std.proofs.Common.{◌≡◌, ℕ, ◌+◌, ◌-◌, ◌<◌, ◌≤◌, ◌^◌, min, Bool, true, false, cond, nat_lt, List, [], ◌∷◌, ◌++◌, length, length-append, take, drop, Option, Some, None, refl, sym, ap, ◌∙◌, arith}
-use Rattle.std.specs.Prelude.{MatchOption, slice_get}
-use Rattle.std.specs.List.{find, position, position_or_len}
-use Rattle.std.proofs.lemmas.Bool.Decides.{nat_tests}
-use Rattle.std.proofs.lemmas.Option.{slice_get_past, get_or_from_slice_get}
+use Rattle.std.proofs.Common.{◌≡◌, ℕ, ◌+◌, ◌-◌, ◌<◌, ◌≤◌, ◌^◌, min, List, [], ◌∷◌, ◌++◌, length, length-append, take, drop, Some, refl, sym, ap, ◌∙◌, arith}
+use Rattle.std.specs.Prelude.{slice_get}
+use Rattle.std.proofs.lemmas.Option.{get_or_from_slice_get}
 use Rattle.std.proofs.lemmas.List.{append-nil, append_assoc, take-append-drop, take_more, flat_map_more}
-use Rattle.std.proofs.lemmas.List.Folds.{find_at}
 use Rattle.std.proofs.lemmas.Grind.{flat_map-append}
 use Rattle.std.proofs.Math.Seq.{drop-append_seam, take-append_seam}
 use Rattle.am_wire.specs.Varint.{shortest}
@@ -19,18 +16,6 @@ use Rattle.am_silence.specs.Matchers.{writes_matcher}
 use Rattle.am_silence.specs.Silences.{writes_silence}
 use Rattle.am_silence.specs.Mesh.{Mesh, writes_mesh_silence}
 use Rattle.am_silence.specs.Places.{StandsAt}
-
--- ---- the first that passes, and its index
-pub found_at : {X : Type 0} (p : X → Bool) (xs : List X) (at : Option ℕ) → at ≡ position p xs
-    → MatchOption at (find p xs ≡ None) (λ i. (i < length xs) × (find p xs ≡ slice_get xs i))
-found_at {X} p xs at is = rw is (by_test (nat_lt n (length xs)) refl)
-  where
-    n : ℕ
-    n = position_or_len p xs
-
-    by_test : (b : Bool) → nat_lt n (length xs) ≡ b → MatchOption (cond b (Some n) None) (find p xs ≡ None) (λ i. (i < length xs) × (find p xs ≡ slice_get xs i))
-    by_test true h = (grind (arith, nat_tests), find_at p xs)
-    by_test false h = find_at p xs ∙ slice_get_past xs n (grind (arith, nat_tests))
 
 -- ---- a part of a text that ends behind so many bytes of it
 pub record Ends (end : ℕ) (part text : List ℕ) : Type 0 where

@@ -1,5 +1,6 @@
 pub mod Buckets
 pub mod FirstComments
 pub mod Judging
+pub mod Marks
 pub mod SameMatchers
 pub mod Planning

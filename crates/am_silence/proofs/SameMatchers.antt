@@ -1,7 +1,6 @@
 -- Matchers that are the same are equal.
-use Rattle.std.proofs.Common.{◌≡◌, Bool, true, ◌&&◌, ◌==◌, ◌↔◌, IsTrue, List, [], ◌∷◌, length, refl, sym, ap, ◌∙◌, arith}
+use Rattle.std.proofs.Common.{◌≡◌, Bool, true, ◌&&◌, ◌==◌, ◌↔◌, IsTrue, List, refl, sym, ap, ◌∙◌}
 use Rattle.std.specs.Bool.{Decides}
-use Rattle.std.specs.List.{list_all, zip}
 use Rattle.std.specs.Cmp.{first_so, second_so}
 use Rattle.std.specs.Cmp.Derive.{both_true}
 use Rattle.std.proofs.lemmas.Slice.Eq.{bytes_eq-Decides, slice_eq-Decides}
@@ -11,19 +10,6 @@ use Rattle.am_silence.specs.declared.matcher.MatcherKind.{MatcherKind}
 use Rattle.am_silence.specs.declared.matcher.MatcherKind.TheVariants as kinds
 use Rattle.am_silence.specs.Kinds.{kind_code, kind_of}
 use Rattle.am_silence.specs.Plans.{same_matcher, same_matchers}
-
-abbrev pairwise : List Matcher → List Matcher → Bool
-pairwise xs ys = list_all (λ pair. same_matcher pair.0 pair.1) (zip xs ys)
-
--- where the lists are as long as each other, matching each with the one in its place is enough
-pairs : (xs ys : List Matcher) → length xs ≡ length ys → pairwise xs ys ≡ same_matchers xs ys
-pairs [] [] h = refl
-pairs [] (y ∷ ys) h = absurd (omega arith)
-pairs (x ∷ xs) [] h = absurd (omega arith)
-pairs (x ∷ xs) (y ∷ ys) h = ap (λ (b : Bool). same_matcher x y && b) (pairs xs ys (omega arith))
-
-pub same_matchers-pairs : (xs ys : List Matcher) (r : Bool) → length xs ≡ length ys → r ≡ pairwise xs ys → r ≡ same_matchers xs ys
-same_matchers-pairs xs ys r h e = e ∙ pairs xs ys h
 
 kind_again : (k : MatcherKind) → kind_of (kind_code k) ≡ k
 kind_again kinds.Equal = refl

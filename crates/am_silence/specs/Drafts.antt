@@ -39,7 +39,7 @@ IsFirstComment es d = MatchOption (first_comment es) (d.given ≡ false) (KeepsC
 -- a silence's draft holds what these fields leave
 pub record IsSilenceDraft (es : List FieldAt) (d : SilenceDraft) : Type 0 where
   pub id : d.id.text.now ≡ last_text 1 es
-  pub matchers : d.matchers.items ≡ map matcher_value (messages matcher 2 es)
+  pub matchers : d.matchers ≡ map matcher_value (messages matcher 2 es)
   pub starts_at : IsPart IsTimestampDraft timestamp 3 es d.starts_at
   pub ends_at : IsPart IsTimestampDraft timestamp 4 es d.ends_at
   pub updated_at : IsPart IsTimestampDraft timestamp 5 es d.updated_at

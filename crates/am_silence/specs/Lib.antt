@@ -1,4 +1,5 @@
 pub mod Kinds
+pub mod Marks
 pub mod Matchers
 pub mod Comments
 pub mod Silences

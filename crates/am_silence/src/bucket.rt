@@ -1,7 +1,7 @@
 //! Where the bucket of a silence stands in its canonical text.
 
 ghost use Rattle.std.specs.Prelude.{◌≡◌, ◌+◌, ◌<◌, ◌≤◌, ◌^◌, length, slice_get, MatchOption};
-ghost use Rattle.std.specs.List.{list_any, position};
+ghost use Rattle.std.specs.List.{list_any, find};
 ghost use Rattle.am_wire.specs.Writing.{writes_delimited};
 ghost use Rattle.am_silence.specs.Kinds.{is_regexp};
 ghost use Rattle.am_silence.specs.Matchers.{wants_label};
@@ -9,10 +9,9 @@ ghost use Rattle.am_silence.specs.Silences.{writes_silence};
 ghost use Rattle.am_silence.specs.Mesh.{Mesh, writes_mesh_silence, bucket_matcher_of, bucket_of};
 ghost use Rattle.am_silence.specs.Places.{part_at, StandsAt};
 
-use crate::matcher::Matcher;
+use crate::matchers::Matchers;
 use crate::silence::Silence;
 use crate::sizes::matchers_size;
-use am_wire::Message;
 use am_wire::writing::{delimited_size, text_size};
 
 /// Where a part of a text stands that has fewer than 2^32 bytes.
@@ -39,15 +38,15 @@ pub fn bucket_place(silence: &Silence, size: u64) -> Place
     ensures { (m : Mesh) → m.silence ≡ silence.now →
         StandsAt (bucket_of silence.now.matchers) result (writes_mesh_silence m) }
 {
-    let matchers = silence.matchers.as_slice();
+    let matchers = &silence.matchers;
     let Some(index) = bucket_index(matchers) else {
         return Place { start: 0, len: 0 };
     };
-    let len = matchers[index].size();
+    let len = matchers.at(index).size();
     let end = delimited_size(1, size)
         .saturating_sub(size)
         .saturating_add(text_size(1, silence.id.as_str()))
-        .saturating_add(matchers_size(&matchers[..=index]));
+        .saturating_add(matchers_size(matchers, index + 1));
     Place {
         start: end.saturating_sub(len) as u32,
         len: len as u32,
@@ -55,7 +54,7 @@ pub fn bucket_place(silence: &Silence, size: u64) -> Place
 }
 
 // Which matcher a silence is looked up by: the first that wants a label, unless one is a regular expression.
-fn bucket_index(matchers: &[Matcher]) -> Option<usize>
+fn bucket_index(matchers: &Matchers) -> Option<usize>
     ensures { MatchOption result (bucket_matcher_of matchers.now ≡ None)
         (λ i. (i < length matchers.now) × (bucket_matcher_of matchers.now ≡ slice_get matchers.now i)) }
 {
@@ -66,15 +65,26 @@ fn bucket_index(matchers: &[Matcher]) -> Option<usize>
 }
 
 // The first matcher that wants a label.
-fn first_wanting(matchers: &[Matcher]) -> Option<usize>
-    ensures { result ≡ position wants_label matchers.now }
+fn first_wanting(matchers: &Matchers) -> Option<usize>
+    ensures { MatchOption result (find wants_label matchers.now ≡ None)
+        (λ i. (i < length matchers.now) × (find wants_label matchers.now ≡ slice_get matchers.now i)) }
 {
-    matchers.iter().position(|matcher| matcher.wants_label())
+    for index in 0..matchers.len() {
+        if matchers.at(index).wants_label() {
+            return Some(index);
+        }
+    }
+    None
 }
 
 // A regular expression decides about the silence.
-fn has_regexp(matchers: &[Matcher]) -> bool
+fn has_regexp(matchers: &Matchers) -> bool
     ensures { result ≡ list_any (λ m. is_regexp m.kind) matchers.now }
 {
-    matchers.iter().any(|matcher| matcher.kind.is_regexp())
+    for index in 0..matchers.len() {
+        if matchers.at(index).kind().is_regexp() {
+            return true;
+        }
+    }
+    false
 }

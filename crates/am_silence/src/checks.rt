@@ -8,7 +8,7 @@ ghost use Rattle.am_silence.specs.Plans.{held_silence};
 ghost use Rattle.am_silence.specs.Refusals.{Refuses, ◌when◌, posted_refusal, matchers_refusal, times_refusal, newer_refusal, held_refusal};
 
 use crate::error::SilenceError;
-use crate::matcher::Matcher;
+use crate::matchers::Matchers;
 use crate::mesh::MeshSilence;
 use crate::plan::{Posted, Verdict};
 use crate::silence::Silence;
@@ -28,7 +28,7 @@ pub fn check_posted<'a>(
     ensures no_memory { IfErr result (λ e. e ≢ errors.Memory) }
 {
     let held = held_silence(held, posted)?;
-    check_matchers(posted.matchers.as_slice(), verdict)?;
+    check_matchers(&posted.matchers, verdict)?;
     check_times(posted, now)?;
     check_held(held, now)?;
     Ok(held)
@@ -54,7 +54,7 @@ fn held_silence<'a>(
 
 // There are matchers, each names a label, and their patterns are fine.
 #[tactic(auto, unfolding(crate::specs::Refusals::matchers_refusal))]
-fn check_matchers(matchers: &[Matcher], verdict: Verdict) -> Result<(), SilenceError>
+fn check_matchers(matchers: &Matchers, verdict: Verdict) -> Result<(), SilenceError>
     ensures tests { Refuses result (matchers_refusal matchers.now verdict) }
     ensures no_memory { IfErr result (λ e. e ≢ errors.Memory) }
 {
@@ -72,12 +72,15 @@ fn check_matchers(matchers: &[Matcher], verdict: Verdict) -> Result<(), SilenceE
 }
 
 // A matcher names no label.
-fn has_empty_name(matchers: &[Matcher]) -> bool
+fn has_empty_name(matchers: &Matchers) -> bool
     ensures { result ≡ list_any (λ m. length m.name == 0) matchers.now }
 {
-    matchers
-        .iter()
-        .any(|matcher| matcher.name.as_str().is_empty())
+    for index in 0..matchers.len() {
+        if matchers.at(index).name().is_empty() {
+            return true;
+        }
+    }
+    false
 }
 
 // The end is after the start, and after now.

@@ -4,7 +4,8 @@ ghost use Rattle.std.specs.Prelude.{◌≡◌, ℕ, List, [], ◌∷◌, ◌++�
 ghost use Rattle.am_wire.specs.Fields.{FieldAt, field_of};
 ghost use Rattle.am_wire.specs.declared.error.WireError.TheVariants as WireError;
 ghost use Rattle.am_silence.specs.Kinds.{kind_code, is_regexp};
-ghost use Rattle.am_silence.specs.Matchers.{matcher, wants_label};
+ghost use Rattle.am_wire.specs.Sizes.{counted};
+ghost use Rattle.am_silence.specs.Matchers.{matcher, wants_label, writes_matcher, IsMatcher};
 
 use am_wire::reading::{Draft, LastNumber, LastText, Schema, read_message};
 use am_wire::writing::{number_size, text_size, write_number, write_text};
@@ -68,11 +69,18 @@ pub struct Matcher {
 }
 
 impl Matcher {
+    /// The same matcher, whose texts are this one's.
+    pub fn borrowed(&self) -> MatcherRef<'_>
+        ensures { result ≡ self.now }
+    {
+        MatcherRef::new(self.kind, self.name.as_str(), self.pattern.as_str())
+    }
+
     /// A label that is there has to be the pattern, which is not empty.
     pub fn wants_label(&self) -> bool
         ensures { result ≡ wants_label self.now }
     {
-        matches!(self.kind, MatcherKind::Equal) && !self.pattern.as_str().is_empty()
+        self.borrowed().wants_label()
     }
 
     /// A copy.
@@ -83,71 +91,98 @@ impl Matcher {
     pub fn try_clone(&self, alloc: Global) -> Result<Matcher, AllocError>
         ensures { IfOk result (λ copy. copy ≡ self.now) }
     {
-        Ok(Matcher {
-            kind: self.kind,
-            name: self.name.try_clone(alloc)?,
-            pattern: self.pattern.try_clone(alloc)?,
-        })
+        self.borrowed().copied(alloc)
     }
 }
 
-/// The matchers of a silence, in their order. Contracts see the list.
+/// A matcher whose texts are another's. Contracts see the matcher.
 #[derive(Debug, Drop)]
-pub struct Matchers {
-    matchers: Vec<Matcher>,
+pub struct MatcherRef<'a> {
+    kind: MatcherKind,
+    name: &'a str,
+    pattern: &'a str,
 }
 
-impl Model for Matchers {
-    ghost use Rattle.std.specs.Prelude.{List};
+impl<'a> Model for MatcherRef<'a> {
     ghost use Rattle.am_silence.specs.declared.matcher.Matcher.{Matcher};
 
-    ghost Value = { List Matcher };
+    ghost Value = { Matcher };
 
-    ghost view = { λ m. m.matchers.items };
+    ghost view = { λ m. record { kind = m.kind; name = m.name.now; pattern = m.pattern.now } };
 }
 
-impl Matchers {
-    /// These matchers. It takes no memory.
-    pub fn new(matchers: Vec<Matcher>) -> Matchers
-        ensures { result ≡ matchers.items }
+impl<'a> MatcherRef<'a> {
+    /// A matcher of these parts.
+    pub fn new(kind: MatcherKind, name: &'a str, pattern: &'a str) -> Self
+        ensures { result ≡ record { kind = kind; name = name.now; pattern = pattern.now } }
     {
-        Matchers { matchers }
+        MatcherRef {
+            kind,
+            name,
+            pattern,
+        }
     }
 
-    pub fn as_slice(&self) -> &[Matcher]
-        ensures { result.now ≡ self.now }
+    pub fn kind(&self) -> MatcherKind
+        ensures { result ≡ self.now.kind }
     {
-        self.matchers.as_slice()
+        self.kind
     }
 
-    /// Gives the vector back. It takes no memory.
-    pub fn into_vec(self) -> Vec<Matcher>
-        ensures { result.items ≡ self }
+    pub fn name(&self) -> &'a str
+        ensures { result.now ≡ self.now.name }
     {
-        self.matchers
+        self.name
     }
 
-    /// A copy.
+    pub fn pattern(&self) -> &'a str
+        ensures { result.now ≡ self.now.pattern }
+    {
+        self.pattern
+    }
+
+    /// A label that is there has to be the pattern, which is not empty.
+    pub fn wants_label(&self) -> bool
+        ensures { result ≡ wants_label self.now }
+    {
+        matches!(self.kind, MatcherKind::Equal) && !self.pattern.is_empty()
+    }
+
+    /// A matcher with texts of its own.
     ///
     /// # Errors
     ///
     /// [`AllocError`] where memory runs out.
-    pub fn try_clone(&self, alloc: Global) -> Result<Matchers, AllocError>
+    pub fn copied(&self, alloc: Global) -> Result<Matcher, AllocError>
         ensures { IfOk result (λ copy. copy ≡ self.now) }
     {
-        let copies = copies_of(alloc, self.as_slice())?;
-        Ok(Matchers::new(copies))
+        Ok(Matcher {
+            kind: self.kind,
+            name: Text::copied(alloc, self.name)?,
+            pattern: Text::copied(alloc, self.pattern)?,
+        })
     }
-}
 
-fn copies_of(alloc: Global, matchers: &[Matcher]) -> Result<Vec<Matcher>, AllocError>
-    ensures { IfOk result (λ copies. copies.items ≡ matchers.now) }
-{
-    let mut copies = Vec::with_capacity(alloc, matchers.len())?;
-    for matcher in matchers {
-        copies.push(matcher.try_clone(alloc)?)?;
+    /// How many bytes its text has.
+    #[tactic(auto, unfolding(crate::specs::Matchers::writes_matcher))]
+    pub(crate) fn size(&self) -> u64
+        ensures { result ≡ counted (length (writes_matcher self.now)) }
+    {
+        number_size(1, self.kind.number())
+            .saturating_add(text_size(2, self.name))
+            .saturating_add(text_size(3, self.pattern))
     }
-    Ok(copies)
+
+    /// Writes its text at the end of the bytes.
+    #[tactic(auto, unfolding(crate::specs::Matchers::writes_matcher))]
+    pub(crate) fn write(&self, out: &mut Vec<u8>) -> Result<(), AllocError>
+        ensures written { OnOk result (out.new.items ≡ out.old.items ++ writes_matcher self.now) }
+        ensures value { OnOk result (IsMatcher self.now) }
+    {
+        write_number(out, 1, self.kind.number())?;
+        write_text(out, 2, self.name)?;
+        write_text(out, 3, self.pattern)
+    }
 }
 
 /// A matcher as it is read.
@@ -176,7 +211,7 @@ impl<'a> Draft<'a> for MatcherDraft<'a> {
     ghost use Rattle.am_silence.specs.Matchers.{matcher_value, matcher_tests};
     ghost use Rattle.am_silence.specs.Drafts.{IsMatcherDraft};
 
-    type Done = Matcher;
+    type Done = MatcherRef<'a>;
 
     ghost inside = { matcher.inside };
 
@@ -204,15 +239,9 @@ impl<'a> Draft<'a> for MatcherDraft<'a> {
         Ok(())
     }
 
-    fn finish(self, alloc: Global, _place: usize) -> Result<Matcher, WireError> {
+    fn finish(self, _alloc: Global, _place: usize) -> Result<MatcherRef<'a>, WireError> {
         let kind = MatcherKind::from_number(self.kind.value % (1 << 32), self.kind.at)?;
-        let name = Text::copied(alloc, self.name.text)?;
-        let pattern = Text::copied(alloc, self.pattern.text)?;
-        Ok(Matcher {
-            kind,
-            name,
-            pattern,
-        })
+        Ok(MatcherRef::new(kind, self.name.text, self.pattern.text))
     }
 }
 
@@ -228,22 +257,17 @@ impl Message for Matcher {
 
     ghost again = { matcher_again };
 
-    #[tactic(auto, unfolding(crate::specs::Matchers::writes_matcher))]
     fn size(&self) -> u64 {
-        number_size(1, self.kind.number())
-            .saturating_add(text_size(2, self.name.as_str()))
-            .saturating_add(text_size(3, self.pattern.as_str()))
+        self.borrowed().size()
     }
 
-    #[tactic(auto, unfolding(crate::specs::Matchers::writes_matcher))]
     fn write(&self, out: &mut Vec<u8>) -> Result<(), AllocError> {
-        write_number(out, 1, self.kind.number())?;
-        write_text(out, 2, self.name.as_str())?;
-        write_text(out, 3, self.pattern.as_str())
+        self.borrowed().write(out)
     }
 
     #[tactic(auto, unfolding(crate::specs::Matchers::reads_matcher))]
     fn decode_at(alloc: Global, bytes: &[u8], at: usize) -> Result<Matcher, WireError> {
-        read_message::<MatcherDraft>(alloc, bytes, at, at)
+        let matcher = read_message::<MatcherDraft>(alloc, bytes, at, at)?;
+        Ok(matcher.copied(alloc)?)
     }
 }

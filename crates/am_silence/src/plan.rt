@@ -11,7 +11,7 @@ ghost use Rattle.am_silence.specs.Refusals.{◌before◌, refusal, early_refusal
 
 use crate::checks::{check_fresh, check_older, check_posted};
 use crate::error::SilenceError;
-use crate::matcher::Matchers;
+use crate::matchers::Matchers;
 use crate::mesh::MeshSilence;
 use crate::silence::Silence;
 use crate::state::{State, state_at};

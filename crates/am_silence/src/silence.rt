@@ -3,17 +3,18 @@
 ghost use Rattle.std.specs.Prelude.{◌≡◌, ℕ, List, [], ◌∷◌, ◌++◌, OnOk, IfOk, IfErr};
 ghost use Rattle.std.specs.Prelude.{All, if◌then◌else◌};
 ghost use Rattle.am_silence.specs.Matchers.{IsMatcher, writes_matcher};
-ghost use Rattle.am_wire.specs.Writing.{writes_messages};
+ghost use Rattle.am_wire.specs.Writing.{writes_delimited, writes_messages};
 ghost use Rattle.am_silence.specs.Silences.{silence};
 
 use crate::comment::FirstComment;
-use crate::matcher::{Matcher, MatcherDraft, Matchers};
+use crate::matcher::MatcherRef;
+use crate::matchers::Matchers;
 use crate::sizes::SilenceFields;
 use am_version_order::Moment;
 use am_wire::reading::{
-    Draft, LastText, Schema, Submessage, TimestampDraft, moment_in, read_message, take_item,
+    Draft, LastText, Schema, Submessage, TimestampDraft, moment_in, read_message,
 };
-use am_wire::writing::{write_message, write_text};
+use am_wire::writing::{write_message, write_prefix, write_text};
 use am_wire::{Field, Message, Text, WireError, WireType};
 use std::alloc::{AllocError, Global};
 
@@ -55,7 +56,7 @@ impl Silence {
 pub struct SilenceDraft<'a> {
     alloc: Global,
     id: LastText<'a>,
-    matchers: Vec<Matcher>,
+    matchers: Matchers,
     starts_at: Submessage<TimestampDraft>,
     ends_at: Submessage<TimestampDraft>,
     updated_at: Submessage<TimestampDraft>,
@@ -109,7 +110,7 @@ impl<'a> Draft<'a> for SilenceDraft<'a> {
         SilenceDraft {
             alloc,
             id: LastText::none(),
-            matchers: Vec::new(alloc),
+            matchers: Matchers::none(),
             starts_at: Submessage::none(alloc),
             ends_at: Submessage::none(alloc),
             updated_at: Submessage::none(alloc),
@@ -122,7 +123,7 @@ impl<'a> Draft<'a> for SilenceDraft<'a> {
     fn take(&mut self, field: Field<'a>) -> Result<(), WireError> {
         match field.number {
             1 => self.id.take(field)?,
-            2 => take_item::<MatcherDraft>(self.alloc, &mut self.matchers, field)?,
+            2 => self.matchers.take(self.alloc, field)?,
             3 => self.starts_at.take(field)?,
             4 => self.ends_at.take(field)?,
             5 => self.updated_at.take(field)?,
@@ -146,7 +147,7 @@ impl<'a> Draft<'a> for SilenceDraft<'a> {
         matchers.shrink_to_fit();
         Ok(Silence {
             id,
-            matchers: Matchers::new(matchers),
+            matchers,
             starts_at,
             ends_at,
             updated_at,
@@ -157,14 +158,23 @@ impl<'a> Draft<'a> for SilenceDraft<'a> {
 }
 
 /// Writes each matcher as a field.
-fn push_matchers(out: &mut Vec<u8>, matchers: &[Matcher]) -> Result<(), AllocError>
+fn push_matchers(out: &mut Vec<u8>, matchers: &Matchers) -> Result<(), AllocError>
     ensures written { OnOk result (out.new.items ≡ out.old.items ++ writes_messages writes_matcher 2 matchers.now) }
     ensures value { OnOk result (All IsMatcher matchers.now) }
 {
-    for matcher in matchers {
-        write_message(out, 2, matcher)?;
+    for index in 0..matchers.len() {
+        push_matcher(out, &matchers.at(index))?;
     }
     Ok(())
+}
+
+/// Writes a matcher as a field.
+fn push_matcher(out: &mut Vec<u8>, matcher: &MatcherRef<'_>) -> Result<(), AllocError>
+    ensures written { OnOk result (out.new.items ≡ out.old.items ++ writes_delimited 2 (writes_matcher matcher.now)) }
+    ensures value { OnOk result (IsMatcher matcher.now) }
+{
+    write_prefix(out, 2, matcher.size())?;
+    matcher.write(out)
 }
 
 impl Message for Silence {
@@ -186,7 +196,7 @@ impl Message for Silence {
     #[tactic(auto, unfolding(crate::specs::Silences::writes_silence))]
     fn write(&self, out: &mut Vec<u8>) -> Result<(), AllocError> {
         write_text(out, 1, self.id.as_str())?;
-        push_matchers(out, self.matchers.as_slice())?;
+        push_matchers(out, &self.matchers)?;
         write_message(out, 3, &self.starts_at)?;
         write_message(out, 4, &self.ends_at)?;
         write_message(out, 5, &self.updated_at)?;

@@ -1,6 +1,6 @@
 //! How many bytes canonical texts have, before anything of them is made.
 
-ghost use Rattle.std.specs.Prelude.{◌≡◌, length};
+ghost use Rattle.std.specs.Prelude.{◌≡◌, ◌≤◌, length, take};
 ghost use Rattle.am_wire.specs.Sizes.{counted};
 ghost use Rattle.am_wire.specs.Writing.{writes_messages};
 ghost use Rattle.am_silence.specs.Fields.{silence_in};
@@ -8,7 +8,7 @@ ghost use Rattle.am_silence.specs.Matchers.{writes_matcher};
 ghost use Rattle.am_silence.specs.Mesh.{Mesh, writes_mesh_silence};
 ghost use Rattle.am_silence.specs.Silences.{writes_silence};
 
-use crate::matcher::Matcher;
+use crate::matchers::Matchers;
 use crate::silence::Silence;
 use am_version_order::Moment;
 use am_wire::writing::{delimited_size, message_size, text_size};
@@ -17,7 +17,7 @@ use am_wire::writing::{delimited_size, message_size, text_size};
 #[derive(Clone, Copy)]
 pub struct SilenceFields<'a> {
     pub id: &'a str,
-    pub matchers: &'a [Matcher],
+    pub matchers: &'a Matchers,
     pub starts_at: Moment,
     pub ends_at: Moment,
     pub updated_at: Moment,
@@ -32,7 +32,7 @@ impl<'a> SilenceFields<'a> {
     {
         SilenceFields {
             id: silence.id.as_str(),
-            matchers: silence.matchers.as_slice(),
+            matchers: &silence.matchers,
             starts_at: silence.starts_at,
             ends_at: silence.ends_at,
             updated_at: silence.updated_at,
@@ -47,7 +47,7 @@ impl<'a> SilenceFields<'a> {
         ensures { result ≡ counted (length (writes_silence (silence_in self.now))) }
     {
         text_size(1, self.id)
-            .saturating_add(matchers_size(self.matchers))
+            .saturating_add(matchers_size(self.matchers, self.matchers.len()))
             .saturating_add(message_size(3, &self.starts_at))
             .saturating_add(message_size(4, &self.ends_at))
             .saturating_add(message_size(5, &self.updated_at))
@@ -56,13 +56,15 @@ impl<'a> SilenceFields<'a> {
     }
 }
 
-/// How many bytes the matchers have, each as a field.
-pub fn matchers_size(matchers: &[Matcher]) -> u64
-    ensures { result ≡ counted (length (writes_messages writes_matcher 2 matchers.now)) }
+/// How many bytes the first matchers have, each as a field.
+pub fn matchers_size(matchers: &Matchers, count: usize) -> u64
+    requires { count ≤ length matchers.now }
+    ensures { result ≡ counted (length (writes_messages writes_matcher 2 (take count matchers.now))) }
 {
     let mut size: u64 = 0;
-    for matcher in matchers {
-        size = size.saturating_add(message_size(2, matcher));
+    for index in 0..count {
+        let matcher = matchers.at(index);
+        size = size.saturating_add(delimited_size(2, matcher.size()));
     }
     size
 }

@@ -63,7 +63,7 @@ fn posted_fields<'a>(
 {
     SilenceFields {
         id,
-        matchers: posted.matchers.as_slice(),
+        matchers: &posted.matchers,
         starts_at,
         ends_at: posted.ends_at,
         updated_at,

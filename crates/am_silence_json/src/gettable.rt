@@ -10,7 +10,7 @@ ghost use Rattle.am_moment_text.specs.Written.{WritesMoment};
 
 use crate::tokens::{add, add_text, add_truth};
 use am_moment_text::write_moment;
-use am_silence::{Matcher, MatcherKind, MeshSilence, Silence, State};
+use am_silence::{MatcherKind, Matchers, MeshSilence, Silence, State};
 use am_version_order::Moment;
 use json::{Token, Writer};
 use std::alloc::AllocError;
@@ -53,18 +53,18 @@ fn add_matcher(
 }
 
 /// Adds matchers, without brackets.
-fn add_each_matcher(out: &mut Writer, matchers: &[Matcher]) -> Result<(), AllocError>
+fn add_each_matcher(out: &mut Writer, matchers: &Matchers) -> Result<(), AllocError>
     ensures { OnOk result (Adds out.old out.new (row_tokens (map matcher_data matchers.now))) }
 {
-    for matcher in matchers {
-        let (name, pattern) = (matcher.name.as_str(), matcher.pattern.as_str());
-        add_matcher(out, matcher.kind, name, pattern)?;
+    for index in 0..matchers.len() {
+        let matcher = matchers.at(index);
+        add_matcher(out, matcher.kind(), matcher.name(), matcher.pattern())?;
     }
     Ok(())
 }
 
 /// Adds the member that lists the matchers.
-fn add_matchers(out: &mut Writer, matchers: &[Matcher]) -> Result<(), AllocError>
+fn add_matchers(out: &mut Writer, matchers: &Matchers) -> Result<(), AllocError>
     ensures { OnOk result (Adds out.old out.new
         (key (codes "matchers") ∷ data_tokens (array (items_of (map matcher_data matchers.now))))) }
 {
@@ -105,7 +105,7 @@ pub fn add_silence(out: &mut Writer, silence: &Silence, state: State) -> Result<
     add_text(out, "createdBy", silence.created_by.as_str())?;
     add_moment(out, "endsAt", silence.ends_at)?;
     add_text(out, "id", silence.id.as_str())?;
-    add_matchers(out, silence.matchers.as_slice())?;
+    add_matchers(out, &silence.matchers)?;
     add_moment(out, "startsAt", silence.starts_at)?;
     add_status(out, state)?;
     add_moment(out, "updatedAt", silence.updated_at)?;

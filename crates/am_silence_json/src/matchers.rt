@@ -10,7 +10,7 @@ ghost use Rattle.am_silence_json.specs.Borrowed.{matcher_in};
 
 use crate::error::BodyError;
 use crate::key::Key;
-use am_silence::{Matcher, MatcherKind};
+use am_silence::{Matcher, MatcherKind, Matchers};
 use am_wire::Text;
 use serde_json::Value;
 use std::alloc::{AllocError, Global};
@@ -121,8 +121,8 @@ fn read_each(alloc: Global, values: &[Value]) -> Result<Vec<Matcher>, BodyError>
 }
 
 /// The posted matchers.
-pub fn read_matchers(alloc: Global, object: &Value) -> Result<Vec<Matcher>, BodyError>
-    ensures read { IfOk result (λ ms. matchers_in (view object.now) ≡ Some ms.items) }
+pub fn read_matchers(alloc: Global, object: &Value) -> Result<Matchers, BodyError>
+    ensures read { IfOk result (λ ms. matchers_in (view object.now) ≡ Some ms) }
     ensures wrong { IfErr result (λ e. e ≢ errors.Memory →
         (e ≡ errors.Wrong keys.Matchers) × (matchers_in (view object.now) ≡ None)) }
 {
@@ -130,5 +130,6 @@ pub fn read_matchers(alloc: Global, object: &Value) -> Result<Vec<Matcher>, Body
         return Err(BodyError::Wrong(Key::Matchers));
     };
     let matchers = read_each(alloc, values.as_slice())?;
-    Ok(matchers)
+    let kept = Matchers::new(alloc, &matchers)?;
+    Ok(kept)
 }

@@ -136,7 +136,7 @@ fn read_object(alloc: Global, object: &Value) -> Result<Posted, BodyError>
     let matchers = read_matchers(alloc, object)?;
     match read_rest(object) {
         Ok(rest) => {
-            let posted = posted_of(alloc, id, Matchers::new(matchers), rest)?;
+            let posted = posted_of(alloc, id, matchers, rest)?;
             Ok(posted)
         }
         Err(key) => Err(BodyError::Wrong(key)),

@@ -1,6 +1,6 @@
 //! Bodies of replies.
 
-use am_silence::{Matcher, MatcherKind, Matchers, MeshSilence, Silence, State};
+use am_silence::{MatcherKind, MatcherRef, Matchers, MeshSilence, Silence, State};
 use am_silence_json::{write_error, write_posted, write_silence, write_silences};
 use am_version_order::Moment;
 use am_wire::{Message, Text, WireError};
@@ -38,21 +38,12 @@ const FOUR_KINDS: SilenceRow = (
 const A: &[u8] =
     b"\x0A\x19\x0A\x01a\x12\x08\x12\x03job\x1A\x01x\x1A\x02\x08\x0A\x22\x02\x08\x64\x2A\x02\x08\x0A\x12\x03\x08\xC8\x01";
 
-fn matcher(alloc: Global, (kind, name, pattern): MatcherRow) -> Result<Matcher, AllocError> {
-    let name = Text::copied(alloc, name)?;
-    Ok(Matcher {
-        kind,
-        name,
-        pattern: Text::copied(alloc, pattern)?,
-    })
-}
-
 fn matchers(alloc: Global, rows: &[MatcherRow]) -> Result<Matchers, AllocError> {
-    let mut matchers = Vec::new(alloc);
-    for &row in rows {
-        matchers.push(matcher(alloc, row)?)?;
+    let mut matchers = Matchers::none();
+    for &(kind, name, pattern) in rows {
+        matchers.push(alloc, &MatcherRef::new(kind, name, pattern))?;
     }
-    Ok(Matchers::new(matchers))
+    Ok(matchers)
 }
 
 /// From 10.0005 s to 100 s, updated at 10.0005 s.

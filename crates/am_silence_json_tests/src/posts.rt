@@ -1,6 +1,6 @@
 //! Bodies of posts.
 
-use am_silence::{MatcherKind, Posted};
+use am_silence::{MatcherKind, Matchers, Posted};
 use am_silence_json::{BodyError, Key, read_post};
 use am_version_order::Moment;
 use std::alloc::Global;
@@ -22,6 +22,15 @@ fn seconds(moment: Moment) -> i64 {
     seconds
 }
 
+/// The first of the matchers is this one.
+fn is_first(matchers: &Matchers, kind: MatcherKind, name: &str, pattern: &str) -> bool {
+    if matchers.is_empty() {
+        return false;
+    }
+    let first = matchers.at(0);
+    first.kind() == kind && first.name() == name && first.pattern() == pattern
+}
+
 fn posts_that(
     posted: &Posted,
     (id, count, (kind, name, pattern), (start, end), author, comment): PostRow,
@@ -30,15 +39,9 @@ fn posts_that(
         Some(id) => id.as_str(),
         None => "-",
     };
-    let matchers = posted.matchers.as_slice();
-    let first = match matchers.first() {
-        Some(first) => {
-            first.kind == kind && first.name.as_str() == name && first.pattern.as_str() == pattern
-        }
-        None => false,
-    };
+    let first = is_first(&posted.matchers, kind, name, pattern);
     posted_id == id
-        && matchers.len() == count
+        && posted.matchers.len() == count
         && first
         && seconds(posted.starts_at) == start
         && seconds(posted.ends_at) == end

@@ -1,6 +1,6 @@
 //! Silences of which the tests speak.
 
-use am_silence::{Matcher, MatcherKind, Matchers, MeshSilence, Silence};
+use am_silence::{MatcherKind, MatcherRef, Matchers, MeshSilence, Silence};
 use am_version_order::{Interval, Moment};
 use am_wire::{Text, WireError};
 use std::alloc::{AllocError, Global};
@@ -29,22 +29,13 @@ pub fn retention() -> Interval {
     Interval::from_nanos(100_000_000_000).unwrap()
 }
 
-fn matcher(alloc: Global, (kind, name, pattern): MatcherRow) -> Result<Matcher, AllocError> {
-    let name = Text::copied(alloc, name)?;
-    Ok(Matcher {
-        kind,
-        name,
-        pattern: Text::copied(alloc, pattern)?,
-    })
-}
-
 /// The matchers of these rows.
 pub fn matchers(alloc: Global, rows: &[MatcherRow]) -> Result<Matchers, AllocError> {
-    let mut matchers = Vec::new(alloc);
-    for &row in rows {
-        matchers.push(matcher(alloc, row)?)?;
+    let mut matchers = Matchers::none();
+    for &(kind, name, pattern) in rows {
+        matchers.push(alloc, &MatcherRef::new(kind, name, pattern))?;
     }
-    Ok(Matchers::new(matchers))
+    Ok(matchers)
 }
 
 /// The silence `a` of these matchers, with its start, its end and its update moment.

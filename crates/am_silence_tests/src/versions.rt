@@ -77,22 +77,19 @@ fn has_words(version: &MeshSilence, id: &str, author: &str, comment: &str) -> bo
 }
 
 // There is one matcher, and it is this one.
-fn is_matcher(matchers: &[Matcher], row: MatcherRow) -> bool {
-    match matchers {
-        [matcher] => {
-            matcher.kind == row.0
-                && matcher.name.as_str() == row.1
-                && matcher.pattern.as_str() == row.2
-        }
-        _ => false,
+fn is_matcher(matchers: &Matchers, (kind, name, pattern): MatcherRow) -> bool {
+    if matchers.len() != 1 {
+        return false;
     }
+    let matcher = matchers.at(0);
+    matcher.kind() == kind && matcher.name() == name && matcher.pattern() == pattern
 }
 
 fn is_first(version: &MeshSilence) -> bool {
     let (ten, end, expiry) = (at(10_000), at(100_000), at(200_000));
     has_texts(version, "a", &FIRST, &JOB_IS_X_TEXT)
         && moments_of(version) == [ten, expiry, expiry, ten, end, ten]
-        && is_matcher(version.silence().matchers.as_slice(), JOB_IS_X[0])
+        && is_matcher(&version.silence().matchers, JOB_IS_X[0])
 }
 
 fn is_first_read(alloc: Global, bytes: &[u8]) -> Result<bool, WireError> {
@@ -143,7 +140,7 @@ fn is_joined(version: &MeshSilence) -> bool {
     let (least, expiry) = (Moment::LEAST, at(200_000));
     has_words(version, "a", "", "hi")
         && moments_of(version) == [least, expiry, expiry, least, least, least]
-        && version.silence().matchers.as_slice().is_empty()
+        && version.silence().matchers.is_empty()
         && version.canonical().len() == 53
         && version.bucket().is_empty()
 }
@@ -328,24 +325,23 @@ fn a_matcher_is_written_as_it_is_read(rt: HostRuntime) {
     holds(&rt, is_matcher_kept(rt.alloc(), &JOB_IS_X_TEXT));
 }
 
-fn copied(alloc: Global, matchers: &Matchers) -> Result<Vec<Matcher>, AllocError> {
+fn is_matcher_copied(
+    alloc: Global,
+    matchers: &Matchers,
+    row: MatcherRow,
+) -> Result<bool, WireError> {
     let copy = matchers.try_clone(alloc)?;
-    Ok(copy.into_vec())
+    Ok(is_matcher(&copy, row))
 }
 
-fn is_given_back(alloc: Global, matchers: &Matchers, row: MatcherRow) -> Result<bool, WireError> {
-    let copies = copied(alloc, matchers)?;
-    Ok(is_matcher(&copies, row))
-}
-
-fn are_given_back(alloc: Global, rows: &[MatcherRow; 1]) -> Result<bool, WireError> {
+fn are_copied(alloc: Global, rows: &[MatcherRow; 1]) -> Result<bool, WireError> {
     let matchers = matchers(alloc, rows)?;
-    is_given_back(alloc, &matchers, rows[0])
+    is_matcher_copied(alloc, &matchers, rows[0])
 }
 
 #[test]
-fn matchers_are_given_back(rt: HostRuntime) {
-    holds(&rt, are_given_back(rt.alloc(), &JOB_IS_X));
+fn matchers_are_copied(rt: HostRuntime) {
+    holds(&rt, are_copied(rt.alloc(), &JOB_IS_X));
 }
 
 /// Bits, and the identifier that they give.

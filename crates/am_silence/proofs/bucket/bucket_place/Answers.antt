@@ -13,27 +13,27 @@ use Rattle.am_silence.proofs.bucket.bucket_place.Goals as goal
 
 module _ (c : goal.After-saturating_sub-2) where
   lt : c.in-Some.index < length c.args.silence.now.matchers
-  lt = rw (sym c.as_slice-matchers.ensures) c.in-Some.ensures.0
+  lt = c.in-Some.ensures.0
 
-  is : slice_get c.args.silence.now.matchers c.in-Some.index ≡ Some c.index-matchers-index.result
-  is = rw (sym c.as_slice-matchers.ensures) (slice_get_read c.as_slice-matchers.result.now _ c.in-Some.index _ refl c.in-Some.ensures.0 c.index-matchers-index.is)
+  is : slice_get c.args.silence.now.matchers c.in-Some.index ≡ Some c.at.result
+  is = slice_get_read c.args.silence.now.matchers _ c.in-Some.index _ refl c.in-Some.ensures.0 c.at.ensures.item
 
-  end : c.saturating_add-end.result ≡ matcher_end c.args.silence.now c.in-Some.index c.index-matchers-index.result lt is
+  end : c.saturating_add-end.result ≡ matcher_end c.args.silence.now c.in-Some.index c.at.result lt is
   end =
       let whole = small_inside (writes_silence c.args.silence.now) c.requires.small in
-      end_counted c.args.silence.now c.in-Some.index c.index-matchers-index.result lt is
+      end_counted c.args.silence.now c.in-Some.index c.at.result lt is
       _ _ _ _ _ _ _ c.requires.size c.requires.small (c.delimited_size.ensures (writes_silence c.args.silence.now) (omega (arith, c.requires.size, whole)))
       c.saturating_sub.ensures (rw (sym c.as_str.ensures.bytes) c.text_size.ensures) c.saturating_add.ensures
-      (rw (sym c.as_slice-matchers.ensures) c.matchers_size.ensures) c.saturating_add-end.ensures
+      c.matchers_size.ensures c.saturating_add-end.ensures
 
   low : c.saturating_add-end.result < 4294967296
-  low = omega (arith, end, c.requires.small, matcher_end-within c.args.silence.now c.in-Some.index c.index-matchers-index.result lt is)
+  low = omega (arith, end, c.requires.small, matcher_end-within c.args.silence.now c.in-Some.index c.at.result lt is)
 
-  len : c.size-len.result ≡ length (writes_matcher c.index-matchers-index.result)
-  len = omega (arith, c.size-len.ensures, end, low, matcher-within_end c.args.silence.now c.in-Some.index c.index-matchers-index.result lt is)
+  len : c.size-len.result ≡ length (writes_matcher c.at.result)
+  len = omega (arith, c.size-len.ensures, end, low, matcher-within_end c.args.silence.now c.in-Some.index c.at.result lt is)
 
   below : c.size-len.result ≤ c.saturating_add-end.result
-  below = omega (arith, len, end, matcher-within_end c.args.silence.now c.in-Some.index c.index-matchers-index.result lt is)
+  below = omega (arith, len, end, matcher-within_end c.args.silence.now c.in-Some.index c.at.result lt is)
 
 pub overflow_cast-result : goal.overflow_cast-result
 overflow_cast-result c = omega (arith, c.saturating_sub-2.ensures, low c)
@@ -43,10 +43,10 @@ overflow_cast-result-2 c = omega (arith, below c, low c)
 
 pub returns : goal.returns
 returns c = λ m same.
-    let found : bucket_matcher_of c.args.silence.now.matchers ≡ Some c.index-matchers-index.result = rw (sym c.as_slice-matchers.ensures) c.in-Some.ensures.1 ∙ is c in
-    let bucket : bucket_of c.args.silence.now.matchers ≡ writes_matcher c.index-matchers-index.result = ap (λ (o : Option Matcher). option_map_or writes_matcher o []) found in
-    let start : c.saturating_sub-2.result ≡ matcher_end c.args.silence.now c.in-Some.index c.index-matchers-index.result (lt c) (is c) - length (writes_matcher c.index-matchers-index.result) =
+    let found : bucket_matcher_of c.args.silence.now.matchers ≡ Some c.at.result = c.in-Some.ensures.1 ∙ is c in
+    let bucket : bucket_of c.args.silence.now.matchers ≡ writes_matcher c.at.result = ap (λ (o : Option Matcher). option_map_or writes_matcher o []) found in
+    let start : c.saturating_sub-2.result ≡ matcher_end c.args.silence.now c.in-Some.index c.at.result (lt c) (is c) - length (writes_matcher c.at.result) =
     omega (arith, c.saturating_sub-2.ensures, end c, len c) in
     let place : Place = record { start = c.saturating_sub-2.result; len = c.size-len.result } in
     subst (λ (part : List ℕ). StandsAt part place (writes_mesh_silence m)) (sym bucket)
-    (ends_stands place (version_end c.args.silence.now c.in-Some.index c.index-matchers-index.result (lt c) (is c) m same) start (len c))
+    (ends_stands place (version_end c.args.silence.now c.in-Some.index c.at.result (lt c) (is c) m same) start (len c))

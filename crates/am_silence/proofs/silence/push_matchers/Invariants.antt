@@ -4,8 +4,8 @@ use Rattle.am_wire.specs.Writing.{writes_messages}
 use Rattle.am_silence.specs.Matchers.{IsMatcher, writes_matcher}
 use Rattle.am_silence.proofs.silence.push_matchers.Given as goal
 
-abbrev pub invariant-loop-matcher : goal.invariant-loop-matcher
-invariant-loop-matcher l = record {
-  written : l.out.items ≡ l.fn.out.items ++ writes_messages writes_matcher 2 (take l.matcher-index l.matchers);
-  value : All IsMatcher (take l.matcher-index l.matchers);
+abbrev pub invariant-loop-index : goal.invariant-loop-index
+invariant-loop-index l = record {
+  written : l.out.items ≡ l.fn.out.items ++ writes_messages writes_matcher 2 (take l.index l.matchers);
+  value : All IsMatcher (take l.index l.matchers);
 }

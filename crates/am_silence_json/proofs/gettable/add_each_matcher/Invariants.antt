@@ -4,5 +4,5 @@ use Rattle.am_silence_json.specs.Tokens.{Adds, row_tokens}
 use Rattle.am_silence_json.proofs.gettable.add_each_matcher.Given as goal
 
 -- the matchers so far are added
-abbrev pub invariant-loop-matcher : goal.invariant-loop-matcher
-invariant-loop-matcher l = Adds l.initial.out l.out (row_tokens (map matcher_data (take l.matcher-index l.matchers)))
+abbrev pub invariant-loop-index : goal.invariant-loop-index
+invariant-loop-index l = Adds l.initial.out l.out (row_tokens (map matcher_data (take l.index l.matchers)))

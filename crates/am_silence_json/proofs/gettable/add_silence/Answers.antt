@@ -11,8 +11,7 @@ returns c =
     let comment = rw c.as_str.ensures.bytes at c.in_ok-add_text.ensures in
     let author = rw c.as_str-2.ensures.bytes at c.in_ok-add_text-2.ensures in
     let id = rw c.as_str-3.ensures.bytes at c.in_ok-add_text-3.ensures in
-    let last = chain c.in_ok-add_status.ensures (chain updated.2 c.in_ok-add-2.ensures) in
-    let matchers = rw c.as_slice.ensures at c.in_ok-add_matchers.ensures in (
+    let last = chain c.in_ok-add_status.ensures (chain updated.2 c.in_ok-add-2.ensures) in (
       gettable_data c.args.silence.now c.args.state starts.0 ends.0 updated.0,
       record {
         starts = starts.0;
@@ -23,5 +22,5 @@ returns c =
         updated_at = updated.1;
         value = refl;
       },
-      chain c.in_ok-add.ensures (chain comment (chain author (chain ends.2 (chain id (chain matchers (chain starts.2 last)))))),
+      chain c.in_ok-add.ensures (chain comment (chain author (chain ends.2 (chain id (chain c.in_ok-add_matchers.ensures (chain starts.2 last)))))),
     )

@@ -1,12 +1,9 @@
-use Rattle.std.proofs.Common.{subst}
-use Rattle.std.specs.Prelude.{All}
-use Rattle.am_silence.specs.Matchers.{IsMatcher}
 use Rattle.am_silence.proofs.silence.SilenceMessage.write.Goals as goal
 
 pub returns-clause-value : goal.returns-clause-value
 returns-clause-value c = record {
   id = c.as_str.ensures.utf8;
-  matchers = subst (All IsMatcher) c.as_slice.ensures c.in_ok-push_matchers.ensures.value;
+  matchers = c.in_ok-push_matchers.ensures.value;
   starts_at = c.in_ok-write_message.ensures.value;
   ends_at = c.in_ok-write_message-2.ensures.value;
   updated_at = c.in_ok-write_message-3.ensures.value;

@@ -1,5 +1,0 @@
-use Rattle.std.proofs.Common.{◌≡◌, take}
-use Rattle.am_silence.proofs.matcher.copies_of.Given as goal
-
-abbrev pub invariant-loop-matcher : goal.invariant-loop-matcher
-invariant-loop-matcher l = l.copies.items ≡ take l.matcher-index l.matchers
