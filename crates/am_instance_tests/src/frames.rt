@@ -1,7 +1,7 @@
 //! Frames of peers.
 
 use crate::fixtures::{are_sent_to, at, instance};
-use am_gossip::{Feeder, Frame};
+use am_gossip::{Fed, Feeder, Frame, FrameError};
 use am_instance::{Event, Instance, Place, Reply};
 use std::alloc::Global;
 
@@ -90,4 +90,52 @@ fn a_version_changes_the_map_once_and_is_sent_on_once(rt: HostRuntime) {
         let tally = tally_in_two(rt.alloc(), front, rest);
         assert!(rt; tally == Some(wanted), "{cut}: {tally:?}");
     }
+}
+
+/// A Tick, a Push of two empty states, and a kind that is none.
+const BAD_KIND: [u8; 19] = [
+    0x04, 0x00, 0x02, 0x0E, 0x0A, 0x05, 0x0A, 0x03, 0x73, 0x69, 0x6C, 0x0A, 0x05, 0x0A, 0x03, 0x6E,
+    0x66, 0x6C, 0x05,
+];
+
+/// A Tick, that Push, and a Tick with a length.
+const BAD_LENGTH: [u8; 20] = [
+    0x04, 0x00, 0x02, 0x0E, 0x0A, 0x05, 0x0A, 0x03, 0x73, 0x69, 0x6C, 0x0A, 0x05, 0x0A, 0x03, 0x6E,
+    0x66, 0x6C, 0x04, 0x01,
+];
+
+// What is read of a stream with a fault, after which every piece is refused.
+fn fed_to_fault(alloc: Global, bytes: &[u8]) -> Option<Fed> {
+    let mut feeder = Feeder::new(alloc);
+    let fed = feeder.feed(bytes).ok()?;
+    if feeder.feed(&[0x04, 0x00]).err() != Some(FrameError::Ended) {
+        return None;
+    }
+    Some(fed)
+}
+
+// What comes of the frames before the fault, and the fault.
+fn tally_to_fault(alloc: Global, bytes: &[u8]) -> Option<(Tally, Option<FrameError>)> {
+    let mut tally = NONE_YET;
+    let mut instance = instance(alloc, 10)?;
+    let fed = fed_to_fault(alloc, bytes)?;
+    let fault = fed.fault;
+    for frame in fed.frames {
+        count(&mut instance, frame, &mut tally)?;
+    }
+    Some((tally, fault))
+}
+
+// The Push is answered by a Pull to its sender.
+#[test]
+fn the_frames_before_a_fault_are_steps(rt: HostRuntime) {
+    let wanted = Tally {
+        came: 2,
+        sent_on: 0,
+        kept: 1,
+    };
+    let kind = tally_to_fault(rt.alloc(), &BAD_KIND);
+    assert_eq!(rt; kind, Some((wanted, Some(FrameError::Kind))));
+    let length = tally_to_fault(rt.alloc(), &BAD_LENGTH);
+    assert_eq!(rt; length, Some((wanted, Some(FrameError::Length))));
 }
