@@ -1,13 +1,10 @@
 //! What requests are answered.
 
-ghost use Rattle.std.specs.Prelude.{◌≡◌, Ok, Err, Result};
-ghost use Rattle.am_instance.specs.declared.reply.Outcome.{Outcome};
-ghost use Rattle.am_instance.specs.declared.error.StepError.{StepError};
+ghost use Rattle.std.specs.Prelude.{◌≡◌, Ok, Err};
 ghost use Rattle.am_instance.specs.Sendings.{nothing_sent};
 ghost use Rattle.am_instance.specs.Stands.{Stand};
 ghost use Rattle.am_api_silences.specs.Answers.{ComesOf, IsAnswered, IsTurnedAway, TellsStep, sent_with};
 ghost use Rattle.am_api_silences.specs.Replies.{HasStatus, bytes_of};
-ghost use Rattle.am_instance.specs.OneStep.{IsStep};
 
 use crate::events::to_event;
 use crate::replies::{ReplyBytes, no_memory, tell};

@@ -92,3 +92,23 @@ fn the_step_stands_where_a_write_stops(rt: HostRuntime) {
         }
     }
 }
+
+/// Whether a post that finds no memory can be made again, or stands; `None` where there was none for the instance.
+fn is_made_again(alloc: Global) -> Option<bool> {
+    let mut instance = member(alloc, &["b"])?;
+    let (first, _) = served_to(alloc, &mut instance, 0, Stop::Fails);
+    if first.status == Some(200) {
+        return Some(true);
+    }
+    let held = instance.silences().len();
+    let (again, _) = served_to(alloc, &mut instance, 0, Stop::Fails);
+    let wanted = if held == 0 { Some(200) } else { Some(500) };
+    Some(first.status == Some(500) && again.status == wanted)
+}
+
+/// It is to be run with each allocation refused in turn.
+#[test]
+fn a_post_that_finds_no_memory_is_made_again(rt: HostRuntime) {
+    let right = is_made_again(rt.alloc());
+    assert!(rt; right != Some(false), "a wrong answer");
+}
