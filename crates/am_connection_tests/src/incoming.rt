@@ -1,0 +1,82 @@
+//! Connections of peers.
+
+use crate::streams::{Closed, Fitful, at, instance, stepwise};
+use am_connection::{Ended, Fault, connection};
+use am_gossip::FrameError;
+use am_instance::{Instance, Place, StepError};
+use std::alloc::Global;
+
+/// How many frames are to be sent, and to whom the first one; whether a Tick was made; why the connection ended.
+type Told = (usize, Option<Place>, bool, Option<Fault>);
+
+/// The bytes of a connection, what is told of it, and how many silences are held then.
+type Row = (&'static [u8], Told, usize);
+
+/// The greeting of `b`, and a Delta of a silence from 10 s to 100 s.
+const DELTA_FROM_B: [u8; 45] = [
+    0x00, 0x01, 0x62, 0x01, 0x28, 0x0A, 0x03, 0x73, 0x69, 0x6C, 0x12, 0x21, 0x20, 0x0A, 0x19, 0x0A,
+    0x01, 0x61, 0x12, 0x08, 0x12, 0x03, 0x6A, 0x6F, 0x62, 0x1A, 0x01, 0x78, 0x1A, 0x02, 0x08, 0x0A,
+    0x22, 0x02, 0x08, 0x64, 0x2A, 0x02, 0x08, 0x0A, 0x12, 0x03, 0x08, 0xC8, 0x01,
+];
+
+const NOTHING: Told = (0, None, false, None);
+
+fn fault(fault: Fault) -> Told {
+    (0, None, false, Some(fault))
+}
+
+fn told(ended: &Ended) -> Told {
+    let first = ended.frames.first().map(|sent| sent.0);
+    let sent = ended.frames.len() + ended.unsent.memory + ended.unsent.limit;
+    (sent, first, ended.ticked, ended.fault)
+}
+
+// What is told of a connection at so many seconds.
+fn told_of(alloc: Global, instance: &mut Instance, reader: Fitful<'_>, seconds: i64) -> Told {
+    let mut reader = reader;
+    let ended = connection(alloc, instance, &mut reader, &mut Closed, 0, at(seconds));
+    told(&ended)
+}
+
+// The same by an instance that holds nothing, and how many silences it holds then.
+fn heard(alloc: Global, reader: Fitful<'_>, seconds: i64) -> Option<(Told, usize)> {
+    let mut instance = instance(alloc)?;
+    let told = told_of(alloc, &mut instance, reader, seconds);
+    Some((told, instance.silences().len()))
+}
+
+#[test]
+fn frames_are_steps_in_any_cut(rt: HostRuntime) {
+    let rows: [Row; 8] = [
+        (&DELTA_FROM_B, (1, Some(2), false, None), 1),
+        (&[0, 1, b'd', 4, 0], fault(Fault::UnknownName), 0),
+        (&[0, 1, b'a', 4, 0], fault(Fault::UnknownName), 0),
+        (&[0, 1, b'b', 4, 0, 5], (0, None, true, Some(Fault::Frame(FrameError::Kind))), 0),
+        (&[0, 0], fault(Fault::Frame(FrameError::Length)), 0),
+        (&[0, 1], NOTHING, 0),
+        (&[0, 1, b'b', 4], NOTHING, 0),
+        (&[], NOTHING, 0),
+    ];
+    for (bytes, told, held) in rows {
+        for step in [1usize, 2, 3, 100] {
+            let heard = heard(rt.alloc(), stepwise(bytes, step, 0), 11);
+            assert!(rt; heard == Some((told, held)), "{step}");
+        }
+    }
+}
+
+#[test]
+fn the_first_read_that_fails_ends_it(rt: HostRuntime) {
+    for k in 1..5usize {
+        let heard = heard(rt.alloc(), stepwise(&DELTA_FROM_B, 10, k), 11);
+        let at = if k == 1 { 0 } else { 10 * k as u64 - 19 };
+        assert!(rt; heard == Some((fault(Fault::Read { at }), 0)), "{k}");
+    }
+}
+
+#[test]
+fn a_step_that_is_refused_ends_it(rt: HostRuntime) {
+    let heard = heard(rt.alloc(), stepwise(&[0, 1, b'b', 4, 0, 5], 100, 0), 9);
+    let back = StepError::MomentBack { last: at(10) };
+    assert!(rt; heard == Some((fault(Fault::Step(back)), 0)), "the moment ran back");
+}
