@@ -1,6 +1,6 @@
 //! What is sent to peers.
 
-use crate::streams::{Brittle, brittle};
+use crate::streams::{Brittle, failing_at};
 use am_connection::{SendError, send};
 use am_gossip::Frame;
 use std::alloc::Global;
@@ -15,15 +15,18 @@ fn send_tick(alloc: Global, name: &str, writer: &mut Brittle) -> Result<u64, Sen
 
 #[test]
 fn a_greeting_and_frames_go_out(rt: HostRuntime) {
-    let mut writer = brittle(rt.alloc(), 0);
+    let mut writer = failing_at(rt.alloc(), 0);
     let sent = send_tick(rt.alloc(), "a", &mut writer);
-    assert!(rt; sent == Ok(5) && writer.taken.as_slice() == TICK_OF_A.as_slice(), "sent");
+    assert!(rt;
+        sent == Ok(5) && writer.taken.as_slice() == TICK_OF_A.as_slice(),
+        "sent"
+    );
 }
 
 #[test]
 fn a_write_that_fails_is_told_with_its_place(rt: HostRuntime) {
     for k in 1..4usize {
-        let mut writer = brittle(rt.alloc(), k);
+        let mut writer = failing_at(rt.alloc(), k);
         let sent = send_tick(rt.alloc(), "a", &mut writer);
         let written = 2 * (k - 1);
         let told = SendError::Write {
@@ -42,7 +45,7 @@ fn a_name_has_1_to_255_bytes(rt: HostRuntime) {
         return;
     };
     for (name, sends) in [("", false), (&long[..255], true), (long, false)] {
-        let mut writer = brittle(rt.alloc(), 0);
+        let mut writer = failing_at(rt.alloc(), 0);
         let sent = send_tick(rt.alloc(), name, &mut writer);
         let refused = sent == Err(SendError::Length) && writer.calls == 0;
         assert!(rt; refused != sends, "{sends}");

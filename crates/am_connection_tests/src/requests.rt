@@ -1,6 +1,6 @@
 //! Connections of people and tools.
 
-use crate::streams::{Brittle, at, brittle, instance, stepwise};
+use crate::streams::{Brittle, at, failing_at, instance, stepwise};
 use am_connection::{Fault, connection};
 use am_instance::Instance;
 use std::alloc::Global;
@@ -28,7 +28,7 @@ fn listed(alloc: Global, step: usize, writer: &mut Brittle) -> Option<Option<Fau
 #[test]
 fn a_request_is_answered(rt: HostRuntime) {
     for step in [1usize, 5, 100] {
-        let mut writer = brittle(rt.alloc(), 0);
+        let mut writer = failing_at(rt.alloc(), 0);
         let fault = listed(rt.alloc(), step, &mut writer);
         let reply = writer.taken.as_slice();
         let is_good = reply.starts_with(b"HTTP/1.1 200 OK\r\n") && reply.ends_with(b"\r\n\r\n[]");
@@ -39,7 +39,7 @@ fn a_request_is_answered(rt: HostRuntime) {
 #[test]
 fn a_reply_that_fails_is_told_with_its_place(rt: HostRuntime) {
     for k in 1..4usize {
-        let mut writer = brittle(rt.alloc(), k);
+        let mut writer = failing_at(rt.alloc(), k);
         let fault = listed(rt.alloc(), 100, &mut writer);
         let written = 2 * (k as u64 - 1);
         assert!(rt; fault == Some(Some(Fault::Write { written })), "{k}");

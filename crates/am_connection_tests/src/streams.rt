@@ -70,6 +70,7 @@ impl Write for Brittle {
 }
 
 /// A writer that takes nothing.
+#[derive(Clone, Copy)]
 pub struct Closed;
 
 impl Write for Closed {
@@ -85,7 +86,7 @@ impl Write for Closed {
 }
 
 /// Nothing taken so far.
-pub fn brittle(alloc: Global, fails_at: usize) -> Brittle {
+pub fn failing_at(alloc: Global, fails_at: usize) -> Brittle {
     Brittle {
         taken: Vec::new(alloc),
         calls: 0,
