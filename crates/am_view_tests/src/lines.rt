@@ -116,10 +116,7 @@ fn refusals_are_printed_by_their_names(rt: HostRuntime) {
         (Refusal::from(SilenceError::NoMatcher), "NoMatcher"),
         (Refusal::from(SilenceError::EmptyName), "EmptyName"),
         (Refusal::from(SilenceError::BadPattern), "BadPattern"),
-        (
-            Refusal::from(SilenceError::AllMatchEmpty),
-            "AllMatchEmpty",
-        ),
+        (Refusal::from(SilenceError::AllMatchEmpty), "AllMatchEmpty"),
         (
             Refusal::from(SilenceError::EndNotAfterStart),
             "EndNotAfterStart",
