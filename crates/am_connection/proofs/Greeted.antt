@@ -12,7 +12,8 @@ use Rattle.am_instance.specs.Configs.{Settings}
 use Rattle.am_instance.specs.Stands.{Stand}
 use Rattle.am_connection.specs.declared.error.Fault.{Fault}
 use Rattle.am_connection.specs.declared.error.Fault.TheVariants.{Read, Write, TooLarge, Frame as InFrame, UnknownName, Step}
-use Rattle.am_connection.specs.Incoming.{Effects, Greets, HearsPeer, IsHeard, IsPeerOf, IsPiece, IsUngreeted, no_effects}
+use Rattle.am_connection.specs.Incoming.{Effects, IsHeard, IsPeerOf, IsUngreeted, no_effects}
+use Rattle.am_connection.specs.Hearing.{Greets, HearsPeer, IsPiece}
 
 -- there was no piece
 pub greets_fault : (config : Settings) (input mid_input left : Option (List ℕ)) (bytes buffer : List ℕ) (count : ℕ) (fault : Fault) →

@@ -12,7 +12,8 @@ use Rattle.am_gossip.proofs.Written.{stream_again}
 use Rattle.am_instance.specs.Stands.{Stand}
 use Rattle.am_connection.specs.declared.error.Fault.{Fault}
 use Rattle.am_connection.specs.declared.error.Fault.TheVariants.{Read, Write, TooLarge, Frame as InFrame, UnknownName, Step}
-use Rattle.am_connection.specs.Incoming.{Effects, EndsHearing, HasHeard, Hears, HearsOn, HearsPeer, IsPiece, MakesAll, StopsAt, TakesPiece, fault_in, no_effects, result_of}
+use Rattle.am_connection.specs.Incoming.{Effects, EndsHearing, MakesAll, StopsAt, no_effects, result_of}
+use Rattle.am_connection.specs.Hearing.{HasHeard, Hears, HearsOn, HearsPeer, IsPiece, TakesPiece, fault_in}
 use Rattle.am_connection.proofs.Making.{all_append, stops_later}
 
 -- a stream that goes on behind the rest that waits

@@ -1,3 +1,4 @@
 pub mod Outgoing
 pub mod Incoming
+pub mod Hearing
 pub mod Serving

@@ -2,7 +2,8 @@
 
 ghost use Rattle.std.specs.Prelude.{◌≡◌, ◌↔◌, ◌≤◌, ℕ, Some, None, length, slice_get, IfSome, IsTrue};
 ghost use Rattle.am_http.specs.Receiving.{behind};
-ghost use Rattle.am_connection.specs.Incoming.{Greets, IsNamed, IsPeerOf, most_bytes};
+ghost use Rattle.am_connection.specs.Incoming.{IsPeerOf, most_bytes};
+ghost use Rattle.am_connection.specs.Hearing.{Greets, IsNamed};
 
 use crate::error::Fault;
 use crate::reading::read_piece;

@@ -4,7 +4,8 @@ ghost use Rattle.std.specs.Prelude.{◌≡◌, ◌+◌, ◌++◌, ◌≤◌, Lis
 ghost use Rattle.am_gossip.specs.Streams.{stream_of};
 ghost use Rattle.am_http.specs.Receiving.{behind};
 ghost use Rattle.am_instance.specs.Stands.{Stand};
-ghost use Rattle.am_connection.specs.Incoming.{Effects, HasHeard, Hears, HearsPeer, IsHeard, TakesPiece, effects_of, fault_in, most_bytes, no_effects};
+ghost use Rattle.am_connection.specs.Incoming.{Effects, IsHeard, effects_of, most_bytes, no_effects};
+ghost use Rattle.am_connection.specs.Hearing.{HasHeard, Hears, HearsPeer, TakesPiece, fault_in};
 
 use crate::ended::Ended;
 use crate::error::Fault;

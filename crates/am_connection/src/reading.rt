@@ -1,7 +1,8 @@
 //! The bytes of a connection, piece by piece.
 
 ghost use Rattle.std.specs.Prelude.{◌≡◌, ◌<◌, ◌≤◌, length};
-ghost use Rattle.am_connection.specs.Incoming.{IsPiece, most_bytes};
+ghost use Rattle.am_connection.specs.Incoming.{most_bytes};
+ghost use Rattle.am_connection.specs.Hearing.{IsPiece};
 
 use crate::error::Fault;
 use std::io;

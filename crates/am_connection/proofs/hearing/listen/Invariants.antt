@@ -1,6 +1,7 @@
 use Rattle.std.proofs.Common.{◌≡◌, ◌-◌, ◌≤◌, List, ℕ}
 use Rattle.am_instance.specs.Stands.{Stand}
-use Rattle.am_connection.specs.Incoming.{Effects, HasHeard, HearsOn, most_bytes}
+use Rattle.am_connection.specs.Incoming.{Effects, most_bytes}
+use Rattle.am_connection.specs.Hearing.{HasHeard, HearsOn}
 use Rattle.am_connection.proofs.hearing.listen.Given as goal
 
 abbrev pub invariant-loop-read : goal.invariant-loop-read
