@@ -196,6 +196,20 @@ impl Config {
         })
     }
 
+    /// The configuration of the member at a place of the same cluster.
+    ///
+    /// # Errors
+    ///
+    /// [`AllocError`] where memory runs out.
+    pub fn for_member(&self, place: Place) -> Result<Config, AllocError>
+        requires { place < length self.now.members }
+        ensures { IfOk result (λ config. config ≡ record self.now { place = place }) }
+    {
+        let mut config = self.try_clone()?;
+        config.place = place;
+        Ok(config)
+    }
+
     /// The names of all members, in the order of their bytes.
     pub fn members(&self) -> &[Text]
         ensures { result.now ≡ self.now.members }

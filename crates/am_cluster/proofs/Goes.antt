@@ -1,0 +1,93 @@
+-- A cluster hangs together as steps go on.
+use Rattle.std.proofs.Common.{◌≡◌, ◌≢◌, ◌⊎◌, inl, inr, ℕ, ◌<◌, Bool, true, false, eqb, List, [], ◌∷◌, ◌++◌, Option, Some, None, refl, sym, ap, ◌∙◌, subst, slice_get, length, set}
+use Rattle.std.specs.Prelude.{Contains}
+use Rattle.std.specs.Ordering.{nat_cmp}
+use Rattle.std.specs.Cmp.Lexicographic.{slice_cmp}
+use Rattle.std.proofs.lemmas.Bool.Decides.{eqb_tells}
+use Rattle.am_silence.specs.Mesh.{Mesh, mesh_version}
+use Rattle.am_nflog.specs.Mesh.{Mesh as LogMesh, mesh_version as entry_version}
+use Rattle.am_nflog.specs.Keys.{key_cmp}
+use Rattle.am_instance.specs.Stands.{kept_silences, kept_log}
+use Rattle.am_runs.specs.Steps.{Step, Flight as Sending, is_at, flights_by, flights_of}
+use Rattle.am_runs.specs.Members.{Member, stepped, member_of}
+use Rattle.am_runs.proofs.Pasts.{flights_of-push}
+use Rattle.am_cluster.specs.declared.flight.Flight.{Flight}
+use Rattle.am_cluster.specs.Worlds.{Replica, World, replica_at, with_replica, written}
+use Rattle.am_cluster.specs.Ties.{IsTied, IsMember, IsFlying, IsWorld}
+use Rattle.am_cluster.proofs.Places.{got_before, got_set, got_other, set_length, some_is}
+use Rattle.am_cluster.proofs.Tied.{tied_elsewhere, tied_idle}
+
+-- a frame that flew still does after a step more
+still_sent : {X : Type 0} (before : List (Step X)) (s : Step X) (index : ℕ) (f : Sending X) → slice_get (flights_of before) index ≡ Some f → slice_get (flights_of (before ++ s ∷ [])) index ≡ Some f
+still_sent before s index f e = subst (λ fs. slice_get fs index ≡ Some f) (sym (flights_of-push before s)) (got_before (flights_of before) (flights_by s) index f e)
+
+module _ (old : World) (s : Step Mesh) (l : Step LogMesh) (line : ℕ) where
+  pub still_flying : (replicas : List Replica) (flight : Flight) → length replicas ≡ length old.replicas → IsFlying old flight →
+      IsFlying (record old { replicas = replicas; silences = old.silences ++ s ∷ []; log = old.log ++ l ∷ []; lines = old.lines ++ line ∷ [] }) flight
+  still_flying replicas flight same f = record {
+    index = f.index;
+    number = f.number;
+    silences = still_sent old.silences s f.index _ f.silences;
+    log = still_sent old.log l f.index _ f.log;
+    sound = f.sound;
+    addressee = subst (λ n. flight.addressee < n) (sym same) f.addressee;
+    sender = subst (λ n. flight.sender < n) (sym same) f.sender;
+    other = f.other;
+  }
+
+-- one member changes, and what is written down of it agrees
+module _ (old : World) (place : ℕ) (was will : Replica) (s : Step Mesh) (l : Step LogMesh) (line : ℕ) where
+  abbrev pub changed_at : World
+  changed_at = written (with_replica old place will) s l line
+
+  same_length : length (set old.replicas place will) ≡ length old.replicas
+  same_length = set_length old.replicas place will
+
+  elsewhere : (q : ℕ) (replica : Replica) → is_at q s ≡ false → is_at q l ≡ false → IsMember old q replica → IsMember changed_at q replica
+  elsewhere q replica not_s not_l is = record {
+    silences = subst (λ n. IsTied mesh_version (slice_cmp nat_cmp) (member_of n q (old.silences ++ s ∷ [])) replica.runs (kept_silences replica.stand) replica.saved_silences) (sym same_length)
+        (tied_elsewhere mesh_version (slice_cmp nat_cmp) (length old.replicas) q old.silences s replica.runs (kept_silences replica.stand) replica.saved_silences not_s is.silences);
+    log = subst (λ n. IsTied entry_version key_cmp (member_of n q (old.log ++ l ∷ [])) replica.runs (kept_log replica.stand) replica.saved_log) (sym same_length)
+        (tied_elsewhere entry_version key_cmp (length old.replicas) q old.log l replica.runs (kept_log replica.stand) replica.saved_log not_l is.log);
+    place = is.place;
+    members = is.members ∙ sym same_length;
+  }
+
+  pub goes_on_at : IsWorld old → replica_at old place ≡ Some was →
+      ((q : ℕ) → place ≢ q → is_at q s ≡ false) → ((q : ℕ) → place ≢ q → is_at q l ≡ false) →
+      IsTied mesh_version (slice_cmp nat_cmp) (member_of (length old.replicas) place (old.silences ++ s ∷ [])) will.runs (kept_silences will.stand) will.saved_silences →
+      IsTied entry_version key_cmp (member_of (length old.replicas) place (old.log ++ l ∷ [])) will.runs (kept_log will.stand) will.saved_log →
+      will.stand.config ≡ was.stand.config → IsWorld changed_at
+  goes_on_at is found not_s not_l silences log config = record {
+    members = λ q replica there. member q replica there (eqb_tells place q);
+    flights = λ flight there. still_flying old s l line (set old.replicas place will) flight same_length (is.flights flight there);
+    numbers = is.numbers;
+  } where
+    here : IsMember changed_at place will
+    here = record {
+      silences = subst (λ n. IsTied mesh_version (slice_cmp nat_cmp) (member_of n place (old.silences ++ s ∷ [])) will.runs (kept_silences will.stand) will.saved_silences) (sym same_length) silences;
+      log = subst (λ n. IsTied entry_version key_cmp (member_of n place (old.log ++ l ∷ [])) will.runs (kept_log will.stand) will.saved_log) (sym same_length) log;
+      place = ap (λ c. c.place) config ∙ (is.members place was found).place;
+      members = ap (λ c. length c.members) config ∙ ((is.members place was found).members ∙ sym same_length);
+    }
+    member : (q : ℕ) (replica : Replica) → replica_at changed_at q ≡ Some replica → ((eqb place q ≡ true) × (place ≡ q)) ⊎ ((eqb place q ≡ false) × (place ≢ q)) → IsMember changed_at q replica
+    member q replica there (inl own) =
+        subst (λ p. IsMember changed_at p replica) own.1
+        (subst (λ r. IsMember changed_at place r) (some_is will replica (sym (got_set old.replicas place will was found) ∙ subst (λ p. slice_get (set old.replicas place will) p ≡ Some replica) (sym own.1) there)) here)
+    member q replica there (inr other) =
+        elsewhere q replica (not_s q other.1) (not_l q other.1)
+        (is.members q replica (sym (got_other old.replicas place q will other.1) ∙ there))
+
+-- no member changes
+module _ (old : World) (s : Step Mesh) (l : Step LogMesh) (line : ℕ) where
+  pub goes_on_idle : ((m : Member Mesh) → stepped m s ≡ m) → ((m : Member LogMesh) → stepped m l ≡ m) → IsWorld old → IsWorld (written old s l line)
+  goes_on_idle idle_s idle_l is = record {
+    members = λ q replica there. let m = is.members q replica there in record {
+      silences = tied_idle mesh_version (slice_cmp nat_cmp) (length old.replicas) q old.silences s replica.runs (kept_silences replica.stand) replica.saved_silences (idle_s _) m.silences;
+      log = tied_idle entry_version key_cmp (length old.replicas) q old.log l replica.runs (kept_log replica.stand) replica.saved_log (idle_l _) m.log;
+      place = m.place;
+      members = m.members;
+    };
+    flights = λ flight there. still_flying old s l line old.replicas flight refl (is.flights flight there);
+    numbers = is.numbers;
+  }

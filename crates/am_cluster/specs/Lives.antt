@@ -1,0 +1,47 @@
+-- How a member is saved, stopped and started.
+use Rattle.std.specs.Prelude.{◌≡◌, ℕ, ◌<◌, ◌≤◌, true, false, Option, Some, Result, Ok, Err}
+use Rattle.am_instance.specs.Stands.{Stand}
+use Rattle.am_runs.specs.Steps.Step.{Back, Refused, Saved, Stopped, Started}
+use Rattle.am_cluster.specs.declared.error.ClusterError.{ClusterError}
+use Rattle.am_cluster.specs.declared.error.ClusterError.TheVariants as errors
+use Rattle.am_cluster.specs.Worlds.{Replica, World, replica_at, with_replica, written}
+
+-- both maps are kept beside the member
+abbrev pub saved : Replica → Replica
+saved replica = record replica { saved_silences = replica.stand.silences; saved_log = replica.stand.log }
+
+abbrev pub stopped : Replica → Replica
+stopped replica = record replica { runs = false }
+
+-- the saved maps come back, whatever came since
+abbrev pub started : Replica → ℕ → Replica
+started replica now =
+    record replica { stand = record replica.stand { silences = replica.saved_silences; log = replica.saved_log; last = now }; runs = true }
+
+-- what came of saving a member
+abbrev pub IsSave : World → ℕ → Replica → ℕ → Result Unit ClusterError → World → Type 0
+IsSave old place replica line (Ok _) new = (replica.runs ≡ true) × (new ≡ written (with_replica old place (saved replica)) (Saved place) (Saved place) line)
+IsSave old place replica line (Err errors.Stopped) new = (replica.runs ≡ false) × (new ≡ old)
+IsSave old place replica line (Err errors.Memory) new = new ≡ old
+IsSave old place replica line (Err _) new = ⊥
+
+-- what came of stopping it
+abbrev pub IsStop : World → ℕ → Replica → ℕ → Result Unit ClusterError → World → Type 0
+IsStop old place replica line (Ok _) new = (replica.runs ≡ true) × (new ≡ written (with_replica old place (stopped replica)) (Stopped place) (Stopped place) line)
+IsStop old place replica line (Err errors.Stopped) new = (replica.runs ≡ false) × (new ≡ old)
+IsStop old place replica line (Err errors.Memory) new = new ≡ old
+IsStop old place replica line (Err _) new = ⊥
+
+-- what came of starting it: a moment before its last one counts against it
+abbrev pub IsStart : World → ℕ → Replica → ℕ → ℕ → Result Unit ClusterError → World → Type 0
+IsStart old place replica now line (Ok _) new =
+    (replica.runs ≡ false) × (replica.stand.last ≤ now) × (new ≡ written (with_replica old place (started replica now)) (Started place now) (Started place now) line)
+IsStart old place replica now line (Err errors.Running) new = (replica.runs ≡ true) × (new ≡ written old (Refused now) (Refused now) line)
+IsStart old place replica now line (Err (errors.MomentBack last)) new =
+    (replica.runs ≡ false) × (last ≡ replica.stand.last) × (now < last) × (new ≡ written old (Back place now) (Back place now) line)
+IsStart old place replica now line (Err errors.Memory) new = new ≡ old
+IsStart old place replica now line (Err _) new = ⊥
+
+-- of the member at a place, if there is one
+abbrev pub OfMember : World → ℕ → (Replica → Type 0) → Type 0
+OfMember world place P = (replica : Replica) → replica_at world place ≡ Some replica → P replica
