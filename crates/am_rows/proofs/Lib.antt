@@ -1,1 +1,2 @@
 pub mod RowTexts
+pub mod ReadAgain

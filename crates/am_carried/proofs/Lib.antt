@@ -1,0 +1,4 @@
+pub mod RowAdding
+pub mod Parting
+pub mod PartAdding
+pub mod Again

@@ -1,0 +1,5 @@
+use Rattle.std.proofs.Common.{All}
+use Rattle.am_carried.proofs.values.held_are_values.Given as goal
+
+abbrev pub invariant-loop-version : goal.invariant-loop-version
+invariant-loop-version g l = All g.V.Version.is_value l.version-iterator → All g.V.Version.is_value l.held

@@ -1,0 +1,24 @@
+//! That versions which are kept are values of their type.
+
+ghost use Rattle.std.specs.Prelude.{All};
+
+use am_merge::Held;
+use am_version_order::Version;
+
+/// Says that versions are values of their type. It changes nothing.
+pub fn versions_are_values<V: Version>(versions: &[V])
+    ensures { All V.is_value versions.now }
+{
+    for version in versions {
+        let _content = version.canonical();
+    }
+}
+
+/// Says that the versions of a map are values of their type. It changes nothing.
+pub fn held_are_values<V: Version>(held: &Held<V>)
+    ensures { All V.is_value held.now }
+{
+    for version in held.iter() {
+        let _content = version.canonical();
+    }
+}

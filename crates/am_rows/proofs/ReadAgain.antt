@@ -1,0 +1,67 @@
+-- A row of versions is read again as those versions.
+use Rattle.std.proofs.Common.{◌≡◌, ℕ, ◌+◌, ◌-◌, ◌^◌, ◌<◌, ◌≤◌, List, [], ◌∷◌, ◌++◌, length, map, Result, Ok, refl, ap, ◌∙◌, arith, length-append}
+use Rattle.std.proofs.Math.Seq.{drop-append_seam}
+use Rattle.std.specs.List.{All}
+use Rattle.std.proofs.lemmas.List.Elements.{All-nil, All-cons, All-head, All-tail}
+use Rattle.am_version_order.specs.Versions.{Version}
+use Rattle.am_wire.specs.declared.error.WireError.{WireError}
+use Rattle.am_wire.specs.Fields.{row_at, pieces}
+use Rattle.am_wire.specs.Varint.{shortest}
+use Rattle.am_wire.specs.Writing.{delimited}
+use Rattle.am_wire.specs.Grammar.{IsRow}
+use Rattle.am_wire.specs.Again.Varints.{shortest_spells, shortest_filled}
+use Rattle.am_wire.specs.Again.Pieces.{pieces-first}
+use Rattle.am_wire.specs.Limits.{most}
+use Rattle.am_wire.specs.Inputs.{sound, message_at, messages_from}
+use Rattle.am_wire.proofs.Exact.{row_read}
+use Rattle.am_rows.specs.Texts.{row_text}
+
+-- bytes behind their length are the first row, whatever follows
+first_row : (bytes : List ℕ) (at : ℕ) (rest : List ℕ) → length bytes ≤ most → row_at at (delimited bytes ++ rest) ≡ Ok (bytes, length (delimited bytes))
+first_row bytes at rest small =
+    let row : IsRow bytes at (delimited bytes) = record { size = shortest (length bytes); size_is = shortest_spells (length bytes) (omega arith); text_is = refl; not_large = small } in
+    (row_read bytes at (delimited bytes) row).reads rest
+
+module _ {K X : Type 0} (seen : X → Version K) (reads : ℕ → List ℕ → Result X WireError) where
+  -- the version is read of its content, wherever that stands
+  abbrev pub IsReadBack : X → Type 0
+  IsReadBack v = (at : ℕ) → length (seen v).content ≤ most → reads at (seen v).content ≡ Ok v
+
+  pub read_back : (writes : X → List ℕ) (is_value is_written : X → Type 0) → ((v : X) (at : ℕ) → is_written v → length (writes v) < 2 ^ 64 → reads at (writes v) ≡ Ok v)
+      → ((v : X) → is_value v → is_written v × ((seen v).content ≡ writes v)) → (v : X) → is_value v → IsReadBack v
+  read_back writes is_value is_written again written v value at small =
+      let (both, same) = written v value in
+      ap (λ (text : List ℕ). reads at text) same ∙ again v at both (omega (arith, small, ap length same))
+
+  first_message : (v : X) (at : ℕ) (rest : List ℕ) → IsReadBack v → length (seen v).content ≤ most
+      → message_at reads at (delimited (seen v).content ++ rest) ≡ Ok (v, length (delimited (seen v).content))
+  first_message v at rest back small =
+      let content = (seen v).content in
+      rw (first_row content at rest small, back (at + (length (delimited content) - length content)) small) refl
+
+  -- the text of each is as short as a row may hold
+  abbrev pub IsShort : X → Type 0
+  IsShort v = length (seen v).content ≤ most
+
+  pub shorts : (versions : List X) → length (row_text seen versions) ≤ most → All IsShort versions
+  shorts [] small = All-nil IsShort
+  shorts (v ∷ versions) small =
+      let content = (seen v).content in
+      let len = length-append (delimited content) (row_text seen versions) in
+      let own = length-append (shortest (length content)) content in
+      All-cons IsShort v versions (omega (arith, small, len, own)) (shorts versions (omega (arith, small, len)))
+
+  pub versions_read : (versions : List X) (at : ℕ) → All IsReadBack versions → All IsShort versions → messages_from reads at (row_text seen versions) ≡ map sound versions
+  unfolding pieces
+  versions_read [] at back short = refl
+  versions_read (v ∷ versions) at back short =
+      let content = (seen v).content in
+      let rest = row_text seen versions in
+      let len = length-append (delimited content) rest in
+      let own = length-append (shortest (length content)) content in
+      let filled = shortest_filled (length content) in
+      let one = first_message v at rest (All-head IsReadBack v versions back) (All-head IsShort v versions short) in
+      pieces-first (message_at reads) at (delimited content ++ rest) (v, length (delimited content)) one (omega (arith, own, filled)) (omega (arith, len))
+      ∙ ap (λ (left : List ℕ). sound v ∷ pieces (message_at reads) 0 (at + length (delimited content)) left) (drop-append_seam (delimited content) rest)
+      ∙ ap (λ (others : List (Result X WireError)). sound v ∷ others)
+      (versions_read versions (at + length (delimited content)) (All-tail IsReadBack v versions back) (All-tail IsShort v versions short))
