@@ -1,0 +1,2 @@
+//! stub
+#![tactic(auto)]
