@@ -1,9 +1,10 @@
 //! The record of a run.
 
-ghost use Rattle.std.specs.Prelude.{◌≡◌, ◌++◌, ℕ, [], ◌∷◌, ◌+◌, ◌<◌, ◌≤◌, MatchOption, IsTrue, ◌↔◌, OnOk, OnErr};
+ghost use Rattle.std.specs.Prelude.{◌≡◌, ◌++◌, ℕ, [], ◌∷◌, ◌+◌, ◌<◌, ◌≤◌, length, MatchOption, IsTrue, ◌↔◌, OnOk};
 ghost use Rattle.am_runs.specs.Members.{last_of, member_of};
 ghost use Rattle.am_runs.specs.Records.{step_of};
 ghost use Rattle.am_runs.specs.Runs.{IsPossible, IsCalmAt, IsFirstFault};
+ghost use Rattle.am_runs.specs.Steps.{delivered_by};
 ghost use Rattle.am_runs.specs.Timely.{IsTimely};
 
 use crate::calm::first_fault;
@@ -23,6 +24,8 @@ use std::marker::Model;
 pub struct Run<V: Version> {
     members: usize,
     steps: Vec<Step<V>>,
+    // For how many more versions there is room.
+    spare: usize,
 }
 
 impl<V: Version> Model for Run<V> {
@@ -36,6 +39,7 @@ impl<V: Version> Model for Run<V> {
       members = run.members;
       steps = map step_of run.steps.items;
       room = vec_capacity run.steps - vec_len run.steps;
+      spare = run.spare;
     } };
 
     ghost invariant = { λ run. IsRun V.seen V.Key.cmp run.members (map step_of run.steps.items) };
@@ -50,33 +54,40 @@ impl<V: Version> Run<V> {
         Run {
             members,
             steps: Vec::new(alloc),
+            spare: 0,
         }
     }
 
-    /// Makes room for one step.
+    /// Makes room for so many steps, which deliver at most so many versions in all.
     ///
     /// # Errors
     ///
-    /// [`AllocError`] where memory runs out.
-    pub fn make_room(&mut self) -> Result<(), AllocError>
+    /// [`AllocError`] where memory runs out. There is no less room then than before.
+    pub fn make_room(&mut self, steps: usize, versions: usize) -> Result<(), AllocError>
         ensures members { self.new.members ≡ self.old.members }
         ensures steps { self.new.steps ≡ self.old.steps }
-        ensures room { OnOk result (0 < self.new.room) }
-        ensures err { OnErr result (self.new.room ≡ self.old.room) }
+        ensures room { OnOk result (steps ≤ self.new.room) }
+        ensures spare { OnOk result (versions ≤ self.new.spare) }
+        ensures kept_room { self.old.room ≤ self.new.room }
+        ensures kept_spare { self.old.spare ≤ self.new.spare }
     {
-        self.steps.reserve(1)?;
+        self.steps.reserve(steps)?;
+        self.spare = self.spare.max(versions);
         Ok(())
     }
 
     /// Writes down what happened. It takes no memory.
     pub fn append(&mut self, step: Step<V>)
         requires room { 0 < self.old.room }
+        requires spare { length (delivered_by (step_of step)) ≤ self.old.spare }
         requires possible { IsPossible V.seen V.Key.cmp self.old.members self.old.steps (step_of step) }
         ensures members { self.new.members ≡ self.old.members }
         ensures steps { self.new.steps ≡ self.old.steps ++ step_of step ∷ [] }
         ensures room { self.old.room ≤ self.new.room + 1 }
+        ensures spare { self.old.spare ≤ self.new.spare + length (delivered_by (step_of step)) }
     {
         one_step_more::<V>();
+        self.spare -= step.versions().len();
         self.steps.push_reserved(step);
     }
 

@@ -53,7 +53,7 @@ fn take(
 ) -> Result<bool, AllocError> {
     let mut versions = Vec::new(alloc);
     versions.push(version)?;
-    run.make_room()?;
+    run.make_room(1, 1)?;
     if !run.runs(place) {
         return Ok(false);
     }
@@ -71,7 +71,7 @@ fn take(
 }
 
 fn tick(run: &mut Run<Note>, place: usize, now: Moment) -> Result<bool, AllocError> {
-    run.make_room()?;
+    run.make_room(1, 0)?;
     if !run.runs(place) {
         return Ok(false);
     }
@@ -83,7 +83,7 @@ fn tick(run: &mut Run<Note>, place: usize, now: Moment) -> Result<bool, AllocErr
 }
 
 fn back(run: &mut Run<Note>, place: usize, now: Moment) -> Result<bool, AllocError> {
-    run.make_room()?;
+    run.make_room(1, 0)?;
     if run.last(place) <= now {
         return Ok(false);
     }
@@ -92,7 +92,7 @@ fn back(run: &mut Run<Note>, place: usize, now: Moment) -> Result<bool, AllocErr
 }
 
 fn save(run: &mut Run<Note>, place: usize) -> Result<bool, AllocError> {
-    run.make_room()?;
+    run.make_room(1, 0)?;
     if !run.runs(place) {
         return Ok(false);
     }
@@ -101,7 +101,7 @@ fn save(run: &mut Run<Note>, place: usize) -> Result<bool, AllocError> {
 }
 
 fn stop(run: &mut Run<Note>, place: usize) -> Result<bool, AllocError> {
-    run.make_room()?;
+    run.make_room(1, 0)?;
     if !run.runs(place) {
         return Ok(false);
     }
