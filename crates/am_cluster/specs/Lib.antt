@@ -1,3 +1,4 @@
 pub mod Worlds
 pub mod Ties
+pub mod Beginnings
 pub mod Lives

@@ -1,13 +1,13 @@
 //! A cluster of instances: their steps, the frames between them, and what can be told of the run so far.
 #![tactic(auto)]
 
-//mod cluster;
+mod cluster;
 mod error;
 mod flight;
-//mod lives;
+mod lives;
 mod member;
 
-//pub use am_journal::CalmReport;
-//pub use cluster::Cluster;
+pub use am_journal::CalmReport;
+pub use cluster::Cluster;
 pub use error::{ClusterError, SettleError};
 pub use flight::Flight;

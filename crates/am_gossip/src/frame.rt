@@ -1,11 +1,12 @@
 //! Frames and what they carry.
 
-ghost use Rattle.std.specs.Prelude.{◌≡◌};
+ghost use Rattle.std.specs.Prelude.{◌≡◌, IfOk};
 ghost use Rattle.am_gossip.specs.Keys.{key_of, key_text};
 ghost use Rattle.am_gossip.specs.Frames.{kind_of};
 
 use crate::kind::FrameKind;
 use am_wire::Bytes;
+use std::alloc::{AllocError, Global};
 use std::marker::Model;
 
 /// The state that a part belongs to.
@@ -47,6 +48,23 @@ pub struct Part {
     pub bytes: Bytes,
 }
 
+impl Part {
+    /// A copy.
+    ///
+    /// # Errors
+    ///
+    /// [`AllocError`] where memory runs out.
+    pub fn try_clone(&self, alloc: Global) -> Result<Part, AllocError>
+        ensures { IfOk result (λ copy. copy ≡ self.now) }
+    {
+        let bytes = self.bytes.try_clone(alloc)?;
+        Ok(Part {
+            key: self.key,
+            bytes,
+        })
+    }
+}
+
 /// Parts in their order, which may hold one state twice. Contracts see the list.
 #[derive(Debug, Drop)]
 pub struct FullState {
@@ -76,6 +94,21 @@ impl FullState {
         self.parts.as_slice()
     }
 
+    /// A copy.
+    ///
+    /// # Errors
+    ///
+    /// [`AllocError`] where memory runs out.
+    pub fn try_clone(&self, alloc: Global) -> Result<FullState, AllocError>
+        ensures { IfOk result (λ copy. copy ≡ self.now) }
+    {
+        let mut parts = Vec::with_capacity(alloc, self.parts.len())?;
+        for part in &self.parts {
+            parts.push(part.try_clone(alloc)?)?;
+        }
+        Ok(FullState { parts })
+    }
+
     /// Gives the parts back. It takes no memory.
     pub fn into_vec(self) -> Vec<Part>
         ensures { result.items ≡ self }
@@ -103,6 +136,22 @@ impl Frame {
             Frame::Push(_) => FrameKind::Push,
             Frame::Pull(_) => FrameKind::Pull,
             Frame::Tick => FrameKind::Tick,
+        }
+    }
+
+    /// A copy.
+    ///
+    /// # Errors
+    ///
+    /// [`AllocError`] where memory runs out.
+    pub fn try_clone(&self, alloc: Global) -> Result<Frame, AllocError>
+        ensures { IfOk result (λ copy. copy ≡ self.now) }
+    {
+        match self {
+            Frame::Delta(part) => Ok(Frame::Delta(part.try_clone(alloc)?)),
+            Frame::Push(state) => Ok(Frame::Push(state.try_clone(alloc)?)),
+            Frame::Pull(state) => Ok(Frame::Pull(state.try_clone(alloc)?)),
+            Frame::Tick => Ok(Frame::Tick),
         }
     }
 }

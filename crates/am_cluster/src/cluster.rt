@@ -1,0 +1,157 @@
+//! A cluster, and what can be asked of it.
+
+ghost use Rattle.std.specs.Prelude.{◌≡◌, ◌≢◌, ◌↔◌, ℕ, [], Any, Err, IfOk, IsTrue, MatchOption, length, option_map};
+ghost use Rattle.std.specs.Option.{option_copied};
+ghost use Rattle.am_instance.specs.Configs.{HasTwice, IsEmptyName, IsLongName};
+ghost use Rattle.am_instance.specs.declared.error.ConfigError.TheVariants as errors;
+ghost use Rattle.am_journal.specs.Reports.{AreTimely, IsCalmInBoth, IsLineOfFault};
+ghost use Rattle.am_cluster.specs.Beginnings.{AreNewborn, AreUnborn, newborns};
+ghost use Rattle.am_cluster.specs.Worlds.{replica_at};
+
+use crate::flight::Flight;
+use crate::member::Member;
+use am_instance::{Config, ConfigError, Instance, Place};
+use am_journal::{CalmReport, Journal};
+use am_version_order::Interval;
+use am_wire::Text;
+use std::alloc::{AllocError, Global};
+use std::marker::Model;
+
+/// The members of a cluster, all that happened to them, and the frames in flight between them.
+///
+/// Contracts see how each member stands, what each step so far was to the silences and to the log, and the frames.
+#[derive(Drop)]
+pub struct Cluster {
+    pub(crate) alloc: Global,
+    pub(crate) members: Vec<Member>,
+    pub(crate) journal: Journal,
+    pub(crate) flights: Vec<Flight>,
+}
+
+impl Model for Cluster {
+    ghost use Rattle.std.specs.Prelude.{◌≡◌, length};
+    ghost use Rattle.am_cluster.specs.Worlds.{World};
+    ghost use Rattle.am_cluster.specs.Ties.{IsWorld};
+
+    ghost Value = { World };
+
+    ghost view = { λ c. record {
+      replicas = c.members.items;
+      silences = c.journal.silences;
+      log = c.journal.log;
+      lines = c.journal.lines;
+      flights = c.flights.items;
+    } };
+
+    ghost invariant = { λ c. record {
+      members : c.journal.members ≡ length c.members.items;
+      world : IsWorld (record {
+        replicas = c.members.items;
+        silences = c.journal.silences;
+        log = c.journal.log;
+        lines = c.journal.lines;
+        flights = c.flights.items;
+      });
+    } };
+}
+
+/// A member for each place of a configuration, each with nothing in it.
+fn newborn_members(alloc: Global, config: &Config) -> Result<Vec<Member>, AllocError>
+    ensures { IfOk result (λ members. members.items ≡ newborns config.now) }
+{
+    let count = config.members().len();
+    let mut members = Vec::with_capacity(alloc, count)?;
+    for place in 0..count {
+        let own = config.for_member(place as u64)?;
+        members.push(Member::new(alloc, own))?;
+    }
+    Ok(members)
+}
+
+impl Cluster {
+    /// A cluster of members with these names, which wait for one another and keep versions after their end for so long.
+    /// Each runs, is empty, and stands at the first moment. No names give no members.
+    ///
+    /// # Errors
+    ///
+    /// The first [`ConfigError`] that applies, in their order.
+    pub fn new(
+        alloc: Global,
+        names: Vec<Text>,
+        retention: Interval,
+        peer_timeout: Interval,
+    ) -> Result<Cluster, ConfigError>
+        ensures members { IfOk result (AreNewborn names.items retention peer_timeout) }
+        ensures empty_name { (result ≡ Err errors.EmptyName) ↔ Any IsEmptyName names.items }
+        ensures long_name { (result ≡ Err errors.LongName)
+            ↔ (¬ Any IsEmptyName names.items) × Any IsLongName names.items }
+        ensures same_name { (result ≡ Err errors.SameName)
+            ↔ (¬ Any IsEmptyName names.items) × (¬ Any IsLongName names.items) × HasTwice names.items }
+    {
+        let mut peers = names;
+        let Some(name) = peers.pop() else {
+            return Ok(Cluster::of(alloc, Vec::new(alloc)));
+        };
+        let config = Config::new(alloc, name, peers, retention, peer_timeout)?;
+        let members = newborn_members(alloc, &config)?;
+        Ok(Cluster::of(alloc, members))
+    }
+
+    /// A cluster of these members, in which nothing happened yet.
+    fn of(alloc: Global, members: Vec<Member>) -> Cluster
+        requires { AreUnborn members.items }
+        ensures members { result.replicas ≡ members.items }
+        ensures silences { result.silences ≡ [] }
+        ensures log { result.log ≡ [] }
+        ensures lines { result.lines ≡ [] }
+        ensures flights { result.flights ≡ [] }
+    {
+        let journal = Journal::new(alloc, members.len());
+        Cluster {
+            alloc,
+            members,
+            journal,
+            flights: Vec::new(alloc),
+        }
+    }
+
+    /// The frames in flight, by their numbers. It takes no memory.
+    pub fn in_flight(&self) -> &[Flight]
+        ensures { result.now ≡ self.now.flights }
+    {
+        self.flights.as_slice()
+    }
+
+    /// The instance of the member at a place, if there is one. It takes no memory.
+    pub fn instance(&self, place: Place) -> Option<&Instance>
+        ensures { option_copied result ≡ option_map (λ replica. replica.stand) (replica_at self.now place) }
+    {
+        match self.members.get(place as usize) {
+            Some(member) => Some(&member.instance),
+            None => None,
+        }
+    }
+
+    /// Whether the member at a place was calm at each of its events so far, those before a restart included, and no start
+    /// or settle was refused to it since its moment was before its last one; else the line of the first step at which
+    /// that fails. It takes no memory.
+    pub fn calm(&self, place: Place) -> CalmReport
+        ensures calm { IsTrue result.calm ↔ IsCalmInBoth (length self.now.replicas) place self.now.silences self.now.log }
+        ensures fault { MatchOption result.first_fault
+            (IsCalmInBoth (length self.now.replicas) place self.now.silences self.now.log)
+            (IsLineOfFault (length self.now.replicas) place self.now.silences self.now.log self.now.lines) }
+    {
+        self.journal.report(place as usize)
+    }
+
+    /// Whether the run so far keeps a spread and a flight time, by one clock; then every member is calm. It takes no
+    /// memory.
+    pub fn timely(&self, spread: Interval, flight: Interval) -> bool
+        ensures exactly { IsTrue result
+            ↔ AreTimely spread flight (length self.now.replicas) self.now.silences self.now.log }
+        ensures calm { IsTrue result → (place : ℕ) →
+            IsCalmInBoth (length self.now.replicas) place self.now.silences self.now.log }
+    {
+        self.journal.timely(spread, flight)
+    }
+}
