@@ -1,0 +1,2 @@
+pub mod Twinned
+pub mod Reported

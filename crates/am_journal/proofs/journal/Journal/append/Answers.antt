@@ -1,0 +1,15 @@
+use Rattle.std.proofs.Common.{◌+◌, [], ◌∷◌, ap, sym, ◌∙◌, length, length-append}
+use Rattle.am_runs.specs.Records.{step_of}
+use Rattle.am_journal.proofs.Twinned.{flights_pushed, twin_push}
+use Rattle.am_journal.proofs.journal.Journal.append.Goals as goal
+
+pub invariant_of-self : goal.invariant_of-self
+invariant_of-self c = record {
+  members = c.append.ensures.members ∙ (c.self.invariant.members ∙ sym c.append-2.ensures.members);
+  twins = rw (c.append.ensures.steps, c.append-2.ensures.steps) (twin_push _ _ _ _ c.self.invariant.twins c.requires.twins);
+  lines =
+      ap length c.push_reserved.ensures.items ∙ (length-append c.self.inside.lines.items (c.args.line ∷ [])
+      ∙ (ap (λ n. n + 1) c.self.invariant.lines
+      ∙ (sym (length-append c.self.inside.silences.steps (step_of c.args.silences ∷ [])) ∙ ap length (sym c.append.ensures.steps))));
+  sendings = rw (c.append.ensures.steps, c.self.invariant.sendings, c.sendings.ensures) (sym (flights_pushed c.self.inside.silences.steps (step_of c.args.silences)));
+}

@@ -1,0 +1,15 @@
+-- What happened in a cluster so far, as contracts see it.
+use Rattle.std.specs.Prelude.{ℕ, List}
+use Rattle.am_silence.specs.Mesh.{Mesh}
+use Rattle.am_nflog.specs.Mesh.{Mesh as LogMesh}
+use Rattle.am_runs.specs.Steps.{Step}
+
+-- how many members there are, what each step was to the silences and to the log, the line that it was given, for how many
+-- more steps there is room, and for how many more versions that they deliver
+pub record Account : Type 0 where
+  pub members : ℕ
+  pub silences : List (Step Mesh)
+  pub log : List (Step LogMesh)
+  pub lines : List ℕ
+  pub room : ℕ
+  pub spare : ℕ

@@ -1,0 +1,8 @@
+-- The lesser one of two numbers, or the only one.
+use Rattle.std.specs.Prelude.{ℕ, Option, Some, None, min}
+
+-- of two numbers that may be wanting
+abbrev pub earlier : Option ℕ → Option ℕ → Option ℕ
+earlier None second = second
+earlier (Some first) None = Some first
+earlier (Some first) (Some second) = Some (min first second)

@@ -1,0 +1,5 @@
+pub mod Twins
+pub mod Marks
+pub mod Accounts
+pub mod Reports
+pub mod Firsts

@@ -1,0 +1,14 @@
+-- Steps in which no version came and no frame was sent.
+use Rattle.am_runs.specs.Steps.{Step}
+use Rattle.am_runs.specs.Steps.Step.{Ticked, Back, Refused, Saved, Stopped, Started}
+use Rattle.am_journal.specs.declared.mark.Mark.{Mark}
+use Rattle.am_journal.specs.declared.mark.Mark.TheVariants as marks
+
+-- what such a step is to the versions of any type
+abbrev pub step_of_mark : {X : Type 0} → Mark → Step X
+step_of_mark (marks.Ticked place now) = Ticked place now
+step_of_mark (marks.Back place now) = Back place now
+step_of_mark (marks.Refused now) = Refused now
+step_of_mark (marks.Saved place) = Saved place
+step_of_mark (marks.Stopped place) = Stopped place
+step_of_mark (marks.Started place now) = Started place now

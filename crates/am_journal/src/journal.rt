@@ -1,0 +1,217 @@
+//! What happened so far.
+
+ghost use Rattle.std.specs.Prelude.{◌≡◌, ◌++◌, ℕ, [], ◌∷◌, ◌+◌, ◌<◌, ◌≤◌, length, IsTrue, ◌↔◌, MatchOption, OnOk, OnErr};
+ghost use Rattle.am_runs.specs.Members.{last_of, member_of};
+ghost use Rattle.am_runs.specs.Records.{step_of};
+ghost use Rattle.am_runs.specs.Steps.{delivered_by, flights_by, flights_of};
+ghost use Rattle.am_journal.specs.Marks.{step_of_mark};
+ghost use Rattle.am_journal.specs.Reports.{AreTimely, IsCalmInBoth, IsLineOfFault, IsPossibleForLog, IsPossibleForSilences};
+ghost use Rattle.am_journal.specs.Twins.{AreTwins, IsTwin};
+
+use crate::laws::{marks_are_told_of_both, twins_tell_same};
+use crate::mark::Mark;
+use crate::report::{CalmReport, earlier};
+use am_nflog::MeshEntry;
+use am_runs::{Run, Step};
+use am_silence::MeshSilence;
+use am_version_order::{Interval, Moment};
+use std::alloc::{AllocError, Global};
+use std::marker::Model;
+
+/// What happened in a cluster so far: what each step was to the silences and to the log, and the line that it was given.
+///
+/// Contracts see it as the number of the members, both lists of steps, the lines, and the room for more.
+#[derive(Drop)]
+pub struct Journal {
+    silences: Run<MeshSilence>,
+    log: Run<MeshEntry>,
+    lines: Vec<u64>,
+    // How many frames were ever sent.
+    sendings: usize,
+}
+
+impl Model for Journal {
+    ghost use Rattle.std.specs.Prelude.{◌≡◌, ◌-◌, length, min, vec_len, vec_capacity};
+    ghost use Rattle.am_runs.specs.Steps.{flights_of};
+    ghost use Rattle.am_journal.specs.Accounts.{Account};
+    ghost use Rattle.am_journal.specs.Twins.{AreTwins};
+
+    ghost Value = { Account };
+
+    ghost view = { λ journal. record {
+      members = journal.silences.members;
+      silences = journal.silences.steps;
+      log = journal.log.steps;
+      lines = journal.lines.items;
+      room = min (min journal.silences.room journal.log.room) (vec_capacity journal.lines - vec_len journal.lines);
+      spare = min journal.silences.spare journal.log.spare;
+    } };
+
+    ghost invariant = { λ journal. record {
+      members : journal.silences.members ≡ journal.log.members;
+      twins : AreTwins journal.silences.steps journal.log.steps;
+      lines : length journal.lines.items ≡ length journal.silences.steps;
+      sendings : journal.sendings ≡ length (flights_of journal.silences.steps);
+    } };
+}
+
+impl Journal {
+    /// A journal of so many members in which nothing happened yet: all of them run, and are empty. It takes no memory.
+    pub fn new(alloc: Global, members: usize) -> Journal
+        ensures members { result.members ≡ members }
+        ensures silences { result.silences ≡ [] }
+        ensures log { result.log ≡ [] }
+        ensures lines { result.lines ≡ [] }
+    {
+        Journal {
+            silences: Run::new(alloc, members),
+            log: Run::new(alloc, members),
+            lines: Vec::new(alloc),
+            sendings: 0,
+        }
+    }
+
+    /// Makes room for so many steps, which deliver at most so many versions in all, silences and entries together.
+    ///
+    /// # Errors
+    ///
+    /// [`AllocError`] where memory runs out. There is no less room then than before.
+    pub fn make_room(&mut self, steps: usize, versions: usize) -> Result<(), AllocError>
+        ensures members { self.new.members ≡ self.old.members }
+        ensures silences { self.new.silences ≡ self.old.silences }
+        ensures log { self.new.log ≡ self.old.log }
+        ensures lines { self.new.lines ≡ self.old.lines }
+        ensures room { OnOk result (steps ≤ self.new.room) }
+        ensures spare { OnOk result (versions ≤ self.new.spare) }
+        ensures kept_room { self.old.room ≤ self.new.room }
+        ensures kept_spare { self.old.spare ≤ self.new.spare }
+    {
+        self.silences.make_room(steps, versions)?;
+        self.log.make_room(steps, versions)?;
+        self.lines.reserve(steps)?;
+        Ok(())
+    }
+
+    /// Whether so many frames more can be numbered, each by its place among all that were ever sent. It takes no memory.
+    ///
+    /// # Errors
+    ///
+    /// [`AllocError`] where their numbers would go past the last one of a `usize`. No memory holds so many frames, so
+    /// this is never seen.
+    pub fn room_for_frames(&self, frames: usize) -> Result<(), AllocError>
+        ensures ok { OnOk result (length (flights_of self.now.silences) + frames ≤ usize.MAX) }
+        ensures err { OnErr result (usize.MAX < length (flights_of self.now.silences) + frames) }
+    {
+        match self.sendings.checked_add(frames) {
+            Some(_) => Ok(()),
+            None => Err(AllocError),
+        }
+    }
+
+    /// Writes down what a step was to the silences and to the log, and its line. It takes no memory.
+    pub fn append(&mut self, silences: Step<MeshSilence>, log: Step<MeshEntry>, line: u64)
+        requires room { 0 < self.old.room }
+        requires spare { length (delivered_by (step_of silences)) + length (delivered_by (step_of log)) ≤ self.old.spare }
+        requires frames { length (flights_of self.old.silences) + length (flights_by (step_of silences)) ≤ usize.MAX }
+        requires possible_silences { IsPossibleForSilences self.old.members self.old.silences (step_of silences) }
+        requires possible_log { IsPossibleForLog self.old.members self.old.log (step_of log) }
+        requires twins { IsTwin (step_of silences) (step_of log) }
+        ensures members { self.new.members ≡ self.old.members }
+        ensures silences { self.new.silences ≡ self.old.silences ++ step_of silences ∷ [] }
+        ensures log { self.new.log ≡ self.old.log ++ step_of log ∷ [] }
+        ensures lines { self.new.lines ≡ self.old.lines ++ line ∷ [] }
+        ensures room { self.old.room ≤ self.new.room + 1 }
+        ensures spare { self.old.spare
+            ≤ self.new.spare + (length (delivered_by (step_of silences)) + length (delivered_by (step_of log))) }
+    {
+        self.sendings += silences.sendings();
+        self.silences.append(silences);
+        self.log.append(log);
+        self.lines.push_reserved(line);
+    }
+
+    /// Writes down a step without versions, and its line. It takes no memory.
+    pub fn mark(&mut self, mark: Mark, line: u64)
+        requires room { 0 < self.old.room }
+        requires possible { IsPossibleForSilences self.old.members self.old.silences (step_of_mark mark) }
+        ensures members { self.new.members ≡ self.old.members }
+        ensures silences { self.new.silences ≡ self.old.silences ++ step_of_mark mark ∷ [] }
+        ensures log { self.new.log ≡ self.old.log ++ step_of_mark mark ∷ [] }
+        ensures lines { self.new.lines ≡ self.old.lines ++ line ∷ [] }
+        ensures room { self.old.room ≤ self.new.room + 1 }
+        ensures spare { self.old.spare ≤ self.new.spare }
+    {
+        self.is_told_of_both();
+        marks_are_told_of_both();
+        self.append(mark.step(), mark.step(), line);
+    }
+
+    /// Says that both runs are told of the same steps, and that each step has its line. It does nothing.
+    pub fn is_told_of_both(&self)
+        ensures twins { AreTwins self.now.silences self.now.log }
+        ensures lines { length self.now.lines ≡ length self.now.silences }
+        ensures frames { length (flights_of self.now.silences) ≤ usize.MAX }
+    {
+        let _sendings = self.sendings;
+    }
+
+    /// How many frames were ever sent. It takes no memory.
+    pub fn sendings(&self) -> usize
+        ensures silences { result ≡ length (flights_of self.now.silences) }
+        ensures log { result ≡ length (flights_of self.now.log) }
+    {
+        twins_tell_same();
+        self.sendings
+    }
+
+    /// Whether a member runs. It takes no memory.
+    pub fn runs(&self, place: usize) -> bool
+        ensures silences { result ≡ (member_of self.now.members place self.now.silences).runs }
+        ensures log { result ≡ (member_of self.now.members place self.now.log).runs }
+    {
+        twins_tell_same();
+        self.silences.runs(place)
+    }
+
+    /// The moment of a member's last event or start, or the first moment where it had none. It takes no memory.
+    pub fn last(&self, place: usize) -> Moment
+        ensures silences { result ≡ last_of (member_of self.now.members place self.now.silences) }
+        ensures log { result ≡ last_of (member_of self.now.members place self.now.log) }
+    {
+        twins_tell_same();
+        self.silences.last(place)
+    }
+
+    /// Whether a member was calm, and else the line of the first step with which it wasn't. It takes no memory.
+    pub fn report(&self, place: usize) -> CalmReport
+        ensures calm { IsTrue result.calm
+            ↔ IsCalmInBoth self.now.members place self.now.silences self.now.log }
+        ensures fault { MatchOption result.first_fault
+            (IsCalmInBoth self.now.members place self.now.silences self.now.log)
+            (IsLineOfFault self.now.members place self.now.silences self.now.log self.now.lines) }
+    {
+        match earlier(
+            self.silences.first_fault(place),
+            self.log.first_fault(place),
+        ) {
+            Some(number) => CalmReport {
+                calm: false,
+                first_fault: Some(self.lines[number]),
+            },
+            None => CalmReport {
+                calm: true,
+                first_fault: None,
+            },
+        }
+    }
+
+    /// Whether both runs keep a spread and a flight time. It takes no memory.
+    pub fn timely(&self, spread: Interval, flight: Interval) -> bool
+        ensures exactly { IsTrue result
+            ↔ AreTimely spread flight self.now.members self.now.silences self.now.log }
+        ensures calm { IsTrue result → (place : ℕ) →
+            IsCalmInBoth self.now.members place self.now.silences self.now.log }
+    {
+        self.silences.timely(spread, flight) && self.log.timely(spread, flight)
+    }
+}

@@ -1,0 +1,41 @@
+//! Steps in which no version came and no frame was sent.
+
+ghost use Rattle.std.specs.Prelude.{◌≡◌};
+ghost use Rattle.am_runs.specs.Records.{step_of};
+ghost use Rattle.am_journal.specs.Marks.{step_of_mark};
+
+use am_runs::Step;
+use am_version_order::Moment;
+
+/// A step in which no version came and no frame was sent.
+#[derive(Clone, Copy, Debug, PartialEq, Eq)]
+pub enum Mark {
+    /// A member collected.
+    Ticked { place: usize, now: Moment },
+    /// Refused to a member, since the moment is before that member's last one.
+    Back { place: usize, now: Moment },
+    /// Refused for another cause.
+    Refused { now: Moment },
+    /// A member's copy was saved.
+    Saved { place: usize },
+    /// A member was stopped.
+    Stopped { place: usize },
+    /// A member was started from its saved copy, or from nothing where none was saved.
+    Started { place: usize, now: Moment },
+}
+
+impl Mark {
+    /// What it is to the versions of any type.
+    pub(crate) fn step<V>(&self) -> Step<V>
+        ensures { step_of result ≡ step_of_mark self.now }
+    {
+        match *self {
+            Mark::Ticked { place, now } => Step::Ticked { place, now },
+            Mark::Back { place, now } => Step::Back { place, now },
+            Mark::Refused { now } => Step::Refused { now },
+            Mark::Saved { place } => Step::Saved { place },
+            Mark::Stopped { place } => Step::Stopped { place },
+            Mark::Started { place, now } => Step::Started { place, now },
+        }
+    }
+}
