@@ -14,11 +14,11 @@ use Rattle.am_collect.specs.Kept.{Kept}
 use Rattle.am_collect.specs.Events.{Events, last_moment}
 use Rattle.am_instance.specs.Configs.{is_peer}
 use Rattle.am_instance.specs.Stands.{Stand, kept_silences, kept_log}
-use Rattle.am_instance.specs.Deliveries.{before_fault, first_fault, rows_in, parts_of}
+use Rattle.am_instance.specs.Deliveries.{first_fault, rows_in, parts_of}
 use Rattle.am_runs.specs.Steps.{Step, flights_of}
 use Rattle.am_runs.specs.Members.{Member, member_of, map_of}
 use Rattle.am_record.specs.Pasts.{HasGoneThrough}
-use Rattle.am_carried.specs.ByState.{silences_in, entries_in}
+use Rattle.am_carried.specs.Contents.{carries, silences_in, entries_in}
 use Rattle.am_cluster.specs.declared.flight.Flight.{Flight}
 use Rattle.am_cluster.specs.Worlds.{Replica, World, replica_at}
 
@@ -38,10 +38,10 @@ pub record IsMember (world : World) (q : ℕ) (replica : Replica) : Type 0 where
 
 -- the versions of a frame that is in flight, by state
 abbrev pub silences_of : Flight → List Mesh
-silences_of flight = silences_in (before_fault (rows_in (parts_of flight.frame)))
+silences_of flight = silences_in (carries flight.frame)
 
 abbrev pub entries_of : Flight → List LogMesh
-entries_of flight = entries_in (before_fault (rows_in (parts_of flight.frame)))
+entries_of flight = entries_in (carries flight.frame)
 
 -- a frame in flight is one that a step sent, under its number among all that were ever sent, from one member to another
 pub record IsFlying (world : World) (flight : Flight) : Type 0 where
