@@ -70,6 +70,7 @@ module _ (old : World) (place : ℕ) (was will : Replica) (s : Step Mesh) (l : S
       place = ap (λ c. c.place) config ∙ (is.members place was found).place;
       members = ap (λ c. length c.members) config ∙ ((is.members place was found).members ∙ sym same_length);
     }
+
     member : (q : ℕ) (replica : Replica) → replica_at changed_at q ≡ Some replica → ((eqb place q ≡ true) × (place ≡ q)) ⊎ ((eqb place q ≡ false) × (place ≢ q)) → IsMember changed_at q replica
     member q replica there (inl own) =
         subst (λ p. IsMember changed_at p replica) own.1

@@ -1,3 +1,4 @@
 pub mod Places
 pub mod Tied
 pub mod Goes
+pub mod Lived

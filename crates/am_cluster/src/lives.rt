@@ -38,7 +38,12 @@ impl Cluster {
     }
 
     /// Starts the member at a place from its last save.
-    pub(crate) fn start_at(&mut self, place: usize, now: Moment, line: u64) -> Result<(), ClusterError>
+    pub(crate) fn start_at(
+        &mut self,
+        place: usize,
+        now: Moment,
+        line: u64,
+    ) -> Result<(), ClusterError>
         requires { place < length self.old.replicas }
         ensures { OfMember self.old place (λ replica. IsStart self.old place replica now line result self.new) }
     {

@@ -1,0 +1,80 @@
+-- A cluster after a member was saved, stopped or started.
+use Rattle.std.proofs.Common.{◌≡◌, ◌≢◌, inl, inr, ℕ, ◌<◌, Bool, true, false, eqb, List, [], ◌∷◌, ◌++◌, Option, Some, None, refl, sym, ap, ◌∙◌, subst, slice_get, slice_set, slice_index_or, length, set, get_or}
+use Rattle.std.specs.Ordering.{nat_cmp}
+use Rattle.std.specs.Cmp.Lexicographic.{slice_cmp}
+use Rattle.std.proofs.lemmas.Bool.Decides.{eqb_tells}
+use Rattle.std.proofs.lemmas.Option.{slice_get-get_or}
+use Rattle.am_silence.specs.Mesh.{Mesh, mesh_version}
+use Rattle.am_nflog.specs.Mesh.{Mesh as LogMesh, mesh_version as entry_version}
+use Rattle.am_nflog.specs.Keys.{key_cmp}
+use Rattle.am_instance.specs.Stands.{kept_silences, kept_log}
+use Rattle.am_runs.specs.Steps.{Step, is_at}
+use Rattle.am_runs.specs.Steps.Step.{Saved, Stopped, Started}
+use Rattle.am_runs.specs.Members.{Member, stepped, member_of}
+use Rattle.am_cluster.specs.Worlds.{Replica, World, replica_at, with_replica, written}
+use Rattle.am_cluster.specs.declared.flight.Flight.{Flight}
+use Rattle.am_cluster.specs.Lives.{saved, stopped, started, OfMember}
+use Rattle.am_cluster.specs.Ties.{IsTied, IsMember, IsWorld}
+use Rattle.am_cluster.proofs.Places.{own_place, some_is}
+use Rattle.am_cluster.proofs.Tied.{tied_here, tied_saved, tied_stopped, tied_started}
+use Rattle.am_cluster.proofs.Goes.{goes_on_at}
+
+-- the member that stands at a place is the one that is read there
+pub found_at : (replicas : List Replica) (place : ℕ) (r : Replica) → place < length replicas → r ≡ slice_index_or replicas place r → slice_get replicas place ≡ Some r
+found_at replicas place r inside is = slice_get-get_or replicas place r inside ∙ ap (λ x. Some x) (sym is)
+
+-- a place within a cluster that is seen in two ways
+pub inside : (v w : World) (place : ℕ) → v ≡ w → place < length w.replicas → place < length v.replicas
+inside v w place same less = subst (λ x. place < length x.replicas) (sym same) less
+
+elsewhere : (place q : ℕ) → place ≢ q → eqb place q ≡ false
+elsewhere place q other = elim (eqb_tells place q) [ inl same ↦ absurd (other same.1) | inr apart ↦ apart.0 ]
+
+module _ (w : World) (place : ℕ) (r : Replica) (line : ℕ) (is : IsWorld w) (found : replica_at w place ≡ Some r) where
+  silences_tied : IsTied mesh_version (slice_cmp nat_cmp) (member_of (length w.replicas) place w.silences) r.runs (kept_silences r.stand) r.saved_silences
+  silences_tied = (is.members place r found).silences
+
+  log_tied : IsTied entry_version key_cmp (member_of (length w.replicas) place w.log) r.runs (kept_log r.stand) r.saved_log
+  log_tied = (is.members place r found).log
+
+  pub world_saved : IsWorld (written (with_replica w place (saved r)) (Saved place) (Saved place) line)
+  world_saved = goes_on_at w place r (saved r) (Saved place) (Saved place) line is found (elsewhere place) (elsewhere place)
+      (tied_here mesh_version (slice_cmp nat_cmp) (length w.replicas) place w.silences (Saved place) r.runs (kept_silences r.stand) r.stand.silences (own_place place) (tied_saved mesh_version (slice_cmp nat_cmp) _ place 0 r.runs (kept_silences r.stand) r.saved_silences silences_tied))
+      (tied_here entry_version key_cmp (length w.replicas) place w.log (Saved place) r.runs (kept_log r.stand) r.stand.log (own_place place) (tied_saved entry_version key_cmp _ place 0 r.runs (kept_log r.stand) r.saved_log log_tied))
+      refl
+
+  pub world_stopped : IsWorld (written (with_replica w place (stopped r)) (Stopped place) (Stopped place) line)
+  world_stopped = goes_on_at w place r (stopped r) (Stopped place) (Stopped place) line is found (elsewhere place) (elsewhere place)
+      (tied_here mesh_version (slice_cmp nat_cmp) (length w.replicas) place w.silences (Stopped place) false (kept_silences r.stand) r.saved_silences (own_place place) (tied_stopped mesh_version (slice_cmp nat_cmp) _ place 0 r.runs (kept_silences r.stand) r.saved_silences silences_tied))
+      (tied_here entry_version key_cmp (length w.replicas) place w.log (Stopped place) false (kept_log r.stand) r.saved_log (own_place place) (tied_stopped entry_version key_cmp _ place 0 r.runs (kept_log r.stand) r.saved_log log_tied))
+      refl
+
+  pub world_started : (now : ℕ) → IsWorld (written (with_replica w place (started r now)) (Started place now) (Started place now) line)
+  world_started now = goes_on_at w place r (started r now) (Started place now) (Started place now) line is found (elsewhere place) (elsewhere place)
+      (tied_here mesh_version (slice_cmp nat_cmp) (length w.replicas) place w.silences (Started place now) true _ r.saved_silences (own_place place) (tied_started mesh_version (slice_cmp nat_cmp) _ place now r.runs (kept_silences r.stand) r.saved_silences silences_tied))
+      (tied_here entry_version key_cmp (length w.replicas) place w.log (Started place now) true _ r.saved_log (own_place place) (tied_started entry_version key_cmp _ place now r.runs (kept_log r.stand) r.saved_log log_tied))
+      refl
+
+pub same_world : (rs others : List Replica) (ss ss2 : List (Step Mesh)) (ls ls2 : List (Step LogMesh)) (ns ns2 : List ℕ) (fs : List Flight) →
+    rs ≡ others → ss ≡ ss2 → ls ≡ ls2 → ns ≡ ns2 →
+    ◌≡◌ {A = World} (record { replicas = rs; silences = ss; log = ls; lines = ns; flights = fs }) (record { replicas = others; silences = ss2; log = ls2; lines = ns2; flights = fs })
+same_world rs others ss ss2 ls ls2 ns ns2 fs a b c d = cc
+
+-- what is said of the member that was read at a place is said of any that stands there
+pub for_replica : (P : World → Replica → Type 0) (w v : World) (place : ℕ) (r : Replica) → w ≡ v → replica_at w place ≡ Some r → P w r → OfMember v place (P v)
+for_replica P w v place r same found holds = subst (λ u. OfMember u place (P u)) same (λ replica there. subst (P w) (some_is r replica (sym found ∙ there)) holds)
+
+-- a place that is read twice
+pub read_again : (replicas : List Replica) (place : ℕ) (r s : Replica) → place < length replicas → r ≡ slice_index_or replicas place r → s ≡ slice_index_or replicas place s → s ≡ r
+read_again replicas place r s inside is also = some_is s r (sym (found_at replicas place s inside also) ∙ found_at replicas place r inside is)
+
+-- what a member's run tells is what the member tells
+pub runs_told : (w : World) (place : ℕ) (r : Replica) (n : ℕ) (ss : List (Step Mesh)) → IsWorld w → replica_at w place ≡ Some r → n ≡ length w.replicas → ss ≡ w.silences →
+    (running : Bool) → r.runs ≡ running → (member_of n place ss).runs ≡ running
+runs_told w place r n ss is found members silences running runs =
+    subst (λ x. (member_of x place ss).runs ≡ running) (sym members)
+    (subst (λ x. (member_of (length w.replicas) place x).runs ≡ running) (sym silences) ((is.members place r found).silences.runs ∙ runs))
+
+pub answered : (f : World → Replica → World) (w v n : World) (place : ℕ) (r : Replica) (running : Bool) → w ≡ v → replica_at w place ≡ Some r → r.runs ≡ running → n ≡ f w r →
+    OfMember v place (λ replica. (replica.runs ≡ running) × (n ≡ f v replica))
+answered f w v n place r running same found runs is = for_replica (λ u replica. (replica.runs ≡ running) × (n ≡ f u replica)) w v place r same found (runs, is)
