@@ -1,0 +1,4 @@
+//! The steps of an instance as steps of a run: what holds of them, for each of both states.
+#![tactic(auto)]
+
+pub mod laws;
