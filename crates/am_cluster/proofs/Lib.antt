@@ -2,3 +2,4 @@ pub mod Places
 pub mod Tied
 pub mod Goes
 pub mod Lived
+pub mod Departing

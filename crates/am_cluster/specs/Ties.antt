@@ -17,7 +17,7 @@ use Rattle.am_instance.specs.Stands.{Stand, kept_silences, kept_log}
 use Rattle.am_instance.specs.Deliveries.{first_fault, rows_in, parts_of}
 use Rattle.am_runs.specs.Steps.{Step, flights_of}
 use Rattle.am_runs.specs.Members.{Member, member_of, map_of}
-use Rattle.am_record.specs.Pasts.{HasGoneThrough}
+use Rattle.am_record.specs.Recorded.{HasGoneThrough}
 use Rattle.am_carried.specs.Contents.{carries, silences_in, entries_in}
 use Rattle.am_cluster.specs.declared.flight.Flight.{Flight}
 use Rattle.am_cluster.specs.Worlds.{Replica, World, replica_at}

@@ -6,6 +6,8 @@ mod error;
 mod flight;
 mod lives;
 mod member;
+mod sending;
+mod writing;
 
 pub use am_journal::CalmReport;
 pub use cluster::Cluster;

@@ -1,0 +1,59 @@
+-- What an event of a member does to the cluster.
+use Rattle.std.specs.Prelude.{◌≡◌, ◌⊎◌, ℕ, true, false, List, [], Result, Ok, Err}
+use Rattle.am_gossip.specs.declared.frame.Frame.{Frame}
+use Rattle.am_instance.specs.declared.event.Event.{Event}
+use Rattle.am_instance.specs.declared.error.StepError.{StepError}
+use Rattle.am_instance.specs.declared.error.StepError.TheVariants.{MomentBack, UnknownPeer, Memory}
+use Rattle.am_instance.specs.declared.reply.Outcome.{Outcome}
+use Rattle.am_instance.specs.declared.reply.Reply.{Reply}
+use Rattle.am_instance.specs.Stands.{Stand}
+use Rattle.am_instance.specs.OneStep.{IsStep}
+use Rattle.am_runs.specs.declared.step.Source.{Source}
+use Rattle.am_runs.specs.Steps.Step.{Refused}
+use Rattle.am_carried.specs.Contents.{silences_in, entries_in}
+use Rattle.am_record.specs.Recorded.{event_step}
+use Rattle.am_cluster.specs.declared.error.ClusterError.{ClusterError}
+use Rattle.am_cluster.specs.declared.error.ClusterError.TheVariants as errors
+use Rattle.am_cluster.specs.Worlds.{Replica, World, with_flights, with_replica, written}
+
+-- What the instance answered, as the cluster tells it, and the frames that fly then. Where a frame finds no memory, none of
+-- them flies.
+abbrev pub IsTold : Result Outcome StepError → List (ℕ × Frame) → Result Reply ClusterError → Type 0
+IsTold (Ok outcome) frames (Ok reply) = (reply ≡ outcome.reply) × (frames ≡ outcome.frames.items) × (outcome.unsent.memory ≡ 0)
+IsTold (Ok outcome) frames (Err error) = (error ≡ errors.Memory) × (frames ≡ [])
+IsTold (Err (MomentBack last)) frames (Err error) = (error ≡ errors.MomentBack last) × (frames ≡ [])
+IsTold (Err UnknownPeer) frames (Err error) = (error ≡ errors.UnknownPeer) × (frames ≡ [])
+IsTold (Err (Memory taken)) frames (Err error) = (error ≡ errors.Memory) × (frames ≡ [])
+IsTold _ _ _ = ⊥
+
+-- a member with another stand
+abbrev pub with_stand : Replica → Stand → Replica
+with_stand replica stand = record replica { stand = stand }
+
+-- the instance of a member that runs makes its step, which is written down, and its frames fly
+pub record HasHappened (old : World) (place : ℕ) (replica : Replica) (event : Event) (source : Source) (now line : ℕ) (result : Result Reply ClusterError) (new : World) : Type 0 where
+  pub runs : replica.runs ≡ true
+  pub answer : Result Outcome StepError
+  pub stand : Stand
+  pub step : IsStep replica.stand event now answer stand
+  pub frames : List (ℕ × Frame)
+  pub told : IsTold answer frames result
+  pub world : new ≡
+      written (with_flights (with_replica old place (with_stand replica stand)) place now frames)
+      (event_step silences_in place now source event answer frames) (event_step entries_in place now source event answer frames) line
+
+-- a stopped member does nothing, and the moment is written down
+pub record IsHalted (old : World) (replica : Replica) (now line : ℕ) (result : Result Reply ClusterError) (new : World) : Type 0 where
+  pub stopped : replica.runs ≡ false
+  pub error : result ≡ Err errors.Stopped
+  pub world : new ≡ written old (Refused now) (Refused now) line
+
+-- there is no room for the step, and nothing has changed
+pub record IsUnmade {A : Type 0} (old : World) (result : Result A ClusterError) (new : World) : Type 0 where
+  pub error : result ≡ Err errors.Memory
+  pub world : new ≡ old
+
+-- what came of an event at a member
+abbrev pub IsEvent : World → ℕ → Replica → Event → Source → ℕ → ℕ → Result Reply ClusterError → World → Type 0
+IsEvent old place replica event source now line result new =
+    IsUnmade old result new ⊎ IsHalted old replica now line result new ⊎ HasHappened old place replica event source now line result new

@@ -1,0 +1,47 @@
+-- How an event is written down in the journal, with the frames that fly after it.
+use Rattle.std.specs.Prelude.{◌≡◌, ℕ, ◌+◌, ◌<◌, ◌≤◌, List, [], ◌∷◌, ◌++◌, ◌-◌, ◌^◌, length, map}
+use Rattle.am_silence.specs.Mesh.{Mesh}
+use Rattle.am_nflog.specs.Mesh.{Mesh as LogMesh}
+use Rattle.am_gossip.specs.declared.frame.Frame.{Frame}
+use Rattle.am_runs.specs.Steps.{Step, flights_of}
+use Rattle.am_runs.specs.Steps.Step.{Took}
+use Rattle.am_journal.specs.Accounts.{Account}
+use Rattle.am_journal.specs.Reports.{IsPossibleForSilences, IsPossibleForLog}
+use Rattle.am_carried.specs.Contents.{silences_in, entries_in}
+use Rattle.am_record.specs.Recorded.{sent_in}
+use Rattle.am_cluster.specs.declared.sending.Sent.{Sent}
+use Rattle.am_cluster.specs.declared.writing.Entry.{Entry}
+use Rattle.am_cluster.specs.declared.writing.Delivered.{Delivered}
+
+-- what an event was to each state, by the versions that it delivered and the frames that it left in flight
+abbrev pub took_silences : Entry → Delivered → List (ℕ × Frame) → Step Mesh
+took_silences entry versions frames = Took entry.place entry.moment entry.source versions.silences.items (sent_in silences_in frames)
+
+abbrev pub took_entries : Entry → Delivered → List (ℕ × Frame) → Step LogMesh
+took_entries entry versions frames = Took entry.place entry.moment entry.source versions.log.items (sent_in entries_in frames)
+
+-- what was copied of frames is what they carry
+pub record AreSent (sent : Sent) (frames : List (ℕ × Frame)) : Type 0 where
+  pub silences : map (λ frame. frame.items) sent.silences.items ≡ sent_in silences_in frames
+  pub log : map (λ frame. frame.items) sent.log.items ≡ sent_in entries_in frames
+
+-- there is room for it, and it can have happened
+pub record CanWrite (account : Account) (entry : Entry) (versions : Delivered) (frames : List (ℕ × Frame)) : Type 0 where
+  pub room_for_it : 0 < account.room
+  pub spare_for_it : length versions.silences.items + length versions.log.items ≤ account.spare
+  pub silences : IsPossibleForSilences account.members account.silences (took_silences entry versions frames)
+  pub log : IsPossibleForLog account.members account.log (took_entries entry versions frames)
+
+-- it can be written with the frames that were copied, which can be numbered
+pub record IsReady (account : Account) (entry : Entry) (versions : Delivered) (sent : Sent) : Type 0 where
+  pub frames : List (ℕ × Frame)
+  pub copied : AreSent sent frames
+  pub numbers : length (flights_of account.silences) + length frames ≤ 2 ^ 64 - 1
+  pub can : CanWrite account entry versions frames
+
+-- it stands at the end of both runs, with its line
+pub record IsWritten (old : Account) (entry : Entry) (versions : Delivered) (frames : List (ℕ × Frame)) (new : Account) : Type 0 where
+  pub members : new.members ≡ old.members
+  pub silences : new.silences ≡ old.silences ++ took_silences entry versions frames ∷ []
+  pub log : new.log ≡ old.log ++ took_entries entry versions frames ∷ []
+  pub lines : new.lines ≡ old.lines ++ entry.line ∷ []
