@@ -9,10 +9,11 @@ use Rattle.am_runs.specs.Steps.{Step}
 use Rattle.am_runs.specs.Runs.{IsPossible, IsCalmAt, IsFirstFault}
 use Rattle.am_runs.specs.Timely.{IsTimely}
 
--- what can have happened to the silences, and to the log, after the steps before it
+-- what can have happened to the silences after the steps before it
 abbrev pub IsPossibleForSilences : ℕ → List (Step Mesh) → Step Mesh → Type 0
 IsPossibleForSilences = IsPossible mesh_version (slice_cmp nat_cmp)
 
+-- and to the log
 abbrev pub IsPossibleForLog : ℕ → List (Step LogMesh) → Step LogMesh → Type 0
 IsPossibleForLog = IsPossible entry_version key_cmp
 
