@@ -1,3 +1,4 @@
 pub mod Places
 pub mod Versions
 pub mod Events
+pub mod Laws

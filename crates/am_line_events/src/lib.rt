@@ -5,6 +5,7 @@
 mod asked;
 mod events;
 mod groups;
+pub mod laws;
 mod log;
 mod places;
 mod rows;
