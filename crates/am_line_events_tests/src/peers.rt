@@ -16,7 +16,7 @@ enum Plain {
     Other,
 }
 
-fn plain(asked: &(Asked, usize)) -> Plain {
+fn told(asked: &(Asked, usize)) -> Plain {
     match asked.0 {
         Asked::Start => return Plain::Start,
         Asked::NoMember => return Plain::NoMember,
@@ -32,7 +32,7 @@ fn plain(asked: &(Asked, usize)) -> Plain {
 
 fn plain_of(alloc: Global, text: &str) -> Option<Plain> {
     let asked = asked_by(alloc, text)?;
-    Some(plain(&asked))
+    Some(told(&asked))
 }
 
 #[test]
