@@ -58,19 +58,21 @@ fn is_frame(event: &Event, written: Written) -> bool {
     }
 }
 
+fn is_written(asked: &(Asked, usize), written: Written) -> bool {
+    match &asked.0 {
+        Asked::Event {
+            event,
+            source: Source::Written(sent),
+        } => { is_frame(event, written) && *sent == at(written.sent) && asked.1 == written.count }
+        _ => false,
+    }
+}
+
 // Whether the last line of a text writes so.
 fn writes(alloc: Global, text: &str, written: Written) -> bool {
     match asked_by(alloc, text) {
-        Some(
-            (
-                Asked::Event {
-                    event,
-                    source: Source::Written(sent),
-                },
-                count,
-            ),
-        ) => is_frame(&event, written) && sent == at(written.sent) && count == written.count,
-        _ => false,
+        Some(asked) => is_written(&asked, written),
+        None => false,
     }
 }
 
