@@ -11,3 +11,4 @@ pub mod Splitting
 pub mod Taking
 pub mod Runs
 pub mod Firsts
+pub mod Hashes

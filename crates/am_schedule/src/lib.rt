@@ -5,6 +5,7 @@ mod cluster;
 mod error;
 mod events;
 mod form;
+mod hash_list;
 mod items;
 pub mod laws;
 mod line;
@@ -22,6 +23,7 @@ mod versions;
 mod word;
 
 pub use error::{FaultKind, ScheduleError};
+pub use hash_list::HashList;
 pub use items::Items;
 pub use schedule::{Schedule, parse};
 pub use shared::Shared;

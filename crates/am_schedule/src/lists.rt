@@ -8,6 +8,7 @@ ghost use Rattle.am_schedule.specs.Numbers.{count_in};
 ghost use Rattle.am_schedule.specs.Lists.{values, hashes_in, yes_or_no_in, member_in, pair_in, pairs_in};
 
 use crate::error::FaultKind;
+use crate::hash_list::HashList;
 use crate::items::Items;
 use crate::numbers::count;
 use crate::step::Pair;
@@ -29,22 +30,28 @@ fn counts(alloc: Global, words: &[&str]) -> Result<Items<u64>, FaultKind>
     Ok(Items::new(numbers))
 }
 
-/// The hashes of a list: `-` for none, or numbers parted by commas. `Number` where it is no list, then `Name`
-/// where it is too long.
-#[tactic(auto, unfolding(crate::specs::Lists::hashes_in, crate::specs::Words::in_place))]
-pub(crate) fn hashes(alloc: Global, word: &str) -> Result<Items<u64>, FaultKind>
+/// The hashes of a list, however long its word is: `-` for none, or numbers parted by commas.
+#[tactic(auto, unfolding(crate::specs::Lists::hashes_in))]
+fn numbers_of(alloc: Global, word: &str) -> Result<Items<u64>, FaultKind>
+    ensures { Gives result (or_fault Number (hashes_in word.now)) }
+{
+    if word == "-" {
+        return Ok(Items::new(Vec::new(alloc)));
+    }
+    let words = split_at(alloc, word, ',')?;
+    counts(alloc, &words)
+}
+
+/// The hashes of a list. `Number` where it is none, then `Name` where it is too long.
+#[tactic(auto, unfolding(crate::specs::Words::in_place), using(crate::proofs::Hashes::few_hashes))]
+pub(crate) fn hashes(alloc: Global, word: &str) -> Result<HashList, FaultKind>
     ensures { Gives result (in_place (hashes_in word.now) word.now) }
 {
-    let hashes = if word == "-" {
-        Items::new(Vec::new(alloc))
-    } else {
-        let words = split_at(alloc, word, ',')?;
-        counts(alloc, &words)?
-    };
+    let hashes = numbers_of(alloc, word)?;
     if word.len() > MAX_WORD {
         return Err(FaultKind::Name);
     }
-    Ok(hashes)
+    Ok(HashList::new(hashes))
 }
 
 #[tactic(auto, unfolding(crate::specs::Lists::yes_or_no_in))]

@@ -8,7 +8,7 @@ ghost use Rattle.am_schedule.specs.Lists.{hashes_in, yes_or_no_in};
 ghost use Rattle.am_schedule.specs.Places.{read_at, text_at, member_at};
 
 use crate::error::FaultKind;
-use crate::items::Items;
+use crate::hash_list::HashList;
 use crate::lists::{hashes, member, yes_or_no};
 use crate::numbers::{bits, count};
 use crate::times::{moment, seconds, whole_moment};
@@ -58,11 +58,7 @@ pub(crate) fn yes_or_no_at(words: &[&str], place: usize) -> Result<bool, FaultKi
     in_place(yes_or_no(word), word)
 }
 
-pub(crate) fn hashes_at(
-    alloc: Global,
-    words: &[&str],
-    place: usize,
-) -> Result<Items<u64>, FaultKind>
+pub(crate) fn hashes_at(alloc: Global, words: &[&str], place: usize) -> Result<HashList, FaultKind>
     ensures { Gives result (read_at hashes_in place (map (λ w. w.now) words.now)) }
 {
     hashes(alloc, word_at(words, place))

@@ -2,6 +2,7 @@
 
 ghost use Rattle.std.specs.Prelude.{◌≡◌};
 
+use crate::hash_list::HashList;
 use crate::items::Items;
 use crate::shared::Shared;
 use crate::word::Word;
@@ -27,8 +28,8 @@ pub struct LogLine {
     pub receiver: Word,
     pub updated: Moment,
     pub expires: Moment,
-    pub firing: Items<u64>,
-    pub resolved: Items<u64>,
+    pub firing: HashList,
+    pub resolved: HashList,
 }
 
 /// A version that a label names.
@@ -63,8 +64,8 @@ pub struct PostLine {
 pub struct GroupLine {
     pub group: Word,
     pub receiver: Word,
-    pub firing: Items<u64>,
-    pub resolved: Items<u64>,
+    pub firing: HashList,
+    pub resolved: HashList,
     pub repeat: Interval,
 }
 

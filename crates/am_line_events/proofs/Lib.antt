@@ -1,0 +1,5 @@
+pub mod Lengths
+pub mod ReadAgain
+pub mod Named
+pub mod Faults
+pub mod Least

@@ -1,0 +1,4 @@
+pub mod Places
+pub mod Versions
+pub mod Events
+pub mod Laws

@@ -1,0 +1,78 @@
+-- The versions that the lines of a schedule write.
+use Rattle.std.specs.Prelude.{ℕ, List, [], ◌∷◌, map, min, false}
+use Rattle.am_version_order.specs.Moments.{greatest}
+use Rattle.am_silence.specs.declared.matcher.Matcher.{Matcher}
+use Rattle.am_silence.specs.declared.matcher.MatcherKind.TheVariants as kinds
+use Rattle.am_silence.specs.Mesh.{Mesh, mesh_version}
+use Rattle.am_nflog.specs.declared.receiver.Receiver.{Receiver}
+use Rattle.am_nflog.specs.Mesh.{Mesh as LogMesh, mesh_version as entry_version}
+use Rattle.am_rows.specs.Texts.{row_text}
+use Rattle.am_gossip.specs.declared.frame.Part.{Part}
+use Rattle.am_gossip.specs.declared.frame.StateKey.TheVariants.{Sil, Nfl}
+use Rattle.am_instance.specs.Deliveries.{Delivery}
+use Rattle.am_instance.specs.Deliveries.Delivery.{OfSilence, OfEntry}
+use Rattle.am_schedule.specs.declared.step.SilenceLine.{SilenceLine}
+use Rattle.am_schedule.specs.declared.step.LogLine.{LogLine}
+use Rattle.am_schedule.specs.declared.step.Versions.{Versions}
+use Rattle.am_schedule.specs.declared.step.Versions.TheVariants as states
+
+-- one matcher, which wants the value of a label
+abbrev pub wants : List ℕ → List ℕ → List Matcher
+wants name value = record { kind = kinds.Equal; name = name; pattern = value } ∷ []
+
+-- the silence of a line, with no author and no comment
+abbrev pub silence_of : SilenceLine → Mesh
+silence_of line = record {
+  silence = record {
+    id = line.id;
+    matchers = wants line.name line.value;
+    starts_at = line.starts;
+    ends_at = line.ends;
+    updated_at = line.updated;
+    created_by = [];
+    comment = [];
+  };
+  expires_at = line.expires;
+}
+
+-- a receiver that is a group name alone: no integration, and index 0
+abbrev pub receiver_of : List ℕ → Receiver
+receiver_of name = record { group_name = name; integration = []; idx = 0 }
+
+-- the entry of a line, with no group hash, and not resolved
+abbrev pub entry_of : LogLine → LogMesh
+entry_of line = record {
+  entry = record {
+    key = record { group_key = line.group; receiver = receiver_of line.receiver };
+    group_hash = [];
+    resolved = false;
+    timestamp = line.updated;
+    firing_alerts = line.firing;
+    resolved_alerts = line.resolved;
+  };
+  expires_at = line.expires;
+}
+
+-- the versions of lines, in their order
+abbrev pub versions_of : Versions → List Delivery
+versions_of (states.Silences lines) = map OfSilence (map silence_of lines)
+versions_of (states.Log lines) = map OfEntry (map entry_of lines)
+
+-- what is written of them: their state, and the row of their canonical texts
+abbrev pub part_of : Versions → Part
+part_of (states.Silences lines) = record { key = Sil; bytes = row_text mesh_version (map silence_of lines) }
+part_of (states.Log lines) = record { key = Nfl; bytes = row_text entry_version (map entry_of lines) }
+
+-- when a version was made
+abbrev pub updated : Delivery → ℕ
+updated (OfSilence v) = v.silence.updated_at
+updated (OfEntry e) = e.entry.timestamp
+
+-- the least of moments; where there are none, the last moment of all
+abbrev pub least : List ℕ → ℕ
+least [] = greatest
+least (at ∷ others) = min at (least others)
+
+-- when a frame of versions counts as sent: at their least update moment
+abbrev pub sent_at : List Delivery → ℕ
+sent_at versions = least (map updated versions)
