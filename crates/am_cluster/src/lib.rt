@@ -6,6 +6,7 @@ mod error;
 mod flight;
 mod lives;
 mod member;
+mod recording;
 mod sending;
 mod writing;
 

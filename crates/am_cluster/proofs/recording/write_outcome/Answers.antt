@@ -1,0 +1,14 @@
+use Rattle.std.proofs.Common.{inl, inr, refl, sym, ◌∙◌}
+use Rattle.am_cluster.proofs.Recordings.{can_send, can_tick, kind_other}
+use Rattle.am_cluster.proofs.recording.write_outcome.Goals as goal
+
+pub mark-requires-clause-possible : goal.mark-requires-clause-possible
+mark-requires-clause-possible c = can_tick _ _ c.requires.1 _ c.args.outcome c.requires.3 (sym c.requires.2.kind_is ∙ c.in-Collects.is)
+
+pub write_sent-requires : goal.write_sent-requires
+write_sent-requires c =
+    let other = kind_other c.requires.1 (λ e. c.in_default.not-Collects (c.requires.2.kind_is ∙ e)) in
+    let all = c.all_delivered-delivered.ensures c.requires.1 c.requires.2 c.requires.3.brings other in record {
+      sent = can_send _ _ c.requires.1 _ c.args.outcome _ c.args.outcome.frames.items c.requires.3 c.requires.2.brought_are other all (inl refl);
+      silent = can_send _ _ c.requires.1 _ c.args.outcome _ _ c.requires.3 c.requires.2.brought_are other all (inr refl);
+    }

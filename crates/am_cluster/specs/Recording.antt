@@ -1,0 +1,81 @@
+-- How the answer of an instance is written down.
+use Rattle.std.specs.Prelude.{◌≡◌, ℕ, ◌<◌, ◌≤◌, true, false, List, [], ◌∷◌, ◌++◌, length, map, Result, Ok, Err, IfOk, if◌then◌else◌}
+use Rattle.am_gossip.specs.declared.frame.Frame.{Frame}
+use Rattle.am_instance.specs.declared.event.Event.{Event}
+use Rattle.am_instance.specs.declared.event.Event.TheVariants as events
+use Rattle.am_instance.specs.declared.error.StepError.{StepError}
+use Rattle.am_instance.specs.declared.error.StepError.TheVariants as step_errors
+use Rattle.am_instance.specs.declared.reply.Made.{Made}
+use Rattle.am_instance.specs.declared.reply.Outcome.{Outcome}
+use Rattle.am_instance.specs.declared.reply.Reply.{Reply}
+use Rattle.am_instance.specs.Replies.{IsNothing}
+use Rattle.am_instance.specs.Steps.{brought, collects, delivers}
+use Rattle.am_runs.specs.Steps.{flights_of}
+use Rattle.am_journal.specs.Accounts.{Account}
+use Rattle.am_journal.specs.Reports.{IsPossibleForSilences, IsPossibleForLog}
+use Rattle.am_carried.specs.Contents.{delivery_of, silences_in, entries_in}
+use Rattle.am_carried.specs.declared.version.Carried.{Carried}
+use Rattle.am_carried.specs.States.{Sorted}
+use Rattle.am_record.specs.Recorded.{AreInFlight, event_step}
+use Rattle.am_cluster.specs.declared.error.ClusterError.{ClusterError}
+use Rattle.am_cluster.specs.declared.flight.Flight.{Flight}
+use Rattle.am_cluster.specs.declared.recording.Kind.{Kind}
+use Rattle.am_cluster.specs.declared.recording.Kind.TheVariants as kinds
+use Rattle.am_cluster.specs.declared.recording.Coming.{Coming}
+use Rattle.am_cluster.specs.declared.writing.Delivered.{Delivered}
+use Rattle.am_cluster.specs.declared.writing.Entry.{Entry}
+use Rattle.am_cluster.specs.Events.{IsTold}
+use Rattle.am_cluster.specs.Worlds.{sent_on}
+
+-- an event that doesn't collect brings versions from a peer, or may make some here
+abbrev pub brings_or_makes : Event → Kind
+brings_or_makes (events.Frame sender frame) = kinds.Brings
+brings_or_makes _ = kinds.Makes
+
+-- what an event has to do with versions
+abbrev pub kind_of : Event → Kind
+kind_of event = if collects event then kinds.Collects else brings_or_makes event
+
+-- no frame is at fault
+abbrev pub IsNoFault : Result Outcome StepError → Type 0
+IsNoFault (Err (step_errors.Frame fault)) = ⊥
+IsNoFault _ = Unit {0}
+
+-- no versions yet, with room for so many
+pub record IsRoomFor (parted : Sorted) (count : ℕ) : Type 0 where
+  pub silences : parted.silences ≡ []
+  pub log : parted.log ≡ []
+  pub room_for_all : count ≤ parted.room
+  pub room_for_one : 1 ≤ parted.room
+
+-- the event is of this kind, and brings these versions
+pub record ComesWith (coming : Coming) (event : Event) : Type 0 where
+  pub kind_is : coming.kind ≡ kind_of event
+  pub brought_are : map delivery_of coming.versions.items ≡ brought event
+
+-- all versions that an event delivered, by state
+pub record AreDelivered (event : Event) (made : Made) (versions : Delivered) : Type 0 where
+  pub silences : versions.silences.items ≡ silences_in (delivers event made)
+  pub log : versions.log.items ≡ entries_in (delivers event made)
+
+-- What an instance answered to an event, and what is known of it.
+pub record CanRecord (account : Account) (entry : Entry) (event : Event) (versions : List Carried) (answer : Result Outcome StepError) : Type 0 where
+  pub room_for_it : 0 < account.room
+  pub spare_for_it : length versions ≤ account.spare
+  pub spare_for_made : 3 ≤ account.spare
+  pub silences : (frames : List (ℕ × Frame)) → AreInFlight answer frames → IsPossibleForSilences account.members account.silences (event_step silences_in entry.place entry.moment entry.source event answer frames)
+  pub log : (frames : List (ℕ × Frame)) → AreInFlight answer frames → IsPossibleForLog account.members account.log (event_step entries_in entry.place entry.moment entry.source event answer frames)
+  pub sound : IsNoFault answer
+  pub few : IfOk answer (λ outcome. length outcome.made.silences.items ≤ 2)
+  pub idle : IfOk answer (λ outcome. collects event ≡ true → (outcome.frames.items ≡ []) × (outcome.unsent.memory ≡ 0))
+  pub brings : IfOk answer (λ outcome. brings_or_makes event ≡ kinds.Brings → IsNothing outcome.made)
+
+-- the step stands at the end of both runs, with its line, and its frames fly
+pub record IsRecorded (old : Account) (flights : List Flight) (entry : Entry) (event : Event) (answer : Result Outcome StepError) (result : Result Reply ClusterError) (new : Account) (after : List Flight) : Type 0 where
+  pub frames : List (ℕ × Frame)
+  pub told : IsTold answer frames result
+  pub members : new.members ≡ old.members
+  pub silences : new.silences ≡ old.silences ++ event_step silences_in entry.place entry.moment entry.source event answer frames ∷ []
+  pub log : new.log ≡ old.log ++ event_step entries_in entry.place entry.moment entry.source event answer frames ∷ []
+  pub lines : new.lines ≡ old.lines ++ entry.line ∷ []
+  pub flights_are : after ≡ flights ++ sent_on (length (flights_of old.silences)) entry.place entry.moment frames

@@ -1,0 +1,223 @@
+//! How the answer of an instance is written down.
+
+ghost use Rattle.std.specs.Prelude.{◌≡◌, ◌≤◌, ◌++◌, ℕ, List, [], false, length, map, take, Ok, Err, OnErr, OnOk};
+ghost use Rattle.am_carried.specs.Contents.{delivery_of, entries_in, silences_in};
+ghost use Rattle.am_instance.specs.declared.event.Event.{Event as Happening};
+ghost use Rattle.am_instance.specs.Replies.{IsNothing, listed};
+ghost use Rattle.am_instance.specs.Steps.{collects, made_here};
+ghost use Rattle.am_runs.specs.Steps.{flights_of};
+ghost use Rattle.am_cluster.specs.Worlds.{sent_on};
+ghost use Rattle.am_cluster.specs.Writing.{CanWrite, IsWritten};
+ghost use Rattle.am_cluster.specs.Recording.{AreDelivered, CanRecord, ComesWith, IsRecorded, IsRoomFor, brings_or_makes, kind_of};
+ghost use Rattle.am_cluster.specs.declared.flight.Flight.{Flight};
+ghost use Rattle.am_cluster.specs.declared.recording.Kind.TheVariants as kinds;
+
+use crate::error::ClusterError;
+use crate::flight::Flight;
+use crate::writing::{Delivered, Entry, write_event, write_silent};
+use am_carried::{ByState, Carried};
+use am_gossip::Frame;
+use am_instance::{Event, Made, Outcome, Place, Reply, StepError, Unsent};
+use am_journal::{Journal, Mark};
+use am_nflog::MeshEntry;
+use std::alloc::{AllocError, Global};
+
+/// What an event has to do with versions.
+#[derive(Clone, Copy)]
+pub(crate) enum Kind {
+    /// Those that are not live go.
+    Collects,
+    /// A frame brings some.
+    Brings,
+    /// Some may be made here.
+    Makes,
+}
+
+pub(crate) fn kind_of(event: &Event) -> Kind
+    ensures { result ≡ kind_of event.now }
+{
+    match event {
+        Event::Tick => Kind::Collects,
+        Event::Frame {
+            frame: Frame::Tick, ..
+        } => Kind::Collects,
+        Event::Frame { .. } => Kind::Brings,
+        _ => Kind::Makes,
+    }
+}
+
+/// The first so many versions that came, by state.
+fn first_brought(parted: ByState, versions: Vec<Carried>, count: usize) -> Delivered
+    requires { IsRoomFor parted (length versions.items) }
+    ensures silences { result.silences.items ≡ silences_in (take count (map delivery_of versions.items)) }
+    ensures log { result.log.items ≡ entries_in (take count (map delivery_of versions.items)) }
+{
+    let mut parted = parted;
+    parted.put_first(versions, count);
+    let (silences, log) = parted.into_parts();
+    Delivered { silences, log }
+}
+
+/// The entry that was made, if one was.
+fn entry_made(parted: ByState, log: Option<MeshEntry>) -> Vec<MeshEntry>
+    requires { (count : ℕ) × IsRoomFor parted count }
+    ensures { result.items ≡ listed log }
+{
+    let mut parted = parted;
+    match log {
+        Some(entry) => {
+            parted.put(Carried::Entry(entry));
+            parted.into_parts().1
+        }
+        None => parted.into_parts().1,
+    }
+}
+
+/// The versions that were made, by state.
+fn all_made(parted: ByState, made: Made) -> Delivered
+    requires { (count : ℕ) × IsRoomFor parted count }
+    ensures silences { result.silences.items ≡ silences_in (made_here made) }
+    ensures log { result.log.items ≡ entries_in (made_here made) }
+{
+    let Made { silences, log } = made;
+    let log = entry_made(parted, log);
+    Delivered { silences, log }
+}
+
+/// Writes down an event whose versions are these, and has its frames fly, unless one found no memory.
+fn write_sent(
+    alloc: Global,
+    journal: &mut Journal,
+    flights: &mut Vec<Flight>,
+    entry: &Entry,
+    versions: Delivered,
+    sent: (Vec<(Place, Frame)>, Unsent),
+) -> Result<(), AllocError>
+    requires sent { CanWrite journal.old entry.now versions sent.0.items }
+    requires silent { CanWrite journal.old entry.now versions [] }
+    ensures sent { OnOk result (IsWritten journal.old entry.now versions sent.0.items journal.new) }
+    ensures flights { OnOk result (flights.new.items
+        ≡ flights.old.items ++ sent_on (length (flights_of journal.old.silences)) entry.now.place entry.now.moment sent.0.items) }
+    ensures all { OnOk result (sent.1.memory ≡ 0) }
+    ensures silent { OnErr result (IsWritten journal.old entry.now versions [] journal.new) }
+    ensures grounded { OnErr result (flights.new.items ≡ flights.old.items) }
+{
+    let (frames, unsent) = sent;
+    if unsent.memory > 0 {
+        write_silent(alloc, journal, entry, versions);
+        return Err(AllocError);
+    }
+    write_event(alloc, journal, flights, entry, versions, frames)
+}
+
+/// The versions that came with an event, and room to part them.
+#[derive(Drop)]
+pub(crate) struct Coming {
+    pub kind: Kind,
+    pub versions: Vec<Carried>,
+    pub parted: ByState,
+}
+
+/// All versions that an event delivered, by state: those that it brought, or those that were made.
+fn all_delivered(coming: Coming, made: Made) -> Delivered
+    requires { IsRoomFor coming.parted (length coming.versions.items) }
+    ensures { (event : Happening) → ComesWith coming event → (brings_or_makes event ≡ kinds.Brings → IsNothing made) → collects event ≡ false → AreDelivered event made result }
+{
+    let Coming {
+        kind,
+        versions,
+        parted,
+    } = coming;
+    match kind {
+        Kind::Brings => {
+            let count = versions.len();
+            first_brought(parted, versions, count)
+        }
+        Kind::Collects | Kind::Makes => all_made(parted, made),
+    }
+}
+
+/// Writes down an event that was answered.
+fn write_outcome(
+    alloc: Global,
+    journal: &mut Journal,
+    flights: &mut Vec<Flight>,
+    entry: &Entry,
+    coming: Coming,
+    outcome: Outcome,
+) -> Result<Reply, ClusterError>
+    requires { IsRoomFor coming.parted (length coming.versions.items)
+        × (event : Happening) × ComesWith coming event × CanRecord journal.old entry.now event coming.versions.items (Ok outcome) }
+    ensures { (event : Happening) → ComesWith coming event → CanRecord journal.old entry.now event coming.versions.items (Ok outcome) →
+        IsRecorded journal.old flights.old.items entry.now event (Ok outcome) result journal.new flights.new.items }
+{
+    let Outcome {
+        reply,
+        frames,
+        unsent,
+        made,
+    } = outcome;
+    if let Kind::Collects = coming.kind {
+        let mark = Mark::Ticked {
+            place: entry.place,
+            now: entry.moment,
+        };
+        journal.mark(mark, entry.line);
+        return Ok(reply);
+    }
+    let delivered = all_delivered(coming, made);
+    write_sent(alloc, journal, flights, entry, delivered, (frames, unsent))?;
+    Ok(reply)
+}
+
+/// Writes down an event that was refused.
+fn write_refusal(
+    alloc: Global,
+    journal: &mut Journal,
+    entry: &Entry,
+    coming: Coming,
+    error: StepError,
+) -> ClusterError
+    requires { IsRoomFor coming.parted (length coming.versions.items)
+        × (event : Happening) × ComesWith coming event × CanRecord journal.old entry.now event coming.versions.items (Err error) }
+    ensures { (flights : List Flight) (event : Happening) → ComesWith coming event → CanRecord journal.old entry.now event coming.versions.items (Err error) →
+        IsRecorded journal.old flights entry.now event (Err error) (Err result) journal.new flights }
+{
+    let (place, now) = (entry.place, entry.moment);
+    match error {
+        StepError::MomentBack { last } => {
+            journal.mark(Mark::Back { place, now }, entry.line);
+            ClusterError::MomentBack { last }
+        }
+        StepError::UnknownPeer => {
+            journal.mark(Mark::Refused { now }, entry.line);
+            ClusterError::UnknownPeer
+        }
+        StepError::Memory { taken } => {
+            let delivered = first_brought(coming.parted, coming.versions, taken);
+            write_silent(alloc, journal, entry, delivered);
+            ClusterError::Memory
+        }
+        StepError::Frame(_) => unreachable!(),
+    }
+}
+
+/// Writes down what an instance answered to an event, has the frames fly, and tells what the cluster answers.
+pub(crate) fn write_answer(
+    alloc: Global,
+    journal: &mut Journal,
+    flights: &mut Vec<Flight>,
+    entry: &Entry,
+    coming: Coming,
+    answer: Result<Outcome, StepError>,
+) -> Result<Reply, ClusterError>
+    requires { IsRoomFor coming.parted (length coming.versions.items)
+        × (event : Happening) × ComesWith coming event × CanRecord journal.old entry.now event coming.versions.items answer }
+    ensures { (event : Happening) → ComesWith coming event → CanRecord journal.old entry.now event coming.versions.items answer →
+        IsRecorded journal.old flights.old.items entry.now event answer result journal.new flights.new.items }
+{
+    match answer {
+        Ok(outcome) => write_outcome(alloc, journal, flights, entry, coming, outcome),
+        Err(error) => Err(write_refusal(alloc, journal, entry, coming, error)),
+    }
+}
