@@ -27,7 +27,7 @@ found_at replicas place r inside is = slice_get-get_or replicas place r inside �
 pub inside : (v w : World) (place : ℕ) → v ≡ w → place < length w.replicas → place < length v.replicas
 inside v w place same less = subst (λ x. place < length x.replicas) (sym same) less
 
-elsewhere : (place q : ℕ) → place ≢ q → eqb place q ≡ false
+pub elsewhere : (place q : ℕ) → place ≢ q → eqb place q ≡ false
 elsewhere place q other = elim (eqb_tells place q) [ inl same ↦ absurd (other same.1) | inr apart ↦ apart.0 ]
 
 module _ (w : World) (place : ℕ) (r : Replica) (line : ℕ) (is : IsWorld w) (found : replica_at w place ≡ Some r) where

@@ -3,6 +3,7 @@
 
 mod cluster;
 mod error;
+mod events;
 mod flight;
 mod lives;
 mod member;

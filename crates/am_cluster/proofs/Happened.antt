@@ -1,0 +1,228 @@
+-- A cluster hangs together after an event of a member.
+use Rattle.std.proofs.Common.{◌≡◌, ◌≢◌, ◌⊎◌, inl, inr, ℕ, zero, suc, ◌+◌, ◌<◌, ◌≤◌, Bool, true, false, eqb, List, [], ◌∷◌, ◌++◌, Option, Some, None, Result, Ok, Err, refl, sym, ap, ◌∙◌, subst, slice_get, length, map, set, option_map, arith}
+use Rattle.std.specs.Prelude.{Contains, All}
+use Rattle.std.specs.List.{AllByRecursion}
+use Rattle.std.specs.Ordering.{nat_cmp}
+use Rattle.std.specs.Cmp.Lexicographic.{slice_cmp}
+use Rattle.std.proofs.lemmas.List.Elements.{All-contains, Contains-append_left, Contains-append_right, Contains-append_cases, Contains-push}
+use Rattle.am_runs.proofs.Views.{empty}
+use Rattle.std.proofs.lemmas.Option.{get_or_from_slice_get, slice_get-map, slice_get_within}
+use Rattle.am_merge.proofs.Indexes.{Contains-cases}
+use Rattle.std.specs.declared.cmp.Ordering.{Ordering}
+use Rattle.am_version_order.specs.Versions.{Version}
+use Rattle.am_collect.specs.Kept.{Kept}
+use Rattle.am_silence.specs.Mesh.{Mesh, mesh_version}
+use Rattle.am_nflog.specs.Mesh.{Mesh as LogMesh, mesh_version as entry_version}
+use Rattle.am_nflog.specs.Keys.{key_cmp}
+use Rattle.am_gossip.specs.declared.frame.Frame.{Frame}
+use Rattle.am_instance.specs.declared.event.Event.{Event}
+use Rattle.am_instance.specs.declared.error.StepError.{StepError}
+use Rattle.am_instance.specs.declared.error.StepError.TheVariants.{Memory, MomentBack, UnknownPeer, Frame as FrameFault}
+use Rattle.am_instance.specs.declared.reply.Outcome.{Outcome}
+use Rattle.am_instance.specs.Deliveries.{Delivery, first_fault, rows_in, parts_of, to_silences, to_log}
+use Rattle.am_instance.specs.Stands.{Stand, kept_silences, kept_log}
+use Rattle.am_instance.specs.Steps.{collects, delivers}
+use Rattle.am_instance.specs.OneStep.{IsStep}
+use Rattle.am_runs.specs.declared.step.Source.{Source}
+use Rattle.am_runs.specs.Steps.{Step, flights_of, is_at}
+use Rattle.am_runs.specs.Steps.Step.{Took, Ticked}
+use Rattle.am_runs.specs.Members.{Member, stepped, member_of, map_of}
+use Rattle.am_runs.proofs.Pasts.{member_of-push}
+use Rattle.am_carried.specs.Contents.{carries, silences_in, entries_in}
+use Rattle.am_record.specs.Recorded.{AreInFlight, HasGoneThrough, event_step, flights_in, sent_in}
+use Rattle.am_record.proofs.Going.{member_goes_on, own_member}
+use Rattle.am_record.proofs.Lending.{all_fly}
+use Rattle.am_record.proofs.States.{log_state, silences_state}
+use Rattle.am_cluster.specs.declared.flight.Flight.{Flight}
+use Rattle.am_cluster.specs.Worlds.{Replica, World, replica_at, sent_on, with_replica, written}
+use Rattle.am_cluster.specs.Events.{with_stand}
+use Rattle.am_cluster.specs.Ties.{IsTied, IsFlying, IsWorld, AreAscending}
+use Rattle.am_cluster.proofs.Goes.{goes_on_at}
+use Rattle.am_cluster.proofs.Lived.{elsewhere}
+use Rattle.am_cluster.proofs.Places.{set_length}
+
+-- a frame that a member can have sent: it has no fault, and goes to another member
+pub record CanFly (members place : ℕ) (frame : ℕ × Frame) : Type 0 where
+  pub sound : first_fault (rows_in (parts_of frame.1)) ≡ None
+  pub addressee : frame.0 < members
+  pub other : eqb place frame.0 ≡ false
+
+
+-- the sending at a number among those before and those that are sent now
+got_behind : {A : Type 0} (xs ys : List A) (n : ℕ) (y : A) → slice_get ys n ≡ Some y → slice_get (xs ++ ys) (length xs + n) ≡ Some y
+got_behind [] ys n y e = e
+got_behind (x ∷ xs) ys n y e = got_behind xs ys n y e
+
+-- one of the frames that fly, by its number
+pub record FliesAs (count place now : ℕ) (frames : List (ℕ × Frame)) (flight : Flight) : Type 0 where
+  pub nth : ℕ
+  pub frame : ℕ × Frame
+  pub there : slice_get frames nth ≡ Some frame
+  pub is : ◌≡◌ {A = Flight} flight (record { number = (count + nth) + 1; sender = place; addressee = frame.0; sent = now; frame = frame.1 })
+
+next_as : (count place now : ℕ) (f : ℕ × Frame) (frames : List (ℕ × Frame)) (flight : Flight) → FliesAs (count + 1) place now frames flight → FliesAs count place now (f ∷ frames) flight
+next_as count place now f frames flight as = record {
+  nth = suc as.nth;
+  frame = as.frame;
+  there = as.there;
+  is = as.is ∙ ap (λ n. record { number = n; sender = place; addressee = as.frame.0; sent = now; frame = as.frame.1 }) (omega arith);
+}
+
+sent_as : (count place now : ℕ) (frames : List (ℕ × Frame)) (flight : Flight) → Contains (sent_on count place now frames) flight → FliesAs count place now frames flight
+sent_as count place now [] flight within = absurd (empty flight within)
+sent_as count place now (f ∷ frames) flight within = by (Contains-cases _ flight (sent_on (count + 1) place now frames) within) where
+  by : ◌≡◌ {A = Flight} (record { number = count + 1; sender = place; addressee = f.0; sent = now; frame = f.1 }) flight ⊎ Contains (sent_on (count + 1) place now frames) flight → FliesAs count place now (f ∷ frames) flight
+  by (inl first) = record { nth = 0; frame = f; there = refl; is = sym first ∙ ap (λ n. record { number = n; sender = place; addressee = f.0; sent = now; frame = f.1 }) (omega arith) }
+  by (inr later) = next_as count place now f frames flight (sent_as (count + 1) place now frames flight later)
+
+got_of_all : {A : Type 0} (P : A → Type 0) (xs : List A) (n : ℕ) (x : A) → All P xs → slice_get xs n ≡ Some x → P x
+got_of_all P xs n x all there = All-contains P xs x all (n, slice_get_within xs n x there, get_or_from_slice_get xs n x x there)
+
+module _ (w new : World) (place now : ℕ) (frames : List (ℕ × Frame)) where
+  -- what is sent now flies behind what was sent before
+  pub flies : flights_of new.silences ≡ flights_of w.silences ++ flights_in silences_in now frames → flights_of new.log ≡ flights_of w.log ++ flights_in entries_in now frames →
+      length (flights_of w.silences) ≡ length (flights_of w.log) → length new.replicas ≡ length w.replicas → place < length w.replicas → All (CanFly (length w.replicas) place) frames →
+      (flight : Flight) → FliesAs (length (flights_of w.silences)) place now frames flight → IsFlying new flight
+  flies silences log same members inside can flight as =
+      let good = got_of_all (CanFly (length w.replicas) place) frames as.nth as.frame can as.there in
+      subst (IsFlying new) (sym as.is) (record {
+        index = length (flights_of w.silences) + as.nth;
+        number = refl;
+        silences = ap (λ fs. slice_get fs (length (flights_of w.silences) + as.nth)) silences
+            ∙ got_behind (flights_of w.silences) (flights_in silences_in now frames) as.nth _ (slice_get-map (λ frame. record { sent = now; versions = silences_in (carries frame.1) }) frames as.nth ∙ ap (option_map (λ frame. record { sent = now; versions = silences_in (carries frame.1) })) as.there);
+        log = ap (λ fs. slice_get fs (length (flights_of w.silences) + as.nth)) log
+            ∙ (ap (λ n. slice_get (flights_of w.log ++ flights_in entries_in now frames) (n + as.nth)) same
+            ∙ got_behind (flights_of w.log) (flights_in entries_in now frames) as.nth _ (slice_get-map (λ frame. record { sent = now; versions = entries_in (carries frame.1) }) frames as.nth ∙ ap (option_map (λ frame. record { sent = now; versions = entries_in (carries frame.1) })) as.there));
+        sound = good.sound;
+        addressee = subst (λ n. as.frame.0 < n) (sym members) good.addressee;
+        sender = subst (λ n. place < n) (sym members) inside;
+        other = good.other;
+      })
+
+-- ---- numbers ascend
+
+all_rec : {A : Type 0} (P : A → Type 0) (xs : List A) → ((x : A) → Contains xs x → P x) → AllByRecursion P xs
+all_rec P [] each = tt
+all_rec P (x ∷ xs) each = (each x (Contains-append_left (x ∷ []) xs x (Contains-push [] x)), all_rec P xs (λ y within. each y (Contains-append_right (x ∷ []) xs y within)))
+
+append_rec : {A : Type 0} (P : A → Type 0) (xs ys : List A) → AllByRecursion P xs → AllByRecursion P ys → AllByRecursion P (xs ++ ys)
+append_rec P [] ys first second = second
+append_rec P (x ∷ xs) ys first second = (first.0, append_rec P xs ys first.1 second)
+
+weaker_rec : {A : Type 0} (P Q : A → Type 0) (xs : List A) → ((x : A) → P x → Q x) → AllByRecursion P xs → AllByRecursion Q xs
+weaker_rec P Q [] each all = tt
+weaker_rec P Q (x ∷ xs) each all = (each x all.0, weaker_rec P Q xs each all.1)
+
+above : (count place now : ℕ) (frames : List (ℕ × Frame)) → AllByRecursion (λ f. count < f.number) (sent_on count place now frames)
+above count place now [] = tt
+above count place now (f ∷ frames) =
+    (omega arith, weaker_rec (λ g. count + 1 < g.number) (λ g. count < g.number) (sent_on (count + 1) place now frames) (λ g more. omega arith) (above (count + 1) place now frames))
+
+sent_ascend : (count place now : ℕ) (frames : List (ℕ × Frame)) → AreAscending (sent_on count place now frames)
+sent_ascend count place now [] = tt
+sent_ascend count place now (f ∷ frames) = (above (count + 1) place now frames, sent_ascend (count + 1) place now frames)
+
+ascend_behind : (count : ℕ) (old more : List Flight) → AllByRecursion (λ f. f.number ≤ count) old → AllByRecursion (λ f. count < f.number) more → AreAscending old → AreAscending more → AreAscending (old ++ more)
+ascend_behind count [] more below over first second = second
+ascend_behind count (f ∷ old) more below over first second =
+    (append_rec (λ g. f.number < g.number) old more first.0
+    (weaker_rec (λ g. count < g.number) (λ g. f.number < g.number) more (λ g past. let low : f.number ≤ count = below.0 in omega arith) over),
+    ascend_behind count old more below.1 over first.1 second)
+
+-- ---- the whole
+
+numbered_below : (w : World) (flight : Flight) → IsFlying w flight → flight.number ≤ length (flights_of w.silences)
+numbered_below w flight is = let inside : is.index < length (flights_of w.silences) = slice_get_within (flights_of w.silences) is.index _ is.silences in let number : flight.number ≡ is.index + 1 = is.number in omega arith
+
+-- a cluster whose members hang together, and frames that are sent on
+pub sent_world : (w new : World) (place now : ℕ) (frames : List (ℕ × Frame)) → IsWorld w → IsWorld new → new.flights ≡ w.flights →
+    flights_of new.silences ≡ flights_of w.silences ++ flights_in silences_in now frames → flights_of new.log ≡ flights_of w.log ++ flights_in entries_in now frames →
+    length (flights_of w.silences) ≡ length (flights_of w.log) → length new.replicas ≡ length w.replicas → place < length w.replicas → All (CanFly (length w.replicas) place) frames →
+    IsWorld (record new { flights = w.flights ++ sent_on (length (flights_of w.silences)) place now frames })
+sent_world w new place now frames was is kept silences log same members inside can = record {
+  members = λ q replica there. let m = is.members q replica there in record { silences = m.silences; log = m.log; place = m.place; members = m.members };
+  flights = λ flight within. again flight (one flight (Contains-append_cases w.flights (sent_on (length (flights_of w.silences)) place now frames) flight within));
+  numbers =
+      ascend_behind (length (flights_of w.silences)) w.flights _
+      (all_rec (λ f. f.number ≤ length (flights_of w.silences)) w.flights (λ f within. numbered_below w f (was.flights f within)))
+      (above (length (flights_of w.silences)) place now frames) was.numbers (sent_ascend (length (flights_of w.silences)) place now frames);
+} where
+  one : (flight : Flight) → Contains w.flights flight ⊎ Contains (sent_on (length (flights_of w.silences)) place now frames) flight → IsFlying new flight
+  one flight (inl old) = is.flights flight (subst (λ fs. Contains fs flight) (sym kept) old)
+  one flight (inr fresh) = flies w new place now frames silences log same members inside can flight (sent_as (length (flights_of w.silences)) place now frames flight fresh)
+  again : (flight : Flight) → IsFlying new flight → IsFlying (record new { flights = w.flights ++ sent_on (length (flights_of w.silences)) place now frames }) flight
+  again flight f = record { index = f.index; number = f.number; silences = f.silences; log = f.log; sound = f.sound; addressee = f.addressee; sender = f.sender; other = f.other }
+
+-- ---- a member's own event
+
+module _ {X : Type 0} (pick : List Delivery → List X) (place now : ℕ) (source : Source) (event : Event) (frames : List (ℕ × Frame)) where
+  runs_kept_by : (m : Member X) (collecting : Bool) (vs : List X) → (stepped m (cond collecting (Ticked place now) (Took place now source vs (sent_in pick frames)))).runs ≡ m.runs
+  runs_kept_by m true vs = refl
+  runs_kept_by m false vs = refl
+
+  saved_kept_by : (m : Member X) (collecting : Bool) (vs : List X) → (stepped m (cond collecting (Ticked place now) (Took place now source vs (sent_in pick frames)))).saved ≡ m.saved
+  saved_kept_by m true vs = refl
+  saved_kept_by m false vs = refl
+
+  pub runs_kept : (m : Member X) (answer : Result Outcome StepError) → (stepped m (event_step pick place now source event answer frames)).runs ≡ m.runs
+  runs_kept m (Ok outcome) = runs_kept_by m (collects event) (pick (delivers event outcome.made))
+  runs_kept m (Err (Memory taken)) = refl
+  runs_kept m (Err (MomentBack last)) = refl
+  runs_kept m (Err UnknownPeer) = refl
+  runs_kept m (Err (FrameFault fault)) = refl
+
+  pub saved_kept : (m : Member X) (answer : Result Outcome StepError) → (stepped m (event_step pick place now source event answer frames)).saved ≡ m.saved
+  saved_kept m (Ok outcome) = saved_kept_by m (collects event) (pick (delivers event outcome.made))
+  saved_kept m (Err (Memory taken)) = refl
+  saved_kept m (Err (MomentBack last)) = refl
+  saved_kept m (Err UnknownPeer) = refl
+  saved_kept m (Err (FrameFault fault)) = refl
+
+  not_at_by : (q : ℕ) → eqb place q ≡ false → (collecting : Bool) (vs : List X) → is_at q (cond collecting (Ticked place now) (Took place now source vs (sent_in pick frames))) ≡ false
+  not_at_by q apart true vs = apart
+  not_at_by q apart false vs = apart
+
+  pub not_at : (q : ℕ) → eqb place q ≡ false → (answer : Result Outcome StepError) → is_at q (event_step pick place now source event answer frames) ≡ false
+  not_at q apart (Ok outcome) = not_at_by q apart (collects event) (pick (delivers event outcome.made))
+  not_at q apart (Err (Memory taken)) = apart
+  not_at q apart (Err (MomentBack last)) = apart
+  not_at q apart (Err UnknownPeer) = refl
+  not_at q apart (Err (FrameFault fault)) = refl
+
+  -- the state of the member after it, where the map has gone on
+  pub tied_after : {K : Type 0} (seen : X → Version K) (cmp : K → K → Ordering) (members : ℕ) (before : List (Step X)) (runs : Bool) (old new : Kept X) (saved : List X) (answer : Result Outcome StepError) →
+      IsTied seen cmp (member_of members place before) runs old saved →
+      HasGoneThrough seen cmp (stepped (member_of members place before) (event_step pick place now source event answer frames)).past new →
+      IsTied seen cmp (member_of members place (before ++ event_step pick place now source event answer frames ∷ [])) runs new saved
+  tied_after seen cmp members before runs old new saved answer tied gone =
+      subst (λ m. IsTied seen cmp m runs new saved) (sym (member_of-push members place before (event_step pick place now source event answer frames) ∙ own_member pick place now source event frames (member_of members place before) answer)) (record {
+        runs = runs_kept (member_of members place before) answer ∙ tied.runs;
+        held = gone;
+        saved = λ key. tied.saved key ∙ ap (λ m. map_of seen cmp m key) (sym (saved_kept (member_of members place before) answer));
+      })
+
+module _ (w : World) (place : ℕ) (r : Replica) (stand : Stand) (event : Event) (source : Source) (now line : ℕ) (answer : Result Outcome StepError) (frames : List (ℕ × Frame)) where
+  abbrev pub after_event : World
+  after_event = written (with_replica w place (with_stand r stand)) (event_step silences_in place now source event answer frames) (event_step entries_in place now source event answer frames) line
+
+  -- the cluster after it, but for the frames that fly now
+  pub world_stepped : IsWorld w → replica_at w place ≡ Some r → IsStep r.stand event now answer stand → IsWorld after_event
+  world_stepped is found step =
+      goes_on_at w place r (with_stand r stand) (event_step silences_in place now source event answer frames) (event_step entries_in place now source event answer frames) line is found
+      (λ q apart. not_at silences_in place now source event frames q (elsewhere place q apart) answer)
+      (λ q apart. not_at entries_in place now source event frames q (elsewhere place q apart) answer)
+      (tied_after silences_in place now source event frames mesh_version (slice_cmp nat_cmp) (length w.replicas) w.silences r.runs (kept_silences r.stand) (kept_silences stand) r.saved_silences answer (is.members place r found).silences
+      (member_goes_on mesh_version (slice_cmp nat_cmp) to_silences silences_in silences_state (member_of (length w.replicas) place w.silences) place now source event frames (kept_silences stand) answer (kept_silences r.stand) (is.members place r found).silences.held step.silences))
+      (tied_after entries_in place now source event frames entry_version key_cmp (length w.replicas) w.log r.runs (kept_log r.stand) (kept_log stand) r.saved_log answer (is.members place r found).log
+      (member_goes_on entry_version key_cmp to_log entries_in log_state (member_of (length w.replicas) place w.log) place now source event frames (kept_log stand) answer (kept_log r.stand) (is.members place r found).log.held step.log))
+      step.config
+
+  -- and with them
+  pub world_happened : IsWorld w → replica_at w place ≡ Some r → IsStep r.stand event now answer stand → AreInFlight answer frames →
+      length (flights_of w.silences) ≡ length (flights_of w.log) → All (CanFly (length w.replicas) place) frames →
+      IsWorld (record after_event { flights = w.flights ++ sent_on (length (flights_of w.silences)) place now frames })
+  world_happened is found step flying same can =
+      sent_world w after_event place now frames is (world_stepped is found step) refl
+      (all_fly silences_in place now source w.silences r.stand stand event answer frames step flying)
+      (all_fly entries_in place now source w.log r.stand stand event answer frames step flying)
+      same (set_length w.replicas place (with_stand r stand)) (slice_get_within w.replicas place r found) can

@@ -1,0 +1,86 @@
+//! What an event does at a member, and to the cluster.
+
+ghost use Rattle.std.specs.Prelude.{◌≡◌, ◌<◌, ℕ, None, All, IfOk, length, map};
+ghost use Rattle.std.specs.Ordering.{nat_cmp};
+ghost use Rattle.std.specs.Cmp.Lexicographic.{slice_cmp};
+ghost use Rattle.am_silence.specs.Mesh.{mesh_version};
+ghost use Rattle.am_nflog.specs.Mesh.{mesh_version as entry_version};
+ghost use Rattle.am_nflog.specs.Keys.{key_cmp};
+ghost use Rattle.am_instance.specs.Configs.{Settings};
+ghost use Rattle.am_instance.specs.Steps.{brought, fault_of};
+ghost use Rattle.am_carried.specs.Contents.{IsValue, delivery_of, entries_in, silences_in};
+ghost use Rattle.am_record.specs.Recorded.{HasSource};
+ghost use Rattle.am_cluster.specs.Events.{IsEvent};
+ghost use Rattle.am_cluster.specs.Lives.{OfMember};
+ghost use Rattle.am_cluster.specs.Recording.{ComesWith, IsRoomFor};
+
+use crate::cluster::Cluster;
+use crate::error::ClusterError;
+use crate::recording::{Coming, kind_of, write_answer};
+use crate::writing::Entry;
+use am_carried::{ByState, Carried, carried_by};
+use am_instance::{Event, Reply};
+use am_journal::Mark;
+use am_runs::Source;
+use am_version_order::Moment;
+use std::alloc::{AllocError, Global};
+
+/// The versions that an event brings from a peer.
+fn brought_by(alloc: Global, event: &Event) -> Result<Vec<Carried>, AllocError>
+    ensures versions { IfOk result (λ versions. map delivery_of versions.items ≡ brought event.now) }
+    ensures values { IfOk result (λ versions. All IsValue (map delivery_of versions.items)) }
+{
+    match event {
+        Event::Frame { frame, .. } => carried_by(alloc, frame),
+        _ => Ok(Vec::new(alloc)),
+    }
+}
+
+/// What comes with an event, with all room that writing it down takes.
+fn coming_with(alloc: Global, event: &Event) -> Result<Coming, AllocError>
+    ensures coming { IfOk result (λ coming. ComesWith coming event.now) }
+    ensures values { IfOk result (λ coming. All IsValue (brought event.now)) }
+    ensures room { IfOk result (λ coming. IsRoomFor coming.parted (length coming.versions.items)) }
+{
+    let versions = brought_by(alloc, event)?;
+    let parted = ByState::with_room(alloc, versions.len().max(1))?;
+    Ok(Coming {
+        kind: kind_of(event),
+        versions,
+        parted,
+    })
+}
+
+impl Cluster {
+    /// Has an event happen at the member at a place.
+    pub(crate) fn happen(
+        &mut self,
+        place: usize,
+        event: Event,
+        source: Source,
+        now: Moment,
+        line: u64,
+    ) -> Result<Reply, ClusterError>
+        requires within { place < length self.old.replicas }
+        requires sound { (settings : Settings) → fault_of settings now event ≡ None }
+        requires silences { HasSource silences_in mesh_version (slice_cmp nat_cmp) (length self.old.replicas) self.old.silences now event source }
+        requires log { HasSource entries_in entry_version key_cmp (length self.old.replicas) self.old.log now event source }
+        ensures { OfMember self.old place (λ replica. IsEvent self.old place replica event source now line result self.new) }
+    {
+        let coming = coming_with(self.alloc, &event)?;
+        self.journal.make_room(1, coming.versions.len().max(3))?;
+        if !self.members[place].runs {
+            self.journal.mark(Mark::Refused { now }, line);
+            return Err(ClusterError::Stopped);
+        }
+        let entry = Entry {
+            place,
+            moment: now,
+            source,
+            line,
+        };
+        let answer = self.members[place].instance.step(event, now);
+        let (journal, flights) = (&mut self.journal, &mut self.flights);
+        write_answer(self.alloc, journal, flights, &entry, coming, answer)
+    }
+}
