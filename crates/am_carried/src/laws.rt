@@ -39,7 +39,7 @@ pub fn what_keeps_its_limit_is_readable()
     ensures log { (log : List LogMesh) → All IsLogMesh log → length (row_text entry_version log) ≤ most → All IsReadable (map OfEntry log) }
 {}
 
-/// The versions of both maps, parted by their state, are the maps; and of versions of one state after others of it.
+/// The versions of both maps, parted by their state, are the maps again; and what comes behind others is parted behind them.
 pub fn states_are_parted()
     ensures silences { (silences : List Mesh) (log : List LogMesh) → silences_in (held_in silences log) ≡ silences }
     ensures log { (silences : List Mesh) (log : List LogMesh) → entries_in (held_in silences log) ≡ log }

@@ -1,6 +1,7 @@
 //! That versions which are kept are values of their type.
 
 ghost use Rattle.std.specs.Prelude.{All};
+ghost use Rattle.am_merge.specs.Maps.{IsMap};
 
 use am_merge::Held;
 use am_version_order::Version;
@@ -14,9 +15,11 @@ pub fn versions_are_values<V: Version>(versions: &[V])
     }
 }
 
-/// Says that the versions of a map are values of their type. It changes nothing.
+/// Says that the versions of a map are values of their type, and stand in the order of their keys, none of which comes
+/// twice. It changes nothing.
 pub fn held_are_values<V: Version>(held: &Held<V>)
-    ensures { All V.is_value held.now }
+    ensures values { All V.is_value held.now }
+    ensures order { IsMap V.seen V.Key.cmp held.now }
 {
     for version in held.iter() {
         let _content = version.canonical();

@@ -1,5 +1,5 @@
 -- A cluster hangs together after an event of a member.
-use Rattle.std.proofs.Common.{◌≡◌, ◌≢◌, ◌⊎◌, inl, inr, ℕ, zero, suc, ◌+◌, ◌<◌, ◌≤◌, Bool, true, false, eqb, List, [], ◌∷◌, ◌++◌, Option, Some, None, Result, Ok, Err, refl, sym, ap, ◌∙◌, subst, slice_get, length, map, set, option_map, arith}
+use Rattle.std.proofs.Common.{◌≡◌, ◌≢◌, ◌⊎◌, inl, inr, ℕ, zero, suc, ◌+◌, ◌<◌, ◌≤◌, Bool, true, false, cond, eqb, List, [], ◌∷◌, ◌++◌, Option, Some, None, Result, Ok, Err, refl, sym, ap, ◌∙◌, subst, slice_get, length, map, set, option_map, arith}
 use Rattle.std.specs.Prelude.{Contains, All}
 use Rattle.std.specs.List.{AllByRecursion}
 use Rattle.std.specs.Ordering.{nat_cmp}
@@ -50,8 +50,8 @@ pub record CanFly (members place : ℕ) (frame : ℕ × Frame) : Type 0 where
 
 -- the sending at a number among those before and those that are sent now
 got_behind : {A : Type 0} (xs ys : List A) (n : ℕ) (y : A) → slice_get ys n ≡ Some y → slice_get (xs ++ ys) (length xs + n) ≡ Some y
-got_behind [] ys n y e = e
-got_behind (x ∷ xs) ys n y e = got_behind xs ys n y e
+got_behind [] ys n y e = ap (slice_get ys) (omega arith) ∙ e
+got_behind (x ∷ xs) ys n y e = let more : length (x ∷ xs) + n ≡ suc (length xs + n) = omega arith in ap (slice_get ((x ∷ xs) ++ ys)) more ∙ got_behind xs ys n y e
 
 -- one of the frames that fly, by its number
 pub record FliesAs (count place now : ℕ) (frames : List (ℕ × Frame)) (flight : Flight) : Type 0 where
@@ -61,19 +61,21 @@ pub record FliesAs (count place now : ℕ) (frames : List (ℕ × Frame)) (fligh
   pub is : ◌≡◌ {A = Flight} flight (record { number = (count + nth) + 1; sender = place; addressee = frame.0; sent = now; frame = frame.1 })
 
 next_as : (count place now : ℕ) (f : ℕ × Frame) (frames : List (ℕ × Frame)) (flight : Flight) → FliesAs (count + 1) place now frames flight → FliesAs count place now (f ∷ frames) flight
-next_as count place now f frames flight as = record {
-  nth = suc as.nth;
-  frame = as.frame;
-  there = as.there;
-  is = as.is ∙ ap (λ n. record { number = n; sender = place; addressee = as.frame.0; sent = now; frame = as.frame.1 }) (omega arith);
+next_as count place now f frames flight fl = record {
+  nth = suc fl.nth;
+  frame = fl.frame;
+  there = fl.there;
+  is = fl.is ∙ ap (λ n. record { number = n; sender = place; addressee = fl.frame.0; sent = now; frame = fl.frame.1 }) (omega arith);
 }
 
 sent_as : (count place now : ℕ) (frames : List (ℕ × Frame)) (flight : Flight) → Contains (sent_on count place now frames) flight → FliesAs count place now frames flight
 sent_as count place now [] flight within = absurd (empty flight within)
-sent_as count place now (f ∷ frames) flight within = by (Contains-cases _ flight (sent_on (count + 1) place now frames) within) where
-  by : ◌≡◌ {A = Flight} (record { number = count + 1; sender = place; addressee = f.0; sent = now; frame = f.1 }) flight ⊎ Contains (sent_on (count + 1) place now frames) flight → FliesAs count place now (f ∷ frames) flight
-  by (inl first) = record { nth = 0; frame = f; there = refl; is = sym first ∙ ap (λ n. record { number = n; sender = place; addressee = f.0; sent = now; frame = f.1 }) (omega arith) }
-  by (inr later) = next_as count place now f frames flight (sent_as (count + 1) place now frames flight later)
+sent_as count place now (f ∷ frames) flight within =
+    by (Contains-cases _ flight (sent_on (count + 1) place now frames) within) (sent_as (count + 1) place now frames flight) where
+  by : ◌≡◌ {A = Flight} (record { number = count + 1; sender = place; addressee = f.0; sent = now; frame = f.1 }) flight ⊎ Contains (sent_on (count + 1) place now frames) flight →
+      (Contains (sent_on (count + 1) place now frames) flight → FliesAs (count + 1) place now frames flight) → FliesAs count place now (f ∷ frames) flight
+  by (inl first) more = record { nth = 0; frame = f; there = refl; is = sym first ∙ ap (λ n. record { number = n; sender = place; addressee = f.0; sent = now; frame = f.1 }) (omega arith) }
+  by (inr later) more = next_as count place now f frames flight (more later)
 
 got_of_all : {A : Type 0} (P : A → Type 0) (xs : List A) (n : ℕ) (x : A) → All P xs → slice_get xs n ≡ Some x → P x
 got_of_all P xs n x all there = All-contains P xs x all (n, slice_get_within xs n x there, get_or_from_slice_get xs n x x there)
@@ -83,18 +85,18 @@ module _ (w new : World) (place now : ℕ) (frames : List (ℕ × Frame)) where
   pub flies : flights_of new.silences ≡ flights_of w.silences ++ flights_in silences_in now frames → flights_of new.log ≡ flights_of w.log ++ flights_in entries_in now frames →
       length (flights_of w.silences) ≡ length (flights_of w.log) → length new.replicas ≡ length w.replicas → place < length w.replicas → All (CanFly (length w.replicas) place) frames →
       (flight : Flight) → FliesAs (length (flights_of w.silences)) place now frames flight → IsFlying new flight
-  flies silences log same members inside can flight as =
-      let good = got_of_all (CanFly (length w.replicas) place) frames as.nth as.frame can as.there in
-      subst (IsFlying new) (sym as.is) (record {
-        index = length (flights_of w.silences) + as.nth;
+  flies silences log same members inside can flight fl =
+      let good = got_of_all (CanFly (length w.replicas) place) frames fl.nth fl.frame can fl.there in
+      subst (IsFlying new) (sym fl.is) (record {
+        index = length (flights_of w.silences) + fl.nth;
         number = refl;
-        silences = ap (λ fs. slice_get fs (length (flights_of w.silences) + as.nth)) silences
-            ∙ got_behind (flights_of w.silences) (flights_in silences_in now frames) as.nth _ (slice_get-map (λ frame. record { sent = now; versions = silences_in (carries frame.1) }) frames as.nth ∙ ap (option_map (λ frame. record { sent = now; versions = silences_in (carries frame.1) })) as.there);
-        log = ap (λ fs. slice_get fs (length (flights_of w.silences) + as.nth)) log
-            ∙ (ap (λ n. slice_get (flights_of w.log ++ flights_in entries_in now frames) (n + as.nth)) same
-            ∙ got_behind (flights_of w.log) (flights_in entries_in now frames) as.nth _ (slice_get-map (λ frame. record { sent = now; versions = entries_in (carries frame.1) }) frames as.nth ∙ ap (option_map (λ frame. record { sent = now; versions = entries_in (carries frame.1) })) as.there));
+        silences = ap (λ fs. slice_get fs (length (flights_of w.silences) + fl.nth)) silences
+            ∙ got_behind (flights_of w.silences) (flights_in silences_in now frames) fl.nth _ (slice_get-map (λ frame. record { sent = now; versions = silences_in (carries frame.1) }) frames fl.nth ∙ ap (option_map (λ frame. record { sent = now; versions = silences_in (carries frame.1) })) fl.there);
+        log = ap (λ fs. slice_get fs (length (flights_of w.silences) + fl.nth)) log
+            ∙ (ap (λ n. slice_get (flights_of w.log ++ flights_in entries_in now frames) (n + fl.nth)) same
+            ∙ got_behind (flights_of w.log) (flights_in entries_in now frames) fl.nth _ (slice_get-map (λ frame. record { sent = now; versions = entries_in (carries frame.1) }) frames fl.nth ∙ ap (option_map (λ frame. record { sent = now; versions = entries_in (carries frame.1) })) fl.there));
         sound = good.sound;
-        addressee = subst (λ n. as.frame.0 < n) (sym members) good.addressee;
+        addressee = subst (λ n. fl.frame.0 < n) (sym members) good.addressee;
         sender = subst (λ n. place < n) (sym members) inside;
         other = good.other;
       })

@@ -1,28 +1,30 @@
 //! What an event does at a member, and to the cluster.
 
-ghost use Rattle.std.specs.Prelude.{◌≡◌, ◌<◌, ℕ, None, All, IfOk, length, map};
+ghost use Rattle.std.specs.Prelude.{◌≡◌, ◌<◌, ℕ, None, All, IfOk, IfSome, length, map};
 ghost use Rattle.std.specs.Ordering.{nat_cmp};
 ghost use Rattle.std.specs.Cmp.Lexicographic.{slice_cmp};
-ghost use Rattle.am_silence.specs.Mesh.{mesh_version};
-ghost use Rattle.am_nflog.specs.Mesh.{mesh_version as entry_version};
+ghost use Rattle.am_silence.specs.Mesh.{IsMesh, mesh_version};
+ghost use Rattle.am_nflog.specs.Mesh.{IsMesh as IsLogMesh, mesh_version as entry_version};
 ghost use Rattle.am_nflog.specs.Keys.{key_cmp};
 ghost use Rattle.am_instance.specs.Configs.{Settings};
+ghost use Rattle.am_instance.specs.Laws.{HasMaps};
+ghost use Rattle.am_instance.specs.OneStep.{IsStep};
 ghost use Rattle.am_instance.specs.Steps.{brought, fault_of};
 ghost use Rattle.am_carried.specs.Contents.{IsValue, delivery_of, entries_in, silences_in};
 ghost use Rattle.am_record.specs.Recorded.{HasSource};
 ghost use Rattle.am_cluster.specs.Events.{IsEvent};
 ghost use Rattle.am_cluster.specs.Lives.{OfMember};
-ghost use Rattle.am_cluster.specs.Recording.{ComesWith, IsRoomFor};
+ghost use Rattle.am_cluster.specs.Recording.{ComesWith, IsNoFault, IsRoomFor};
 
 use crate::cluster::Cluster;
 use crate::error::ClusterError;
 use crate::recording::{Coming, kind_of, write_answer};
 use crate::writing::Entry;
-use am_carried::{ByState, Carried, carried_by};
-use am_instance::{Event, Reply};
+use am_carried::{ByState, Carried, carried_by, held_are_values, versions_are_values};
+use am_instance::{Event, Instance, Outcome, Reply, StepError};
 use am_journal::Mark;
 use am_runs::Source;
-use am_version_order::Moment;
+use am_version_order::{Moment, Version};
 use std::alloc::{AllocError, Global};
 
 /// The versions that an event brings from a peer.
@@ -49,6 +51,37 @@ fn coming_with(alloc: Global, event: &Event) -> Result<Coming, AllocError>
         versions,
         parted,
     })
+}
+
+/// Says that what a step made are values. It changes nothing.
+fn made_are_values(answer: &Result<Outcome, StepError>)
+    ensures silences { IfOk answer.now (λ outcome. All IsMesh outcome.made.silences.items) }
+    ensures log { IfOk answer.now (λ outcome. IfSome outcome.made.log IsLogMesh) }
+{
+    if let Ok(outcome) = answer {
+        versions_are_values(&outcome.made.silences);
+        if let Some(entry) = &outcome.made.log {
+            let _content = entry.canonical();
+        }
+    }
+}
+
+/// The step of a member's instance, and what is known of what it made and holds then.
+fn step_of(instance: &mut Instance, event: Event, now: Moment) -> Result<Outcome, StepError>
+    requires { (settings : Settings) → fault_of settings now event ≡ None }
+    ensures step { IsStep instance.old event now result instance.new }
+    ensures no_fault { IsNoFault result }
+    ensures silences { IfOk result (λ outcome. All IsMesh outcome.made.silences.items) }
+    ensures log { IfOk result (λ outcome. IfSome outcome.made.log IsLogMesh) }
+    ensures held_silences { All IsMesh instance.new.silences }
+    ensures held_log { All IsLogMesh instance.new.log }
+    ensures maps { HasMaps instance.new }
+{
+    let answer = instance.step(event, now);
+    made_are_values(&answer);
+    held_are_values(instance.silences());
+    held_are_values(instance.log());
+    answer
 }
 
 impl Cluster {
@@ -79,7 +112,7 @@ impl Cluster {
             source,
             line,
         };
-        let answer = self.members[place].instance.step(event, now);
+        let answer = step_of(&mut self.members[place].instance, event, now);
         let (journal, flights) = (&mut self.journal, &mut self.flights);
         write_answer(self.alloc, journal, flights, &entry, coming, answer)
     }

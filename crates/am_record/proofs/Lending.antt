@@ -1,8 +1,8 @@
 -- Maps that a member lends, versions that are delivered, and frames that fly.
 use Rattle.std.proofs.Common.{◌≡◌, ⊎_elim, ℕ, List, [], ◌∷◌, ◌++◌, Bool, true, false, ap, refl, sym, subst, ◌∙◌}
-use Rattle.std.specs.Prelude.{All, Option, Some, None, IfSome, option_map, map, Result, Ok, Err, if◌then◌else◌}
+use Rattle.std.specs.Prelude.{All, Option, Some, None, IfSome, option_map, map, Result, Ok, Err, if◌then◌else◌, Contains, IsSomeAnd, slice_get}
 use Rattle.std.specs.declared.cmp.Ordering.{Ordering}
-use Rattle.std.proofs.lemmas.List.Elements.{All-nil, All-cons, All-head, All-tail, All-append}
+use Rattle.std.proofs.lemmas.List.Elements.{All-nil, All-cons, All-head, All-tail, All-append, All-contains_itself}
 use Rattle.am_version_order.specs.Versions.{Version}
 use Rattle.am_silence.specs.Mesh.{Mesh, IsMesh}
 use Rattle.am_nflog.specs.Mesh.{Mesh as LogMesh, IsMesh as IsLogMesh}
@@ -10,14 +10,16 @@ use Rattle.am_gossip.specs.Answers.{frame_fault}
 use Rattle.am_gossip.specs.declared.frame.Frame.{Frame}
 use Rattle.am_gossip.specs.declared.frame.Frame.TheVariants as frames
 use Rattle.am_merge.specs.Maps.{at}
+use Rattle.am_collect.specs.Events.{Events}
+use Rattle.am_collect.specs.Events.Event.{Passed}
 use Rattle.am_collect.specs.Kept.{Kept}
 use Rattle.am_runs.specs.declared.step.Source.{Source}
-use Rattle.am_runs.specs.declared.step.Source.TheVariants.{Lent}
-use Rattle.am_runs.specs.Steps.{Step, flights_by, flights_of}
+use Rattle.am_runs.specs.declared.step.Source.TheVariants.{Arrived, Lent}
+use Rattle.am_runs.specs.Steps.{Flight, Step, flights_by, flights_of}
 use Rattle.am_runs.specs.Steps.Step.{Took, Ticked}
 use Rattle.am_runs.specs.Members.{map_of, member_of}
 use Rattle.am_runs.specs.Runs.{AreFrom}
-use Rattle.am_runs.proofs.Pasts.{flights_of-push}
+use Rattle.am_runs.proofs.Pasts.{flights_of-push, last-one, map_of-append}
 use Rattle.am_instance.specs.declared.event.Event.{Event}
 use Rattle.am_instance.specs.declared.event.Event.TheVariants as events
 use Rattle.am_instance.specs.declared.error.StepError.{StepError}
@@ -119,3 +121,16 @@ module _ {X : Type 0} (pick : List Delivery → List X) (place now : ℕ) (sourc
       flights_of (before ++ event_step pick place now source event answer fs ∷ []) ≡ flights_of before ++ flights_in pick now fs
   all_fly before old new event answer fs step flying =
       flights_of-push before (event_step pick place now source event answer fs) ∙ ap (λ flights. flights_of before ++ flights) (step_flies old new event answer fs step flying)
+
+-- ---- what arrives, and a start
+pub flown : {K X : Type 0} (seen : X → Version K) (cmp : K → K → Ordering) (members now number sent : ℕ) (before : List (Step X)) (versions : List X) →
+    slice_get (flights_of before) number ≡ Some (record { sent = sent; versions = versions }) → AreFrom seen cmp members before now (Arrived number) versions
+flown {K} {X} seen cmp members now number sent before versions is =
+    subst (λ (flight : Option (Flight X)). IsSomeAnd flight (λ f. All (Contains f.versions) versions)) (sym is) (All-contains_itself versions)
+
+pub started : {K X : Type 0} (seen : X → Version K) (cmp : K → K → Ordering) (saved : Events X) (now : ℕ) (kept : Kept X) → HasGoneThrough seen cmp saved kept →
+    HasGoneThrough seen cmp (saved ++ (Passed, now) ∷ []) (record { held = kept.held; last = now })
+started seen cmp saved now kept gone = record {
+  map = λ key. gone.map key ∙ sym (ap (λ held. held key) (map_of-append seen cmp saved ((Passed, now) ∷ [])));
+  last = sym (last-one saved Passed now);
+}

@@ -1,6 +1,6 @@
 //! What holds of the steps of instances as steps of runs.
 
-ghost use Rattle.std.specs.Prelude.{◌≡◌, ◌≢◌, ◌++◌, [], ◌∷◌, List, ℕ, map, All, None, Some, true, IfOk, IfSome, Result, Contains};
+ghost use Rattle.std.specs.Prelude.{◌≡◌, ◌≢◌, ◌++◌, [], ◌∷◌, List, ℕ, map, All, None, Some, true, IfOk, IfSome, Result, Contains, slice_get};
 ghost use Rattle.std.specs.Ordering.{nat_cmp};
 ghost use Rattle.std.specs.Cmp.Lexicographic.{slice_cmp};
 ghost use Rattle.am_silence.specs.Mesh.{Mesh, IsMesh, mesh_version};
@@ -9,9 +9,11 @@ ghost use Rattle.am_nflog.specs.Keys.{key_cmp};
 ghost use Rattle.am_gossip.specs.declared.frame.Frame.{Frame};
 ghost use Rattle.am_gossip.specs.declared.frame.Frame.TheVariants.{Pull};
 ghost use Rattle.am_merge.specs.Maps.{IsMap, at};
+ghost use Rattle.am_collect.specs.Kept.{Kept};
 ghost use Rattle.am_runs.specs.declared.step.Source.{Source};
-ghost use Rattle.am_runs.specs.declared.step.Source.TheVariants.{Lent};
+ghost use Rattle.am_runs.specs.declared.step.Source.TheVariants.{Arrived, Lent};
 ghost use Rattle.am_runs.specs.Steps.{Step, flights_of};
+ghost use Rattle.am_runs.specs.Steps.Step.{Started};
 ghost use Rattle.am_runs.specs.Members.{Member, last_of, member_of, stepped};
 ghost use Rattle.am_runs.specs.Runs.{AreFrom, IsPossible};
 ghost use Rattle.am_instance.specs.declared.event.Event.{Event};
@@ -57,6 +59,14 @@ pub fn only_the_member_changes()
         place ≢ other → member_of members other (before ++ event_step silences_in place now source event answer frames ∷ []) ≡ member_of members other before }
     ensures other_logs { (members place other now : ℕ) (source : Source) (before : List (Step LogMesh)) (event : Event) (answer : Result Outcome StepError) (frames : List (ℕ × Frame)) →
         place ≢ other → member_of members other (before ++ event_step entries_in place now source event answer frames ∷ []) ≡ member_of members other before }
+{}
+
+/// A member that is started goes on with the map that was saved of it, from the moment of the start.
+pub fn starts_go_on()
+    ensures silences { (m : Member Mesh) (place now : ℕ) (kept : Kept Mesh) → HasGoneThrough mesh_version (slice_cmp nat_cmp) m.saved kept →
+        HasGoneThrough mesh_version (slice_cmp nat_cmp) (stepped m (Started place now)).past (record { held = kept.held; last = now }) }
+    ensures log { (m : Member LogMesh) (place now : ℕ) (kept : Kept LogMesh) → HasGoneThrough entry_version key_cmp m.saved kept →
+        HasGoneThrough entry_version key_cmp (stepped m (Started place now)).past (record { held = kept.held; last = now }) }
 {}
 
 /// A map has each of its versions at that version's key.
@@ -118,6 +128,16 @@ pub fn frames_are_flights()
     ensures log { (place now : ℕ) (before : List (Step LogMesh)) (source : Source) (old new : Stand) (event : Event) (answer : Result Outcome StepError) (frames : List (ℕ × Frame)) →
         IsStep old event now answer new → AreInFlight answer frames →
         flights_of (before ++ event_step entries_in place now source event answer frames ∷ []) ≡ flights_of before ++ flights_in entries_in now frames }
+{}
+
+/// What a frame brings comes from its flight.
+pub fn frames_come_from_their_flights()
+    ensures silences { (members now number sent : ℕ) (before : List (Step Mesh)) (frame : Frame) →
+        slice_get (flights_of before) number ≡ Some (record { sent = sent; versions = silences_in (carries frame) }) →
+        AreFrom mesh_version (slice_cmp nat_cmp) members before now (Arrived number) (silences_in (carries frame)) }
+    ensures log { (members now number sent : ℕ) (before : List (Step LogMesh)) (frame : Frame) →
+        slice_get (flights_of before) number ≡ Some (record { sent = sent; versions = entries_in (carries frame) }) →
+        AreFrom entry_version key_cmp members before now (Arrived number) (entries_in (carries frame)) }
 {}
 
 /// A step is recorded alike in both runs, so that members run in both or in neither, have the same last moments, and frames

@@ -72,7 +72,7 @@ module _ {K X : Type 0} (seen : X → Version K) (cmp : K → K → Ordering) (k
 
   module _ (reads : ℕ → List ℕ → Result X WireError) (is_value : X → Type 0) (back : (v : X) → is_value v → IsReadBack seen reads v) (versions : List X) (savable : IsSavable seen cmp is_value versions) where
     saved_read : AreMessages reads (row_text seen versions) versions
-    saved_read = versions_read seen reads versions 0 (λ k d within. back _ (savable.values k d within)) (shorts seen versions savable.size)
+    saved_read = versions_read seen reads versions 0 (λ k d within. back _ (savable.values k d within)) (shorts seen reads versions savable.size)
 
     pub saved_loaded : IsLoaded seen reads (row_text seen versions) versions
     saved_loaded = (versions, saved_read, distinct_map versions savable.order, IsPermutation-refl versions)
