@@ -36,17 +36,10 @@ use Rattle.am_record.proofs.States.{log_state, silences_state}
 use Rattle.am_cluster.specs.declared.flight.Flight.{Flight}
 use Rattle.am_cluster.specs.Worlds.{Replica, World, replica_at, sent_on, with_replica, written}
 use Rattle.am_cluster.specs.Events.{with_stand}
-use Rattle.am_cluster.specs.Ties.{IsTied, IsFlying, IsWorld, AreAscending}
+use Rattle.am_cluster.specs.Ties.{CanFly, IsTied, IsFlying, IsWorld, AreAscending}
 use Rattle.am_cluster.proofs.Goes.{goes_on_at}
 use Rattle.am_cluster.proofs.Lived.{elsewhere}
 use Rattle.am_cluster.proofs.Places.{set_length}
-
--- a frame that a member can have sent: it has no fault, and goes to another member
-pub record CanFly (members place : ℕ) (frame : ℕ × Frame) : Type 0 where
-  pub sound : first_fault (rows_in (parts_of frame.1)) ≡ None
-  pub addressee : frame.0 < members
-  pub other : eqb place frame.0 ≡ false
-
 
 -- the sending at a number among those before and those that are sent now
 got_behind : {A : Type 0} (xs ys : List A) (n : ℕ) (y : A) → slice_get ys n ≡ Some y → slice_get (xs ++ ys) (length xs + n) ≡ Some y
@@ -95,7 +88,7 @@ module _ (w new : World) (place now : ℕ) (frames : List (ℕ × Frame)) where
         log = ap (λ fs. slice_get fs (length (flights_of w.silences) + fl.nth)) log
             ∙ (ap (λ n. slice_get (flights_of w.log ++ flights_in entries_in now frames) (n + fl.nth)) same
             ∙ got_behind (flights_of w.log) (flights_in entries_in now frames) fl.nth _ (slice_get-map (λ frame. record { sent = now; versions = entries_in (carries frame.1) }) frames fl.nth ∙ ap (option_map (λ frame. record { sent = now; versions = entries_in (carries frame.1) })) fl.there));
-        sound = good.sound;
+        sound = good.no_fault;
         addressee = subst (λ n. fl.frame.0 < n) (sym members) good.addressee;
         sender = subst (λ n. place < n) (sym members) inside;
         other = good.other;

@@ -5,3 +5,5 @@ pub mod Lived
 pub mod Departing
 pub mod Recordings
 pub mod Happened
+pub mod Acted
+pub mod Telling

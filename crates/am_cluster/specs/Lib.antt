@@ -5,3 +5,4 @@ pub mod Lives
 pub mod Events
 pub mod Writing
 pub mod Recording
+pub mod Acting

@@ -12,7 +12,7 @@ use Rattle.am_nflog.specs.Keys.{key_cmp}
 use Rattle.am_merge.specs.Maps.{at}
 use Rattle.am_collect.specs.Kept.{Kept}
 use Rattle.am_collect.specs.Events.{Events, last_moment}
-use Rattle.am_instance.specs.Configs.{is_peer}
+use Rattle.am_gossip.specs.declared.frame.Frame.{Frame}
 use Rattle.am_instance.specs.Stands.{Stand, kept_silences, kept_log}
 use Rattle.am_instance.specs.Deliveries.{first_fault, rows_in, parts_of}
 use Rattle.am_runs.specs.Steps.{Step, flights_of}
@@ -53,6 +53,12 @@ pub record IsFlying (world : World) (flight : Flight) : Type 0 where
   pub addressee : flight.addressee < length world.replicas
   pub sender : flight.sender < length world.replicas
   pub other : (flight.sender == flight.addressee) ≡ false
+
+-- a frame that the member at a place can have sent: nothing in it is at fault, and it goes to another member
+pub record CanFly (members place : ℕ) (sent : ℕ × Frame) : Type 0 where
+  pub no_fault : first_fault (rows_in (parts_of sent.1)) ≡ None
+  pub addressee : sent.0 < members
+  pub other : (place == sent.0) ≡ false
 
 -- each number is below those after it
 abbrev pub AreAscending : List Flight → Type 0

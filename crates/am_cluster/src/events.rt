@@ -1,6 +1,6 @@
 //! What an event does at a member, and to the cluster.
 
-ghost use Rattle.std.specs.Prelude.{◌≡◌, ◌<◌, ℕ, None, All, IfOk, IfSome, length, map};
+ghost use Rattle.std.specs.Prelude.{◌≡◌, ◌<◌, ◌≤◌, None, All, IfOk, IfSome, length, map};
 ghost use Rattle.std.specs.Ordering.{nat_cmp};
 ghost use Rattle.std.specs.Cmp.Lexicographic.{slice_cmp};
 ghost use Rattle.am_silence.specs.Mesh.{IsMesh, mesh_version};
@@ -12,17 +12,20 @@ ghost use Rattle.am_instance.specs.OneStep.{IsStep};
 ghost use Rattle.am_instance.specs.Steps.{brought, fault_of};
 ghost use Rattle.am_carried.specs.Contents.{IsValue, delivery_of, entries_in, silences_in};
 ghost use Rattle.am_record.specs.Recorded.{HasSource};
+ghost use Rattle.am_cluster.specs.Acting.{CanAct, HasActed};
 ghost use Rattle.am_cluster.specs.Events.{IsEvent};
 ghost use Rattle.am_cluster.specs.Lives.{OfMember};
 ghost use Rattle.am_cluster.specs.Recording.{ComesWith, IsNoFault, IsRoomFor};
 
 use crate::cluster::Cluster;
 use crate::error::ClusterError;
+use crate::flight::Flight;
 use crate::recording::{Coming, kind_of, write_answer};
 use crate::writing::Entry;
 use am_carried::{ByState, Carried, carried_by, held_are_values, versions_are_values};
 use am_instance::{Event, Instance, Outcome, Reply, StepError};
-use am_journal::Mark;
+use am_journal::{Journal, Mark};
+use am_record::laws::{steps_are_possible, values_are_delivered};
 use am_runs::Source;
 use am_version_order::{Moment, Version};
 use std::alloc::{AllocError, Global};
@@ -84,6 +87,32 @@ fn step_of(instance: &mut Instance, event: Event, now: Moment) -> Result<Outcome
     answer
 }
 
+/// Has an instance make its step, and writes it down.
+fn act(
+    alloc: Global,
+    instance: &mut Instance,
+    journal: &mut Journal,
+    flights: &mut Vec<Flight>,
+    entry: &Entry,
+    coming: Coming,
+    event: Event,
+) -> Result<Reply, ClusterError>
+    requires ready { CanAct journal.old entry.now event instance.old }
+    requires coming { ComesWith coming event }
+    requires values { All IsValue (brought event) }
+    requires room { IsRoomFor coming.parted (length coming.versions.items) }
+    requires enough { 0 < journal.old.room × (length coming.versions.items ≤ journal.old.spare) × (3 ≤ journal.old.spare) }
+    ensures { HasActed journal.old flights.old.items entry.now event instance.old result journal.new flights.new.items instance.new }
+{
+    steps_are_possible();
+    values_are_delivered();
+    //few_are_made();
+    //collecting_leaves_nothing_out();
+    //sent_frames_are_sound();
+    let answer = step_of(instance, event, entry.moment);
+    write_answer(alloc, journal, flights, entry, coming, answer)
+}
+
 impl Cluster {
     /// Has an event happen at the member at a place.
     pub(crate) fn happen(
@@ -112,8 +141,8 @@ impl Cluster {
             source,
             line,
         };
-        let answer = step_of(&mut self.members[place].instance, event, now);
+        let instance = &mut self.members[place].instance;
         let (journal, flights) = (&mut self.journal, &mut self.flights);
-        write_answer(self.alloc, journal, flights, &entry, coming, answer)
+        act(self.alloc, instance, journal, flights, &entry, coming, event)
     }
 }

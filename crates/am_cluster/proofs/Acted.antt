@@ -1,0 +1,86 @@
+-- What is known of the step of an instance, for writing it down.
+use Rattle.std.proofs.Common.{◌≡◌, ◌⊎◌, inl, inr, ℕ, Bool, true, false, eqb, ltb, ◌&&◌, List, [], Option, Result, Ok, Err, refl, sym, ap, ◌∙◌, subst, length, not, IfOk, ◌<◌}
+use Rattle.std.specs.Prelude.{All, Contains, IfSome, None}
+use Rattle.std.proofs.lemmas.List.Elements.{All-nil, All-weaker, All-contains, All-contains_itself}
+use Rattle.std.proofs.lemmas.Bool.{and_parts, eqb-false, ltb-true, not-true}
+use Rattle.std.proofs.lemmas.Bool.Decides.{eqb_tells}
+use Rattle.am_silence.specs.Mesh.{IsMesh}
+use Rattle.am_nflog.specs.Mesh.{IsMesh as IsLogMesh}
+use Rattle.am_gossip.specs.declared.frame.Frame.{Frame}
+use Rattle.am_instance.specs.declared.event.Event.{Event}
+use Rattle.am_instance.specs.declared.error.StepError.{StepError}
+use Rattle.am_instance.specs.declared.error.StepError.TheVariants.{Memory, MomentBack, UnknownPeer, Frame as FrameFault}
+use Rattle.am_instance.specs.declared.reply.Made.{Made}
+use Rattle.am_instance.specs.declared.reply.Outcome.{Outcome}
+use Rattle.am_instance.specs.declared.reply.Reply.{Reply}
+use Rattle.am_instance.specs.Configs.{Settings, is_peer}
+use Rattle.am_instance.specs.Deliveries.{first_fault, rows_in, parts_of}
+use Rattle.am_instance.specs.Laws.{HasMaps}
+use Rattle.am_instance.specs.Stands.{Stand}
+use Rattle.am_instance.specs.Steps.{brought, delivers}
+use Rattle.am_instance.specs.OneStep.{IsStep}
+use Rattle.am_carried.specs.Contents.{IsValue}
+use Rattle.am_record.specs.Recorded.{AreInFlight, AreValues}
+use Rattle.am_cluster.specs.declared.error.ClusterError.{ClusterError}
+use Rattle.am_cluster.specs.Events.{IsTold}
+use Rattle.am_cluster.specs.Ties.{CanFly}
+
+-- what holds of every outcome holds of the answer
+pub on_ok : (P : Outcome → Type 0) (before stand : Stand) (event : Event) (now : ℕ) (answer : Result Outcome StepError) →
+    ((outcome : Outcome) → IsStep before event now (Ok outcome) stand → P outcome) → IsStep before event now answer stand → IfOk answer P
+on_ok P before stand event now (Ok outcome) each step = each outcome step
+on_ok P before stand event now (Err e) each step = tt
+
+pub values_known : (event : Event) (stand : Stand) (answer : Result Outcome StepError) →
+    ((made : Made) → All IsMesh made.silences.items → IfSome made.log IsLogMesh → All IsValue (delivers event made)) →
+    IfOk answer (λ outcome. All IsMesh outcome.made.silences.items) → IfOk answer (λ outcome. IfSome outcome.made.log IsLogMesh) →
+    All IsMesh stand.silences → All IsLogMesh stand.log → HasMaps stand → IfOk answer (λ outcome. AreValues event outcome stand)
+values_known event stand (Ok outcome) each silences log held_silences held_log maps = record { delivered = each outcome.made silences log; silences = held_silences; log = held_log; maps = maps }
+values_known event stand (Err e) each silences log held_silences held_log maps = tt
+
+-- the frames that fly are among those that were sent
+pub told_frames : (P : ℕ × Frame → Type 0) (answer : Result Outcome StepError) (frames : List (ℕ × Frame)) (result : Result Reply ClusterError) →
+    IfOk answer (λ outcome. All P outcome.frames.items) → IsTold answer frames result → All P frames
+told_frames P (Ok outcome) frames (Ok reply) all told = subst (All P) (sym told.1) all
+told_frames P (Ok outcome) frames (Err e) all told = subst (All P) (sym told.1) (All-nil P)
+told_frames P (Err (MomentBack last)) frames (Err e) all told = subst (All P) (sym told.1) (All-nil P)
+told_frames P (Err UnknownPeer) frames (Err e) all told = subst (All P) (sym told.1) (All-nil P)
+told_frames P (Err (Memory taken)) frames (Err e) all told = subst (All P) (sym told.1) (All-nil P)
+told_frames P (Err (FrameFault fault)) frames (Err e) all told = absurd told
+told_frames P (Err (MomentBack last)) frames (Ok reply) all told = absurd told
+told_frames P (Err UnknownPeer) frames (Ok reply) all told = absurd told
+told_frames P (Err (Memory taken)) frames (Ok reply) all told = absurd told
+told_frames P (Err (FrameFault fault)) frames (Ok reply) all told = absurd told
+
+pub told_flying : (answer : Result Outcome StepError) (frames : List (ℕ × Frame)) (result : Result Reply ClusterError) → IsTold answer frames result → AreInFlight answer frames
+told_flying (Ok outcome) frames (Ok reply) told = inl told.1
+told_flying (Ok outcome) frames (Err e) told = inr told.1
+told_flying (Err (MomentBack last)) frames (Err e) told = told.1
+told_flying (Err UnknownPeer) frames (Err e) told = told.1
+told_flying (Err (Memory taken)) frames (Err e) told = told.1
+told_flying (Err (FrameFault fault)) frames (Err e) told = absurd told
+told_flying (Err (MomentBack last)) frames (Ok reply) told = absurd told
+told_flying (Err UnknownPeer) frames (Ok reply) told = absurd told
+told_flying (Err (Memory taken)) frames (Ok reply) told = absurd told
+told_flying (Err (FrameFault fault)) frames (Ok reply) told = absurd told
+
+turned : (a b : ℕ) → eqb a b ≡ false → eqb b a ≡ false
+turned a b other = elim (eqb_tells b a) [ inl same ↦ absurd (eqb-false a b other (sym same.1)) | inr apart ↦ apart.0 ]
+
+-- a peer is another member
+pub peer_flies : (settings : Settings) (members place : ℕ) (frame : ℕ × Frame) → settings.place ≡ place → length settings.members ≡ members →
+    first_fault (rows_in (parts_of frame.1)) ≡ None → is_peer settings frame.0 ≡ true → CanFly members place frame
+peer_flies settings members place frame own all sound peer =
+    let parts = and_parts (ltb frame.0 (length settings.members)) (not (eqb frame.0 settings.place)) peer in record {
+      no_fault = sound;
+      addressee = subst (λ n. frame.0 < n) all (ltb-true frame.0 (length settings.members) parts.0);
+      other = subst (λ p. eqb p frame.0 ≡ false) own (turned frame.0 settings.place (not-true (eqb frame.0 settings.place) parts.1));
+    }
+
+pub all_fly_from : (settings : Settings) (members place : ℕ) (frames : List (ℕ × Frame)) → settings.place ≡ place → length settings.members ≡ members →
+    All (λ frame. first_fault (rows_in (parts_of frame.1)) ≡ None) frames → All (λ frame. is_peer settings frame.0 ≡ true) frames → All (CanFly members place) frames
+all_fly_from settings members place frames own all sound peers =
+    All-weaker (Contains frames) (CanFly members place)
+    (λ frame within. peer_flies settings members place frame own all
+    (All-contains (λ f. first_fault (rows_in (parts_of f.1)) ≡ None) frames frame sound within) (All-contains (λ f. is_peer settings f.0 ≡ true) frames frame peers within))
+    frames (All-contains_itself frames)

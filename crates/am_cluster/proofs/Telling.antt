@@ -1,0 +1,100 @@
+-- What came of an event at a member, for the cluster.
+use Rattle.std.proofs.Common.{◌≡◌, ◌⊎◌, inl, inr, ℕ, ◌≤◌, Bool, true, false, List, [], ◌∷◌, ◌++◌, Some, Result, Err, refl, sym, ap, ◌∙◌, subst, length, set, slice_get}
+use Rattle.std.specs.Prelude.{All, None}
+use Rattle.std.specs.Ordering.{nat_cmp}
+use Rattle.std.specs.Cmp.Lexicographic.{slice_cmp}
+use Rattle.am_silence.specs.Mesh.{Mesh, mesh_version}
+use Rattle.am_nflog.specs.Mesh.{Mesh as LogMesh, mesh_version as entry_version}
+use Rattle.am_nflog.specs.Keys.{key_cmp}
+use Rattle.am_instance.specs.declared.event.Event.{Event}
+use Rattle.am_instance.specs.declared.reply.Reply.{Reply}
+use Rattle.am_instance.specs.Configs.{Settings}
+use Rattle.am_instance.specs.Stands.{Stand}
+use Rattle.am_instance.specs.Steps.{fault_of}
+use Rattle.am_runs.specs.declared.step.Source.{Source}
+use Rattle.am_runs.specs.Steps.{Step, flights_of}
+use Rattle.am_runs.specs.Steps.Step.{Refused}
+use Rattle.am_journal.specs.Accounts.{Account}
+use Rattle.am_journal.specs.Twins.{AreTwins}
+use Rattle.am_journal.proofs.Twinned.{twin_flights}
+use Rattle.am_carried.specs.Contents.{silences_in, entries_in}
+use Rattle.am_record.specs.Recorded.{HasSource, event_step}
+use Rattle.am_cluster.specs.declared.error.ClusterError.{ClusterError}
+use Rattle.am_cluster.specs.declared.error.ClusterError.TheVariants as errors
+use Rattle.am_cluster.specs.declared.flight.Flight.{Flight}
+use Rattle.am_cluster.specs.declared.writing.Entry.{Entry}
+use Rattle.am_cluster.specs.Worlds.{Replica, World, replica_at, sent_on, with_flights, with_replica, written}
+use Rattle.am_cluster.specs.Events.{HasHappened, IsEvent, IsHalted, with_stand}
+use Rattle.am_cluster.specs.Lives.{OfMember}
+use Rattle.am_cluster.specs.Ties.{CanFly, IsWorld}
+use Rattle.am_cluster.specs.Acting.{CanAct, HasActed}
+use Rattle.am_cluster.proofs.Acted.{told_flying}
+use Rattle.am_cluster.proofs.Happened.{world_happened}
+use Rattle.am_cluster.proofs.Lived.{for_replica, runs_told}
+
+-- a stopped member
+pub halted : (w v n : World) (place : ℕ) (r : Replica) (event : Event) (source : Source) (now line : ℕ) → w ≡ v → replica_at w place ≡ Some r → r.runs ≡ false → n ≡ written w (Refused now) (Refused now) line →
+    OfMember v place (λ replica. IsEvent v place replica event source now line (Err errors.Stopped) n)
+halted w v n place r event source now line same found stopped is =
+    for_replica (λ u replica. IsEvent u place replica event source now line (Err errors.Stopped) n) w v place r same found
+    (inr (inl (record { stopped = stopped; error = refl; world = is })))
+
+five : (rs : List Replica) (ss ss2 : List (Step Mesh)) (ls ls2 : List (Step LogMesh)) (ns ns2 : List ℕ) (fs fs2 : List Flight) → ss ≡ ss2 → ls ≡ ls2 → ns ≡ ns2 → fs ≡ fs2 →
+    ◌≡◌ {A = World} (record { replicas = rs; silences = ss; log = ls; lines = ns; flights = fs }) (record { replicas = rs; silences = ss2; log = ls2; lines = ns2; flights = fs2 })
+five rs ss ss2 ls ls2 ns ns2 fs fs2 a b c d = cc
+
+-- an account of the journal that tells of a cluster
+pub record Tells (a : Account) (w : World) : Type 0 where
+  pub members : a.members ≡ length w.replicas
+  pub silences : a.silences ≡ w.silences
+  pub log : a.log ≡ w.log
+  pub lines : a.lines ≡ w.lines
+
+module _ (w : World) (a : Account) (tells : Tells a w) (place now line : ℕ) (r : Replica) (event : Event) (source : Source) (is : IsWorld w) (found : replica_at w place ≡ Some r) where
+  abbrev entry : Entry
+  entry = record { place = place; moment = now; source = source; line = line }
+
+  -- the account may be read as that of the cluster
+  abbrev Ready : ℕ → List (Step Mesh) → List (Step LogMesh) → Type 0
+  Ready members silences log = CanAct (record a { members = members; silences = silences; log = log }) entry event r.stand
+
+  pub can_act : r.runs ≡ true → HasSource silences_in mesh_version (slice_cmp nat_cmp) (length w.replicas) w.silences now event source →
+      HasSource entries_in entry_version key_cmp (length w.replicas) w.log now event source → ((settings : Settings) → fault_of settings now event ≡ None) → CanAct a entry event r.stand
+  can_act runs from_silences from_log sound =
+      let m = is.members place r found in
+      subst (λ n. Ready n a.silences a.log) (sym tells.members) (subst (λ ss. Ready (length w.replicas) ss a.log) (sym tells.silences) (subst (λ ls. Ready (length w.replicas) w.silences ls) (sym tells.log) (record {
+        runs = m.silences.runs ∙ runs;
+        runs_too = m.log.runs ∙ runs;
+        silences = m.silences.held;
+        log = m.log.held;
+        from_silences = from_silences;
+        from_log = from_log;
+        sound = sound;
+        own_place = m.place;
+        all_members = m.members;
+      })))
+
+  module _ (result : Result Reply ClusterError) (new : Account) (after : List Flight) (stand : Stand) (acted : HasActed a w.flights entry event r.stand result new after stand) where
+    abbrev pub event_world : World
+    event_world =
+        written (with_flights (with_replica w place (with_stand r stand)) place now acted.recorded.frames)
+        (event_step silences_in place now source event acted.answer acted.recorded.frames) (event_step entries_in place now source event acted.answer acted.recorded.frames) line
+
+    -- what the journal, the frames in flight and the members are after it
+    pub world_is : ◌≡◌ {A = World} (record { replicas = set w.replicas place (with_stand r stand); silences = new.silences; log = new.log; lines = new.lines; flights = after }) event_world
+    world_is =
+        let one = acted.recorded.silences ∙ ap (λ ss. ss ++ event_step silences_in place now source event acted.answer acted.recorded.frames ∷ []) tells.silences in
+        let other = acted.recorded.log ∙ ap (λ ls. ls ++ event_step entries_in place now source event acted.answer acted.recorded.frames ∷ []) tells.log in
+        let third = acted.recorded.lines ∙ ap (λ ns. ns ++ line ∷ []) tells.lines in
+        let fourth = acted.recorded.flights_are ∙ ap (λ ss. w.flights ++ sent_on (length (flights_of ss)) place now acted.recorded.frames) tells.silences in
+        five (set w.replicas place (with_stand r stand)) _ _ _ _ _ _ _ _ one other third fourth
+
+    pub event_hangs : AreTwins w.silences w.log → IsWorld event_world
+    event_hangs twins =
+        world_happened w place r stand event source now line acted.answer acted.recorded.frames is found acted.step (told_flying acted.answer acted.recorded.frames result acted.recorded.told)
+        (twin_flights w.silences w.log twins) (subst (λ n. All (CanFly n place) acted.recorded.frames) tells.members acted.can_fly)
+
+    pub event_told : (v : World) → w ≡ v → r.runs ≡ true → (n : World) → n ≡ event_world → OfMember v place (λ replica. IsEvent v place replica event source now line result n)
+    event_told v same runs n is_new =
+        for_replica (λ u replica. IsEvent u place replica event source now line result n) w v place r same found
+        (inr (inr (record { runs = runs; answer = acted.answer; stand = stand; step = acted.step; frames = acted.recorded.frames; told = acted.recorded.told; world = is_new })))
