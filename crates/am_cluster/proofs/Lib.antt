@@ -3,3 +3,4 @@ pub mod Tied
 pub mod Goes
 pub mod Lived
 pub mod Departing
+pub mod Born
