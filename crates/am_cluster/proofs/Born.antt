@@ -1,25 +1,26 @@
 -- A cluster in which nothing happened yet.
-use Rattle.std.proofs.Common.{◌≡◌, ◌⊎◌, inl, inr, ℕ, ◌+◌, ◌<◌, ◌≤◌, Bool, true, List, [], ◌∷◌, ◌++◌, map, length, Option, Some, None, slice_get, ltb, refl, sym, ap, ◌∙◌, subst, arith}
-use Rattle.std.specs.Prelude.{Contains}
+use Rattle.std.proofs.Common.{◌≡◌, ◌⊎◌, inl, inr, ℕ, ◌+◌, ◌<◌, ◌≤◌, Bool, true, List, [], ◌∷◌, ◌++◌, map, get_or, length, Result, Ok, Err, Option, Some, None, slice_get, ltb, refl, sym, ap, ◌∙◌, subst, arith}
+use Rattle.std.specs.Prelude.{◌↔◌, Any, Contains, IsPermutation}
 use Rattle.std.specs.Ordering.{nat_cmp}
 use Rattle.std.specs.Cmp.Lexicographic.{slice_cmp}
 use Rattle.std.specs.declared.cmp.Ordering.{Ordering}
 use Rattle.std.proofs.lemmas.Bool.Decides.{nat_tests}
 use Rattle.std.specs.List.{range_with_len}
-use Rattle.std.proofs.lemmas.List.FromFn.{map-range_with_len_more}
-use Rattle.std.proofs.lemmas.Option.{slice_get_cases}
+use Rattle.std.proofs.lemmas.List.FromFn.{get_or-map-range_with_len, length-map-range_with_len, map-range_with_len_more}
+use Rattle.std.proofs.lemmas.List.Sorted.{Contains-permutation, IsPermutation-sym, IsPermutation-to_front, IsPermutation-trans, length_permutation}
+use Rattle.std.proofs.lemmas.Option.{get_or_from_slice_get, slice_get_cases}
 use Rattle.am_version_order.specs.Versions.{Version}
 use Rattle.am_collect.specs.Kept.{Kept}
 use Rattle.am_silence.specs.Mesh.{Mesh, mesh_version}
 use Rattle.am_nflog.specs.Mesh.{Mesh as LogMesh, mesh_version as entry_version}
 use Rattle.am_nflog.specs.Keys.{key_cmp}
-use Rattle.am_instance.specs.Configs.{Settings}
+use Rattle.am_instance.specs.Configs.{HasTwice, IsEmptyName, IsLongName, Settings}
 use Rattle.am_instance.specs.Stands.{Stand, kept_silences, kept_log}
 use Rattle.am_runs.specs.Steps.{Step}
 use Rattle.am_runs.specs.Members.{member_of}
 use Rattle.am_cluster.specs.declared.flight.Flight.{Flight}
 use Rattle.am_cluster.specs.Worlds.{Replica, World}
-use Rattle.am_cluster.specs.Beginnings.{AreUnborn, newborn}
+use Rattle.am_cluster.specs.Beginnings.{AreUnborn, newborn, newborns}
 use Rattle.am_cluster.specs.Ties.{IsTied, IsMember, IsWorld}
 
 -- a place at which something stands is within the list
@@ -72,3 +73,67 @@ born_more settings own place r old new before config stand runs silences log pus
   where
     with_config : Settings → Stand
     with_config c = record { config = c; silences = []; log = []; last = 0 }
+
+-- the members of a configuration are as a cluster begins with them
+pub unborn : (settings : Settings) (members : List Replica) → members ≡ newborns settings → AreUnborn members
+unborn settings members born place replica there = (settings, sym count, sym (get_or_from_slice_get members place replica replica there) ∙ (ap (λ ms. get_or ms place replica) born ∙ one)) where
+  count : length members ≡ length settings.members
+  count = ap length born ∙ length-map-range_with_len (newborn settings) 0 (length settings.members)
+
+  within : place < length members
+  within = elim ((slice_get_cases members place).1) [ inl is ↦ is.1 | inr past ↦ absurd (no (sym past.1 ∙ there)) ] where
+    no : None ≡ Some replica → ⊥
+    no e = cc
+
+  one : get_or (newborns settings) place replica ≡ newborn settings place
+  one = get_or-map-range_with_len (newborn settings) 0 (length settings.members) place place replica (omega (arith, count, within)) (omega arith)
+
+-- they are told by all of it but its own place
+pub newborns_are : (s : Settings) (retention peer_timeout : ℕ) → s.retention ≡ retention → s.peer_timeout ≡ peer_timeout →
+    newborns s ≡ newborns (record { members = s.members; place = 0; retention = retention; peer_timeout = peer_timeout })
+newborns_are s retention peer_timeout a b =
+    ap (λ x. newborns (record { members = s.members; place = 0; retention = x; peer_timeout = s.peer_timeout })) a
+    ∙ ap (λ y. newborns (record { members = s.members; place = 0; retention = retention; peer_timeout = y })) b
+
+any_moved : (P : List ℕ → Type 0) (xs ys : List (List ℕ)) → IsPermutation xs ys → Any P xs → Any P ys
+any_moved P xs ys moved any = let there = Contains-permutation xs ys any.1 moved (any.0, any.2, any.3) in (there.0, any.1, there.1, there.2, any.4)
+
+twice_moved : (xs ys : List (List ℕ)) → IsPermutation xs ys → HasTwice xs → HasTwice ys
+twice_moved xs ys moved twice = record { name = twice.name; rest = twice.rest; among = IsPermutation-trans ys xs (twice.name ∷ twice.name ∷ twice.rest) (IsPermutation-sym xs ys moved) twice.among }
+
+pub twice_long : (xs : List (List ℕ)) → HasTwice xs → 0 < length xs
+twice_long xs twice = let e : length (twice.name ∷ twice.name ∷ twice.rest) ≡ length xs = length_permutation xs (twice.name ∷ twice.name ∷ twice.rest) twice.among in omega (arith, e)
+
+-- what is told of the last one of some names and of the others is told of all of them
+module _ (names peers : List (List ℕ)) (name : List ℕ) (parts : names ≡ peers ++ name ∷ []) where
+  pub to_front : IsPermutation names (name ∷ peers)
+  to_front = subst (λ xs. IsPermutation xs (name ∷ peers)) (sym parts) (IsPermutation-to_front peers name)
+
+  back : IsPermutation (name ∷ peers) names
+  back = IsPermutation-sym names (name ∷ peers) to_front
+
+  pub empty_told : (A B : Type 0) → (A → B) → (B → A) → A ↔ Any IsEmptyName (name ∷ peers) → B ↔ Any IsEmptyName names
+  empty_told A B to from told = (λ b. any_moved IsEmptyName _ _ back (told.0 (from b)), λ any. to (told.1 (any_moved IsEmptyName _ _ to_front any)))
+
+  pub long_told : (A B : Type 0) → (A → B) → (B → A) → A ↔ (¬ Any IsEmptyName (name ∷ peers)) × Any IsLongName (name ∷ peers) → B ↔ (¬ Any IsEmptyName names) × Any IsLongName names
+  long_told A B to from told = (
+    λ b. let is = told.0 (from b) in (λ any. is.0 (any_moved IsEmptyName _ _ to_front any), any_moved IsLongName _ _ back is.1),
+    λ is. to (told.1 (λ any. is.0 (any_moved IsEmptyName _ _ back any), any_moved IsLongName _ _ to_front is.1)),
+  )
+
+  pub same_told : (A B : Type 0) → (A → B) → (B → A) → A ↔ (¬ Any IsEmptyName (name ∷ peers)) × (¬ Any IsLongName (name ∷ peers)) × HasTwice (name ∷ peers) →
+      B ↔ (¬ Any IsEmptyName names) × (¬ Any IsLongName names) × HasTwice names
+  same_told A B to from told = (
+    λ b. let is = told.0 (from b) in (λ any. is.0 (any_moved IsEmptyName _ _ to_front any), λ any. is.1 (any_moved IsLongName _ _ to_front any), twice_moved _ _ back is.2),
+    λ is. to (told.1 (λ any. is.0 (any_moved IsEmptyName _ _ back any), λ any. is.1 (any_moved IsLongName _ _ back any), twice_moved _ _ to_front is.2)),
+  )
+
+module _ {T E : Type 0} where
+  pub no_error : (x : T) (e : E) → ◌≡◌ {A = Result T E} (Ok x) (Err e) → ⊥
+  no_error x e same = cc
+
+  pub other_error : (d e : E) → (d ≡ e → ⊥) → ◌≡◌ {A = Result T E} (Err d) (Err e) → ⊥
+  other_error d e apart same = let inner : d ≡ e = cc in apart inner
+
+pub err_moved : {T U E : Type 0} (given error : E) → ◌≡◌ {A = Result T E} (Err given) (Err error) → ◌≡◌ {A = Result U E} (Err given) (Err error)
+err_moved given error same = let inner : given ≡ error = cc in ap Err inner
