@@ -4,3 +4,4 @@ pub mod Goes
 pub mod Lived
 pub mod Departing
 pub mod Born
+pub mod Lost

@@ -4,3 +4,4 @@ pub mod Beginnings
 pub mod Lives
 pub mod Events
 pub mod Writing
+pub mod Losing

@@ -5,6 +5,7 @@ mod cluster;
 mod error;
 mod flight;
 mod lives;
+mod losing;
 mod member;
 mod sending;
 mod writing;
