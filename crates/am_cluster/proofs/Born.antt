@@ -1,5 +1,5 @@
 -- A cluster in which nothing happened yet.
-use Rattle.std.proofs.Common.{◌≡◌, ◌⊎◌, inl, inr, ℕ, ◌+◌, ◌<◌, ◌≤◌, Bool, true, List, [], ◌∷◌, ◌++◌, map, get_or, length, Result, Ok, Err, Option, Some, None, slice_get, ltb, refl, sym, ap, ◌∙◌, subst, arith}
+use Rattle.std.proofs.Common.{◌≡◌, inl, inr, ℕ, ◌+◌, ◌<◌, Bool, true, List, [], ◌∷◌, ◌++◌, map, get_or, length, Result, Ok, Err, Some, None, slice_get, ltb, refl, sym, ap, ◌∙◌, subst, arith}
 use Rattle.std.specs.Prelude.{◌↔◌, Any, Contains, IsPermutation}
 use Rattle.std.specs.Ordering.{nat_cmp}
 use Rattle.std.specs.Cmp.Lexicographic.{slice_cmp}
@@ -10,16 +10,15 @@ use Rattle.std.proofs.lemmas.List.FromFn.{get_or-map-range_with_len, length-map-
 use Rattle.std.proofs.lemmas.List.Sorted.{Contains-permutation, IsPermutation-sym, IsPermutation-to_front, IsPermutation-trans, length_permutation}
 use Rattle.std.proofs.lemmas.Option.{get_or_from_slice_get, slice_get_cases}
 use Rattle.am_version_order.specs.Versions.{Version}
-use Rattle.am_collect.specs.Kept.{Kept}
 use Rattle.am_silence.specs.Mesh.{Mesh, mesh_version}
 use Rattle.am_nflog.specs.Mesh.{Mesh as LogMesh, mesh_version as entry_version}
 use Rattle.am_nflog.specs.Keys.{key_cmp}
 use Rattle.am_instance.specs.Configs.{HasTwice, IsEmptyName, IsLongName, Settings}
-use Rattle.am_instance.specs.Stands.{Stand, kept_silences, kept_log}
+use Rattle.am_instance.specs.Stands.{Stand}
 use Rattle.am_runs.specs.Steps.{Step}
 use Rattle.am_runs.specs.Members.{member_of}
 use Rattle.am_cluster.specs.declared.flight.Flight.{Flight}
-use Rattle.am_cluster.specs.Worlds.{Replica, World}
+use Rattle.am_cluster.specs.Worlds.{Replica}
 use Rattle.am_cluster.specs.Beginnings.{AreUnborn, newborn, newborns}
 use Rattle.am_cluster.specs.Ties.{IsTied, IsMember, IsWorld}
 

@@ -1,5 +1,5 @@
 -- A cluster after a member was saved, stopped or started.
-use Rattle.std.proofs.Common.{◌≡◌, ◌≢◌, inl, inr, ℕ, ◌<◌, ◌≤◌, arith, Bool, true, false, eqb, List, [], ◌∷◌, ◌++◌, Option, Some, None, refl, sym, ap, ◌∙◌, subst, slice_get, slice_set, slice_index_or, length, set, get_or}
+use Rattle.std.proofs.Common.{◌≡◌, ◌≢◌, inl, inr, ℕ, ◌<◌, ◌≤◌, arith, Bool, true, false, eqb, List, Some, refl, sym, ap, ◌∙◌, subst, slice_get, slice_index_or, length}
 use Rattle.std.specs.Ordering.{is_lt, nat_cmp}
 use Rattle.std.specs.Cmp.Lexicographic.{slice_cmp}
 use Rattle.std.proofs.lemmas.Bool.Decides.{eqb_tells, nat_tests}
@@ -8,13 +8,13 @@ use Rattle.am_silence.specs.Mesh.{Mesh, mesh_version}
 use Rattle.am_nflog.specs.Mesh.{Mesh as LogMesh, mesh_version as entry_version}
 use Rattle.am_nflog.specs.Keys.{key_cmp}
 use Rattle.am_instance.specs.Stands.{kept_silences, kept_log}
-use Rattle.am_runs.specs.Steps.{Step, is_at}
+use Rattle.am_runs.specs.Steps.{Step}
 use Rattle.am_runs.specs.Steps.Step.{Back, Saved, Stopped, Started}
-use Rattle.am_runs.specs.Members.{Member, stepped, last_of, member_of}
+use Rattle.am_runs.specs.Members.{last_of, member_of}
 use Rattle.am_cluster.specs.Worlds.{Replica, World, replica_at, with_replica, written}
 use Rattle.am_cluster.specs.declared.flight.Flight.{Flight}
 use Rattle.am_cluster.specs.Lives.{saved, stopped, started, OfMember}
-use Rattle.am_cluster.specs.Ties.{IsTied, IsMember, IsWorld}
+use Rattle.am_cluster.specs.Ties.{IsTied, IsWorld}
 use Rattle.am_cluster.proofs.Places.{own_place, some_is}
 use Rattle.am_cluster.proofs.Tied.{tied_here, tied_saved, tied_stopped, tied_started}
 use Rattle.am_cluster.proofs.Goes.{goes_on_at}

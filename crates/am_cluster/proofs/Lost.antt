@@ -1,5 +1,5 @@
 -- What a search finds among frames in flight, and a cluster after one was lost.
-use Rattle.std.proofs.Common.{◌≡◌, ◌≢◌, ◌⊎◌, inl, inr, ℕ, ◌+◌, ◌<◌, ◌≤◌, zero, suc, List, [], ◌∷◌, ◌++◌, Option, Some, None, Result, Ok, Err, refl, sym, ap, ◌∙◌, subst, slice_get, length, get_or, take, drop, arith}
+use Rattle.std.proofs.Common.{◌≡◌, inl, inr, ℕ, ◌<◌, ◌≤◌, zero, suc, List, [], ◌∷◌, ◌++◌, Some, None, Result, Ok, Err, sym, ap, ◌∙◌, subst, slice_get, length, get_or, take, drop, arith}
 use Rattle.std.specs.Prelude.{Contains, MatchOption}
 use Rattle.std.specs.List.{AllByRecursion}
 use Rattle.std.specs.List.Sorted.{IsSearchInRange, IsBinarySearchResult, IsNonDecreasingBy}
@@ -12,7 +12,7 @@ use Rattle.std.proofs.lemmas.List.Sorted.{Contains-permutation, IsNonDecreasingB
 use Rattle.std.proofs.lemmas.Option.{slice_get_cases}
 use Rattle.am_cluster.specs.declared.flight.Flight.{Flight}
 use Rattle.am_cluster.specs.Losing.{IsNoNumber, IsNumberedAt, HasLost}
-use Rattle.am_cluster.specs.Ties.{AreAscending, IsFlying, IsMember, IsWorld}
+use Rattle.am_cluster.specs.Ties.{AreAscending, IsWorld}
 use Rattle.am_cluster.specs.Worlds.{World}
 use Rattle.am_cluster.proofs.Places.{some_is}
 
@@ -103,13 +103,13 @@ module _ (w : World) (number index : ℕ) (fs : List Flight) (at : IsNumberedAt 
 
   pub has_lost : (v : World) → w ≡ v → HasLost v number (record w { flights = fs })
   has_lost v same = subst (λ u. HasLost u number (record w { flights = fs })) same (record {
-      before = take index w.flights;
-      flight = at.flight;
-      after = drop (suc index) w.flights;
-      flights = parted_at w.flights index at.flight at.place;
-      bears = at.bears;
-      world = ap (λ x. let u : World = record w { flights = x } in u) left;
-    })
+    before = take index w.flights;
+    flight = at.flight;
+    after = drop (suc index) w.flights;
+    flights = parted_at w.flights index at.flight at.place;
+    bears = at.bears;
+    world = ap (λ x. let u : World = record w { flights = x } in u) left;
+  })
 
 pub place_within : (flights : List Flight) (number index : ℕ) → IsNumberedAt flights number index → index < length flights
 place_within flights number index at = elim ((slice_get_cases flights index).1) [

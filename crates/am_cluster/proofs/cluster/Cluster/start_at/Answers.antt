@@ -1,6 +1,6 @@
-use Rattle.std.proofs.Common.{◌≡◌, ◌<◌, ◌≤◌, ℕ, Bool, true, false, List, [], ◌∷◌, ◌++◌, Some, refl, sym, ap, ◌∙◌, subst, length, set, arith}
+use Rattle.std.proofs.Common.{◌<◌, ◌≤◌, true, false, [], ◌∷◌, ◌++◌, refl, sym, ap, ◌∙◌, subst, set}
 use Rattle.am_runs.specs.Steps.Step.{Back, Refused, Started}
-use Rattle.am_cluster.specs.Worlds.{with_replica, written}
+use Rattle.am_cluster.specs.Worlds.{written}
 use Rattle.am_cluster.specs.Lives.{started}
 use Rattle.am_cluster.specs.Ties.{IsWorld}
 use Rattle.am_cluster.proofs.Places.{set_length}
