@@ -7,3 +7,5 @@ pub mod Recordings
 pub mod Happened
 pub mod Acted
 pub mod Telling
+pub mod Born
+pub mod Lost

@@ -1,20 +1,20 @@
 -- A cluster after a member was saved, stopped or started.
-use Rattle.std.proofs.Common.{◌≡◌, ◌≢◌, inl, inr, ℕ, ◌<◌, Bool, true, false, eqb, List, [], ◌∷◌, ◌++◌, Option, Some, None, refl, sym, ap, ◌∙◌, subst, slice_get, slice_set, slice_index_or, length, set, get_or}
-use Rattle.std.specs.Ordering.{nat_cmp}
+use Rattle.std.proofs.Common.{◌≡◌, ◌≢◌, inl, inr, ℕ, ◌<◌, ◌≤◌, arith, Bool, true, false, eqb, List, Some, refl, sym, ap, ◌∙◌, subst, slice_get, slice_index_or, length}
+use Rattle.std.specs.Ordering.{is_lt, nat_cmp}
 use Rattle.std.specs.Cmp.Lexicographic.{slice_cmp}
-use Rattle.std.proofs.lemmas.Bool.Decides.{eqb_tells}
+use Rattle.std.proofs.lemmas.Bool.Decides.{eqb_tells, nat_tests}
 use Rattle.std.proofs.lemmas.Option.{slice_get-get_or}
 use Rattle.am_silence.specs.Mesh.{Mesh, mesh_version}
 use Rattle.am_nflog.specs.Mesh.{Mesh as LogMesh, mesh_version as entry_version}
 use Rattle.am_nflog.specs.Keys.{key_cmp}
 use Rattle.am_instance.specs.Stands.{kept_silences, kept_log}
-use Rattle.am_runs.specs.Steps.{Step, is_at}
-use Rattle.am_runs.specs.Steps.Step.{Saved, Stopped, Started}
-use Rattle.am_runs.specs.Members.{Member, stepped, member_of}
+use Rattle.am_runs.specs.Steps.{Step}
+use Rattle.am_runs.specs.Steps.Step.{Back, Saved, Stopped, Started}
+use Rattle.am_runs.specs.Members.{last_of, member_of}
 use Rattle.am_cluster.specs.Worlds.{Replica, World, replica_at, with_replica, written}
 use Rattle.am_cluster.specs.declared.flight.Flight.{Flight}
 use Rattle.am_cluster.specs.Lives.{saved, stopped, started, OfMember}
-use Rattle.am_cluster.specs.Ties.{IsTied, IsMember, IsWorld}
+use Rattle.am_cluster.specs.Ties.{IsTied, IsWorld}
 use Rattle.am_cluster.proofs.Places.{own_place, some_is}
 use Rattle.am_cluster.proofs.Tied.{tied_here, tied_saved, tied_stopped, tied_started}
 use Rattle.am_cluster.proofs.Goes.{goes_on_at}
@@ -78,3 +78,28 @@ runs_told w place r n ss is found members silences running runs =
 pub answered : (f : World → Replica → World) (w v n : World) (place : ℕ) (r : Replica) (running : Bool) → w ≡ v → replica_at w place ≡ Some r → r.runs ≡ running → n ≡ f w r →
     OfMember v place (λ replica. (replica.runs ≡ running) × (n ≡ f v replica))
 answered f w v n place r running same found runs is = for_replica (λ u replica. (replica.runs ≡ running) × (n ≡ f u replica)) w v place r same found (runs, is)
+
+-- and the member's last moment is that of its run
+pub last_told : (w : World) (place : ℕ) (r : Replica) (n : ℕ) (ss : List (Step Mesh)) → IsWorld w → replica_at w place ≡ Some r → n ≡ length w.replicas → ss ≡ w.silences → r.stand.last ≡ last_of (member_of n place ss)
+last_told w place r n ss is found members silences =
+    subst (λ x. r.stand.last ≡ last_of (member_of x place ss)) (sym members)
+    (subst (λ x. r.stand.last ≡ last_of (member_of (length w.replicas) place x)) (sym silences) ((is.members place r found).silences.held.last))
+
+-- what a comparison of two moments tells
+pub told_less : (a b : ℕ) (t : Bool) → t ≡ is_lt (nat_cmp a b) → t ≡ true → a < b
+told_less a b t is holds = let told : is_lt (nat_cmp a b) ≡ true = sym is ∙ holds in grind (arith, nat_tests, told)
+
+pub told_not : (a b : ℕ) (t : Bool) → t ≡ is_lt (nat_cmp a b) → t ≡ false → b ≤ a
+told_not a b t is fails = let told : is_lt (nat_cmp a b) ≡ false = sym is ∙ fails in grind (arith, nat_tests, told)
+
+module _ (w v n : World) (place : ℕ) (r : Replica) (now last line : ℕ) (same : w ≡ v) (found : replica_at w place ≡ Some r) (stopped_is : r.runs ≡ false) (last_is : last ≡ r.stand.last) where
+  pub refused_back : now < last → n ≡ written w (Back place now) (Back place now) line →
+      OfMember v place (λ replica. (replica.runs ≡ false) × (last ≡ replica.stand.last) × (now < last) × (n ≡ written v (Back place now) (Back place now) line))
+  refused_back less is =
+      for_replica (λ u replica. (replica.runs ≡ false) × (last ≡ replica.stand.last) × (now < last) × (n ≡ written u (Back place now) (Back place now) line)) w v place r same found (stopped_is, last_is, less, is)
+
+  pub started_at : last ≤ now → n ≡ written (with_replica w place (started r now)) (Started place now) (Started place now) line →
+      OfMember v place (λ replica. (replica.runs ≡ false) × (replica.stand.last ≤ now) × (n ≡ written (with_replica v place (started replica now)) (Started place now) (Started place now) line))
+  started_at forward is =
+      for_replica (λ u replica. (replica.runs ≡ false) × (replica.stand.last ≤ now) × (n ≡ written (with_replica u place (started replica now)) (Started place now) (Started place now) line)) w v place r same found
+      (stopped_is, subst (λ m. m ≤ now) last_is forward, is)

@@ -6,3 +6,4 @@ pub mod Events
 pub mod Writing
 pub mod Recording
 pub mod Acting
+pub mod Losing

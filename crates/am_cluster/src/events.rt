@@ -129,6 +129,7 @@ impl Cluster {
         requires log { HasSource entries_in entry_version key_cmp (length self.old.replicas) self.old.log now event source }
         ensures { OfMember self.old place (λ replica. IsEvent self.old place replica event source now line result self.new) }
     {
+        self.journal.is_told_of_both();
         let coming = coming_with(self.alloc, &event)?;
         self.journal.make_room(1, coming.versions.len().max(3))?;
         if !self.members[place].runs {

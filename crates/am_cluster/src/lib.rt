@@ -6,6 +6,7 @@ mod error;
 mod events;
 mod flight;
 mod lives;
+mod losing;
 mod member;
 mod recording;
 mod sending;

@@ -1,4 +1,12 @@
 use Rattle.std.proofs.Common.{◌≡◌, ◌++◌, ◌∷◌, [], refl, sym, ap, ◌∙◌, subst, length, true, false, Some, arith}
+use Rattle.std.proofs.Common.{slice_get}
+use Rattle.std.specs.Ordering.{nat_cmp}
+use Rattle.std.specs.Cmp.Lexicographic.{slice_cmp}
+use Rattle.am_silence.specs.Mesh.{mesh_version}
+use Rattle.am_nflog.specs.Mesh.{mesh_version as entry_version}
+use Rattle.am_nflog.specs.Keys.{key_cmp}
+use Rattle.am_carried.specs.Contents.{silences_in, entries_in}
+use Rattle.am_record.specs.Recorded.{HasSource}
 use Rattle.am_runs.specs.Steps.Step.{Refused}
 use Rattle.am_cluster.specs.Ties.{IsWorld}
 use Rattle.am_cluster.proofs.Goes.{goes_on_idle}
@@ -27,10 +35,60 @@ returns-then-not-index c =
     halted _ _ _ c.args.place c.index.result.now c.args.event c.args.source c.args.now c.args.line c.self.view_is found (sym (ap (λ x. x.runs) c.behind-self.view_is) ∙ c.if-not-index.true) same
 
 pub act-requires : goal.act-requires
-act-requires c = ?
+act-requires c =
+    let less = inside _ _ c.args.place c.self.view_is c.requires.within in
+    let first = found_at c.self.inside.members.items c.args.place c.index_mut.result.now less c.index_mut.ensures.value in
+    let found = subst (λ r. slice_get c.self.inside.members.items c.args.place ≡ Some r) (sym c.behind-self-2.view_is) first in
+    let again = read_again c.self.inside.members.items c.args.place c.index.result.now c.index_mut.result.now less c.index.ensures c.index_mut.ensures.value in
+    let runs = ap (λ r. r.runs) c.behind-self-2.view_is ∙ (ap (λ r. r.runs) again ∙ (sym (ap (λ r. r.runs) c.behind-self.view_is) ∙ c.if-not-index.false)) in
+    let tells = record {
+      members = c.make_room.ensures.members ∙ c.self.invariant.members;
+      silences = c.make_room.ensures.silences;
+      log = c.make_room.ensures.log;
+      lines = c.make_room.ensures.lines;
+    } in
+    record {
+      ready = can_act _ _ tells c.args.place c.args.now c.args.line _ c.args.event c.args.source c.self.invariant.world found runs
+          (subst (λ v. HasSource silences_in mesh_version (slice_cmp nat_cmp) (length v.replicas) v.silences c.args.now c.args.event c.args.source) (sym c.self.view_is) c.requires.silences)
+          (subst (λ v. HasSource entries_in entry_version key_cmp (length v.replicas) v.log c.args.now c.args.event c.args.source) (sym c.self.view_is) c.requires.log)
+          c.requires.sound;
+      coming = c.in_ok-coming.ensures.coming;
+      values = c.in_ok-coming.ensures.values;
+      room = c.in_ok-coming.ensures.room;
+      enough = ?;
+    }
 
 pub invariant_of-self-2 : goal.invariant_of-self-2
-invariant_of-self-2 c = ?
+invariant_of-self-2 c =
+    let less = inside _ _ c.args.place c.self.view_is c.requires.within in
+    let first = found_at c.self.inside.members.items c.args.place c.index_mut.result.now less c.index_mut.ensures.value in
+    let found = subst (λ r. slice_get c.self.inside.members.items c.args.place ≡ Some r) (sym c.behind-self-2.view_is) first in
+    let again = read_again c.self.inside.members.items c.args.place c.index.result.now c.index_mut.result.now less c.index.ensures c.index_mut.ensures.value in
+    let runs = ap (λ r. r.runs) c.behind-self-2.view_is ∙ (ap (λ r. r.runs) again ∙ (sym (ap (λ r. r.runs) c.behind-self.view_is) ∙ c.if-not-index.false)) in
+    let tells = record {
+      members = c.make_room.ensures.members ∙ c.self.invariant.members;
+      silences = c.make_room.ensures.silences;
+      log = c.make_room.ensures.log;
+      lines = c.make_room.ensures.lines;
+    } in
+    record {
+      members = ?;
+      world = subst IsWorld (sym (world_is _ _ tells c.args.place c.args.now c.args.line _ c.args.event c.args.source c.self.invariant.world found c.act.result c.act.new.journal c.act.new.flights.items c.act.new.instance c.act.ensures))
+          (event_hangs _ _ tells c.args.place c.args.now c.args.line _ c.args.event c.args.source c.self.invariant.world found c.act.result c.act.new.journal c.act.new.flights.items c.act.new.instance c.act.ensures c.is_told_of_both.ensures.twins);
+    }
 
 pub returns : goal.returns
-returns c = ?
+returns c =
+    let less = inside _ _ c.args.place c.self.view_is c.requires.within in
+    let first = found_at c.self.inside.members.items c.args.place c.index_mut.result.now less c.index_mut.ensures.value in
+    let found = subst (λ r. slice_get c.self.inside.members.items c.args.place ≡ Some r) (sym c.behind-self-2.view_is) first in
+    let again = read_again c.self.inside.members.items c.args.place c.index.result.now c.index_mut.result.now less c.index.ensures c.index_mut.ensures.value in
+    let runs = ap (λ r. r.runs) c.behind-self-2.view_is ∙ (ap (λ r. r.runs) again ∙ (sym (ap (λ r. r.runs) c.behind-self.view_is) ∙ c.if-not-index.false)) in
+    let tells = record {
+      members = c.make_room.ensures.members ∙ c.self.invariant.members;
+      silences = c.make_room.ensures.silences;
+      log = c.make_room.ensures.log;
+      lines = c.make_room.ensures.lines;
+    } in
+    event_told _ _ tells c.args.place c.args.now c.args.line _ c.args.event c.args.source c.self.invariant.world found c.act.result c.act.new.journal c.act.new.flights.items c.act.new.instance c.act.ensures
+    _ c.self.view_is runs _ (world_is _ _ tells c.args.place c.args.now c.args.line _ c.args.event c.args.source c.self.invariant.world found c.act.result c.act.new.journal c.act.new.flights.items c.act.new.instance c.act.ensures)

@@ -1,0 +1,138 @@
+-- A cluster in which nothing happened yet.
+use Rattle.std.proofs.Common.{◌≡◌, inl, inr, ℕ, ◌+◌, ◌<◌, Bool, true, List, [], ◌∷◌, ◌++◌, map, get_or, length, Result, Ok, Err, Some, None, slice_get, ltb, refl, sym, ap, ◌∙◌, subst, arith}
+use Rattle.std.specs.Prelude.{◌↔◌, Any, Contains, IsPermutation}
+use Rattle.std.specs.Ordering.{nat_cmp}
+use Rattle.std.specs.Cmp.Lexicographic.{slice_cmp}
+use Rattle.std.specs.declared.cmp.Ordering.{Ordering}
+use Rattle.std.proofs.lemmas.Bool.Decides.{nat_tests}
+use Rattle.std.specs.List.{range_with_len}
+use Rattle.std.proofs.lemmas.List.FromFn.{get_or-map-range_with_len, length-map-range_with_len, map-range_with_len_more}
+use Rattle.std.proofs.lemmas.List.Sorted.{Contains-permutation, IsPermutation-sym, IsPermutation-to_front, IsPermutation-trans, length_permutation}
+use Rattle.std.proofs.lemmas.Option.{get_or_from_slice_get, slice_get_cases}
+use Rattle.am_version_order.specs.Versions.{Version}
+use Rattle.am_silence.specs.Mesh.{Mesh, mesh_version}
+use Rattle.am_nflog.specs.Mesh.{Mesh as LogMesh, mesh_version as entry_version}
+use Rattle.am_nflog.specs.Keys.{key_cmp}
+use Rattle.am_instance.specs.Configs.{HasTwice, IsEmptyName, IsLongName, Settings}
+use Rattle.am_instance.specs.Stands.{Stand}
+use Rattle.am_runs.specs.Steps.{Step}
+use Rattle.am_runs.specs.Members.{member_of}
+use Rattle.am_cluster.specs.declared.flight.Flight.{Flight}
+use Rattle.am_cluster.specs.Worlds.{Replica}
+use Rattle.am_cluster.specs.Beginnings.{AreUnborn, newborn, newborns}
+use Rattle.am_cluster.specs.Ties.{IsTied, IsMember, IsWorld}
+
+-- a place at which something stands is within the list
+got_within : {A : Type 0} (xs : List A) (n : ℕ) (x : A) → slice_get xs n ≡ Some x → ltb n (length xs) ≡ true
+got_within xs n x e = elim ((slice_get_cases xs n).1) [ inl is ↦ let less = is.1 in grind (arith, nat_tests, less) | inr past ↦ absurd (no past.1) ] where
+  no : slice_get xs n ≡ None → ⊥
+  no none = cc
+
+-- one state of a member that was just born
+born_tied : {K X : Type 0} (seen : X → Version K) (cmp : K → K → Ordering) (members q : ℕ) → ltb q members ≡ true → IsTied seen cmp (member_of {X = X} members q []) true (record { held = []; last = 0 }) []
+born_tied seen cmp members q inside = record {
+  runs = inside;
+  held = record { map = λ key. refl; last = refl };
+  saved = λ key. refl;
+}
+
+born_member : (replicas : List Replica) (q : ℕ) (settings : Settings) → ltb q (length replicas) ≡ true → length settings.members ≡ length replicas →
+    IsMember (record { replicas = replicas; silences = []; log = []; lines = []; flights = [] }) q (newborn settings q)
+born_member replicas q settings inside members = record {
+  silences = born_tied mesh_version (slice_cmp nat_cmp) (length replicas) q inside;
+  log = born_tied entry_version key_cmp (length replicas) q inside;
+  place = refl;
+  members = members;
+}
+
+born_here : (replicas : List Replica) → AreUnborn replicas → IsWorld (record { replicas = replicas; silences = []; log = []; lines = []; flights = [] })
+born_here replicas are = record {
+  members = λ q replica there. let of = are q replica there in
+      subst (IsMember (record { replicas = replicas; silences = []; log = []; lines = []; flights = [] }) q) (sym of.2) (born_member replicas q of.0 (got_within replicas q replica there) of.1);
+  flights = λ flight there. absurd (nothing flight there);
+  numbers = tt;
+} where
+  nothing : (flight : Flight) → Contains [] flight → ⊥
+  nothing flight there = omega (arith, there.1)
+
+pub world_born : (replicas : List Replica) (ss : List (Step Mesh)) (ls : List (Step LogMesh)) (ns : List ℕ) (fs : List Flight) → AreUnborn replicas → ss ≡ [] → ls ≡ [] → ns ≡ [] → fs ≡ [] →
+    IsWorld (record { replicas = replicas; silences = ss; log = ls; lines = ns; flights = fs })
+world_born replicas ss ls ns fs are no_s no_l no_n no_f = rw (no_s, no_l, no_n, no_f) (born_here replicas are)
+
+replica_is : (s t : Stand) (a b : Bool) (xs ys : List Mesh) (us vs : List LogMesh) → s ≡ t → a ≡ b → xs ≡ ys → us ≡ vs →
+    ◌≡◌ {A = Replica} (record { stand = s; runs = a; saved_silences = xs; saved_log = us }) (record { stand = t; runs = b; saved_silences = ys; saved_log = vs })
+replica_is s t a b xs ys us vs e f g h = cc
+
+-- one member more, which is as each member begins
+pub born_more : (settings own : Settings) (place : ℕ) (r : Replica) (old new : List Replica) → old ≡ map (newborn settings) (range_with_len 0 place) → own ≡ record settings { place = place } →
+    r.stand ≡ record { config = own; silences = []; log = []; last = 0 } → r.runs ≡ true → r.saved_silences ≡ [] → r.saved_log ≡ [] → new ≡ old ++ r ∷ [] → new ≡ map (newborn settings) (range_with_len 0 (place + 1))
+born_more settings own place r old new before config stand runs silences log pushed =
+    let one : r ≡ newborn settings place = replica_is r.stand _ r.runs _ r.saved_silences _ r.saved_log _ (stand ∙ ap (λ (c : Settings). with_config c) config) runs silences log in
+    pushed ∙ (ap (λ x. x ++ r ∷ []) before ∙ (ap (λ x. map (newborn settings) (range_with_len 0 place) ++ x ∷ []) one ∙ sym (map-range_with_len_more (newborn settings) 0 place place (omega arith))))
+  where
+    with_config : Settings → Stand
+    with_config c = record { config = c; silences = []; log = []; last = 0 }
+
+-- the members of a configuration are as a cluster begins with them
+pub unborn : (settings : Settings) (members : List Replica) → members ≡ newborns settings → AreUnborn members
+unborn settings members born place replica there = (settings, sym count, sym (get_or_from_slice_get members place replica replica there) ∙ (ap (λ ms. get_or ms place replica) born ∙ one)) where
+  count : length members ≡ length settings.members
+  count = ap length born ∙ length-map-range_with_len (newborn settings) 0 (length settings.members)
+
+  within : place < length members
+  within = elim ((slice_get_cases members place).1) [ inl is ↦ is.1 | inr past ↦ absurd (no (sym past.1 ∙ there)) ] where
+    no : None ≡ Some replica → ⊥
+    no e = cc
+
+  one : get_or (newborns settings) place replica ≡ newborn settings place
+  one = get_or-map-range_with_len (newborn settings) 0 (length settings.members) place place replica (omega (arith, count, within)) (omega arith)
+
+-- they are told by all of it but its own place
+pub newborns_are : (s : Settings) (retention peer_timeout : ℕ) → s.retention ≡ retention → s.peer_timeout ≡ peer_timeout →
+    newborns s ≡ newborns (record { members = s.members; place = 0; retention = retention; peer_timeout = peer_timeout })
+newborns_are s retention peer_timeout a b =
+    ap (λ x. newborns (record { members = s.members; place = 0; retention = x; peer_timeout = s.peer_timeout })) a
+    ∙ ap (λ y. newborns (record { members = s.members; place = 0; retention = retention; peer_timeout = y })) b
+
+any_moved : (P : List ℕ → Type 0) (xs ys : List (List ℕ)) → IsPermutation xs ys → Any P xs → Any P ys
+any_moved P xs ys moved any = let there = Contains-permutation xs ys any.1 moved (any.0, any.2, any.3) in (there.0, any.1, there.1, there.2, any.4)
+
+twice_moved : (xs ys : List (List ℕ)) → IsPermutation xs ys → HasTwice xs → HasTwice ys
+twice_moved xs ys moved twice = record { name = twice.name; rest = twice.rest; among = IsPermutation-trans ys xs (twice.name ∷ twice.name ∷ twice.rest) (IsPermutation-sym xs ys moved) twice.among }
+
+pub twice_long : (xs : List (List ℕ)) → HasTwice xs → 0 < length xs
+twice_long xs twice = let e : length (twice.name ∷ twice.name ∷ twice.rest) ≡ length xs = length_permutation xs (twice.name ∷ twice.name ∷ twice.rest) twice.among in omega (arith, e)
+
+-- what is told of the last one of some names and of the others is told of all of them
+module _ (names peers : List (List ℕ)) (name : List ℕ) (parts : names ≡ peers ++ name ∷ []) where
+  pub to_front : IsPermutation names (name ∷ peers)
+  to_front = subst (λ xs. IsPermutation xs (name ∷ peers)) (sym parts) (IsPermutation-to_front peers name)
+
+  back : IsPermutation (name ∷ peers) names
+  back = IsPermutation-sym names (name ∷ peers) to_front
+
+  pub empty_told : (A B : Type 0) → (A → B) → (B → A) → A ↔ Any IsEmptyName (name ∷ peers) → B ↔ Any IsEmptyName names
+  empty_told A B to from told = (λ b. any_moved IsEmptyName _ _ back (told.0 (from b)), λ any. to (told.1 (any_moved IsEmptyName _ _ to_front any)))
+
+  pub long_told : (A B : Type 0) → (A → B) → (B → A) → A ↔ (¬ Any IsEmptyName (name ∷ peers)) × Any IsLongName (name ∷ peers) → B ↔ (¬ Any IsEmptyName names) × Any IsLongName names
+  long_told A B to from told = (
+    λ b. let is = told.0 (from b) in (λ any. is.0 (any_moved IsEmptyName _ _ to_front any), any_moved IsLongName _ _ back is.1),
+    λ is. to (told.1 (λ any. is.0 (any_moved IsEmptyName _ _ back any), any_moved IsLongName _ _ to_front is.1)),
+  )
+
+  pub same_told : (A B : Type 0) → (A → B) → (B → A) → A ↔ (¬ Any IsEmptyName (name ∷ peers)) × (¬ Any IsLongName (name ∷ peers)) × HasTwice (name ∷ peers) →
+      B ↔ (¬ Any IsEmptyName names) × (¬ Any IsLongName names) × HasTwice names
+  same_told A B to from told = (
+    λ b. let is = told.0 (from b) in (λ any. is.0 (any_moved IsEmptyName _ _ to_front any), λ any. is.1 (any_moved IsLongName _ _ to_front any), twice_moved _ _ back is.2),
+    λ is. to (told.1 (λ any. is.0 (any_moved IsEmptyName _ _ back any), λ any. is.1 (any_moved IsLongName _ _ back any), twice_moved _ _ to_front is.2)),
+  )
+
+module _ {T E : Type 0} where
+  pub no_error : (x : T) (e : E) → ◌≡◌ {A = Result T E} (Ok x) (Err e) → ⊥
+  no_error x e same = cc
+
+  pub other_error : (d e : E) → (d ≡ e → ⊥) → ◌≡◌ {A = Result T E} (Err d) (Err e) → ⊥
+  other_error d e apart same = let inner : d ≡ e = cc in apart inner
+
+pub err_moved : {T U E : Type 0} (given error : E) → ◌≡◌ {A = Result T E} (Err given) (Err error) → ◌≡◌ {A = Result U E} (Err given) (Err error)
+err_moved given error same = let inner : given ≡ error = cc in ap Err inner
