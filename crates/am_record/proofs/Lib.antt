@@ -6,3 +6,5 @@ pub mod Happening
 pub mod BothStates
 pub mod Lending
 pub mod Outlines
+pub mod Outgoing
+pub mod Counting

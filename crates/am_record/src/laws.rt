@@ -33,6 +33,7 @@ ghost use Rattle.am_carried.specs.Contents.{carries, entries_in, held_in, silenc
 ghost use Rattle.am_record.specs.Recorded.{AreInFlight, AreValues, HasGoneThrough, HasSource, event_step, flights_in};
 ghost use Rattle.am_record.specs.Twins.{AreTwins, IsTwin};
 
+pub use crate::sent::{collecting_leaves_nothing_out, few_are_made, sent_frames_are_sound};
 use am_nflog::MeshEntry;
 use am_silence::MeshSilence;
 use am_version_order::Version;
