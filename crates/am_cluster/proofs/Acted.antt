@@ -8,6 +8,7 @@ use Rattle.am_silence.specs.Mesh.{IsMesh}
 use Rattle.am_nflog.specs.Mesh.{IsMesh as IsLogMesh}
 use Rattle.am_gossip.specs.declared.frame.Frame.{Frame}
 use Rattle.am_instance.specs.declared.event.Event.{Event}
+use Rattle.am_instance.specs.declared.event.Event.TheVariants as events
 use Rattle.am_instance.specs.declared.error.StepError.{StepError}
 use Rattle.am_instance.specs.declared.error.StepError.TheVariants.{Memory, MomentBack, UnknownPeer, Frame as FrameFault}
 use Rattle.am_instance.specs.declared.reply.Made.{Made}
@@ -16,13 +17,16 @@ use Rattle.am_instance.specs.declared.reply.Reply.{Reply}
 use Rattle.am_instance.specs.Configs.{Settings, is_peer}
 use Rattle.am_instance.specs.Deliveries.{first_fault, rows_in, parts_of}
 use Rattle.am_instance.specs.Laws.{HasMaps}
+use Rattle.am_instance.specs.Replies.{IsNothing}
 use Rattle.am_instance.specs.Stands.{Stand}
 use Rattle.am_instance.specs.Steps.{brought, delivers}
 use Rattle.am_instance.specs.OneStep.{IsStep}
 use Rattle.am_carried.specs.Contents.{IsValue}
 use Rattle.am_record.specs.Recorded.{AreInFlight, AreValues}
 use Rattle.am_cluster.specs.declared.error.ClusterError.{ClusterError}
+use Rattle.am_cluster.specs.declared.recording.Kind.TheVariants as kinds
 use Rattle.am_cluster.specs.Events.{IsTold}
+use Rattle.am_cluster.specs.Recording.{brings_or_makes}
 use Rattle.am_cluster.specs.Ties.{CanFly}
 
 -- what holds of every outcome holds of the answer
@@ -30,6 +34,25 @@ pub on_ok : (P : Outcome → Type 0) (before stand : Stand) (event : Event) (now
     ((outcome : Outcome) → IsStep before event now (Ok outcome) stand → P outcome) → IsStep before event now answer stand → IfOk answer P
 on_ok P before stand event now (Ok outcome) each step = each outcome step
 on_ok P before stand event now (Err e) each step = tt
+
+-- and where something is known of the outcome
+pub on_ok_and : (Q P : Outcome → Type 0) (before stand : Stand) (event : Event) (now : ℕ) (answer : Result Outcome StepError) →
+    ((outcome : Outcome) → Q outcome → IsStep before event now (Ok outcome) stand → P outcome) → IfOk answer Q → IsStep before event now answer stand → IfOk answer P
+on_ok_and Q P before stand event now (Ok outcome) each known step = each outcome known step
+on_ok_and Q P before stand event now (Err e) each known step = tt
+
+-- what brings versions makes none
+pub brings_nothing : (before stand : Stand) (event : Event) (now : ℕ) (outcome : Outcome) →
+    ((sender : ℕ) (frame : Frame) → IsStep before (events.Frame sender frame) now (Ok outcome) stand → IsNothing outcome.made) →
+    IsStep before event now (Ok outcome) stand → brings_or_makes event ≡ kinds.Brings → IsNothing outcome.made
+brings_nothing before stand (events.Request request) now outcome each step brings = absurd cc
+brings_nothing before stand (events.Frame sender frame) now outcome each step brings = each sender frame step
+brings_nothing before stand (events.Notified group_key receiver firing resolved repeat) now outcome each step brings = absurd cc
+brings_nothing before stand (events.Decide group_key receiver firing resolved repeat send_resolved) now outcome each step brings = absurd cc
+brings_nothing before stand (events.Mutes labels) now outcome each step brings = absurd cc
+brings_nothing before stand events.Show now outcome each step brings = absurd cc
+brings_nothing before stand events.Tick now outcome each step brings = absurd cc
+brings_nothing before stand (events.PullFrom place) now outcome each step brings = absurd cc
 
 pub values_known : (event : Event) (stand : Stand) (answer : Result Outcome StepError) →
     ((made : Made) → All IsMesh made.silences.items → IfSome made.log IsLogMesh → All IsValue (delivers event made)) →

@@ -65,10 +65,10 @@ sent_as : (count place now : ℕ) (frames : List (ℕ × Frame)) (flight : Fligh
 sent_as count place now [] flight within = absurd (empty flight within)
 sent_as count place now (f ∷ frames) flight within =
     by (Contains-cases _ flight (sent_on (count + 1) place now frames) within) (sent_as (count + 1) place now frames flight) where
-  by : ◌≡◌ {A = Flight} (record { number = count + 1; sender = place; addressee = f.0; sent = now; frame = f.1 }) flight ⊎ Contains (sent_on (count + 1) place now frames) flight →
-      (Contains (sent_on (count + 1) place now frames) flight → FliesAs (count + 1) place now frames flight) → FliesAs count place now (f ∷ frames) flight
-  by (inl first) more = record { nth = 0; frame = f; there = refl; is = sym first ∙ ap (λ n. record { number = n; sender = place; addressee = f.0; sent = now; frame = f.1 }) (omega arith) }
-  by (inr later) more = next_as count place now f frames flight (more later)
+      by : ◌≡◌ {A = Flight} (record { number = count + 1; sender = place; addressee = f.0; sent = now; frame = f.1 }) flight ⊎ Contains (sent_on (count + 1) place now frames) flight →
+          (Contains (sent_on (count + 1) place now frames) flight → FliesAs (count + 1) place now frames flight) → FliesAs count place now (f ∷ frames) flight
+      by (inl first) more = record { nth = 0; frame = f; there = refl; is = sym first ∙ ap (λ n. record { number = n; sender = place; addressee = f.0; sent = now; frame = f.1 }) (omega arith) }
+      by (inr later) more = next_as count place now f frames flight (more later)
 
 got_of_all : {A : Type 0} (P : A → Type 0) (xs : List A) (n : ℕ) (x : A) → All P xs → slice_get xs n ≡ Some x → P x
 got_of_all P xs n x all there = All-contains P xs x all (n, slice_get_within xs n x there, get_or_from_slice_get xs n x x there)
@@ -119,10 +119,11 @@ sent_ascend count place now (f ∷ frames) = (above (count + 1) place now frames
 
 ascend_behind : (count : ℕ) (old more : List Flight) → AllByRecursion (λ f. f.number ≤ count) old → AllByRecursion (λ f. count < f.number) more → AreAscending old → AreAscending more → AreAscending (old ++ more)
 ascend_behind count [] more below over first second = second
-ascend_behind count (f ∷ old) more below over first second =
-    (append_rec (λ g. f.number < g.number) old more first.0
-    (weaker_rec (λ g. count < g.number) (λ g. f.number < g.number) more (λ g past. let low : f.number ≤ count = below.0 in omega arith) over),
-    ascend_behind count old more below.1 over first.1 second)
+ascend_behind count (f ∷ old) more below over first second = (
+  append_rec (λ g. f.number < g.number) old more first.0
+      (weaker_rec (λ g. count < g.number) (λ g. f.number < g.number) more (λ g past. let low : f.number ≤ count = below.0 in omega arith) over),
+  ascend_behind count old more below.1 over first.1 second,
+)
 
 -- ---- the whole
 
@@ -145,6 +146,7 @@ sent_world w new place now frames was is kept silences log same members inside c
   one : (flight : Flight) → Contains w.flights flight ⊎ Contains (sent_on (length (flights_of w.silences)) place now frames) flight → IsFlying new flight
   one flight (inl old) = is.flights flight (subst (λ fs. Contains fs flight) (sym kept) old)
   one flight (inr fresh) = flies w new place now frames silences log same members inside can flight (sent_as (length (flights_of w.silences)) place now frames flight fresh)
+
   again : (flight : Flight) → IsFlying new flight → IsFlying (record new { flights = w.flights ++ sent_on (length (flights_of w.silences)) place now frames }) flight
   again flight f = record { index = f.index; number = f.number; silences = f.silences; log = f.log; sound = f.sound; addressee = f.addressee; sender = f.sender; other = f.other }
 

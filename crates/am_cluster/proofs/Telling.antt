@@ -50,6 +50,9 @@ pub record Tells (a : Account) (w : World) : Type 0 where
   pub log : a.log ≡ w.log
   pub lines : a.lines ≡ w.lines
 
+pub tell : (a : Account) (w : World) → a.members ≡ length w.replicas → a.silences ≡ w.silences → a.log ≡ w.log → a.lines ≡ w.lines → Tells a w
+tell a w members silences log lines = record { members = members; silences = silences; log = log; lines = lines }
+
 module _ (w : World) (a : Account) (tells : Tells a w) (place now line : ℕ) (r : Replica) (event : Event) (source : Source) (is : IsWorld w) (found : replica_at w place ≡ Some r) where
   abbrev entry : Entry
   entry = record { place = place; moment = now; source = source; line = line }

@@ -25,7 +25,10 @@ use crate::writing::Entry;
 use am_carried::{ByState, Carried, carried_by, held_are_values, versions_are_values};
 use am_instance::{Event, Instance, Outcome, Reply, StepError};
 use am_journal::{Journal, Mark};
-use am_record::laws::{steps_are_possible, values_are_delivered};
+use am_record::laws::{
+    collecting_leaves_nothing_out, few_are_made, sent_frames_are_sound, steps_are_possible,
+    values_are_delivered,
+};
 use am_runs::Source;
 use am_version_order::{Moment, Version};
 use std::alloc::{AllocError, Global};
@@ -106,9 +109,9 @@ fn act(
 {
     steps_are_possible();
     values_are_delivered();
-    //few_are_made();
-    //collecting_leaves_nothing_out();
-    //sent_frames_are_sound();
+    few_are_made();
+    collecting_leaves_nothing_out();
+    sent_frames_are_sound();
     let answer = step_of(instance, event, entry.moment);
     write_answer(alloc, journal, flights, entry, coming, answer)
 }
@@ -144,6 +147,8 @@ impl Cluster {
         };
         let instance = &mut self.members[place].instance;
         let (journal, flights) = (&mut self.journal, &mut self.flights);
-        act(self.alloc, instance, journal, flights, &entry, coming, event)
+        act(
+            self.alloc, instance, journal, flights, &entry, coming, event,
+        )
     }
 }

@@ -39,7 +39,8 @@ pub(crate) fn kind_of(event: &Event) -> Kind
     match event {
         Event::Tick => Kind::Collects,
         Event::Frame {
-            frame: Frame::Tick, ..
+            frame: Frame::Tick,
+            ..
         } => Kind::Collects,
         Event::Frame { .. } => Kind::Brings,
         _ => Kind::Makes,

@@ -1,34 +1,49 @@
-use Rattle.am_cluster.proofs.Acted.{on_ok, values_known, told_frames, all_fly_from}
+use Rattle.std.proofs.Common.{◌≡◌, ◌≤◌, [], true, length}
+use Rattle.std.specs.Prelude.{All}
+use Rattle.am_instance.specs.Replies.{IsNothing}
+use Rattle.am_instance.specs.Steps.{collects}
+use Rattle.am_record.specs.Recorded.{AreValues}
+use Rattle.am_cluster.specs.declared.recording.Kind.TheVariants as kinds
+use Rattle.am_cluster.specs.Recording.{brings_or_makes}
+use Rattle.am_cluster.specs.Ties.{CanFly}
+use Rattle.am_cluster.proofs.Acted.{all_fly_from, brings_nothing, on_ok, on_ok_and, told_frames, values_known}
 use Rattle.am_cluster.proofs.events.act.Goals as goal
 
 pub write_answer-requires : goal.write_answer-requires
 write_answer-requires c =
     let values = values_known c.args.event c.step_of-answer.new.instance c.step_of-answer.result
-        (λ made silences log. c.values_are_delivered.ensures c.args.event made c.requires.values silences log) c.step_of-answer.ensures.silences c.step_of-answer.ensures.log
-        c.step_of-answer.ensures.held_silences c.step_of-answer.ensures.held_log c.step_of-answer.ensures.maps in
-    (c.requires.room, c.args.event, c.requires.coming, record {
-      room_for_it = c.requires.enough.0;
-      spare_for_it = c.requires.enough.1;
-      spare_for_made = c.requires.enough.2;
-      silences = λ frames flying.
-          c.steps_are_possible.ensures.silences c.args.journal.now.members c.args.entry.now.place c.args.entry.now.moment c.args.journal.now.silences c.args.entry.now.source
-          c.args.instance.now c.step_of-answer.new.instance c.args.event c.step_of-answer.result frames (λ counts. c.requires.ready.runs) c.requires.ready.silences c.step_of-answer.ensures.step
-          c.requires.ready.from_silences flying values;
-      log = λ frames flying.
-          c.steps_are_possible.ensures.log c.args.journal.now.members c.args.entry.now.place c.args.entry.now.moment c.args.journal.now.log c.args.entry.now.source
-          c.args.instance.now c.step_of-answer.new.instance c.args.event c.step_of-answer.result frames (λ counts. c.requires.ready.runs_too) c.requires.ready.log c.step_of-answer.ensures.step
-          c.requires.ready.from_log flying values;
-      sound = c.step_of-answer.ensures.no_fault;
-      few = ?;
-      idle = ?;
-      brings = ?;
-    })
+    (λ made silences log. c.values_are_delivered.ensures c.args.event made c.requires.values silences log) c.step_of-answer.ensures.silences c.step_of-answer.ensures.log
+    c.step_of-answer.ensures.held_silences c.step_of-answer.ensures.held_log c.step_of-answer.ensures.maps in (
+      c.requires.room,
+      c.args.event,
+      c.requires.coming,
+      record {
+        room_for_it = c.requires.enough.0;
+        spare_for_it = c.requires.enough.1;
+        spare_for_made = c.requires.enough.2;
+        silences = λ frames flying.
+            c.steps_are_possible.ensures.silences c.args.journal.now.members c.args.entry.now.place c.args.entry.now.moment c.args.journal.now.silences c.args.entry.now.source
+            c.args.instance.now c.step_of-answer.new.instance c.args.event c.step_of-answer.result frames (λ counts. c.requires.ready.runs) c.requires.ready.silences c.step_of-answer.ensures.step
+            c.requires.ready.from_silences flying values;
+        log = λ frames flying.
+            c.steps_are_possible.ensures.log c.args.journal.now.members c.args.entry.now.place c.args.entry.now.moment c.args.journal.now.log c.args.entry.now.source
+            c.args.instance.now c.step_of-answer.new.instance c.args.event c.step_of-answer.result frames (λ counts. c.requires.ready.runs_too) c.requires.ready.log c.step_of-answer.ensures.step
+            c.requires.ready.from_log flying values;
+        sound = c.step_of-answer.ensures.no_fault;
+        few = on_ok (λ o. length o.made.silences.items ≤ 2) c.args.instance.now c.step_of-answer.new.instance c.args.event c.args.entry.now.moment c.step_of-answer.result (λ o step. c.few_are_made.ensures.silences c.args.instance.now c.step_of-answer.new.instance c.args.event c.args.entry.now.moment o step) c.step_of-answer.ensures.step;
+        idle = on_ok (λ o. collects c.args.event ≡ true → (o.frames.items ≡ []) × (o.unsent.memory ≡ 0)) c.args.instance.now c.step_of-answer.new.instance c.args.event c.args.entry.now.moment c.step_of-answer.result
+            (λ o step collecting. (c.collecting_leaves_nothing_out.ensures.frames c.args.instance.now c.step_of-answer.new.instance c.args.event c.args.entry.now.moment o collecting step, c.collecting_leaves_nothing_out.ensures.memory c.args.instance.now c.step_of-answer.new.instance c.args.event c.args.entry.now.moment o collecting step)) c.step_of-answer.ensures.step;
+        brings = on_ok (λ o. brings_or_makes c.args.event ≡ kinds.Brings → IsNothing o.made) c.args.instance.now c.step_of-answer.new.instance c.args.event c.args.entry.now.moment c.step_of-answer.result
+            (λ o step brings. brings_nothing c.args.instance.now c.step_of-answer.new.instance c.args.event c.args.entry.now.moment o (λ sender frame arrived. c.few_are_made.ensures.arrivals c.args.instance.now c.step_of-answer.new.instance sender frame c.args.entry.now.moment o arrived) step brings)
+            c.step_of-answer.ensures.step;
+      },
+    )
 
 pub returns : goal.returns
 returns c =
     let values = values_known c.args.event c.step_of-answer.new.instance c.step_of-answer.result
-        (λ made silences log. c.values_are_delivered.ensures c.args.event made c.requires.values silences log) c.step_of-answer.ensures.silences c.step_of-answer.ensures.log
-        c.step_of-answer.ensures.held_silences c.step_of-answer.ensures.held_log c.step_of-answer.ensures.maps in
+    (λ made silences log. c.values_are_delivered.ensures c.args.event made c.requires.values silences log) c.step_of-answer.ensures.silences c.step_of-answer.ensures.log
+    c.step_of-answer.ensures.held_silences c.step_of-answer.ensures.held_log c.step_of-answer.ensures.maps in
     let recorded = c.write_answer.ensures c.args.event c.requires.coming (record {
       room_for_it = c.requires.enough.0;
       spare_for_it = c.requires.enough.1;
@@ -42,12 +57,19 @@ returns c =
           c.args.instance.now c.step_of-answer.new.instance c.args.event c.step_of-answer.result frames (λ counts. c.requires.ready.runs_too) c.requires.ready.log c.step_of-answer.ensures.step
           c.requires.ready.from_log flying values;
       sound = c.step_of-answer.ensures.no_fault;
-      few = ?;
-      idle = ?;
-      brings = ?;
+      few = on_ok (λ o. length o.made.silences.items ≤ 2) c.args.instance.now c.step_of-answer.new.instance c.args.event c.args.entry.now.moment c.step_of-answer.result (λ o step. c.few_are_made.ensures.silences c.args.instance.now c.step_of-answer.new.instance c.args.event c.args.entry.now.moment o step) c.step_of-answer.ensures.step;
+      idle = on_ok (λ o. collects c.args.event ≡ true → (o.frames.items ≡ []) × (o.unsent.memory ≡ 0)) c.args.instance.now c.step_of-answer.new.instance c.args.event c.args.entry.now.moment c.step_of-answer.result
+          (λ o step collecting. (c.collecting_leaves_nothing_out.ensures.frames c.args.instance.now c.step_of-answer.new.instance c.args.event c.args.entry.now.moment o collecting step, c.collecting_leaves_nothing_out.ensures.memory c.args.instance.now c.step_of-answer.new.instance c.args.event c.args.entry.now.moment o collecting step)) c.step_of-answer.ensures.step;
+      brings = on_ok (λ o. brings_or_makes c.args.event ≡ kinds.Brings → IsNothing o.made) c.args.instance.now c.step_of-answer.new.instance c.args.event c.args.entry.now.moment c.step_of-answer.result
+          (λ o step brings. brings_nothing c.args.instance.now c.step_of-answer.new.instance c.args.event c.args.entry.now.moment o (λ sender frame arrived. c.few_are_made.ensures.arrivals c.args.instance.now c.step_of-answer.new.instance sender frame c.args.entry.now.moment o arrived) step brings)
+          c.step_of-answer.ensures.step;
     }) in record {
       answer = c.step_of-answer.result;
       step = c.step_of-answer.ensures.step;
       recorded = recorded;
-      can_fly = ?;
+      can_fly = told_frames (CanFly c.args.journal.now.members c.args.entry.now.place) c.step_of-answer.result recorded.frames c.write_answer.result
+          (on_ok_and (λ o. AreValues c.args.event o c.step_of-answer.new.instance) (λ o. All (CanFly c.args.journal.now.members c.args.entry.now.place) o.frames.items) c.args.instance.now c.step_of-answer.new.instance c.args.event c.args.entry.now.moment c.step_of-answer.result
+          (λ o known step. all_fly_from c.args.instance.now.config c.args.journal.now.members c.args.entry.now.place o.frames.items c.requires.ready.own_place c.requires.ready.all_members
+          (c.sent_frames_are_sound.ensures.sound c.args.instance.now c.step_of-answer.new.instance c.args.event c.args.entry.now.moment o step known) (c.sent_frames_are_sound.ensures.addressed c.args.instance.now c.step_of-answer.new.instance c.args.event c.args.entry.now.moment o step))
+          values c.step_of-answer.ensures.step) recorded.told;
     }

@@ -10,16 +10,17 @@ use Rattle.am_record.specs.Recorded.{HasSource}
 use Rattle.am_runs.specs.Steps.Step.{Refused}
 use Rattle.am_cluster.specs.Ties.{IsWorld}
 use Rattle.am_cluster.proofs.Goes.{goes_on_idle}
+use Rattle.am_cluster.proofs.Places.{set_length}
 use Rattle.am_cluster.proofs.Lived.{found_at, inside, read_again, same_world}
-use Rattle.am_cluster.proofs.Telling.{can_act, event_hangs, event_told, halted, world_is}
+use Rattle.am_cluster.proofs.Telling.{can_act, event_hangs, event_told, halted, tell, world_is}
 use Rattle.am_cluster.proofs.cluster.Cluster.happen.Goals as goal
 
 pub invariant_of-self-then-not-index : goal.invariant_of-self-then-not-index
 invariant_of-self-then-not-index c =
     let same = same_world _ _ _ _ _ _ _ _ c.self.inside.flights.items refl
-        (c.mark.ensures.silences ∙ ap (λ x. x ++ Refused c.args.now ∷ []) c.make_room.ensures.silences)
-        (c.mark.ensures.log ∙ ap (λ x. x ++ Refused c.args.now ∷ []) c.make_room.ensures.log)
-        (c.mark.ensures.lines ∙ ap (λ x. x ++ c.args.line ∷ []) c.make_room.ensures.lines) in record {
+    (c.mark.ensures.silences ∙ ap (λ x. x ++ Refused c.args.now ∷ []) c.make_room.ensures.silences)
+    (c.mark.ensures.log ∙ ap (λ x. x ++ Refused c.args.now ∷ []) c.make_room.ensures.log)
+    (c.mark.ensures.lines ∙ ap (λ x. x ++ c.args.line ∷ []) c.make_room.ensures.lines) in record {
       members = c.mark.ensures.members ∙ (c.make_room.ensures.members ∙ c.self.invariant.members);
       world = subst IsWorld (sym same) (goes_on_idle _ (Refused c.args.now) (Refused c.args.now) c.args.line (λ m. refl) (λ m. refl) c.self.invariant.world);
     }
@@ -29,9 +30,9 @@ returns-then-not-index c =
     let less = inside _ _ c.args.place c.self.view_is c.requires.within in
     let found = found_at c.self.inside.members.items c.args.place c.index.result.now less c.index.ensures in
     let same = same_world _ _ _ _ _ _ _ _ c.self.inside.flights.items refl
-        (c.mark.ensures.silences ∙ ap (λ x. x ++ Refused c.args.now ∷ []) c.make_room.ensures.silences)
-        (c.mark.ensures.log ∙ ap (λ x. x ++ Refused c.args.now ∷ []) c.make_room.ensures.log)
-        (c.mark.ensures.lines ∙ ap (λ x. x ++ c.args.line ∷ []) c.make_room.ensures.lines) in
+    (c.mark.ensures.silences ∙ ap (λ x. x ++ Refused c.args.now ∷ []) c.make_room.ensures.silences)
+    (c.mark.ensures.log ∙ ap (λ x. x ++ Refused c.args.now ∷ []) c.make_room.ensures.log)
+    (c.mark.ensures.lines ∙ ap (λ x. x ++ c.args.line ∷ []) c.make_room.ensures.lines) in
     halted _ _ _ c.args.place c.index.result.now c.args.event c.args.source c.args.now c.args.line c.self.view_is found (sym (ap (λ x. x.runs) c.behind-self.view_is) ∙ c.if-not-index.true) same
 
 pub act-requires : goal.act-requires
@@ -41,12 +42,7 @@ act-requires c =
     let found = subst (λ r. slice_get c.self.inside.members.items c.args.place ≡ Some r) (sym c.behind-self-2.view_is) first in
     let again = read_again c.self.inside.members.items c.args.place c.index.result.now c.index_mut.result.now less c.index.ensures c.index_mut.ensures.value in
     let runs = ap (λ r. r.runs) c.behind-self-2.view_is ∙ (ap (λ r. r.runs) again ∙ (sym (ap (λ r. r.runs) c.behind-self.view_is) ∙ c.if-not-index.false)) in
-    let tells = record {
-      members = c.make_room.ensures.members ∙ c.self.invariant.members;
-      silences = c.make_room.ensures.silences;
-      log = c.make_room.ensures.log;
-      lines = c.make_room.ensures.lines;
-    } in
+    let tells = tell _ (record { replicas = c.self.inside.members.items; silences = c.self.inside.journal.silences; log = c.self.inside.journal.log; lines = c.self.inside.journal.lines; flights = c.self.inside.flights.items }) (c.make_room.ensures.members ∙ c.self.invariant.members) c.make_room.ensures.silences c.make_room.ensures.log c.make_room.ensures.lines in
     record {
       ready = can_act _ _ tells c.args.place c.args.now c.args.line _ c.args.event c.args.source c.self.invariant.world found runs
           (subst (λ v. HasSource silences_in mesh_version (slice_cmp nat_cmp) (length v.replicas) v.silences c.args.now c.args.event c.args.source) (sym c.self.view_is) c.requires.silences)
@@ -55,7 +51,7 @@ act-requires c =
       coming = c.in_ok-coming.ensures.coming;
       values = c.in_ok-coming.ensures.values;
       room = c.in_ok-coming.ensures.room;
-      enough = ?;
+      enough = (let room = c.in_ok-make_room.ensures.room in omega arith, let spare = c.in_ok-make_room.ensures.spare in let len = c.len.ensures in let most = c.max.ensures in omega arith, let spare = c.in_ok-make_room.ensures.spare in let len = c.len.ensures in let most = c.max.ensures in omega arith);
     }
 
 pub invariant_of-self-2 : goal.invariant_of-self-2
@@ -65,14 +61,9 @@ invariant_of-self-2 c =
     let found = subst (λ r. slice_get c.self.inside.members.items c.args.place ≡ Some r) (sym c.behind-self-2.view_is) first in
     let again = read_again c.self.inside.members.items c.args.place c.index.result.now c.index_mut.result.now less c.index.ensures c.index_mut.ensures.value in
     let runs = ap (λ r. r.runs) c.behind-self-2.view_is ∙ (ap (λ r. r.runs) again ∙ (sym (ap (λ r. r.runs) c.behind-self.view_is) ∙ c.if-not-index.false)) in
-    let tells = record {
-      members = c.make_room.ensures.members ∙ c.self.invariant.members;
-      silences = c.make_room.ensures.silences;
-      log = c.make_room.ensures.log;
-      lines = c.make_room.ensures.lines;
-    } in
+    let tells = tell _ (record { replicas = c.self.inside.members.items; silences = c.self.inside.journal.silences; log = c.self.inside.journal.log; lines = c.self.inside.journal.lines; flights = c.self.inside.flights.items }) (c.make_room.ensures.members ∙ c.self.invariant.members) c.make_room.ensures.silences c.make_room.ensures.log c.make_room.ensures.lines in
     record {
-      members = ?;
+      members = c.act.ensures.recorded.members ∙ (c.make_room.ensures.members ∙ (c.self.invariant.members ∙ sym (set_length c.self.inside.members.items c.args.place _)));
       world = subst IsWorld (sym (world_is _ _ tells c.args.place c.args.now c.args.line _ c.args.event c.args.source c.self.invariant.world found c.act.result c.act.new.journal c.act.new.flights.items c.act.new.instance c.act.ensures))
           (event_hangs _ _ tells c.args.place c.args.now c.args.line _ c.args.event c.args.source c.self.invariant.world found c.act.result c.act.new.journal c.act.new.flights.items c.act.new.instance c.act.ensures c.is_told_of_both.ensures.twins);
     }
@@ -84,11 +75,6 @@ returns c =
     let found = subst (λ r. slice_get c.self.inside.members.items c.args.place ≡ Some r) (sym c.behind-self-2.view_is) first in
     let again = read_again c.self.inside.members.items c.args.place c.index.result.now c.index_mut.result.now less c.index.ensures c.index_mut.ensures.value in
     let runs = ap (λ r. r.runs) c.behind-self-2.view_is ∙ (ap (λ r. r.runs) again ∙ (sym (ap (λ r. r.runs) c.behind-self.view_is) ∙ c.if-not-index.false)) in
-    let tells = record {
-      members = c.make_room.ensures.members ∙ c.self.invariant.members;
-      silences = c.make_room.ensures.silences;
-      log = c.make_room.ensures.log;
-      lines = c.make_room.ensures.lines;
-    } in
+    let tells = tell _ (record { replicas = c.self.inside.members.items; silences = c.self.inside.journal.silences; log = c.self.inside.journal.log; lines = c.self.inside.journal.lines; flights = c.self.inside.flights.items }) (c.make_room.ensures.members ∙ c.self.invariant.members) c.make_room.ensures.silences c.make_room.ensures.log c.make_room.ensures.lines in
     event_told _ _ tells c.args.place c.args.now c.args.line _ c.args.event c.args.source c.self.invariant.world found c.act.result c.act.new.journal c.act.new.flights.items c.act.new.instance c.act.ensures
     _ c.self.view_is runs _ (world_is _ _ tells c.args.place c.args.now c.args.line _ c.args.event c.args.source c.self.invariant.world found c.act.result c.act.new.journal c.act.new.flights.items c.act.new.instance c.act.ensures)
