@@ -2,6 +2,7 @@
 #![tactic(auto)]
 
 mod cluster;
+mod delivering;
 mod error;
 mod events;
 mod flight;
