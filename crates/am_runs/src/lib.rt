@@ -3,10 +3,14 @@
 #![tactic(auto)]
 
 mod calm;
+mod follow;
 pub mod laws;
+mod peaks;
+mod place;
 mod run;
 mod running;
 mod spans;
+mod standing;
 mod step;
 mod timely;
 
