@@ -1,30 +1,29 @@
 -- Where the greatest versions stand once a step is made.
-use Rattle.std.proofs.Common.{◌≡◌, ◌≢◌, inl, inr, ℕ, ◌+◌, ◌<◌, ◌≤◌, Bool, true, false, cond, eqb, List, [], ◌∷◌, ◌++◌, Option, Some, None, refl, sym, ap, ◌∙◌, subst, arith, length, length-append, slice_get, get_or, map, take, zero, suc}
+use Rattle.std.proofs.Common.{◌≡◌, ℕ, ◌<◌, Bool, true, false, cond, eqb, List, [], ◌∷◌, ◌++◌, Option, Some, None, refl, sym, ap, ◌∙◌, subst, arith, length, slice_get, get_or, map, take}
 use Rattle.std.specs.Prelude.{IsSome}
 use Rattle.std.specs.declared.cmp.Ordering.{Ordering}
-use Rattle.std.proofs.lemmas.Bool.{cases_lt, eq-eqb, eqb-true, false≢true}
+use Rattle.std.proofs.lemmas.Bool.{eq-eqb, eqb-true, false≢true}
 use Rattle.std.proofs.lemmas.List.{map-append}
-use Rattle.std.proofs.lemmas.Option.{slice_get_within, slice_get_past, slice_get-get_or}
+use Rattle.std.proofs.lemmas.Option.{slice_get_within, slice_get-get_or}
 use Rattle.am_blocks.specs.Rows.{entries}
 use Rattle.am_version_order.specs.Versions.{Version}
 use Rattle.am_merge.specs.Indexes.{IsIndex, filed}
-use Rattle.am_merge.specs.Maps.{IsMap, greater_of, at}
-use Rattle.am_merge.proofs.Keys.{IsKeyOrder}
+use Rattle.am_merge.specs.Maps.{IsMap}
 use Rattle.am_merge.proofs.Indexes.{some_is}
 use Rattle.am_runs.specs.declared.place.Place.{Place}
 use Rattle.am_runs.specs.declared.peaks.Head.{Head}
 use Rattle.am_runs.specs.declared.peaks.Peak.{Peak}
 use Rattle.am_runs.specs.declared.peaks.Peaks.{Peaks}
 use Rattle.am_runs.specs.declared.step.Source.{Source}
-use Rattle.am_runs.specs.Steps.{Step, is_at, delivered_by}
+use Rattle.am_runs.specs.Steps.{Step}
 use Rattle.am_runs.specs.Steps.Step.{Took, Ticked, Back, Refused, Saved, Stopped, Started}
-use Rattle.am_runs.specs.Tests.{Tops, topped, tops_after, tops_from}
-use Rattle.am_runs.specs.Peaks.{in_step, version_at, row_of, row_entry, owner_at, owner_in, owner_cmp, by_owner, IsOrder, IsRowOf, ArePeaks, IsPeak, IsPlaced, IsRemade, saved_peak, started_peak, raised_all, tops_in, HasRowRoom}
+use Rattle.am_runs.specs.Tests.{Tops, tops_after, tops_from}
+use Rattle.am_runs.specs.Peaks.{in_step, version_at, row_of, row_entry, owner_at, owner_in, owner_cmp, by_owner, IsOrder, IsRowOf, ArePeaks, IsPeak, IsPlaced, IsRemade, raised_all, tops_in, HasRowRoom}
 use Rattle.am_runs.proofs.Spreads.{get_left}
 use Rattle.am_runs.specs.declared.standing.Standing.{Standing}
 use Rattle.am_runs.specs.Accounts.{IsAccount}
 use Rattle.am_runs.specs.Standings.{AreStandings}
-use Rattle.am_runs.proofs.Owners.{owner_within, same_peaks, rows_kept}
+use Rattle.am_runs.proofs.Owners.{same_peaks, rows_kept}
 
 take_front : {A : Type 0} (xs ys : List A) → take (length xs) (xs ++ ys) ≡ xs
 take_front [] ys = refl

@@ -1,15 +1,14 @@
 -- The rows of the greatest versions taken: which are found, and what they are once one more is taken.
-use Rattle.std.proofs.Common.{◌≡◌, ◌≢◌, ◌⊎◌, inl, inr, ℕ, ◌+◌, ◌<◌, ◌≤◌, Bool, true, false, cond, eqb, List, [], ◌∷◌, ◌++◌, Option, Some, None, refl, sym, ap, ◌∙◌, subst, arith, length, length-append, zero, suc, ◌-◌, get_or, take, drop, slice_get}
+use Rattle.std.proofs.Common.{◌≡◌, ◌≢◌, inl, inr, ℕ, ◌+◌, ◌<◌, ◌≤◌, Bool, true, false, cond, eqb, List, [], ◌∷◌, ◌++◌, Option, Some, None, refl, sym, ap, ◌∙◌, subst, arith, length, length-append, zero, suc, ◌-◌, get_or, take, slice_get}
 use Rattle.std.specs.Prelude.{insert, IsSome, slice_set, Contains}
 use Rattle.std.specs.Option.{option_map}
 use Rattle.std.specs.declared.cmp.Ordering.{Ordering}
-use Rattle.std.specs.declared.cmp.Ordering.TheVariants.{Less, Equal, Greater}
-use Rattle.std.specs.Ordering.{nat_cmp, eq_by_cmp, ordering_then}
+use Rattle.std.specs.declared.cmp.Ordering.TheVariants.{Equal}
+use Rattle.std.specs.Ordering.{nat_cmp, eq_by_cmp}
 use Rattle.std.specs.Cmp.{IsTotalOrder, ranked}
-use Rattle.std.specs.List.{All, HoldsAt}
 use Rattle.std.proofs.lemmas.Cmp.{nat_cmp_total, on_total, then_total}
 use Rattle.std.proofs.lemmas.Bool.{eqb-true, eq-eqb, cases_eq, cases_lt, false≢true}
-use Rattle.std.proofs.lemmas.Option.{slice_get_within, get_or_from_slice_get, slice_get_past, slice_get-get_or, same_Some}
+use Rattle.std.proofs.lemmas.Option.{slice_get_within, get_or_from_slice_get, slice_get_past, slice_get-get_or}
 use Rattle.std.proofs.Math.ListN.{length-set}
 use Rattle.std.proofs.lemmas.List.{take_more}
 use Rattle.am_blocks.specs.declared.spot.Spot.{Spot}
@@ -17,18 +16,18 @@ use Rattle.am_blocks.specs.Rows.{Rows, entries}
 use Rattle.am_blocks.specs.Spots.{place}
 use Rattle.am_blocks.specs.Searches.{IsRising, IsFound, IsMissing}
 use Rattle.am_version_order.specs.Versions.{Version}
-use Rattle.am_merge.specs.Indexes.{Changes, IsIndex, filed}
+use Rattle.am_merge.specs.Indexes.{Changes, filed}
 use Rattle.am_merge.specs.Maps.{IsMap, greater_of, at}
 use Rattle.am_merge.specs.Places.{IsGapFor}
 use Rattle.am_merge.proofs.Keys.{IsKeyOrder, key_order, eq_itself, same_key}
-use Rattle.am_merge.proofs.Shelves.{item_within, spot_within, then_equal}
+use Rattle.am_merge.proofs.Shelves.{spot_within, then_equal}
 use Rattle.am_merge.proofs.Indexes as indexes
 use Rattle.am_runs.specs.declared.place.Place.{Place}
 use Rattle.am_runs.specs.declared.peaks.Head.{Head}
 use Rattle.am_runs.specs.declared.peaks.Peak.{Peak}
 use Rattle.am_runs.specs.declared.peaks.Peaks.{Peaks}
 use Rattle.am_runs.specs.Tests.{Tops, top_among}
-use Rattle.am_runs.specs.Peaks.{row_of, row_entry, owner_at, owner_in, owner_cmp, owner_order, by_owner, IsOrder, IsRowOf, ArePeaks, IsPeak, IsPlaced, HasRowRoom, raised, raised_all, tops_in, version_at}
+use Rattle.am_runs.specs.Peaks.{row_of, row_entry, owner_at, owner_in, owner_cmp, owner_order, by_owner, IsOrder, IsRowOf, ArePeaks, IsPeak, HasRowRoom, raised, raised_all, tops_in, version_at}
 use Rattle.am_runs.proofs.Spreads.{get_left, get_right}
 
 entry_row : {Y : Type 0} (row : ℕ) (y : Y) → row_of (row_entry row y) ≡ row
@@ -192,14 +191,14 @@ module _ {K X : Type 0} (seen : X → Version K) (cmp : K → K → Ordering) (k
           let both : (head.member, v) ≡ (member, w) = indexes.some_is (sym (owner_last old.heads.items head v is) ∙ ap (owner_at at_place (old.heads.items ++ head ∷ [])) (sym last) ∙ owner) in
           let zero_past : length old.peaks.items - length old.peaks.items ≡ 0 = omega arith in
           let here : slice_get (old.peaks.items ++ (record { top = Some head.first; saved = None }) ∷ []) row ≡ Some (record { top = Some head.first; saved = None }) =
-              ap (slice_get (old.peaks.items ++ (record { top = Some head.first; saved = None }) ∷ [])) at_end
-              ∙ get_right old.peaks.items ((record { top = Some head.first; saved = None }) ∷ []) (length old.peaks.items) (omega arith)
-              ∙ ap (slice_get ((record { top = Some head.first; saved = None }) ∷ [])) zero_past in
+          ap (slice_get (old.peaks.items ++ (record { top = Some head.first; saved = None }) ∷ [])) at_end
+          ∙ get_right old.peaks.items ((record { top = Some head.first; saved = None }) ∷ []) (length old.peaks.items) (omega arith)
+          ∙ ap (slice_get ((record { top = Some head.first; saved = None }) ∷ [])) zero_past in
           let same : ◌≡◌ {A = Peak} (record { top = Some head.first; saved = None }) peak = indexes.some_is (sym here ∙ there) in
           let fresh : raised seen cmp tops_of head.member v head.member (seen v).key ≡ record { top = Some v; saved = None } =
-              raised_here tops_of head.member v (seen v).key refl ∙ ap (λ (t : Tops X). record { top = greater_of seen t.top (Some v); saved = t.saved }) added_first in
+          raised_here tops_of head.member v (seen v).key refl ∙ ap (λ (t : Tops X). record { top = greater_of seen t.top (Some v); saved = t.saved }) added_first in
           let base : IsPeak at_place (record { top = Some head.first; saved = None }) (raised seen cmp tops_of head.member v head.member (seen v).key) =
-              subst (IsPeak at_place (record { top = Some head.first; saved = None })) (sym fresh) (record { top = (v, is, refl); saved = refl }) in
+          subst (IsPeak at_place (record { top = Some head.first; saved = None })) (sym fresh) (record { top = (v, is, refl); saved = refl }) in
           subst (λ (y : ℕ × X). IsPeak at_place peak (raised seen cmp tops_of head.member v y.0 (seen y.1).key)) both (own_fits (raised seen cmp tops_of head.member v head.member (seen v).key) (record { top = Some head.first; saved = None }) peak same base)
     ]
 

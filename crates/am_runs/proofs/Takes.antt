@@ -1,5 +1,5 @@
 -- Whether each version of an event comes in time, one after the other.
-use Rattle.std.proofs.Common.{◌≡◌, ◌↔◌, ℕ, ◌+◌, ◌<◌, ◌≤◌, arith, Bool, true, false, eqb, ◌&&◌, List, Option, refl, sym, ap, ◌∙◌, subst, length, take, get_or}
+use Rattle.std.proofs.Common.{◌≡◌, ◌↔◌, ℕ, ◌+◌, ◌<◌, ◌≤◌, arith, Bool, true, eqb, ◌&&◌, List, Option, refl, sym, ap, ◌∙◌, subst, length, take, get_or}
 use Rattle.std.specs.Prelude.{IsTrue}
 use Rattle.std.specs.Vec.{with_items}
 use Rattle.std.proofs.Common.{Vec, append-nil, drop, zero, suc}
@@ -67,4 +67,3 @@ written_back v xs long =
     let past : length v.items ≤ length xs = omega arith in
     let all : length xs ≤ v.len = omega arith in
     ap (λ ys. take v.len (xs ++ ys)) (drop_all v.items (length xs) past) ∙ ap (take v.len) (append-nil xs) ∙ take_all v.len xs all
-

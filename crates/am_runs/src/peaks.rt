@@ -172,12 +172,7 @@ fn add<V: Version>(peaks: &mut Peaks, steps: &[Step<V>], spot: Spot, head: Head,
 }
 
 /// Whether a version comes in time after the one at a peak.
-fn is_calm<V: Version>(
-    peak: Peak,
-    steps: &[Step<V>],
-    timing: &Timing,
-    version: &V,
-) -> bool
+fn is_calm<V: Version>(peak: Peak, steps: &[Step<V>], timing: &Timing, version: &V) -> bool
     ensures { (tops : Tops V) → IsPeak (version_at (map step_of steps.now)) peak tops →
         result ≡ in_time V.seen tops.top timing.now.last timing.now.moment version.now }
 {

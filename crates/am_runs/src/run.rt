@@ -108,14 +108,20 @@ impl<V: Version> Run<V> {
     pub fn runs(&self, place: usize) -> bool
         ensures { result ≡ (member_of self.now.members place self.now.steps).runs }
     {
-        runs_from(place, place < self.members, &self.steps)
+        match self.standings.get(place) {
+            Some(standing) if place < self.members => standing.runs,
+            _ => runs_from(place, place < self.members, &self.steps),
+        }
     }
 
     /// The moment of a member's last event or start, or the first moment where it had none. It takes no memory.
     pub fn last(&self, place: usize) -> Moment
         ensures { result ≡ last_of (member_of self.now.members place self.now.steps) }
     {
-        last_from(place, &self.steps)
+        match self.standings.get(place) {
+            Some(standing) => standing.acted,
+            None => last_from(place, &self.steps),
+        }
     }
 
     /// The number of the first step, counted from 0, with which a member is not calm, or `None` where it is calm. It

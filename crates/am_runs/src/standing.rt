@@ -3,10 +3,11 @@
 ghost use Rattle.std.specs.Prelude.{◌≡◌, ℕ, ◌+◌, ◌++◌, ◌∷◌, [], ◌↔◌, IsTrue, true, false, map, length, MatchOption};
 ghost use Rattle.am_runs.specs.Records.{step_of, lasts_seen};
 ghost use Rattle.am_runs.specs.Steps.{is_at};
-ghost use Rattle.am_runs.specs.Tests.{last_in, lasts_after, StaysCalm};
+ghost use Rattle.am_runs.specs.Tests.{last_in, last_after, lasts_after, runs_after, StaysCalm};
 ghost use Rattle.am_runs.specs.Standings.{AreStandings, fault_after};
 
 use crate::calm::{Lasts, last_in, lasts_after};
+use crate::running::{last_after, runs_after};
 use crate::step::Step;
 use am_version_order::{Moment, Version};
 use std::alloc::AllocError;
@@ -14,6 +15,9 @@ use std::alloc::AllocError;
 /// What stands of a member.
 #[derive(Clone, Copy)]
 pub struct Standing {
+    pub runs: bool,
+    /// The moment of its last event or start.
+    pub acted: Moment,
     pub lasts: Lasts,
     /// The number of the first step with which it is not calm.
     pub fault: Option<usize>,
@@ -40,6 +44,8 @@ fn fill<V: Version>(standings: &mut Vec<Standing>, members: usize) -> Result<(),
 {
     for _member in standings.len()..members {
         standings.push(Standing {
+            runs: true,
+            acted: Moment::LEAST,
             lasts: Lasts {
                 last: None,
                 saved: None,
@@ -82,10 +88,14 @@ fn standing_after<V>(
     number: usize,
     stays: bool,
 ) -> Standing
+    ensures runs { result.runs ≡ runs_after member standing.now.runs (step_of step.now) }
+    ensures acted { result.acted ≡ last_after member standing.now.acted (step_of step.now) }
     ensures lasts { lasts_seen result.lasts ≡ lasts_after member (lasts_seen standing.now.lasts) (step_of step.now) }
     ensures fault { result.fault ≡ fault_after standing.now.fault stays number }
 {
     Standing {
+        runs: runs_after(member, standing.runs, step),
+        acted: last_after(member, standing.acted, step),
         lasts: lasts_after(member, standing.lasts, step),
         fault: fault_after(standing.fault, stays, number),
     }

@@ -1,4 +1,4 @@
-use Rattle.std.proofs.Common.{◌≡◌, ◌↔◌, ℕ, ◌+◌, Bool, true, cond, eqb, List, [], ◌∷◌, ◌++◌, None, refl, sym, ap, ◌∙◌, subst, map, length}
+use Rattle.std.proofs.Common.{◌≡◌, ◌↔◌, ◌+◌, true, List, [], ◌∷◌, ◌++◌, refl, sym, subst, map, length}
 use Rattle.std.specs.Prelude.{IsTrue}
 use Rattle.std.specs.Vec.{with_items}
 use Rattle.am_runs.specs.Records.{step_of}
@@ -74,8 +74,8 @@ returns-in-Saved-clause-peaks g c =
     let at_place = version_at (map step_of c.args.steps.now) in
     let new : Peaks = record { heads = c.args.peaks.now.heads; peaks = with_items c.args.peaks.now.peaks c.save.new.peaks; order = c.args.peaks.now.order } in
     let is : IsRemade saved_peak c.args.peaks.now.heads.items c.in-Saved.place c.args.peaks.now.peaks.items c.save.new.peaks =
-        subst (λ (hs : List Head). IsRemade saved_peak hs c.in-Saved.place c.args.peaks.now.peaks.items c.save.new.peaks) c.deref-in-Saved.ensures.value
-        (subst (λ (ps : List Peak). IsRemade saved_peak c.deref-in-Saved.result.now c.in-Saved.place ps c.save.new.peaks) c.deref_mut.ensures.value c.save.ensures) in
+    subst (λ (hs : List Head). IsRemade saved_peak hs c.in-Saved.place c.args.peaks.now.peaks.items c.save.new.peaks) c.deref-in-Saved.ensures.value
+    (subst (λ (ps : List Peak). IsRemade saved_peak c.deref-in-Saved.result.now c.in-Saved.place ps c.save.new.peaks) c.deref_mut.ensures.value c.save.ensures) in
     subst (λ s. ArePeaks seen cmp at_place new (tops_in seen cmp (before ++ step_of s ∷ []))) (sym c.in-Saved.is)
     (saved seen cmp at_place new before c.in-Saved.place
     (peaks_remade seen cmp at_place saved_peak (λ (t : Tops g.row.V.Denot). record { top = t.top; saved = t.top }) (λ peak tops is. record { top = is.top; saved = is.top }) refl c.args.peaks.now new c.in-Saved.place (tops_in seen cmp before) refl refl
@@ -89,8 +89,8 @@ returns-in-Started-clause-peaks g c =
     let at_place = version_at (map step_of c.args.steps.now) in
     let new : Peaks = record { heads = c.args.peaks.now.heads; peaks = with_items c.args.peaks.now.peaks c.bring_back.new.peaks; order = c.args.peaks.now.order } in
     let is : IsRemade started_peak c.args.peaks.now.heads.items c.in-Started.place c.args.peaks.now.peaks.items c.bring_back.new.peaks =
-        subst (λ (hs : List Head). IsRemade started_peak hs c.in-Started.place c.args.peaks.now.peaks.items c.bring_back.new.peaks) c.deref-in-Started.ensures.value
-        (subst (λ (ps : List Peak). IsRemade started_peak c.deref-in-Started.result.now c.in-Started.place ps c.bring_back.new.peaks) c.deref_mut-in-Started.ensures.value c.bring_back.ensures) in
+    subst (λ (hs : List Head). IsRemade started_peak hs c.in-Started.place c.args.peaks.now.peaks.items c.bring_back.new.peaks) c.deref-in-Started.ensures.value
+    (subst (λ (ps : List Peak). IsRemade started_peak c.deref-in-Started.result.now c.in-Started.place ps c.bring_back.new.peaks) c.deref_mut-in-Started.ensures.value c.bring_back.ensures) in
     subst (λ s. ArePeaks seen cmp at_place new (tops_in seen cmp (before ++ step_of s ∷ []))) (sym c.in-Started.is)
     (started seen cmp at_place new before c.in-Started.place c.in-Started.now
     (peaks_remade seen cmp at_place started_peak (λ (t : Tops g.row.V.Denot). record { top = t.saved; saved = t.saved }) (λ peak tops is. record { top = is.saved; saved = is.saved }) refl c.args.peaks.now new c.in-Started.place (tops_in seen cmp before) refl refl

@@ -1,4 +1,4 @@
-use Rattle.std.proofs.Common.{◌≡◌, ℕ, ◌+◌, ◌<◌, List, [], ◌∷◌, ◌++◌, refl, sym, ap, ◌∙◌, subst, arith, map, length, take}
+use Rattle.std.proofs.Common.{◌+◌, [], ◌∷◌, sym, ap, ◌∙◌, subst, map, length, take}
 use Rattle.std.proofs.lemmas.List.{map-append}
 use Rattle.am_runs.specs.Records.{step_of}
 use Rattle.am_runs.specs.Standings.{AreStandings}

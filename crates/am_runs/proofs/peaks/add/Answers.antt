@@ -1,4 +1,4 @@
-use Rattle.std.proofs.Common.{◌≡◌, ◌+◌, [], ◌∷◌, ◌++◌, Some, None, arith, ap, ◌∙◌, subst, map, length, length-append}
+use Rattle.std.proofs.Common.{[], ◌∷◌, Some, None, arith, ap, ◌∙◌, map, length, length-append}
 use Rattle.std.specs.Prelude.{insert}
 use Rattle.am_blocks.specs.Rows.{entries}
 use Rattle.am_blocks.specs.Spots.{place}

@@ -1,4 +1,3 @@
-use Rattle.std.proofs.Common.{ℕ, ◌<◌}
 use Rattle.am_runs.specs.Peaks.{saved_peak}
 use Rattle.am_runs.proofs.Remade.{IsRemadeTo}
 use Rattle.am_runs.proofs.peaks.save.Given as goal

@@ -1,4 +1,4 @@
-use Rattle.std.proofs.Common.{ℕ, true, map, refl, sym, ap, ◌∙◌, subst}
+use Rattle.std.proofs.Common.{ℕ, map, refl, sym, ap, subst}
 use Rattle.am_merge.proofs.Keys.{key_order}
 use Rattle.am_runs.specs.Records.{step_of}
 use Rattle.am_runs.specs.Tests.{in_time, Tops}
@@ -26,8 +26,8 @@ returns-in-Ok-clause-peaks g c tops_of peaks =
     let key = (g.V.Version.seen c.args.version.now).key in
     let row = subst (λ k. IsRowOf g.V.Version.seen at_place c.args.peaks.now.heads.items k c.args.head.member c.in-Ok.row) c.key.ensures c.in-Ok.ensures.found in
     let fits = c.risen.ensures (tops_of c.args.head.member key)
-        (subst (λ p. IsPeak at_place p (tops_of c.args.head.member key)) (sym c.index-peak.ensures)
-        (peak_there g.V.Version.seen g.V.Key.Ord.cmp keys at_place c.args.peaks.now tops_of key c.args.head.member c.in-Ok.row c.index-peak.result.now peaks row)) in
+    (subst (λ p. IsPeak at_place p (tops_of c.args.head.member key)) (sym c.index-peak.ensures)
+    (peak_there g.V.Version.seen g.V.Key.Ord.cmp keys at_place c.args.peaks.now tops_of key c.args.head.member c.in-Ok.row c.index-peak.result.now peaks row)) in
     risen g.V.Version.seen g.V.Key.Ord.cmp keys at_place c.args.peaks.now _ c.args.head.member c.in-Ok.row c.args.version.now c.risen.result row refl refl refl tops_of peaks fits
 
 pub returns-in-Err-clause-calm : goal.returns-in-Err-clause-calm

@@ -1,12 +1,12 @@
-use Rattle.std.proofs.Common.{ℕ, ◌+◌, ◌≤◌, List, true, map, take, refl, sym, ap, ◌∙◌, subst, arith, length, length-take-le}
+use Rattle.std.proofs.Common.{◌+◌, true, map, take, refl, ◌∙◌, subst, arith, length}
 use Rattle.std.specs.Prelude.{◌≡◌, ◌↔◌, IsTrue}
 use Rattle.std.proofs.lemmas.Option.{slice_get_read}
 use Rattle.std.proofs.lemmas.List.{take_all}
 use Rattle.am_runs.specs.Records.{step_of}
 use Rattle.am_runs.specs.Steps.{EachStep}
-use Rattle.am_runs.specs.Tests.{Tops, top_among, in_time}
-use Rattle.am_runs.specs.Peaks.{version_at, ArePeaks, HasRowRoom, raised, raised_all}
-use Rattle.am_runs.proofs.Cuts.{each_nil, each_all}
+use Rattle.am_runs.specs.Tests.{top_among, in_time}
+use Rattle.am_runs.specs.Peaks.{version_at, ArePeaks, raised, raised_all}
+use Rattle.am_runs.proofs.Cuts.{each_nil}
 use Rattle.am_runs.proofs.Owners.{peaks_none, peaks_push, less_rows}
 use Rattle.am_runs.proofs.Takes.{calm_more}
 use Rattle.am_runs.proofs.peaks.take_all.Goals as goal

@@ -1,4 +1,4 @@
-use Rattle.std.proofs.Common.{◌≡◌, ℕ, ◌+◌, List, map, take, true}
+use Rattle.std.proofs.Common.{◌≡◌, ℕ, ◌+◌, map, take, true}
 use Rattle.std.specs.Prelude.{◌↔◌, IsTrue}
 use Rattle.am_runs.specs.Records.{step_of}
 use Rattle.am_runs.specs.Steps.{EachStep}

@@ -1,4 +1,4 @@
-use Rattle.std.proofs.Common.{◌≡◌, [], sym, ap, ◌∙◌, subst, map, length}
+use Rattle.std.proofs.Common.{sym, ◌∙◌, subst, map, length}
 use Rattle.std.proofs.lemmas.Bool.{eqb-true}
 use Rattle.am_runs.specs.Records.{step_of}
 use Rattle.am_runs.specs.Standings.{AreStandings}

@@ -1,4 +1,4 @@
-use Rattle.std.proofs.Common.{◌≡◌, ◌<◌, refl, sym, ap, ◌∙◌, arith, map, length}
+use Rattle.std.proofs.Common.{refl, sym, ap, ◌∙◌, arith, map}
 use Rattle.std.proofs.lemmas.Bool.{eq-eqb, ne_eqb}
 use Rattle.std.proofs.lemmas.List.{length-map}
 use Rattle.std.proofs.lemmas.Option.{slice_get_read}
@@ -13,7 +13,7 @@ returns-then-member-len g c =
     let long = c.len.ensures ∙ c.args.standings.now.ok.0 in
     stands_noted g.V.Version.seen g.V.Key.Ord.cmp c.args.standings.now.items member c.index.result.now c.standing_after-standing.result (map step_of c.args.before.now) (step_of c.args.step.now) c.args.stays
     (slice_get_read c.args.standings.now.items c.len.result member c.index.result.now long c.if-member-len.true c.index.ensures)
-    c.in-Some.ensures c.standing_after-standing.ensures.lasts
+    c.in-Some.ensures c.standing_after-standing.ensures.runs c.standing_after-standing.ensures.acted c.standing_after-standing.ensures.lasts
     (c.standing_after-standing.ensures.fault ∙ ap (fault_after c.index.result.now.fault c.args.stays) (sym (length-map c.args.before.now step_of)))
     (c.requires.stays member (c.in-Some.ensures member ∙ eq-eqb member member refl)) c.requires.standings
 

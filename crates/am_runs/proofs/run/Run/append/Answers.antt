@@ -1,10 +1,10 @@
-use Rattle.std.proofs.Common.{◌≡◌, ◌+◌, ◌-◌, ◌≤◌, List, [], ◌∷◌, ◌++◌, sym, ap, ◌∙◌, subst, arith, map, length, take}
+use Rattle.std.proofs.Common.{◌≡◌, ◌+◌, ◌-◌, ◌≤◌, [], ◌∷◌, ◌++◌, sym, ap, ◌∙◌, subst, arith, map, length, take}
 use Rattle.std.proofs.lemmas.List.{map-append}
 use Rattle.am_runs.specs.Records.{Record, step_of}
 use Rattle.am_runs.specs.Runs.{IsPossible, IsRun}
 use Rattle.am_runs.specs.Standings.{AreStandings}
 use Rattle.am_runs.specs.Steps.{delivered_by}
-use Rattle.am_runs.specs.Peaks.{version_at, ArePeaks, HasRowRoom, tops_in}
+use Rattle.am_runs.specs.Peaks.{version_at, ArePeaks, tops_in}
 use Rattle.am_runs.proofs.Owners.{less_rows}
 use Rattle.am_runs.proofs.Follows.{grown_rows, grown_stands, grown_parts}
 use Rattle.am_runs.proofs.run.Run.append.Goals as goal

@@ -1,6 +1,5 @@
-use Rattle.std.proofs.Common.{refl, ap, subst, map}
+use Rattle.std.proofs.Common.{refl, ap, map}
 use Rattle.am_runs.specs.Records.{step_of}
-use Rattle.am_runs.specs.Standings.{AreStandings}
 use Rattle.am_runs.proofs.Follows.{account_kept}
 use Rattle.am_runs.proofs.run.Run.make_room.Goals as goal
 

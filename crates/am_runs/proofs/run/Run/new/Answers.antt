@@ -1,4 +1,4 @@
-use Rattle.std.proofs.Common.{[], sym, ap, subst, map}
+use Rattle.std.proofs.Common.{[], sym, subst, map}
 use Rattle.am_runs.specs.Records.{step_of}
 use Rattle.am_runs.specs.Accounts.{IsAccount}
 use Rattle.am_runs.proofs.Cuts.{each_nil}
