@@ -7,6 +7,7 @@ mod follow;
 pub mod laws;
 mod peaks;
 mod place;
+pub mod plain;
 mod run;
 mod running;
 mod spans;

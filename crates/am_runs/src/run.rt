@@ -1,6 +1,6 @@
 //! The record of a run.
 
-ghost use Rattle.std.specs.Prelude.{◌≡◌, ◌++◌, ℕ, [], ◌∷◌, ◌+◌, ◌<◌, ◌≤◌, length, MatchOption, IsTrue, ◌↔◌, OnOk};
+ghost use Rattle.std.specs.Prelude.{◌≡◌, ◌++◌, ℕ, [], ◌∷◌, ◌+◌, ◌<◌, ◌≤◌, length, map, MatchOption, IsTrue, ◌↔◌, OnOk};
 ghost use Rattle.am_runs.specs.Members.{last_of, member_of};
 ghost use Rattle.am_runs.specs.Records.{step_of};
 ghost use Rattle.am_runs.specs.Runs.{IsPossible, IsCalmAt, IsFirstFault};
@@ -63,6 +63,20 @@ impl<V: Version> Run<V> {
             standings: Vec::new(alloc),
             spare: 0,
         }
+    }
+
+    /// How many members there are.
+    pub fn members(&self) -> usize
+        ensures { result ≡ self.now.members }
+    {
+        self.members
+    }
+
+    /// The steps so far, in order.
+    pub fn steps(&self) -> &[Step<V>]
+        ensures { map step_of result.now ≡ self.now.steps }
+    {
+        &self.steps
     }
 
     /// Makes room for so many steps, which deliver at most so many versions in all.
