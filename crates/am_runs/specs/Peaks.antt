@@ -29,6 +29,7 @@ version_at steps place = in_step (slice_get steps place.step) place.number
 abbrev pub row_of : ℕ → ℕ
 row_of row = row
 
+-- and stands for whatever owns it
 abbrev pub row_entry : {Y : Type 0} → ℕ → Y → ℕ
 row_entry row owner = row
 
@@ -38,9 +39,11 @@ pub record HasRowRoom (peaks : Peaks) (n : ℕ) : Type 0 where
   pub places : length peaks.peaks.items + n ≤ vec_capacity peaks.peaks
   pub order : HasRoom peaks.order n
 
+-- a peak once its member is saved
 abbrev pub saved_peak : Peak → Peak
 saved_peak peak = record { top = peak.top; saved = peak.top }
 
+-- and once it is started from that
 abbrev pub started_peak : Peak → Peak
 started_peak peak = record { top = peak.saved; saved = peak.saved }
 
@@ -60,6 +63,7 @@ module _ {X : Type 0} (at_place : Place → Option X) where
   IsPlaced None top = top ≡ None
   IsPlaced (Some place) top = (g : X) × (at_place place ≡ Some g) × (top ≡ Some g)
 
+  -- the peak is that of these greatest versions
   pub record IsPeak (peak : Peak) (tops : Tops X) : Type 0 where
     pub top : IsPlaced peak.top tops.top
     pub saved : IsPlaced peak.saved tops.saved
@@ -69,6 +73,7 @@ module _ {X : Type 0} (at_place : Place → Option X) where
   owner_in None = None
   owner_in (Some head) = option_map (λ v. (head.member, v)) (at_place head.first)
 
+  -- that of the row of this number
   abbrev pub owner_at : List Head → ℕ → Option (ℕ × X)
   owner_at heads row = owner_in (slice_get heads row)
 

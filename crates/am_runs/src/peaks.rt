@@ -106,6 +106,10 @@ pub fn no_peaks(alloc: Global) -> Peaks
 }
 
 /// Makes room for so many more rows.
+///
+/// # Errors
+///
+/// [`AllocError`] where memory runs out. The rows stay as they are.
 pub fn make_rows(peaks: &mut Peaks, count: usize) -> Result<(), AllocError>
     ensures heads { peaks.new.heads.items ≡ peaks.old.heads.items }
     ensures peaks { peaks.new.peaks.items ≡ peaks.old.peaks.items }

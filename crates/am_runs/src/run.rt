@@ -79,7 +79,8 @@ impl<V: Version> Run<V> {
         &self.steps
     }
 
-    /// Makes room for so many steps, which deliver at most so many versions in all.
+    /// Makes room for so many steps, which deliver at most so many versions in all. A save and a start deliver none, and
+    /// need room for their step alone.
     ///
     /// # Errors
     ///

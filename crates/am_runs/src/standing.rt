@@ -24,6 +24,10 @@ pub struct Standing {
 }
 
 /// Makes what stands of so many members where there is no step yet.
+///
+/// # Errors
+///
+/// [`AllocError`] where memory runs out. What was made stands.
 pub fn fill_first<V: Version>(
     standings: &mut Vec<Standing>,
     members: usize,
