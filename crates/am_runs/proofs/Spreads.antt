@@ -71,12 +71,12 @@ module _ {X : Type 0} where
 
 -- ---- swift
 
-get_left : {A : Type 0} (xs ys : List A) (n : ℕ) → n < length xs → slice_get (xs ++ ys) n ≡ slice_get xs n
+pub get_left : {A : Type 0} (xs ys : List A) (n : ℕ) → n < length xs → slice_get (xs ++ ys) n ≡ slice_get xs n
 get_left [] ys n within = absurd (omega arith)
 get_left (x ∷ xs) ys zero within = refl
 get_left (x ∷ xs) ys (suc n) within = get_left xs ys n (omega arith)
 
-get_right : {A : Type 0} (xs ys : List A) (n : ℕ) → length xs ≤ n → slice_get (xs ++ ys) n ≡ slice_get ys (n - length xs)
+pub get_right : {A : Type 0} (xs ys : List A) (n : ℕ) → length xs ≤ n → slice_get (xs ++ ys) n ≡ slice_get ys (n - length xs)
 get_right [] ys n past = let same : n ≡ n - 0 = omega arith in ap (slice_get ys) same
 get_right (x ∷ xs) ys zero past = absurd (omega arith)
 get_right (x ∷ xs) ys (suc n) past = let same : n - length xs ≡ suc n - length (x ∷ xs) = omega arith in get_right xs ys n (omega arith) ∙ ap (slice_get ys) same

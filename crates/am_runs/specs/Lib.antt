@@ -6,3 +6,6 @@ pub mod Timely
 pub mod Tests
 pub mod Examples
 pub mod Settles
+pub mod Peaks
+pub mod Standings
+pub mod Accounts

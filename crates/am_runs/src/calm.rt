@@ -14,9 +14,9 @@ use am_version_order::{Moment, Version};
 
 /// The last collection of a member, and that of what is saved of it.
 #[derive(Clone, Copy)]
-struct Lasts {
-    last: Option<Moment>,
-    saved: Option<Moment>,
+pub struct Lasts {
+    pub last: Option<Moment>,
+    pub saved: Option<Moment>,
 }
 
 fn later(last: Option<Moment>, now: Moment) -> Option<Moment>
@@ -28,7 +28,7 @@ fn later(last: Option<Moment>, now: Moment) -> Option<Moment>
     }
 }
 
-fn lasts_after<V>(member: usize, lasts: Lasts, step: &Step<V>) -> Lasts
+pub fn lasts_after<V>(member: usize, lasts: Lasts, step: &Step<V>) -> Lasts
     ensures { lasts_seen result ≡ lasts_after member (lasts_seen lasts) (step_of step.now) }
 {
     if !step.is_at(member) {
@@ -161,7 +161,7 @@ fn top_in<'a, V: Version>(member: usize, key: &V::Key, steps: &'a [Step<V>]) -> 
 }
 
 /// The last collection of a member in steps.
-fn last_in<V>(member: usize, steps: &[Step<V>]) -> Option<Moment>
+pub fn last_in<V>(member: usize, steps: &[Step<V>]) -> Option<Moment>
     ensures { result ≡ last_in member (map step_of steps.now) }
 {
     let start = Lasts {
@@ -172,7 +172,7 @@ fn last_in<V>(member: usize, steps: &[Step<V>]) -> Option<Moment>
 }
 
 /// Whether a version comes in time, by the greatest taken of its key and the last collection.
-fn in_time<V: Version>(top: Option<&V>, last: Option<Moment>, now: Moment, version: &V) -> bool
+pub fn in_time<V: Version>(top: Option<&V>, last: Option<Moment>, now: Moment, version: &V) -> bool
     ensures { result ≡ in_time V.seen (option_copied top.entry) last now version.now }
 {
     match top {

@@ -3,10 +3,15 @@
 #![tactic(auto)]
 
 mod calm;
+mod follow;
 pub mod laws;
+mod peaks;
+mod place;
+pub mod plain;
 mod run;
 mod running;
 mod spans;
+mod standing;
 mod step;
 mod timely;
 

@@ -1,6 +1,6 @@
 //! The record of a run.
 
-ghost use Rattle.std.specs.Prelude.{◌≡◌, ◌++◌, ℕ, [], ◌∷◌, ◌+◌, ◌<◌, ◌≤◌, length, MatchOption, IsTrue, ◌↔◌, OnOk};
+ghost use Rattle.std.specs.Prelude.{◌≡◌, ◌++◌, ℕ, [], ◌∷◌, ◌+◌, ◌<◌, ◌≤◌, length, map, MatchOption, IsTrue, ◌↔◌, OnOk};
 ghost use Rattle.am_runs.specs.Members.{last_of, member_of};
 ghost use Rattle.am_runs.specs.Records.{step_of};
 ghost use Rattle.am_runs.specs.Runs.{IsPossible, IsCalmAt, IsFirstFault};
@@ -8,9 +8,12 @@ ghost use Rattle.am_runs.specs.Steps.{delivered_by};
 ghost use Rattle.am_runs.specs.Timely.{IsTimely};
 
 use crate::calm::first_fault;
+use crate::follow::write_down;
 use crate::laws::{one_step_more, timely_runs_are_calm};
+use crate::peaks::{Peaks, make_rows, no_peaks};
 use crate::running::{last_from, runs_from};
 use crate::spans::is_some_time;
+use crate::standing::{Standing, fill_first};
 use crate::step::Step;
 use crate::timely::is_timely;
 use am_version_order::{Interval, Moment, Version};
@@ -24,6 +27,8 @@ use std::marker::Model;
 pub struct Run<V: Version> {
     members: usize,
     steps: Vec<Step<V>>,
+    peaks: Peaks,
+    standings: Vec<Standing>,
     // For how many more versions there is room.
     spare: usize,
 }
@@ -31,7 +36,7 @@ pub struct Run<V: Version> {
 impl<V: Version> Model for Run<V> {
     ghost use Rattle.std.specs.Prelude.{◌-◌, map, vec_len, vec_capacity};
     ghost use Rattle.am_runs.specs.Records.{Record, step_of};
-    ghost use Rattle.am_runs.specs.Runs.{IsRun};
+    ghost use Rattle.am_runs.specs.Accounts.{IsAccount};
 
     ghost Value = { Record V };
 
@@ -42,7 +47,7 @@ impl<V: Version> Model for Run<V> {
       spare = run.spare;
     } };
 
-    ghost invariant = { λ run. IsRun V.seen V.Key.cmp run.members (map step_of run.steps.items) };
+    ghost invariant = { λ run. IsAccount V.seen V.Key.cmp run.members (map step_of run.steps.items) run.peaks run.standings.items run.spare };
 }
 
 impl<V: Version> Run<V> {
@@ -54,11 +59,28 @@ impl<V: Version> Run<V> {
         Run {
             members,
             steps: Vec::new(alloc),
+            peaks: no_peaks(alloc),
+            standings: Vec::new(alloc),
             spare: 0,
         }
     }
 
-    /// Makes room for so many steps, which deliver at most so many versions in all.
+    /// How many members there are.
+    pub fn members(&self) -> usize
+        ensures { result ≡ self.now.members }
+    {
+        self.members
+    }
+
+    /// The steps so far, in order.
+    pub fn steps(&self) -> &[Step<V>]
+        ensures { map step_of result.now ≡ self.now.steps }
+    {
+        &self.steps
+    }
+
+    /// Makes room for so many steps, which deliver at most so many versions in all. A save and a start deliver none, and
+    /// need room for their step alone.
     ///
     /// # Errors
     ///
@@ -71,8 +93,12 @@ impl<V: Version> Run<V> {
         ensures kept_room { self.old.room ≤ self.new.room }
         ensures kept_spare { self.old.spare ≤ self.new.spare }
     {
+        fill_first(&mut self.standings, self.members, &self.steps)?;
         self.steps.reserve(steps)?;
-        self.spare = self.spare.max(versions);
+        make_rows(&mut self.peaks, versions)?;
+        if self.spare < versions {
+            self.spare = versions;
+        }
         Ok(())
     }
 
@@ -87,22 +113,30 @@ impl<V: Version> Run<V> {
         ensures spare { self.old.spare ≤ self.new.spare + length (delivered_by (step_of step)) }
     {
         one_step_more::<V>();
+        let number = self.steps.len();
         self.spare -= step.versions().len();
         self.steps.push_reserved(step);
+        write_down(&mut self.peaks, &mut self.standings, &self.steps, number);
     }
 
     /// Whether a member runs. It takes no memory.
     pub fn runs(&self, place: usize) -> bool
         ensures { result ≡ (member_of self.now.members place self.now.steps).runs }
     {
-        runs_from(place, place < self.members, &self.steps)
+        match self.standings.get(place) {
+            Some(standing) if place < self.members => standing.runs,
+            _ => runs_from(place, place < self.members, &self.steps),
+        }
     }
 
     /// The moment of a member's last event or start, or the first moment where it had none. It takes no memory.
     pub fn last(&self, place: usize) -> Moment
         ensures { result ≡ last_of (member_of self.now.members place self.now.steps) }
     {
-        last_from(place, &self.steps)
+        match self.standings.get(place) {
+            Some(standing) => standing.acted,
+            None => last_from(place, &self.steps),
+        }
     }
 
     /// The number of the first step, counted from 0, with which a member is not calm, or `None` where it is calm. It
@@ -111,7 +145,10 @@ impl<V: Version> Run<V> {
         ensures { MatchOption result (IsCalmAt V.seen self.now.members place self.now.steps)
             (IsFirstFault V.seen self.now.members place self.now.steps) }
     {
-        first_fault(place, &self.steps)
+        match self.standings.get(place) {
+            Some(standing) => standing.fault,
+            None => first_fault(place, &self.steps),
+        }
     }
 
     /// Whether the run keeps a spread and a flight time. It takes no memory.

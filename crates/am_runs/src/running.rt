@@ -8,7 +8,7 @@ use crate::step::Step;
 use am_version_order::Moment;
 
 /// Whether a member runs after a step, where it ran before that or not.
-fn runs_after<V>(member: usize, runs: bool, step: &Step<V>) -> bool
+pub fn runs_after<V>(member: usize, runs: bool, step: &Step<V>) -> bool
     ensures { result ≡ runs_after member runs (step_of step.now) }
 {
     match step {
@@ -30,7 +30,7 @@ pub fn runs_from<V>(member: usize, runs: bool, steps: &[Step<V>]) -> bool
 }
 
 /// The moment of a member's last event or start after a step, where it was this before that.
-fn last_after<V>(member: usize, last: Moment, step: &Step<V>) -> Moment
+pub fn last_after<V>(member: usize, last: Moment, step: &Step<V>) -> Moment
     ensures { result ≡ last_after member last (step_of step.now) }
 {
     if !step.is_at(member) {

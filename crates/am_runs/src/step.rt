@@ -1,6 +1,6 @@
 //! The steps of a run.
 
-ghost use Rattle.std.specs.Prelude.{◌≡◌, length};
+ghost use Rattle.std.specs.Prelude.{◌≡◌, ◌==◌, ℕ, false, length, MatchOption};
 ghost use Rattle.am_runs.specs.Records.{step_of};
 ghost use Rattle.am_runs.specs.Steps.{is_at, moment, delivered_by, flights_by};
 
@@ -73,6 +73,21 @@ impl<V> Step<V> {
             | Step::Stopped { place }
             | Step::Started { place, .. } => *place == member,
             Step::Refused { .. } => false,
+        }
+    }
+
+    /// The place of the member that it is a step of.
+    pub fn place(&self) -> Option<usize>
+        ensures { MatchOption result ((q : ℕ) → is_at q (step_of self.now) ≡ false) (λ place. (q : ℕ) → is_at q (step_of self.now) ≡ (place == q)) }
+    {
+        match self {
+            Step::Took { place, .. }
+            | Step::Ticked { place, .. }
+            | Step::Back { place, .. }
+            | Step::Saved { place }
+            | Step::Stopped { place }
+            | Step::Started { place, .. } => Some(*place),
+            Step::Refused { .. } => None,
         }
     }
 

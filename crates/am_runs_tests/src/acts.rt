@@ -1,7 +1,7 @@
 //! Steps as plain data, written into a run where they are possible.
 
 use crate::notes::Note;
-use am_runs::{Run, Source, Step};
+use am_runs::{Run, Source, Step, plain};
 use am_version_order::{Interval, Moment};
 use std::alloc::{AllocError, Global};
 
@@ -12,6 +12,8 @@ pub enum Verb {
     Tick,
     Save,
     Stop,
+    /// From what was saved.
+    Start,
     /// Refused, since the moment is before its last one.
     Back,
 }
@@ -37,7 +39,7 @@ fn at(seconds: u64) -> Moment {
 
 fn note((updated, expires): (u64, u64)) -> Note {
     Note {
-        id: b'k',
+        id: if expires % 2 == 0 { b'k' } else { b'l' },
         updated: at(updated),
         expires: at(expires),
         content: [0],
@@ -109,6 +111,21 @@ fn stop(run: &mut Run<Note>, place: usize) -> Result<bool, AllocError> {
     Ok(true)
 }
 
+fn start(run: &mut Run<Note>, place: usize, now: Moment) -> Result<bool, AllocError> {
+    run.make_room(1, 0)?;
+    if place >= run.members() {
+        return Ok(false);
+    }
+    if run.runs(place) {
+        return Ok(false);
+    }
+    if now < run.last(place) {
+        return Ok(false);
+    }
+    run.append(Step::Started { place, now });
+    Ok(true)
+}
+
 // Whether it was possible, and so written down.
 fn write_down(
     alloc: Global,
@@ -121,6 +138,7 @@ fn write_down(
         Verb::Back => back(run, place, at(now)),
         Verb::Save => save(run, place),
         Verb::Stop => stop(run, place),
+        Verb::Start => start(run, place, at(now)),
     }
 }
 
@@ -151,4 +169,52 @@ pub fn play(alloc: Global, acts: &[Act]) -> Result<Told, AllocError> {
         }
     }
     Ok(read_off(acts.len(), &run))
+}
+
+// An act that follows from two numbers, in no order.
+fn drawn(seed: u64, number: u64) -> Act {
+    let spread = seed
+        .wrapping_mul(0x9E37_79B9_7F4A_7C15)
+        .wrapping_add(number.wrapping_mul(0xBF58_476D_1CE4_E5B9));
+    let mixed = (spread ^ (spread >> 31)).wrapping_mul(0x94D0_49BB_1331_11EB) >> 20;
+    let verb = match mixed % 10 {
+        0 => Verb::Tick,
+        1 => Verb::Save,
+        2 => Verb::Stop,
+        3 => Verb::Start,
+        4 => Verb::Start,
+        5 => Verb::Back,
+        _ => Verb::Take,
+    };
+    let place = if mixed / 16 % 2 == 0 { 0 } else { 1 };
+    let updated = mixed / 32 % 16;
+    let expires = updated.wrapping_add(mixed / 512 % 32);
+    (verb, place, number / 2, (updated, expires))
+}
+
+// Whether a run tells of each place what the plain loops tell.
+fn agrees(run: &Run<Note>) -> bool {
+    for place in 0..3 {
+        if run.first_fault(place) != plain::first_fault(place, run.steps()) {
+            return false;
+        }
+    }
+    true
+}
+
+/// Plays acts that follow from a number, where they are possible. How many were, and after how many of them a run told
+/// the first faults as the plain loops do.
+pub fn play_drawn(alloc: Global, seed: u64) -> Result<(usize, usize), AllocError> {
+    let mut run = Run::new(alloc, 2);
+    let mut made = 0usize;
+    let mut agreed = 0usize;
+    for number in 0..60u64 {
+        if write_down(alloc, &mut run, drawn(seed, number))? {
+            made = made.wrapping_add(1);
+            if agrees(&run) {
+                agreed = agreed.wrapping_add(1);
+            }
+        }
+    }
+    Ok((made, agreed))
 }

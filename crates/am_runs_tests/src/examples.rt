@@ -1,6 +1,6 @@
 //! Small runs that were worked by hand.
 
-use crate::acts::{Act, Told, Verb, play};
+use crate::acts::{Act, Told, Verb, play, play_drawn};
 
 // Of one key, the greater version goes sooner.
 const GREATER: (u64, u64) = (6, 10);
@@ -52,6 +52,28 @@ const STOPPED: [Act; 3] = [
     (Verb::Tick, 0, 1, NONE),
 ];
 
+// What was collected before a save is known after a start, and what was taken after it is not.
+const RESTARTED: [Act; 8] = [
+    (Verb::Take, 0, 7, GREATER),
+    (Verb::Tick, 0, 12, NONE),
+    (Verb::Save, 0, 0, NONE),
+    (Verb::Stop, 0, 0, NONE),
+    (Verb::Start, 0, 13, NONE),
+    (Verb::Take, 1, 14, GREATER),
+    (Verb::Take, 0, 20, LESSER),
+    (Verb::Take, 1, 20, LESSER),
+];
+
+// Nothing was saved, so nothing is known after a start.
+const FORGIVEN: [Act; 6] = [
+    (Verb::Take, 0, 7, GREATER),
+    (Verb::Tick, 0, 12, NONE),
+    (Verb::Stop, 0, 0, NONE),
+    (Verb::Start, 0, 13, NONE),
+    (Verb::Take, 0, 20, LESSER),
+    (Verb::Start, 0, 21, NONE),
+];
+
 fn tell(done: usize, first: Option<usize>, timely: bool) -> Told {
     Told {
         done,
@@ -94,4 +116,28 @@ fn a_moment_back_is_the_first_fault(rt: HostRuntime) {
 fn a_stopped_member_does_nothing(rt: HostRuntime) {
     let found = play(rt.alloc(), &STOPPED);
     assert!(rt; found == Ok(tell(2, None, true)));
+}
+
+#[test]
+fn a_start_brings_back_what_was_saved(rt: HostRuntime) {
+    let found = play(rt.alloc(), &RESTARTED);
+    assert!(rt; found == Ok(tell(8, Some(6), false)));
+}
+
+#[test]
+fn a_start_forgets_what_was_not_saved(rt: HostRuntime) {
+    let found = play(rt.alloc(), &FORGIVEN);
+    assert!(rt; found == Ok(tell(5, None, false)));
+}
+
+#[test]
+fn a_run_tells_faults_as_plain_loops_do(rt: HostRuntime) {
+    let mut made = 0usize;
+    for seed in 0..40u64 {
+        let found = play_drawn(rt.alloc(), seed);
+        let (steps, agreed) = found.unwrap_or((1, 0));
+        assert!(rt; agreed == steps);
+        made = made.wrapping_add(steps);
+    }
+    assert!(rt; made > 1_000);
 }

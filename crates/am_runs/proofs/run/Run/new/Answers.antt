@@ -1,0 +1,20 @@
+use Rattle.std.proofs.Common.{[], sym, subst, map}
+use Rattle.am_runs.specs.Records.{step_of}
+use Rattle.am_runs.specs.Accounts.{IsAccount}
+use Rattle.am_runs.proofs.Cuts.{each_nil}
+use Rattle.am_runs.proofs.Owners.{rows_none}
+use Rattle.am_runs.proofs.Stands.{stands_none}
+use Rattle.am_runs.specs.Runs.{IsPossible}
+use Rattle.am_runs.specs.Standings.{AreStandings}
+use Rattle.am_runs.proofs.run.Run.new.Goals as goal
+
+pub invariant_of-result : goal.invariant_of-result
+invariant_of-result g c =
+    let seen = g.V.Version.seen in
+    let cmp = g.V.Key.Ord.cmp in
+    subst (λ ss. IsAccount seen cmp c.args.members (map step_of ss) c.no_peaks.result c.new-2.result.items 0) (sym c.new.ensures.items) (record {
+      run = each_nil (IsPossible seen cmp c.args.members);
+      rows = rows_none seen cmp c.no_peaks.result c.no_peaks.ensures.heads c.no_peaks.ensures.peaks c.no_peaks.ensures.order;
+      stands = subst (λ ss. AreStandings seen cmp ss []) (sym c.new-2.ensures.items) (stands_none seen cmp);
+      room = c.no_peaks.ensures.room;
+    })
