@@ -1,8 +1,9 @@
 //! What is sent for a frame, and what is held after it.
 
+use crate::answers::{Wanted, is_answered};
 use crate::bytes::{E1, V1, V2, VC, VN};
-use crate::fixtures::{Sending, are_sent, at, frame_of, holding_both};
-use am_instance::{Event, Instance, Reply};
+use crate::fixtures::{Sending, at, frame_of, holding_both};
+use am_instance::{Event, Instance};
 use std::alloc::Global;
 use std::process::Abort;
 
@@ -124,37 +125,36 @@ type Row = (
     (usize, usize),
 );
 
-// Whether these frames are sent for an event, and how many silences and entries are held then.
+// How many silences and entries are held after an event for which these frames are sent.
 fn comes_of(
     alloc: Global,
     instance: &mut Instance,
     event: Event,
     seconds: i64,
-    sent: &[Sending],
+    sent: &'static [Sending],
 ) -> Option<(usize, usize)> {
-    let outcome = instance.step(event, at(seconds)).ok()?;
-    if !matches!(outcome.reply, Reply::Nothing) || !are_sent(alloc, &outcome, sent) {
+    let answered = is_answered(alloc, instance, event, at(seconds), &Wanted::Sent(sent));
+    if answered != Ok(true) {
         return None;
     }
     Some((instance.silences().len(), instance.log().len()))
 }
 
-fn comes_of_frame(alloc: Global, row: Row) -> Option<(usize, usize)> {
-    let (silences, log, came, seconds, sent, _) = row;
-    let mut instance = holding_both(alloc, silences, log)?;
-    let frame = frame_of(alloc, came)?;
-    comes_of(
-        alloc,
-        &mut instance,
-        Event::Frame { sender: 1, frame },
-        seconds,
-        sent,
-    )
+// The same after a frame of `b`.
+fn comes_of_frame(alloc: Global, instance: &mut Instance, row: Row) -> Option<(usize, usize)> {
+    let frame = frame_of(alloc, row.2)?;
+    let event = Event::Frame { sender: 1, frame };
+    comes_of(alloc, instance, event, row.3, row.4)
+}
+
+fn comes_of_row(alloc: Global, row: Row) -> Option<(usize, usize)> {
+    let mut instance = holding_both(alloc, row.0, row.1)?;
+    comes_of_frame(alloc, &mut instance, row)
 }
 
 fn are_answered(rt: &impl Abort, alloc: Global, rows: &[Row]) {
     for (i, &row) in rows.iter().enumerate() {
-        let sizes = comes_of_frame(alloc, row);
+        let sizes = comes_of_row(alloc, row);
         assert!(rt; sizes == Some(row.5), "{i}: {sizes:?}");
     }
 }
@@ -241,29 +241,22 @@ fn a_tick_drops_what_is_not_live(rt: HostRuntime) {
     are_answered(&rt, rt.alloc(), &rows);
 }
 
-/// Rows of the silences and of the log that are held, a moment in seconds, and the frame that is sent to `b` where it is
-/// to be pulled from.
-type PullRow = (&'static [u8], &'static [u8], i64, &'static [u8]);
+/// Rows of the silences and of the log that are held, a moment in seconds, and what is sent where `b` is to be pulled from.
+type PullRow = (&'static [u8], &'static [u8], i64, &'static [Sending]);
 
 fn comes_of_pull(alloc: Global, (silences, log, seconds, sent): PullRow) -> Option<(usize, usize)> {
     let mut instance = holding_both(alloc, silences, log)?;
-    comes_of(
-        alloc,
-        &mut instance,
-        Event::PullFrom(1),
-        seconds,
-        &[(1, sent)],
-    )
+    comes_of(alloc, &mut instance, Event::PullFrom(1), seconds, sent)
 }
 
 // What isn't live is sent too.
 #[test]
 fn a_peer_is_pulled_from_by_a_push_of_all_that_is_held(rt: HostRuntime) {
     let rows: [PullRow; 4] = [
-        (&[], &[], 11, &PUSH_NOTHING),
-        (&V1, &[], 11, &PUSH_V1),
-        (&V1, &[], 300, &PUSH_V1),
-        (&V2, &E1, 300, &PUSH_V2_E1),
+        (&[], &[], 11, &[(1, &PUSH_NOTHING)]),
+        (&V1, &[], 11, &[(1, &PUSH_V1)]),
+        (&V1, &[], 300, &[(1, &PUSH_V1)]),
+        (&V2, &E1, 300, &[(1, &PUSH_V2_E1)]),
     ];
     for row in rows {
         let sizes = comes_of_pull(rt.alloc(), row);
@@ -274,7 +267,7 @@ fn a_peer_is_pulled_from_by_a_push_of_all_that_is_held(rt: HostRuntime) {
 // A silence with an old comment and the same one in the new form are one version.
 #[test]
 fn old_comments_change_nothing(rt: HostRuntime) {
-    let pushed = comes_of_pull(rt.alloc(), (&VC, &[], 11, &PUSH_VN));
+    let pushed = comes_of_pull(rt.alloc(), (&VC, &[], 11, &[(1, &PUSH_VN)]));
     assert_eq!(rt; pushed, Some((1, 0)));
     let rows: [Row; 2] = [
         (&VN, &[], &PUSH_VN, 11, &[(1, &PULL_VN)], (1, 0)),
