@@ -15,7 +15,7 @@ pub const FRESH: &str = "00000000-0000-4000-8000-000000000000";
 /// The state of the one silence that is shown, and the hashes that fire in the one entry; none where none is shown.
 pub type Shown = (Option<State>, Option<(u64, u64)>);
 
-/// What a step is to answer. No other version is made, and no other frame is sent.
+/// What comes of a step. No other version is made, and no other frame is sent.
 #[derive(Clone, Copy)]
 pub enum Wanted {
     /// Silence `a` has a new version, which goes to both peers.
@@ -53,21 +53,36 @@ pub fn is_answered(
     now: Moment,
     wanted: &Wanted,
 ) -> Result<bool, StepError> {
-    let outcome = instance.step(event, now)?;
-    Ok(is_as_wanted(alloc, &outcome, wanted))
+    match instance.step(event, now) {
+        Ok(outcome) => Ok(is_as_wanted(alloc, &outcome, wanted)),
+        Err(error) => Err(error),
+    }
 }
 
 fn is_as_wanted(alloc: Global, outcome: &Outcome, wanted: &Wanted) -> bool {
     match wanted {
-        Wanted::Updated(moments) => is_made(outcome, "a", *moments),
-        Wanted::Created(moments) => is_made(outcome, FRESH, *moments),
-        Wanted::Replaced(new, ended) => are_made(outcome, *new, *ended),
-        Wanted::Deleted(moments) => is_deleted(outcome, *moments),
+        Wanted::Updated(moments) => is_made(outcome, "a", moments),
+        Wanted::Created(moments) => is_made(outcome, FRESH, moments),
+        Wanted::Replaced(new, ended) => are_made(outcome, new, ended),
+        Wanted::Deleted(moments) => is_deleted(outcome, moments),
         Wanted::Logged(firing, changed) => is_logged(outcome, firing, *changed),
-        Wanted::Sent(sent) => is_quiet(outcome) && are_sent(alloc, outcome, sent),
-        Wanted::SentTo(places) => is_quiet(outcome) && are_sent_to(outcome, places),
-        _ => makes_nothing(outcome) && are_sent_to(outcome, &[]) && is_said(&outcome.reply, wanted),
+        Wanted::Sent(sent) => are_all_sent(alloc, outcome, sent),
+        Wanted::SentTo(places) => are_all_sent_to(outcome, places),
+        _ => is_just_said(outcome, wanted),
     }
+}
+
+// Nothing but an answer comes of the step.
+fn is_just_said(outcome: &Outcome, wanted: &Wanted) -> bool {
+    makes_nothing(outcome) && are_sent_to(outcome, &[]) && is_said(&outcome.reply, wanted)
+}
+
+fn are_all_sent(alloc: Global, outcome: &Outcome, sent: &[Sending]) -> bool {
+    is_quiet(outcome) && are_sent(alloc, outcome, sent)
+}
+
+fn are_all_sent_to(outcome: &Outcome, places: &[Place]) -> bool {
+    is_quiet(outcome) && are_sent_to(outcome, places)
 }
 
 fn makes_nothing(outcome: &Outcome) -> bool {
@@ -88,22 +103,22 @@ fn is_posted(outcome: &Outcome, wanted: &str) -> bool {
 }
 
 // One version of a silence was made, and goes to both peers.
-fn makes_one(outcome: &Outcome, id: &str, moments: Moments) -> bool {
+fn makes_one(outcome: &Outcome, id: &str, moments: &Moments) -> bool {
     let [version] = outcome.made.silences.as_slice() else {
         return false;
     };
     outcome.made.log.is_none() && is_version(version, id, moments) && are_sent_to(outcome, &[1, 2])
 }
 
-fn is_made(outcome: &Outcome, id: &str, moments: Moments) -> bool {
+fn is_made(outcome: &Outcome, id: &str, moments: &Moments) -> bool {
     makes_one(outcome, id, moments) && is_posted(outcome, id)
 }
 
-fn is_deleted(outcome: &Outcome, moments: Moments) -> bool {
+fn is_deleted(outcome: &Outcome, moments: &Moments) -> bool {
     makes_one(outcome, "a", moments) && matches!(outcome.reply, Reply::Deleted)
 }
 
-fn are_made(outcome: &Outcome, new: Moments, ended: Moments) -> bool {
+fn are_made(outcome: &Outcome, new: &Moments, ended: &Moments) -> bool {
     let [first, second] = outcome.made.silences.as_slice() else {
         return false;
     };
@@ -133,7 +148,6 @@ fn is_logged(outcome: &Outcome, firing: &[u64], changed: bool) -> bool {
         && are_sent_to(outcome, places)
 }
 
-// An answer for which nothing is made.
 fn is_said(reply: &Reply, wanted: &Wanted) -> bool {
     match wanted {
         Wanted::NotLogged => matches!(reply, Reply::Logged(false)),
@@ -142,7 +156,7 @@ fn is_said(reply: &Reply, wanted: &Wanted) -> bool {
         Wanted::Silences(count) => are_listed(reply, *count),
         Wanted::Decided(decision) => is_decided(reply, *decision),
         Wanted::Muted(ids, broken) => is_muted(reply, ids, broken),
-        Wanted::Shown(wanted) => is_shown(reply, *wanted),
+        Wanted::Shown(shown) => is_shown(reply, *shown),
         _ => false,
     }
 }

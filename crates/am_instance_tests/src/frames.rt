@@ -30,16 +30,26 @@ const NONE_YET: Tally = Tally { came: 0, right: 0 };
 /// Where frames are sent to for the first frame, and for each later one.
 type Places = [&'static [Place]; 2];
 
-// Takes a frame of `b` at 11 s.
-fn take(alloc: Global, instance: &mut Instance, frame: Frame, places: Places, tally: &mut Tally) {
-    let wanted = Wanted::SentTo(if tally.came == 0 {
-        places[0]
-    } else {
-        places[1]
-    });
-    tally.came = tally.came.saturating_add(1);
+fn places_of(places: &Places, came: usize) -> &'static [Place] {
+    if came == 0 { places[0] } else { places[1] }
+}
+
+// Whether frames go to these places for a frame of `b` at 11 s.
+fn is_sent_on(
+    alloc: Global,
+    instance: &mut Instance,
+    frame: Frame,
+    places: &'static [Place],
+) -> bool {
     let event = Event::Frame { sender: 1, frame };
-    if is_answered(alloc, instance, event, at(11), &wanted) == Ok(true) {
+    is_answered(alloc, instance, event, at(11), &Wanted::SentTo(places)) == Ok(true)
+}
+
+// Takes a frame.
+fn take(alloc: Global, instance: &mut Instance, frame: Frame, places: &Places, tally: &mut Tally) {
+    let wanted = places_of(places, tally.came);
+    tally.came = tally.came.saturating_add(1);
+    if is_sent_on(alloc, instance, frame, wanted) {
         tally.right = tally.right.saturating_add(1);
     }
 }
@@ -50,7 +60,7 @@ fn take_piece(
     instance: &mut Instance,
     feeder: &mut Feeder,
     piece: &[u8],
-    places: Places,
+    places: &Places,
     tally: &mut Tally,
 ) -> Option<Option<FrameError>> {
     let fed = feeder.feed(piece).ok()?;
@@ -71,7 +81,7 @@ fn tally_of_both(
     let mut tally = NONE_YET;
     let mut feeder = Feeder::new(alloc);
     for piece in [front, rest] {
-        let fault = take_piece(alloc, instance, &mut feeder, piece, places, &mut tally);
+        let fault = take_piece(alloc, instance, &mut feeder, piece, &places, &mut tally);
         if fault != Some(None) {
             return None;
         }
@@ -123,7 +133,7 @@ fn tally_of_stream(
     let places: Places = [&[], &[1]];
     let mut tally = NONE_YET;
     let mut feeder = Feeder::new(alloc);
-    let fault = take_piece(alloc, instance, &mut feeder, bytes, places, &mut tally)?;
+    let fault = take_piece(alloc, instance, &mut feeder, bytes, &places, &mut tally)?;
     if !has_ended(&mut feeder) {
         return None;
     }

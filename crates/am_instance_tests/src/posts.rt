@@ -46,34 +46,34 @@ const fn ended_from(starts_at: i64) -> Moments {
     [(starts_at, 0), (20, 0), (20, 0), (120, 0)]
 }
 
-fn put_matchers(alloc: Global, matchers: &mut Matchers, rows: &[MatcherRow]) -> Option<()> {
+fn matchers(alloc: Global, rows: &[MatcherRow]) -> Option<Matchers> {
+    let mut matchers = Matchers::none();
     for &(kind, name, pattern) in rows {
         let matcher = MatcherRef::new(kind, name, pattern);
         matchers.push(alloc, &matcher).ok()?;
     }
-    Some(())
+    Some(matchers)
 }
 
 // An identifier; none where it is empty.
-fn put_id(alloc: Global, posted: &mut Posted, id: &str) -> Option<()> {
-    if !id.is_empty() {
-        posted.id = Some(Text::copied(alloc, id).ok()?);
+fn id_of(alloc: Global, id: &str) -> Option<Option<Text>> {
+    if id.is_empty() {
+        return Some(None);
     }
-    Some(())
+    Some(Some(Text::copied(alloc, id).ok()?))
 }
 
 fn posted(alloc: Global, (id, rows, starts_at, ends_at): Post) -> Option<Posted> {
-    let mut posted = Posted {
-        id: None,
-        matchers: Matchers::none(),
+    let id = id_of(alloc, id)?;
+    let matchers = matchers(alloc, rows)?;
+    Some(Posted {
+        id,
+        matchers,
         starts_at: at_nanos(starts_at),
         ends_at: at(ends_at),
         created_by: Text::new(String::new(alloc)),
         comment: Text::new(String::new(alloc)),
-    };
-    put_id(alloc, &mut posted, id)?;
-    put_matchers(alloc, &mut posted.matchers, rows)?;
-    Some(posted)
+    })
 }
 
 // Whether a post is answered so.

@@ -44,30 +44,27 @@ fn fault_of_tick(
     fault(alloc, instance, Event::Frame { sender, frame }, seconds)
 }
 
-// Why a peer can't be pulled from, and why its Tick is refused, by the first of three members.
-fn faults(alloc: Global, place: Place, seconds: i64) -> Option<[Option<StepError>; 2]> {
+// Whether a member can't be pulled from, and its Tick is refused, for this cause, by the first of three members.
+fn are_refused(alloc: Global, place: Place, seconds: i64, wanted: StepError) -> Option<bool> {
     let mut instance = instance(alloc, 10)?;
-    let pull = fault(alloc, &mut instance, Event::PullFrom(place), seconds);
-    let tick = fault_of_tick(alloc, &mut instance, place, seconds);
-    Some([pull, tick])
+    let pull = fault(alloc, &mut instance, Event::PullFrom(place), seconds) == Some(wanted);
+    let tick = fault_of_tick(alloc, &mut instance, place, seconds) == Some(wanted);
+    Some(pull && tick)
 }
 
 #[test]
 fn a_place_of_no_peer_is_refused(rt: HostRuntime) {
     for place in [0, 3, u64::MAX] {
-        let faults = faults(rt.alloc(), place, 20);
-        assert!(rt;
-            faults == Some([Some(StepError::UnknownPeer), Some(StepError::UnknownPeer)]),
-            "{place}"
-        );
+        let are_refused = are_refused(rt.alloc(), place, 20, StepError::UnknownPeer);
+        assert!(rt; are_refused == Some(true), "{place}");
     }
 }
 
 #[test]
 fn a_moment_before_the_last_one_comes_before_a_place_of_no_peer(rt: HostRuntime) {
-    let faults = faults(rt.alloc(), 0, 9);
-    let back = Some(StepError::MomentBack { last: at(10) });
-    assert_eq!(rt; faults, Some([back, back]));
+    let back = StepError::MomentBack { last: at(10) };
+    let are_refused = are_refused(rt.alloc(), 0, 9, back);
+    assert_eq!(rt; are_refused, Some(true));
 }
 
 /// A Delta of silences whose second row is cut: its length stands at 33.
