@@ -244,16 +244,21 @@ def test_cut_output():
         compare("the bytes before the cut", file.read(), TWO_KEYS[:CUT])
 
 
-# Under so many bytes the system may have no room for the program or its stack, and kills it.
-ROOM_TO_START = 1 << 22
+# How many bytes the program may take: page by page at first, and then by more.
+LIMITS = [*range(0, 1 << 20, 1 << 12), *range(1 << 20, 1 << 26, 1 << 16)]
 
 
 def outcomes_under_limits(words, **how):
-    """What comes of the words as the memory that the program may take rises, until it is enough."""
+    """What comes of the words as the memory that the program may take rises, until it is enough.
+
+    The limit is on data. One on the whole address space would be met by the stack too, which the kernel has to
+    refuse by killing the program. At the lowest limits the program doesn't start: the system kills it, or its
+    loader ends it. Once it has started it has to at each higher one.
+    """
     found = []
-    for limit in range(1 << 20, 1 << 26, 1 << 16):
-        ran = run(words, preexec_fn=lambda: resource.setrlimit(resource.RLIMIT_AS, (limit, limit)), **how)
-        if limit < ROOM_TO_START and (ran[0] < 0 or ran[0] == 127):
+    for limit in LIMITS:
+        ran = run(words, preexec_fn=lambda: resource.setrlimit(resource.RLIMIT_DATA, (limit, limit)), **how)
+        if not found and (ran[0] < 0 or ran[0] == 127):
             continue
         if ran not in found:
             found.append(ran)

@@ -35,11 +35,12 @@ abbrev pub IsSaid : Result (Bor Reply) (Bor Refusal) → List ℕ → Type 0
 IsSaid (Ok reply) bytes = IsReplyBytes reply.now bytes
 IsSaid (Err refusal) bytes = bytes ≡ line_bytes (line_seen refusal.now)
 
--- the status of a reply, and of either
+-- the status of a reply
 abbrev pub reply_status : Reply → ℕ
 reply_status (replies.Refused error) = (refused_line error).status
 reply_status _ = 200
 
+-- the status of a reply, or of a refusal
 abbrev pub said_status : Result (Bor Reply) (Bor Refusal) → ℕ
 said_status (Ok reply) = reply_status reply.now
 said_status (Err refusal) = refusal.now.status
@@ -50,6 +51,7 @@ HasStatus status bytes = (allow : Option (List ℕ)) × (body : List ℕ) × (by
 
 -- ---- bytes that go out
 
+-- the bytes of a reply, its own or a constant
 abbrev pub bytes_of : ReplyBytes → List ℕ
 bytes_of (Own bytes) = bytes.items
 bytes_of (Fixed bytes) = bytes.now

@@ -6,6 +6,7 @@ use Rattle.std.specs.declared.cmp.Ordering.{Ordering}
 use Rattle.am_version_order.specs.Versions.{Version}
 use Rattle.am_merge.specs.Maps.{greater_of, if_live, at}
 
+-- what happens to a map
 pub data Event (X : Type 0) : Type 0 where
   -- a version is taken, live or not
   Delivered : (version : X) → Event X
@@ -18,11 +19,13 @@ pub data Event (X : Type 0) : Type 0 where
 abbrev pub Events : Type 0 → Type 0
 Events X = List (Event X × ℕ)
 
+-- the versions that an event delivers
 abbrev pub delivered : {X : Type 0} → Event X → List X
 delivered (Delivered v) = v ∷ []
 delivered Collected = []
 delivered Passed = []
 
+-- the moments at which an event collects
 abbrev pub collected : {X : Type 0} → Event X → ℕ → List ℕ
 collected (Delivered v) now = []
 collected Collected now = now ∷ []

@@ -22,6 +22,7 @@ abbrev pub event_of : {X : Type 0} → Step X → Event X
 event_of (Take v) = Delivered v
 event_of Collect = Collected
 
+-- the events that steps are
 abbrev pub events_of : {X : Type 0} → List (Step X × ℕ) → Events X
 events_of steps = map (λ s. (event_of s.0, s.1)) steps
 

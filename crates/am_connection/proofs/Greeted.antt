@@ -22,7 +22,7 @@ pub greets_fault : (config : Settings) (input mid_input left : Option (List ℕ)
 greets_fault config input mid_input left bytes buffer count (Read at) consumed counted open_ piece =
     (bytes, subst (λ (b : List ℕ). Consumes input left b) (append-nil bytes) (Consumes-trans input mid_input left bytes [] consumed piece.1), (open_, piece.0 ∙ counted))
 greets_fault config input mid_input left bytes buffer count TooLarge consumed counted open_ piece =
-    (bytes ++ piece.1 ∷ [], Consumes-trans input mid_input left bytes (piece.1 ∷ []) consumed piece.2, length-append bytes (piece.1 ∷ []) ∙ ap (λ n. n + 1) (sym counted ∙ piece.0))
+    (bytes ++ piece.1 ∷ [], Consumes-trans input mid_input left bytes (piece.1 ∷ []) consumed piece.2, (bytes, piece.1, refl, sym counted ∙ piece.0, open_))
 greets_fault config input mid_input left bytes buffer count (Write written) consumed counted open_ piece = absurd piece
 greets_fault config input mid_input left bytes buffer count (InFrame error) consumed counted open_ piece = absurd piece
 greets_fault config input mid_input left bytes buffer count UnknownName consumed counted open_ piece = absurd piece

@@ -23,6 +23,7 @@ pub record Effects : Type 0 where
   pub sent : Sent
   pub ticked : Bool
 
+-- no step was made
 abbrev pub no_effects : Effects
 no_effects = record { sent = nothing_sent; ticked = false }
 
@@ -30,10 +31,11 @@ no_effects = record { sent = nothing_sent; ticked = false }
 abbrev pub capped : ℕ → ℕ
 capped n = min n (2 ^ 64 - 1)
 
--- the frames of one more step are kept, or there is no memory for them and they are counted
+-- the frames of one more step are kept
 abbrev pub with_more : Sent → Sent → Sent
 with_more before more = record { frames = before.frames ++ more.frames; memory = capped (before.memory + more.memory); limit = capped (before.limit + more.limit) }
 
+-- there is no memory for the frames of one more step, and they are counted
 abbrev pub without_more : Sent → Sent → Sent
 without_more before more = record { frames = before.frames; memory = capped (capped (before.memory + more.memory) + length more.frames); limit = capped (before.limit + more.limit) }
 
@@ -102,12 +104,13 @@ abbrev pub result_of : Option Fault → Result Unit Fault
 result_of None = Ok tt
 result_of (Some fault) = Err fault
 
--- No frame was read: the input ended in the greeting, a read failed there, the greeting is at fault or names no peer, or memory
--- ran out for it.
+-- No frame was read: the input ended in the greeting, a read failed there, a byte too many came while it was still open, the
+-- greeting is at fault or names no peer, or memory ran out for it.
 abbrev pub IsUngreeted : Settings → List ℕ → Option (List ℕ) → Option Fault → Type 0
 IsUngreeted config came left None = (hello_of came ≡ Ok None) × IsAtEnd left
 IsUngreeted config came left (Some (Read at)) = (hello_of came ≡ Ok None) × (at ≡ length came)
-IsUngreeted config came left (Some TooLarge) = length came ≡ most_bytes + 1
+IsUngreeted config came left (Some TooLarge) =
+    (front : List ℕ) × (byte : ℕ) × (came ≡ front ++ byte ∷ []) × (length front ≡ most_bytes) × (hello_of front ≡ Ok None)
 IsUngreeted config came left (Some (InFrame error)) = (error ≡ Memory) ⊎ (hello_of came ≡ Err error)
 IsUngreeted config came left (Some UnknownName) = NamesNobody config (hello_of came)
 IsUngreeted config came left (Some _) = ⊥

@@ -31,14 +31,13 @@ fn told(ended: &Ended) -> Told {
 }
 
 // What is told of a connection at so many seconds.
-fn told_of(alloc: Global, instance: &mut Instance, reader: Fitful<'_>, seconds: i64) -> Told {
-    let mut reader = reader;
-    let ended = connection(alloc, instance, &mut reader, &mut Closed, 0, at(seconds));
+fn told_of(alloc: Global, instance: &mut Instance, reader: &mut Fitful<'_>, seconds: i64) -> Told {
+    let ended = connection(alloc, instance, reader, &mut Closed, 0, at(seconds));
     told(&ended)
 }
 
 // The same by an instance that holds nothing, and how many silences it holds then.
-fn heard(alloc: Global, reader: Fitful<'_>, seconds: i64) -> Option<(Told, usize)> {
+fn heard(alloc: Global, reader: &mut Fitful<'_>, seconds: i64) -> Option<(Told, usize)> {
     let mut instance = instance(alloc)?;
     let told = told_of(alloc, &mut instance, reader, seconds);
     Some((told, instance.silences().len()))
@@ -46,7 +45,7 @@ fn heard(alloc: Global, reader: Fitful<'_>, seconds: i64) -> Option<(Told, usize
 
 // Whether a connection of so many bytes a read, at 11 s, is as its row says.
 fn is_heard(alloc: Global, row: &Row, step: usize) -> bool {
-    match heard(alloc, stepwise(row.0, step, 0), 11) {
+    match heard(alloc, &mut stepwise(row.0, step, 0), 11) {
         Some(found) => found.0 == row.1 && found.1 == row.2,
         None => false,
     }
@@ -76,18 +75,38 @@ fn frames_are_steps_in_any_cut(rt: HostRuntime) {
     }
 }
 
-#[test]
-fn the_first_read_that_fails_ends_it(rt: HostRuntime) {
-    for k in 1..5usize {
-        let heard = heard(rt.alloc(), stepwise(&DELTA_FROM_B, 10, k), 11);
-        let at = if k == 1 { 0 } else { 10 * k as u64 - 19 };
-        assert!(rt; heard == Some((fault(Fault::Read { at }), 0)), "{k}");
+// What comes of a greeting and a Delta where the read behind so many of their 45 bytes fails, if one does.
+fn wanted(at: u64, fault: Option<Fault>) -> (Told, usize) {
+    if at < 45 {
+        ((0, None, false, fault), 0)
+    } else {
+        ((1, Some(2), false, fault), 1)
     }
+}
+
+// The first read gives a byte, and the others up to ten: 1, 11, 21, 31, 41, 45, and the end.
+#[test]
+fn each_read_that_fails_ends_it(rt: HostRuntime) {
+    let mut failed = 0;
+    for k in 1..100usize {
+        let mut reader = stepwise(&DELTA_FROM_B, 10, k);
+        let heard = heard(rt.alloc(), &mut reader, 11);
+        let came = DELTA_FROM_B.len().saturating_sub(reader.left.len()) as u64;
+        if reader.calls < k {
+            assert!(rt; heard == Some(wanted(came, None)), "{k}: none failed");
+            break;
+        }
+        let fault = Fault::Read { at: came };
+        assert!(rt; heard == Some(wanted(came, Some(fault))), "{k}: {heard:?}");
+        failed = k;
+    }
+    assert_eq!(rt; failed, 7);
 }
 
 #[test]
 fn a_step_that_is_refused_ends_it(rt: HostRuntime) {
-    let heard = heard(rt.alloc(), stepwise(&[0, 1, b'b', 4, 0, 5], 100, 0), 9);
+    let mut reader = stepwise(&[0, 1, b'b', 4, 0, 5], 100, 0);
+    let heard = heard(rt.alloc(), &mut reader, 9);
     let back = StepError::MomentBack { last: at(10) };
     assert!(rt;
         heard == Some((fault(Fault::Step(back)), 0)),

@@ -23,19 +23,27 @@ fn a_greeting_and_frames_go_out(rt: HostRuntime) {
     );
 }
 
+// Each write takes two bytes.
 #[test]
-fn a_write_that_fails_is_told_with_its_place(rt: HostRuntime) {
-    for k in 1..4usize {
+fn each_write_that_fails_is_told_with_its_place(rt: HostRuntime) {
+    let mut failed = 0;
+    for k in 1..100usize {
         let mut writer = failing_at(rt.alloc(), k);
         let sent = send_tick(rt.alloc(), "a", &mut writer);
+        if writer.calls < k {
+            assert!(rt; sent == Ok(5), "{k}: none failed");
+            break;
+        }
         let written = 2 * (k - 1);
         let told = SendError::Write {
             written: written as u64,
         };
-        assert!(rt; sent == Err(told), "{k}");
-        assert!(rt; writer.taken.as_slice() == &TICK_OF_A[..written], "{k}");
-        assert!(rt; writer.calls == k, "tried again");
+        let taken = writer.taken.as_slice();
+        assert!(rt; sent == Err(told) && writer.calls == k, "{k}: {sent:?}");
+        assert!(rt; TICK_OF_A.get(..written) == Some(taken), "{k}");
+        failed = k;
     }
+    assert_eq!(rt; failed, 3);
 }
 
 #[test]

@@ -11,9 +11,11 @@ use Rattle.am_dedup.specs.declared.decision.Reason.TheVariants.{First, NewFiring
 abbrev pub Hashes : Type 0
 Hashes = FinSet nat_cmp
 
+-- the set of the hashes in a list
 abbrev pub set_of : List ℕ → Hashes
 set_of hashes = from_list hashes
 
+-- no hash is in the set
 abbrev pub has_none : Hashes → Bool
 has_none hashes = len hashes == 0
 
@@ -23,6 +25,7 @@ pub record Logged : Type 0 where
   pub resolved : Hashes
   pub timestamp : ℕ
 
+-- what an entry tells of its group
 abbrev pub logged : Entry → Logged
 logged e = record { firing = set_of e.firing_alerts; resolved = set_of e.resolved_alerts; timestamp = e.timestamp }
 

@@ -1,5 +1,5 @@
 -- The text of a frame: the byte of its kind, the length of its payload, and the payload.
-use Rattle.std.specs.Prelude.{ℕ, Bool, nat_le, List, [], ◌∷◌, ◌++◌, length, Result, Ok}
+use Rattle.std.specs.Prelude.{◌≡◌, ℕ, Bool, nat_le, List, [], ◌∷◌, ◌++◌, length, Result, Ok}
 use Rattle.am_wire.specs.Varint.{shortest}
 use Rattle.am_gossip.specs.declared.error.FrameError.{FrameError}
 use Rattle.am_gossip.specs.declared.kind.FrameKind.{FrameKind}
@@ -12,6 +12,7 @@ use Rattle.am_gossip.specs.declared.frame.Part.{Part}
 use Rattle.am_gossip.specs.declared.frame.StateKey.TheVariants as keys
 use Rattle.am_gossip.specs.Parts.{reads_part, writes_part, reads_parts, writes_parts}
 
+-- what kind of frame it is
 abbrev pub kind_of : Frame → FrameKind
 kind_of (Delta p) = kinds.Delta
 kind_of (Push parts) = kinds.Push
@@ -28,6 +29,10 @@ payload_text Tick = []
 -- the one text that is written for a frame
 abbrev pub frame_text : Frame → List ℕ
 frame_text f = code_of (kind_of f) ∷ (shortest (length (payload_text f)) ++ payload_text f)
+
+-- bytes that begin with others
+abbrev pub BeginsWith : List ℕ → List ℕ → Type 0
+BeginsWith front bytes = (rest : List ℕ) × (bytes ≡ front ++ rest)
 
 -- the payload keeps the limit of its kind
 abbrev pub fits : Frame → Bool

@@ -65,6 +65,7 @@ pub record HasBadPayload (e : FrameError) (bytes : List ℕ) : Type 0 where
   pub small : length payload ≤ limit kind
   pub reads : reads_payload kind payload ≡ Err e
 
+-- this fault stands at the front of the bytes
 abbrev pub IsFaultAt : FrameError → List ℕ → Type 0
 IsFaultAt Kind bytes = HasNoKind bytes
 IsFaultAt Length bytes = HasBadLength bytes

@@ -26,6 +26,7 @@ abbrev pub kinded : Option FrameKind → List ℕ → Header
 kinded None bytes = bad Kind
 kinded (Some kind) bytes = sized kind (varint_at 0 bytes)
 
+-- what stands at the front of the bytes
 unfoldable pub header_of : List ℕ → Header
 header_of [] = more
 header_of (code ∷ bytes) = kinded (kind_at code) bytes

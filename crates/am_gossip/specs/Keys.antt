@@ -3,6 +3,7 @@ use Rattle.std.specs.Prelude.{ℕ, List, Option, Some, None, codes, bytes_eq, if
 use Rattle.am_gossip.specs.declared.frame.StateKey.{StateKey}
 use Rattle.am_gossip.specs.declared.frame.StateKey.TheVariants.{Sil, Nfl}
 
+-- the key of a state
 abbrev pub key_text : StateKey → List ℕ
 key_text Sil = codes "sil"
 key_text Nfl = codes "nfl"

@@ -11,6 +11,7 @@ pub data Front : Type 0 where
   fault : FrameError → Front
   wants : Front
 
+-- a payload that is whole is read as a frame, or is at fault
 abbrev pub payload_front : ℕ → Result Frame FrameError → Front
 payload_front len (Ok f) = whole f len
 payload_front len (Err e) = fault e
@@ -21,6 +22,7 @@ front_with (head kind size len) bytes = if nat_lt (length bytes) (len + size) th
 front_with (bad e) bytes = fault e
 front_with more bytes = wants
 
+-- what stands at the front of the bytes
 unfoldable pub front_of : List ℕ → Front
 front_of bytes = front_with (header_of bytes) bytes
 
@@ -46,6 +48,7 @@ stream_from skip [] = record { frames = []; ending = Ok [] }
 stream_from zero (b ∷ bytes) = next_frame (λ skip. stream_from skip bytes) (b ∷ bytes) (front_of (b ∷ bytes))
 stream_from (suc skip) (b ∷ bytes) = stream_from skip bytes
 
+-- the stream of the bytes
 abbrev pub stream_of : List ℕ → Stream
 stream_of bytes = stream_from 0 bytes
 
@@ -54,6 +57,7 @@ abbrev pub ends_with : Stream → Result (List ℕ) FrameError → List ℕ → 
 ends_with s (Ok rest) later = put_before s.frames (stream_of (rest ++ later))
 ends_with s (Err e) later = s
 
+-- what a stream becomes when more bytes come
 abbrev pub goes_on : Stream → List ℕ → Stream
 goes_on s later = ends_with s s.ending later
 
@@ -67,6 +71,7 @@ abbrev pub waiting_rest : Result (List ℕ) FrameError → Option (List ℕ)
 waiting_rest (Ok rest) = Some rest
 waiting_rest (Err e) = None
 
+-- the fault with which a stream ends, or none
 abbrev pub fault_in : Result (List ℕ) FrameError → Option FrameError
 fault_in (Ok rest) = None
 fault_in (Err e) = Some e

@@ -1,12 +1,12 @@
 //! Frames as they are written. How long each part is, is known before anything is written.
 
-ghost use Rattle.std.specs.Prelude.{◌≡◌, ℕ, List, ◌++◌, ◌+◌, ◌<◌, ◌≤◌, ◌^◌, ◌⊎◌, ◌↔◌, Err, length, OnOk, IfOk, IfErr};
+ghost use Rattle.std.specs.Prelude.{◌≡◌, ℕ, List, ◌++◌, ◌+◌, ◌<◌, ◌≤◌, ◌^◌, ◌⊎◌, ◌↔◌, Err, length, OnOk, OnErr, IfOk, IfErr};
 ghost use Rattle.am_wire.specs.Sizes.{counted};
 ghost use Rattle.am_wire.specs.Varint.{shortest};
 ghost use Rattle.am_wire.specs.Writing.{writes_delimited, writes_text};
 ghost use Rattle.am_gossip.specs.Kinds.{limit};
 ghost use Rattle.am_gossip.specs.Parts.{writes_part, writes_parts};
-ghost use Rattle.am_gossip.specs.Frames.{fits, frame_text, kind_of, payload_text, states};
+ghost use Rattle.am_gossip.specs.Frames.{BeginsWith, fits, frame_text, kind_of, payload_text, states};
 ghost use Rattle.am_gossip.specs.declared.frame.Part.{Part};
 ghost use Rattle.am_gossip.specs.declared.frame.Frame.TheVariants as frames;
 
@@ -14,7 +14,6 @@ use crate::error::FrameError;
 use crate::frame::{Frame, Part, StateKey};
 use crate::kind::FrameKind;
 use am_wire::write_varint;
-use am_wire::writing::{write_bytes, write_text};
 use std::alloc::{AllocError, Global};
 
 /// The tag of a part in a full state: bytes under the number 1.
@@ -91,24 +90,42 @@ fn payload_len(frame: &Frame) -> u128
     }
 }
 
+// Each of these leaves at the front what was there, whatever it answers.
 fn append_varint(out: &mut Vec<u8>, value: u64) -> Result<(), AllocError>
     ensures ok { OnOk result (out.new.items ≡ out.old.items ++ shortest value) }
+    ensures front { BeginsWith out.old.items out.new.items }
 {
     out.extend_from_slice(write_varint(value).as_slice())?;
     Ok(())
 }
 
+/// Writes bytes as a field; where there are none, it is left out.
+fn push_bytes(out: &mut Vec<u8>, number: u32, bytes: &[u8]) -> Result<(), AllocError>
+    requires { number < 2 ^ 29 }
+    ensures ok { OnOk result (out.new.items ≡ out.old.items ++ writes_text number bytes.now) }
+    ensures front { BeginsWith out.old.items out.new.items }
+{
+    if bytes.is_empty() {
+        return Ok(());
+    }
+    append_varint(out, u64::from(number) * 8 + 2)?;
+    append_varint(out, bytes.len() as u64)?;
+    out.extend_from_slice(bytes)
+}
+
 #[tactic(auto, unfolding(crate::specs::Parts::writes_part))]
 fn push_part(out: &mut Vec<u8>, part: &Part) -> Result<(), AllocError>
     ensures ok { OnOk result (out.new.items ≡ out.old.items ++ writes_part part.now) }
+    ensures front { BeginsWith out.old.items out.new.items }
 {
-    write_text(out, 1, part.key.as_str())?;
-    write_bytes(out, 2, part.bytes.as_slice())
+    push_bytes(out, 1, part.key.as_str().as_bytes())?;
+    push_bytes(out, 2, part.bytes.as_slice())
 }
 
 /// Writes a part as a field of a full state.
 fn take_item(out: &mut Vec<u8>, part: &Part) -> Result<(), AllocError>
     ensures ok { OnOk result (out.new.items ≡ out.old.items ++ writes_delimited 1 (writes_part part.now)) }
+    ensures front { BeginsWith out.old.items out.new.items }
 {
     append_varint(out, PART_TAG)?;
     append_varint(out, part_len(part))?;
@@ -118,6 +135,7 @@ fn take_item(out: &mut Vec<u8>, part: &Part) -> Result<(), AllocError>
 #[tactic(auto, unfolding(crate::specs::Parts::writes_parts))]
 fn push_parts(out: &mut Vec<u8>, parts: &[Part]) -> Result<(), AllocError>
     ensures ok { OnOk result (out.new.items ≡ out.old.items ++ writes_parts parts.now) }
+    ensures front { BeginsWith out.old.items out.new.items }
 {
     for part in parts {
         take_item(out, part)?;
@@ -127,6 +145,7 @@ fn push_parts(out: &mut Vec<u8>, parts: &[Part]) -> Result<(), AllocError>
 
 fn push_payload(out: &mut Vec<u8>, frame: &Frame) -> Result<(), AllocError>
     ensures ok { OnOk result (out.new.items ≡ out.old.items ++ payload_text frame.now) }
+    ensures front { BeginsWith out.old.items out.new.items }
 {
     match frame {
         Frame::Delta(part) => push_part(out, part),
@@ -152,6 +171,7 @@ fn payload_size(frame: &Frame) -> Result<u64, FrameError>
 fn push_frame(out: &mut Vec<u8>, frame: &Frame, size: u64) -> Result<(), AllocError>
     requires { size ≡ length (payload_text frame.now) }
     ensures ok { OnOk result (out.new.items ≡ out.old.items ++ frame_text frame.now) }
+    ensures front { BeginsWith out.old.items out.new.items }
 {
     out.push(frame.kind().code())?;
     append_varint(out, size)?;
@@ -181,14 +201,19 @@ pub fn encode_frame(alloc: Global, frame: &Frame) -> Result<Vec<u8>, FrameError>
 ///
 /// # Errors
 ///
-/// As [`encode_frame`].
+/// As [`encode_frame`]. Either leaves what `out` holds as it was.
 pub fn append_frame(out: &mut Vec<u8>, frame: &Frame) -> Result<(), FrameError>
     ensures written { OnOk result (out.new.items ≡ out.old.items ++ frame_text frame.now) }
+    ensures unchanged { OnErr result (out.new.items ≡ out.old.items) }
     ensures too_long { (result ≡ Err FrameError.Length) ↔ (limit (kind_of frame.now) < length (payload_text frame.now)) }
     ensures refused { IfErr result (λ e. (e ≡ FrameError.Length) ⊎ (e ≡ FrameError.Memory)) }
 {
     let size = payload_size(frame)?;
-    push_frame(out, frame, size)?;
+    let held = out.len();
+    if push_frame(out, frame, size).is_err() {
+        out.truncate(held);
+        return Err(FrameError::Memory);
+    }
     Ok(())
 }
 

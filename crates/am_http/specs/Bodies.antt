@@ -26,10 +26,11 @@ HasBadLength [] = ⊥
 HasBadLength (text ∷ []) = ¬ (IsLengthText text)
 HasBadLength (_ ∷ (_ ∷ _)) = ⊤
 
--- the values of the two fields that say how a body ends
+-- the values of the fields that say how a body is encoded
 abbrev pub encodings : List NamedValue → List (List ℕ)
 encodings fields = values_of (codes "transfer-encoding") fields
 
+-- the values of the fields that say how long a body is
 abbrev pub lengths : List NamedValue → List (List ℕ)
 lengths fields = values_of (codes "content-length") fields
 

@@ -7,10 +7,11 @@ use Rattle.am_http.specs.declared.cause.Resource.TheVariants.{Silences, Silence}
 use Rattle.am_http.specs.declared.routes.Call.{Call}
 use Rattle.am_http.specs.declared.routes.Call.TheVariants.{List as ListCall, Get, Post, Delete}
 
--- the path of a target, and its query: what stands before and behind the first `?` (RFC 3986, section 3)
+-- the path of a target: what stands before the first `?` (RFC 3986, section 3)
 abbrev pub path_of : List ℕ → List ℕ
 path_of target = before_first (λ b. b == 63) target
 
+-- the query of a target: what stands behind the first `?`
 abbrev pub query_of : List ℕ → List ℕ
 query_of target = after_first (λ b. b == 63) target
 

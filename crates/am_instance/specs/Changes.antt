@@ -38,10 +38,11 @@ changed_of now silences log (OfEntry e ∷ ds) =
     only_if (changes entry_version now log e) (OfEntry e)
     ++ changed_of now silences (after entry_version key_cmp log (Delivered e) now) ds
 
--- the maps once the versions were taken
+-- the silences once the versions were taken
 abbrev pub silences_after : ℕ → (List ℕ → Option Mesh) → List Delivery → List ℕ → Option Mesh
 silences_after now silences ds = after_all mesh_version (slice_cmp nat_cmp) silences (map (λ d. (to_silences d, now)) ds)
 
+-- the log once the versions were taken
 abbrev pub log_after : ℕ → (LogKey → Option LogMesh) → List Delivery → LogKey → Option LogMesh
 log_after now log ds = after_all entry_version key_cmp log (map (λ d. (to_log d, now)) ds)
 

@@ -40,9 +40,10 @@ places_but members one other = filter (is_other one other) (range_with_len 0 mem
 abbrev pub peers_but : Settings → ℕ → List ℕ
 peers_but settings place = places_but (length settings.members) settings.place place
 
--- a name of no byte, and one of more than 255
+-- a name of no byte
 abbrev pub IsEmptyName : List ℕ → Type 0
 IsEmptyName name = length name ≡ 0
 
+-- a name of more than 255 bytes
 abbrev pub IsLongName : List ℕ → Type 0
 IsLongName name = 255 < length name

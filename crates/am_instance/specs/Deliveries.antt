@@ -19,11 +19,12 @@ pub data Delivery : Type 0 where
   OfSilence : (version : Mesh) → Delivery
   OfEntry : (version : LogMesh) → Delivery
 
--- what it is to the map of silences, and to the log: a version of the other state is but a moment
+-- what it is to the map of silences: a version of the other state is but a moment
 abbrev pub to_silences : Delivery → Event Mesh
 to_silences (OfSilence v) = Delivered v
 to_silences (OfEntry e) = Passed
 
+-- what it is to the log
 abbrev pub to_log : Delivery → Event LogMesh
 to_log (OfSilence v) = Passed
 to_log (OfEntry e) = Delivered e
@@ -34,12 +35,13 @@ events_at of_delivery now ds = (Passed, now) ∷ map (λ d. (of_delivery d, now)
 
 -- ---- the rows of a frame
 
--- what was read before the first fault, and that fault
+-- what was read before the first fault
 abbrev pub before_fault : {A E : Type 0} → List (Result A E) → List A
 before_fault [] = []
 before_fault (Ok x ∷ items) = x ∷ before_fault items
 before_fault (Err e ∷ items) = []
 
+-- the first fault of what was read, or none
 abbrev pub first_fault : {A E : Type 0} → List (Result A E) → Option E
 first_fault [] = None
 first_fault (Ok x ∷ items) = first_fault items

@@ -40,10 +40,11 @@ AreMade old (h ∷ hs) new =
 abbrev pub run_events : {X : Type 0} → (Delivery → MapEvent X) → List Happened → Events X
 run_events of_delivery hs = flat_map (λ h. step_events of_delivery h.event h.now h.answer) hs
 
--- the bare sets: every version of a state that an instance began with or that was delivered
+-- the bare sets: every silence that an instance began with or that was delivered
 abbrev pub all_silences : Stand → List Happened → List Mesh
 all_silences start steps = taken start.silences (run_events to_silences steps)
 
+-- every entry that an instance began with or that was delivered
 abbrev pub all_entries : Stand → List Happened → List LogMesh
 all_entries start steps = taken start.log (run_events to_log steps)
 

@@ -141,12 +141,14 @@ abbrev pub HoldsMutes : (List (List ℕ) → List (List ℕ) → Type 0) → Rep
 HoldsMutes Muted (replies.Muted mutes) = Muted mutes.ids mutes.broken
 HoldsMutes Muted _ = ⊥
 
+-- the reply to a request, and the versions that are made for it
 abbrev pub IsRequestReply : Stand → Request → ℕ → Reply → Made → Type 0
 IsRequestReply stand (requests.List filters) now reply made = HoldsSilences (silences_shown now filters.items stand.silences) reply × IsNothing made
 IsRequestReply stand (requests.Get id) now reply made = found_reply now (silence_in_view now stand.silences id) reply × IsNothing made
 IsRequestReply stand (requests.Post posted bits) now reply made = IsPosted now stand.config.retention stand.silences posted bits reply made
 IsRequestReply stand (requests.Delete id) now reply made = IsDeleted now stand.config.retention stand.silences id reply made
 
+-- the reply to an event, and the versions that are made for it
 abbrev pub IsReply : Stand → Event → ℕ → Reply → Made → Type 0
 IsReply stand (events.Request request) now reply made = IsRequestReply stand request now reply made
 IsReply stand (events.Frame sender frame) now reply made = (reply ≡ replies.Nothing) × IsNothing made

@@ -24,6 +24,7 @@ pub record Sent : Type 0 where
   pub memory : ℕ
   pub limit : ℕ
 
+-- no frame, and none left out
 abbrev pub nothing_sent : Sent
 nothing_sent = record { frames = []; memory = 0; limit = 0 }
 
@@ -31,13 +32,15 @@ nothing_sent = record { frames = []; memory = 0; limit = 0 }
 abbrev pub one_more : ℕ → ℕ
 one_more n = min (n + 1) (2 ^ 64 - 1)
 
--- a frame is handed out, or there is no memory for it, or it is over its limit
+-- a frame is handed out
 abbrev pub handed_out : ℕ × Frame → Sent → Sent
 handed_out wanted sent = record sent { frames = sent.frames ++ wanted ∷ [] }
 
+-- there is no memory for a frame, and it is counted so
 abbrev pub no_memory : Sent → Sent
 no_memory sent = record sent { memory = one_more sent.memory }
 
+-- a frame is over its limit, and it is counted so
 abbrev pub over_limit : Sent → Sent
 over_limit sent = record sent { limit = one_more sent.limit }
 
@@ -58,6 +61,7 @@ Sends (wanted ∷ rest) old new = (mid : Sent) × IsSent wanted old mid × Sends
 abbrev pub delta : StateKey → List ℕ → Frame
 delta key content = Delta (record { key = key; bytes = delimited content })
 
+-- the Delta of a version of either state
 abbrev pub delta_of : Delivery → Frame
 delta_of (OfSilence v) = delta Sil (mesh_version v).content
 delta_of (OfEntry e) = delta Nfl (entry_version e).content

@@ -19,30 +19,34 @@ pub record Stand : Type 0 where
   pub log : List LogMesh
   pub last : ℕ
 
--- the silence of an id, and the entry of a log key
+-- the silence of an id
 abbrev pub silence_at : List Mesh → List ℕ → Option Mesh
 silence_at silences = at mesh_version (slice_cmp nat_cmp) silences
 
+-- the entry of a log key
 abbrev pub entry_at : List LogMesh → LogKey → Option LogMesh
 entry_at log = at entry_version key_cmp log
 
--- what is in view of each map: the held versions that are live
+-- what is in view of the silences: the held ones that are live
 abbrev pub silences_in_view : ℕ → List Mesh → List Mesh
 silences_in_view now silences = swept mesh_version now silences
 
+-- the held entries that are live
 abbrev pub log_in_view : ℕ → List LogMesh → List LogMesh
 log_in_view now log = swept entry_version now log
 
--- each map with the moment of the last event
+-- the silences with the moment of the last event
 abbrev pub kept_silences : Stand → Kept Mesh
 kept_silences stand = record { held = stand.silences; last = stand.last }
 
+-- the log with the moment of the last event
 abbrev pub kept_log : Stand → Kept LogMesh
 kept_log stand = record { held = stand.log; last = stand.last }
 
--- the events leave one map of the other
+-- the events leave one map of silences of the other
 abbrev pub AreSilencesLeftBy : Kept Mesh → Events Mesh → Kept Mesh → Type 0
 AreSilencesLeftBy = IsLeftBy mesh_version (slice_cmp nat_cmp)
 
+-- the events leave one log of the other
 abbrev pub IsLogLeftBy : Kept LogMesh → Events LogMesh → Kept LogMesh → Type 0
 IsLogLeftBy = IsLeftBy entry_version key_cmp

@@ -154,6 +154,7 @@ pub record IsAdmitted (old : Stand) (event : Event) (now : ℕ) : Type 0 where
   pub forward : old.last ≤ now
   pub known : knows_peer old.config (peer_of event) ≡ true
 
+-- the moment is before the last one, or else a place that is named is that of no peer
 abbrev pub IsUnadmitted : Stand → Event → ℕ → StepError → Type 0
 IsUnadmitted old event now (MomentBack last) = (last ≡ old.last) × (now < old.last)
 IsUnadmitted old event now UnknownPeer = (old.last ≤ now) × (knows_peer old.config (peer_of event) ≡ false)
@@ -204,6 +205,7 @@ pub record IsOutcome (old : Stand) (event : Event) (now : ℕ) (outcome : Outcom
   pub sent : Sends (wanted old event now outcome.made new) nothing_sent (sent_by outcome)
   pub reply : IsReply old event now outcome.reply outcome.made
 
+-- what is answered to an event that is admitted, and what is left of the instance
 abbrev pub IsAnswered : Stand → Event → ℕ → Result Outcome StepError → Stand → Type 0
 IsAnswered old event now (Ok outcome) new = IsOutcome old event now outcome new
 IsAnswered old event now (Err (Frame fault)) new = (fault_of old.config now event ≡ Some fault) × (new ≡ old)
@@ -220,6 +222,7 @@ pub record IsWork (old : Stand) (event : Event) (now : ℕ) (result : Result Out
 
 -- ---- versions that are made here
 
+-- taking a version changed a map
 abbrev pub is_changed : Taken → Bool
 is_changed takens.Changed = true
 is_changed takens.Kept = false

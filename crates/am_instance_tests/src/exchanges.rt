@@ -1,8 +1,9 @@
 //! What is sent for a frame, and what is held after it.
 
+use crate::answers::{Wanted, is_answered};
 use crate::bytes::{E1, V1, V2, VC, VN};
-use crate::fixtures::{Sending, are_sent, at, frame_of, holding_both};
-use am_instance::{Event, Instance, Reply};
+use crate::fixtures::{Sending, at, frame_of, holding_both};
+use am_instance::{Event, Instance};
 use std::alloc::Global;
 use std::process::Abort;
 
@@ -124,161 +125,172 @@ type Row = (
     (usize, usize),
 );
 
-// Whether these frames are sent for an event, and how many silences and entries are held then.
+// How many silences and entries are held after an event for which these frames are sent.
 fn comes_of(
     alloc: Global,
     instance: &mut Instance,
     event: Event,
     seconds: i64,
-    sent: &[Sending],
+    sent: &'static [Sending],
 ) -> Option<(usize, usize)> {
-    let outcome = instance.step(event, at(seconds)).ok()?;
-    if !matches!(outcome.reply, Reply::Nothing) || !are_sent(alloc, &outcome, sent) {
+    let wanted = Wanted::Sent(sent);
+    if !is_answered(alloc, instance, event, at(seconds), &wanted).ok()? {
         return None;
     }
     Some((instance.silences().len(), instance.log().len()))
 }
 
-fn comes_of_frame(alloc: Global, row: Row) -> Option<(usize, usize)> {
-    let (silences, log, came, seconds, sent, _) = row;
-    let mut instance = holding_both(alloc, silences, log)?;
+// The same after a frame of `b`.
+fn comes_of_frame(
+    alloc: Global,
+    instance: &mut Instance,
+    came: &[u8],
+    seconds: i64,
+    sent: &'static [Sending],
+) -> Option<(usize, usize)> {
     let frame = frame_of(alloc, came)?;
     comes_of(
         alloc,
-        &mut instance,
+        instance,
         Event::Frame { sender: 1, frame },
         seconds,
         sent,
     )
 }
 
+fn comes_of_row(alloc: Global, row: &Row) -> Option<(usize, usize)> {
+    let mut instance = holding_both(alloc, row.0, row.1)?;
+    comes_of_frame(alloc, &mut instance, row.2, row.3, row.4)
+}
+
 fn are_answered(rt: &impl Abort, alloc: Global, rows: &[Row]) {
-    for (i, &row) in rows.iter().enumerate() {
-        let sizes = comes_of_frame(alloc, row);
+    for (i, row) in rows.iter().enumerate() {
+        let sizes = comes_of_row(alloc, row);
         assert!(rt; sizes == Some(row.5), "{i}: {sizes:?}");
     }
 }
 
+const CHANGES: [Row; 5] = [
+    (&[], &[], &DELTA_V1, 11, &[(2, &DELTA_V1)], (1, 0)),
+    (&V1, &[], &DELTA_V2, 21, &[(2, &DELTA_V2)], (1, 0)),
+    (&V2, &[], &DELTA_V1, 21, &[], (1, 0)),
+    (&V2, &[], &B_AND_V1, 30, &[(2, &DELTA_B)], (2, 0)),
+    (&[], &[], &DELTA_E1, 11, &[(2, &DELTA_E1)], (0, 1)),
+];
+
 // Changed versions go to `c`, those that change nothing go nowhere.
 #[test]
 fn a_delta_is_sent_on_where_it_changes_a_map(rt: HostRuntime) {
-    let rows: [Row; 5] = [
-        (&[], &[], &DELTA_V1, 11, &[(2, &DELTA_V1)], (1, 0)),
-        (&V1, &[], &DELTA_V2, 21, &[(2, &DELTA_V2)], (1, 0)),
-        (&V2, &[], &DELTA_V1, 21, &[], (1, 0)),
-        (&V2, &[], &B_AND_V1, 30, &[(2, &DELTA_B)], (2, 0)),
-        (&[], &[], &DELTA_E1, 11, &[(2, &DELTA_E1)], (0, 1)),
-    ];
-    are_answered(&rt, rt.alloc(), &rows);
+    are_answered(&rt, rt.alloc(), &CHANGES);
 }
+
+const TWICE: [Row; 1] = [(
+    &[],
+    &[],
+    &BOTH,
+    21,
+    &[(2, &DELTA_V1), (2, &DELTA_V2)],
+    (1, 0),
+)];
 
 #[test]
 fn a_key_that_changes_twice_in_a_frame_is_sent_on_twice(rt: HostRuntime) {
-    let rows: [Row; 1] = [(
-        &[],
-        &[],
-        &BOTH,
-        21,
-        &[(2, &DELTA_V1), (2, &DELTA_V2)],
-        (1, 0),
-    )];
-    are_answered(&rt, rt.alloc(), &rows);
+    are_answered(&rt, rt.alloc(), &TWICE);
 }
+
+const LATE: [Row; 3] = [
+    (&[], &[], &DELTA_V1, 200, &[], (1, 0)),
+    (&V1, &[], &DELTA_V2, 200, &[], (1, 0)),
+    (&[], &[], &DELTA_E1, 200, &[], (0, 1)),
+];
 
 // A late version is compared and held like any other, and isn't sent on.
 #[test]
 fn a_late_version_is_held_and_not_sent_on(rt: HostRuntime) {
-    let rows: [Row; 3] = [
-        (&[], &[], &DELTA_V1, 200, &[], (1, 0)),
-        (&V1, &[], &DELTA_V2, 200, &[], (1, 0)),
-        (&[], &[], &DELTA_E1, 200, &[], (0, 1)),
-    ];
-    are_answered(&rt, rt.alloc(), &rows);
+    are_answered(&rt, rt.alloc(), &LATE);
 }
+
+const PUSHES: [Row; 3] = [
+    (&[], &[], &PUSH_NOTHING, 11, &[(1, &PULL_NOTHING)], (0, 0)),
+    (
+        &V1,
+        &[],
+        &PUSH_V2_E1,
+        21,
+        &[(2, &DELTA_V2), (2, &DELTA_E1), (1, &PULL_V2_E1)],
+        (1, 1),
+    ),
+    (&V2, &E1, &PUSH_V2_E1, 200, &[(1, &PULL_V2_E1)], (1, 1)),
+];
 
 // The Pull has both maps as they stand once the Push was taken, and comes last.
 #[test]
 fn a_push_is_answered_by_a_pull(rt: HostRuntime) {
-    let rows: [Row; 3] = [
-        (&[], &[], &PUSH_NOTHING, 11, &[(1, &PULL_NOTHING)], (0, 0)),
-        (
-            &V1,
-            &[],
-            &PUSH_V2_E1,
-            21,
-            &[(2, &DELTA_V2), (2, &DELTA_E1), (1, &PULL_V2_E1)],
-            (1, 1),
-        ),
-        (&V2, &E1, &PUSH_V2_E1, 200, &[(1, &PULL_V2_E1)], (1, 1)),
-    ];
-    are_answered(&rt, rt.alloc(), &rows);
+    are_answered(&rt, rt.alloc(), &PUSHES);
 }
+
+const PULLED: [Row; 2] = [
+    (
+        &[],
+        &[],
+        &PULL_E1_V1,
+        11,
+        &[(2, &DELTA_E1), (2, &DELTA_V1)],
+        (1, 1),
+    ),
+    (&V2, &E1, &PULL_V2_E1, 21, &[], (1, 1)),
+];
 
 // Parts are taken in their order.
 #[test]
 fn a_pull_is_taken_and_not_answered(rt: HostRuntime) {
-    let rows: [Row; 2] = [
-        (
-            &[],
-            &[],
-            &PULL_E1_V1,
-            11,
-            &[(2, &DELTA_E1), (2, &DELTA_V1)],
-            (1, 1),
-        ),
-        (&V2, &E1, &PULL_V2_E1, 21, &[], (1, 1)),
-    ];
-    are_answered(&rt, rt.alloc(), &rows);
+    are_answered(&rt, rt.alloc(), &PULLED);
 }
+
+const TICKS: [Row; 2] = [
+    (&V1, &E1, &[0x04, 0x00], 199, &[], (1, 1)),
+    (&V1, &E1, &[0x04, 0x00], 200, &[], (0, 0)),
+];
 
 // A frame of kind Tick collects both maps.
 #[test]
 fn a_tick_drops_what_is_not_live(rt: HostRuntime) {
-    let rows: [Row; 2] = [
-        (&V1, &E1, &[0x04, 0x00], 199, &[], (1, 1)),
-        (&V1, &E1, &[0x04, 0x00], 200, &[], (0, 0)),
-    ];
-    are_answered(&rt, rt.alloc(), &rows);
+    are_answered(&rt, rt.alloc(), &TICKS);
 }
 
-/// Rows of the silences and of the log that are held, a moment in seconds, and the frame that is sent to `b` where it is
-/// to be pulled from.
-type PullRow = (&'static [u8], &'static [u8], i64, &'static [u8]);
+/// Rows of the silences and of the log that are held, a moment in seconds, and what is sent where `b` is to be pulled from.
+type PullRow = (&'static [u8], &'static [u8], i64, &'static [Sending]);
 
-fn comes_of_pull(alloc: Global, (silences, log, seconds, sent): PullRow) -> Option<(usize, usize)> {
-    let mut instance = holding_both(alloc, silences, log)?;
-    comes_of(
-        alloc,
-        &mut instance,
-        Event::PullFrom(1),
-        seconds,
-        &[(1, sent)],
-    )
+fn comes_of_pull(alloc: Global, row: &PullRow) -> Option<(usize, usize)> {
+    let mut instance = holding_both(alloc, row.0, row.1)?;
+    comes_of(alloc, &mut instance, Event::PullFrom(1), row.2, row.3)
 }
+
+const PULLS: [PullRow; 4] = [
+    (&[], &[], 11, &[(1, &PUSH_NOTHING)]),
+    (&V1, &[], 11, &[(1, &PUSH_V1)]),
+    (&V1, &[], 300, &[(1, &PUSH_V1)]),
+    (&V2, &E1, 300, &[(1, &PUSH_V2_E1)]),
+];
 
 // What isn't live is sent too.
 #[test]
 fn a_peer_is_pulled_from_by_a_push_of_all_that_is_held(rt: HostRuntime) {
-    let rows: [PullRow; 4] = [
-        (&[], &[], 11, &PUSH_NOTHING),
-        (&V1, &[], 11, &PUSH_V1),
-        (&V1, &[], 300, &PUSH_V1),
-        (&V2, &E1, 300, &PUSH_V2_E1),
-    ];
-    for row in rows {
+    for (i, row) in PULLS.iter().enumerate() {
         let sizes = comes_of_pull(rt.alloc(), row);
-        assert!(rt; sizes.is_some(), "{sizes:?}");
+        assert!(rt; sizes.is_some(), "{i}");
     }
 }
+
+const COMMENTS: [Row; 2] = [
+    (&VN, &[], &PUSH_VN, 11, &[(1, &PULL_VN)], (1, 0)),
+    (&VC, &[], &PULL_VN, 11, &[], (1, 0)),
+];
 
 // A silence with an old comment and the same one in the new form are one version.
 #[test]
 fn old_comments_change_nothing(rt: HostRuntime) {
-    let pushed = comes_of_pull(rt.alloc(), (&VC, &[], 11, &PUSH_VN));
+    let pushed = comes_of_pull(rt.alloc(), &(&VC, &[], 11, &[(1, &PUSH_VN)]));
     assert_eq!(rt; pushed, Some((1, 0)));
-    let rows: [Row; 2] = [
-        (&VN, &[], &PUSH_VN, 11, &[(1, &PULL_VN)], (1, 0)),
-        (&VC, &[], &PULL_VN, 11, &[], (1, 0)),
-    ];
-    are_answered(&rt, rt.alloc(), &rows);
+    are_answered(&rt, rt.alloc(), &COMMENTS);
 }

@@ -3,10 +3,9 @@
 use am_gossip::{Feeder, Frame, encode_frame};
 use am_instance::{Config, Instance, Outcome, Place};
 use am_merge::Held;
-use am_nflog::MeshEntry;
 use am_silence::MeshSilence;
 use am_version_order::{Interval, Moment, Version};
-use am_wire::{Messages, Text};
+use am_wire::{Message, Messages, Text, WireError};
 use std::alloc::Global;
 
 /// Seconds and nanoseconds since 1970.
@@ -38,11 +37,23 @@ pub fn peer_timeout() -> Interval {
     Interval::from_nanos(15_000_000_000).unwrap()
 }
 
+// Puts a text in last.
+fn put(alloc: Global, texts: &mut Vec<Text>, text: &str) -> bool {
+    match Text::copied(alloc, text) {
+        Ok(text) => texts.push(text).is_ok(),
+        Err(_) => false,
+    }
+}
+
 /// These texts; `None` without memory, as in all helpers.
 pub fn texts(alloc: Global, names: &[&str]) -> Option<Vec<Text>> {
     let mut texts = Vec::new(alloc);
+    let mut is_whole = true;
     for name in names {
-        texts.push(Text::copied(alloc, name).ok()?).ok()?;
+        is_whole &= put(alloc, &mut texts, name);
+    }
+    if !is_whole {
+        return None;
     }
     Some(texts)
 }
@@ -60,30 +71,31 @@ pub fn instance(alloc: Global, seconds: i64) -> Option<Instance> {
     Some(Instance::start(config, Held::new(alloc), Held::new(alloc), at(seconds)))
 }
 
-// The silences of a row.
-fn silences_of(alloc: Global, row: &[u8]) -> Option<Held<MeshSilence>> {
-    let mut silences = Held::new(alloc);
-    for version in Messages::<MeshSilence>::new(alloc, row) {
-        silences.take(version.ok()?, at(10)).ok()?;
+// Takes a version at 10 s, where it was read.
+fn take<V: Version>(held: &mut Held<V>, read: Result<V, WireError>) {
+    if let Ok(version) = read {
+        let _ = held.take(version, at(10));
     }
-    Some(silences)
 }
 
-// The entries of a row.
-fn log_of(alloc: Global, row: &[u8]) -> Option<Held<MeshEntry>> {
-    let mut log = Held::new(alloc);
-    for version in Messages::<MeshEntry>::new(alloc, row) {
-        log.take(version.ok()?, at(10)).ok()?;
+// The versions of a row; what isn't read is missed where it is looked for.
+fn held_of<V: Version + Message>(alloc: Global, row: &[u8]) -> Held<V> {
+    let mut held = Held::new(alloc);
+    for version in Messages::<V>::new(alloc, row) {
+        take(&mut held, version);
     }
-    Some(log)
+    held
 }
 
 /// That member at 10 s, which holds the silences of one row and the entries of another.
 pub fn holding_both(alloc: Global, silences: &[u8], log: &[u8]) -> Option<Instance> {
-    let silences = silences_of(alloc, silences)?;
-    let log = log_of(alloc, log)?;
     let config = config(alloc)?;
-    Some(Instance::start(config, silences, log, at(10)))
+    Some(Instance::start(
+        config,
+        held_of(alloc, silences),
+        held_of(alloc, log),
+        at(10),
+    ))
 }
 
 /// That member at 10 s, which holds the silences of a row.
@@ -143,7 +155,7 @@ pub fn are_sent(alloc: Global, outcome: &Outcome, wanted: &[Sending]) -> bool {
 }
 
 /// Whether a version is of this silence, with these moments.
-pub fn is_version(version: &MeshSilence, id: &str, wanted: Moments) -> bool {
+pub fn is_version(version: &MeshSilence, id: &str, wanted: &Moments) -> bool {
     let silence = version.silence();
     let moments = [
         silence.starts_at.parts(),
@@ -151,5 +163,5 @@ pub fn is_version(version: &MeshSilence, id: &str, wanted: Moments) -> bool {
         version.updated().parts(),
         version.expires().parts(),
     ];
-    version.key().as_str() == id && moments == wanted
+    version.key().as_str() == id && moments == *wanted
 }

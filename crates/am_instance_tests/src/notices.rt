@@ -1,140 +1,166 @@
 //! Notifications, and the decisions before them.
 
-use crate::fixtures::{Time, are_sent_to, at, at_nanos, instance};
+use crate::answers::{Wanted, is_answered};
+use crate::fixtures::{Time, at, at_nanos, instance};
 use am_dedup::{Decision, Reason};
 use am_gossip::FrameError;
-use am_instance::{Event, Instance, Outcome, Place, Reply, StepError};
-use am_nflog::{Hashes, Receiver};
-use am_version_order::{Interval, Moment, Version};
-use am_wire::{Bytes, Text, WireError};
+use am_instance::{Event, Instance, StepError};
+use am_nflog::{Entry, LogKey};
+use am_version_order::{Interval, Moment};
+use am_wire::{Bytes, Message, WireError};
 use std::alloc::Global;
 use std::process::Abort;
 
-/// Hashes of what fires, and of what is resolved.
-type Alerts = (&'static [u64], &'static [u64]);
+/// An entry of group key `g`, receiver `r`, `w`, 0, timestamp 10 s, and the hashes that fire in it.
+type Group = (&'static [u8], &'static [u64]);
+
+const NONE: Group = (b"\x0A\x01g\x12\x06\x0A\x01r\x12\x01w\x2A\x02\x08\x0A", &[]);
+
+const ONE: Group = (
+    b"\x0A\x01g\x12\x06\x0A\x01r\x12\x01w\x2A\x02\x08\x0A\x32\x01\x01",
+    &[1],
+);
+
+const TWO: Group = (
+    b"\x0A\x01g\x12\x06\x0A\x01r\x12\x01w\x2A\x02\x08\x0A\x32\x01\x02",
+    &[2],
+);
+
+const THREE: Group = (
+    b"\x0A\x01g\x12\x06\x0A\x01r\x12\x01w\x2A\x02\x08\x0A\x32\x01\x03",
+    &[3],
+);
+
+const ONE_AND_TWO: Group = (
+    b"\x0A\x01g\x12\x06\x0A\x01r\x12\x01w\x2A\x02\x08\x0A\x32\x02\x01\x02",
+    &[1, 2],
+);
+
+/// 2 is resolved.
+const ONE_NOT_TWO: Group = (
+    b"\x0A\x01g\x12\x06\x0A\x01r\x12\x01w\x2A\x02\x08\x0A\x32\x01\x01\x3A\x01\x02",
+    &[1],
+);
 
 fn minute() -> Interval {
     Interval::from_nanos(60_000_000_000).unwrap()
 }
 
-fn receiver(alloc: Global) -> Option<Receiver> {
-    let group_name = Text::copied(alloc, "r").ok()?;
-    let integration = Text::copied(alloc, "w").ok()?;
-    Some(Receiver {
-        group_name,
-        integration,
-        idx: 0,
-    })
-}
-
-fn hashes(alloc: Global, hashes: &[u64]) -> Option<Hashes> {
-    Some(Hashes::new(Vec::from_slice(alloc, hashes).ok()?))
-}
-
-// Group `g` was notified of these.
-fn notified(alloc: Global, (firing, resolved): Alerts) -> Option<Event> {
-    Some(Event::Notified {
-        group_key: Bytes::copied(alloc, b"g").ok()?,
-        receiver: receiver(alloc)?,
-        firing: hashes(alloc, firing)?,
-        resolved: hashes(alloc, resolved)?,
+// A group was notified.
+fn notified(group: Entry) -> Event {
+    let Entry {
+        key: LogKey {
+            group_key,
+            receiver,
+        },
+        firing_alerts,
+        resolved_alerts,
+        ..
+    } = group;
+    Event::Notified {
+        group_key,
+        receiver,
+        firing: firing_alerts,
+        resolved: resolved_alerts,
         repeat: minute(),
-    })
+    }
 }
 
-// Whether group `g` is to be notified of these.
-fn asked(alloc: Global, (firing, resolved): Alerts, send_resolved: bool) -> Option<Event> {
-    Some(Event::Decide {
-        group_key: Bytes::copied(alloc, b"g").ok()?,
-        receiver: receiver(alloc)?,
-        firing: hashes(alloc, firing)?,
-        resolved: hashes(alloc, resolved)?,
+// Whether a group is to be notified.
+fn asked(group: Entry, send_resolved: bool) -> Event {
+    let Entry {
+        key: LogKey {
+            group_key,
+            receiver,
+        },
+        firing_alerts,
+        resolved_alerts,
+        ..
+    } = group;
+    Event::Decide {
+        group_key,
+        receiver,
+        firing: firing_alerts,
+        resolved: resolved_alerts,
         repeat: minute(),
         send_resolved,
-    })
-}
-
-// Whether an entry changed the log, where its copy has these hashes firing and this expiry.
-fn logged(outcome: &Outcome, firing: &[u64], expires: Moment) -> Option<bool> {
-    let entry = outcome.made.log.as_ref()?;
-    if entry.entry().firing_alerts.as_slice() != firing || entry.expires() != expires {
-        return None;
-    }
-    match &outcome.reply {
-        Reply::Logged(changed) => Some(*changed),
-        _ => None,
     }
 }
 
-// Notes a notification of a hash at 100 s: whether it changes the log; a change goes to both peers.
-fn note(alloc: Global, instance: &mut Instance, firing: &'static [u64]) -> Option<bool> {
-    let event = notified(alloc, (firing, &[]))?;
-    let outcome = instance.step(event, at(100)).ok()?;
-    let changed = logged(&outcome, firing, at(200))?;
-    let places: &[Place] = if changed { &[1, 2] } else { &[] };
-    if !are_sent_to(&outcome, places) || instance.log().len() != 1 {
-        return None;
-    }
-    Some(changed)
+// Whether a notification of group `g` is answered so.
+fn is_noted(
+    alloc: Global,
+    instance: &mut Instance,
+    group: &Group,
+    now: Moment,
+    wanted: &Wanted,
+) -> Option<bool> {
+    let entry = Entry::decode(alloc, group.0).ok()?;
+    is_answered(alloc, instance, notified(entry), now, wanted).ok()
 }
 
-// Notes three notifications.
-fn note_three(alloc: Global) -> Option<[bool; 3]> {
+// What the group is notified of at 100 s, one notification after the other, and whether each changes the log.
+const NOTICES: [(Group, bool); 3] = [(ONE, true), (TWO, true), (ONE, false)];
+
+// How many of the notifications are answered so, before one isn't.
+fn right_notices(alloc: Global, instance: &mut Instance) -> usize {
+    for (i, notice) in NOTICES.iter().enumerate() {
+        let wanted = Wanted::Logged(notice.0.1, notice.1);
+        let noted = is_noted(alloc, instance, &notice.0, at(100), &wanted);
+        if noted != Some(true) || instance.log().len() != 1 {
+            return i;
+        }
+    }
+    NOTICES.len()
+}
+
+fn note_three(alloc: Global) -> Option<usize> {
     let mut instance = instance(alloc, 10)?;
-    let one = note(alloc, &mut instance, &[1])?;
-    let two = note(alloc, &mut instance, &[2])?;
-    let again = note(alloc, &mut instance, &[1])?;
-    Some([one, two, again])
+    Some(right_notices(alloc, &mut instance))
 }
 
 // Of entries of one moment the greater counts, and each is told.
 #[test]
 fn notifications_leave_entries(rt: HostRuntime) {
     let noted = note_three(rt.alloc());
-    assert_eq!(rt; noted, Some([true, true, false]));
-}
-
-// Whether nothing was made of a notification, nor sent.
-fn is_nothing(outcome: &Outcome) -> bool {
-    matches!(outcome.reply, Reply::Logged(false))
-        && outcome.made.log.is_none()
-        && are_sent_to(outcome, &[])
+    assert_eq!(rt; noted, Some(3));
 }
 
 // Whether a notification at the last moment of all leaves nothing.
-fn leaves_nothing(alloc: Global) -> Option<bool> {
+fn leaves_nothing(alloc: Global) -> Option<(Option<bool>, usize)> {
     let mut instance = instance(alloc, 10)?;
-    let event = notified(alloc, (&[1], &[]))?;
-    let outcome = instance.step(event, Moment::GREATEST).ok()?;
-    Some(is_nothing(&outcome) && instance.log().is_empty())
+    let nothing = Wanted::NotLogged;
+    let noted = is_noted(alloc, &mut instance, &ONE, Moment::GREATEST, &nothing);
+    Some((noted, instance.log().len()))
 }
 
 #[test]
 fn at_the_last_moment_no_entry_is_made(rt: HostRuntime) {
-    let leaves_nothing = leaves_nothing(rt.alloc());
-    assert_eq!(rt; leaves_nothing, Some(true));
+    let left = leaves_nothing(rt.alloc());
+    assert_eq!(rt; left, Some((Some(true), 0)));
 }
 
-// A notification of a group whose key is as long as a version may be.
-fn notified_at_length(alloc: Global) -> Option<Event> {
-    Some(Event::Notified {
-        group_key: Bytes::new(vec![in alloc; b'g'; 67_108_864].ok()?),
-        receiver: receiver(alloc)?,
-        firing: hashes(alloc, &[1])?,
-        resolved: hashes(alloc, &[])?,
-        repeat: minute(),
-    })
+// A group whose key is as long as a version may be.
+fn long_group(alloc: Global) -> Option<Entry> {
+    let mut entry = Entry::decode(alloc, ONE.0).ok()?;
+    entry.key.group_key = Bytes::new(vec![in alloc; b'g'; 67_108_864].ok()?);
+    Some(entry)
 }
 
-// Why that notification is refused.
-fn fault_of_length(alloc: Global) -> Option<StepError> {
-    let mut instance = instance(alloc, 10)?;
-    let event = notified_at_length(alloc)?;
-    let fault = instance.step(event, at(100)).err()?;
+// Why a notification of it is refused; the instance is then as it was.
+fn fault_of_group(alloc: Global, instance: &mut Instance) -> Option<StepError> {
+    let group = long_group(alloc)?;
+    let changed = Wanted::Logged(&[1], true);
+    let answered = is_answered(alloc, instance, notified(group), at(100), &changed);
     if instance.last() != at(10) || !instance.log().is_empty() {
         return None;
     }
-    Some(fault)
+    answered.err()
+}
+
+fn fault_of_length(alloc: Global) -> Option<StepError> {
+    let mut instance = instance(alloc, 10)?;
+    fault_of_group(alloc, &mut instance)
 }
 
 #[test]
@@ -144,98 +170,69 @@ fn an_entry_that_is_too_large_is_refused(rt: HostRuntime) {
     assert_eq!(rt; fault, Some(wanted));
 }
 
-// The decision on a group, which makes nothing.
-fn decided(outcome: &Outcome) -> Option<Decision> {
-    if outcome.made.log.is_some() || !are_sent_to(outcome, &[]) {
-        return None;
-    }
-    match &outcome.reply {
-        Reply::Decided(decision) => Some(*decision),
-        _ => None,
-    }
-}
-
-// Asks about a group.
-fn decide(alloc: Global, instance: &mut Instance, row: Row) -> Option<Decision> {
-    let event = asked(alloc, row.1, row.3)?;
-    let outcome = instance.step(event, at_nanos(row.2)).ok()?;
-    decided(&outcome)
-}
-
-// Notes notifications at 100 s.
-fn note_all(alloc: Global, instance: &mut Instance, notices: &[Alerts]) -> Option<()> {
-    for &alerts in notices {
-        let event = notified(alloc, alerts)?;
-        instance.step(event, at(100)).ok()?;
-    }
-    Some(())
-}
-
 /// What the group was notified of at 100 s, what it is now, when that is, whether resolved ones are wanted, and the
 /// decision. The repeat interval is 60 s.
-type Row = (&'static [Alerts], Alerts, Time, bool, Decision);
+type Row = (&'static [Group], Group, Time, bool, Decision);
 
-fn decision(alloc: Global, row: Row) -> Option<Decision> {
+// Whether notifications at 100 s change the log.
+fn are_noted(alloc: Global, instance: &mut Instance, notices: &[Group]) -> bool {
+    for group in notices {
+        let wanted = Wanted::Logged(group.1, true);
+        if is_noted(alloc, instance, group, at(100), &wanted) != Some(true) {
+            return false;
+        }
+    }
+    true
+}
+
+// Whether the group is decided on so.
+fn is_decided(alloc: Global, instance: &mut Instance, row: &Row) -> Option<bool> {
+    let entry = Entry::decode(alloc, row.1.0).ok()?;
+    let wanted = Wanted::Decided(row.4);
+    let event = asked(entry, row.3);
+    is_answered(alloc, instance, event, at_nanos(row.2), &wanted).ok()
+}
+
+// Whether the group is noted, and then decided on so.
+fn holds(alloc: Global, row: &Row) -> Option<(bool, Option<bool>)> {
     let mut instance = instance(alloc, 10)?;
-    note_all(alloc, &mut instance, row.0)?;
-    decide(alloc, &mut instance, row)
+    let noted = are_noted(alloc, &mut instance, row.0);
+    Some((noted, is_decided(alloc, &mut instance, row)))
 }
 
 fn are_decided(rt: &impl Abort, alloc: Global, rows: &[Row]) {
-    for (i, &row) in rows.iter().enumerate() {
-        let decision = decision(alloc, row);
-        assert!(rt; decision == Some(row.4), "{i}: {decision:?}");
+    for (i, row) in rows.iter().enumerate() {
+        let holds = holds(alloc, row);
+        assert!(rt; holds == Some((true, Some(true))), "{i}: {holds:?}");
     }
 }
 
 #[test]
 fn a_group_without_an_entry(rt: HostRuntime) {
-    let one: Alerts = (&[1], &[]);
     let first = Decision::Notify(Reason::First);
     let rows: [Row; 3] = [
-        (&[], (&[], &[]), (160, 0), true, Decision::Skip),
-        (&[], one, (160, 0), true, first),
-        (&[(&[1, 2], &[])], one, (200, 0), true, first),
+        (&[], NONE, (160, 0), true, Decision::Skip),
+        (&[], ONE, (160, 0), true, first),
+        (&[ONE_AND_TWO], ONE, (200, 0), true, first),
     ];
     are_decided(&rt, rt.alloc(), &rows);
 }
 
 #[test]
 fn a_group_with_an_entry(rt: HostRuntime) {
-    let one: Alerts = (&[1], &[]);
-    let listed: &[Alerts] = &[(&[1, 2], &[])];
+    let listed: &[Group] = &[ONE_AND_TWO];
+    let repeat = Decision::Notify(Reason::Repeat);
+    let new_firing = Decision::Notify(Reason::NewFiring);
+    let all_resolved = Decision::Notify(Reason::AllResolved);
+    let new_resolved = Decision::Notify(Reason::NewResolved);
     let rows: [Row; 7] = [
-        (listed, one, (160, 0), true, Decision::Skip),
-        (
-            listed,
-            one,
-            (160, 1),
-            true,
-            Decision::Notify(Reason::Repeat),
-        ),
-        (
-            listed,
-            (&[3], &[]),
-            (160, 0),
-            true,
-            Decision::Notify(Reason::NewFiring),
-        ),
-        (
-            listed,
-            (&[], &[]),
-            (160, 0),
-            true,
-            Decision::Notify(Reason::AllResolved),
-        ),
-        (&[(&[], &[])], (&[], &[]), (160, 0), true, Decision::Skip),
-        (
-            listed,
-            (&[1], &[2]),
-            (160, 0),
-            true,
-            Decision::Notify(Reason::NewResolved),
-        ),
-        (listed, (&[1], &[2]), (160, 0), false, Decision::Skip),
+        (listed, ONE, (160, 0), true, Decision::Skip),
+        (listed, ONE, (160, 1), true, repeat),
+        (listed, THREE, (160, 0), true, new_firing),
+        (listed, NONE, (160, 0), true, all_resolved),
+        (&[NONE], NONE, (160, 0), true, Decision::Skip),
+        (listed, ONE_NOT_TWO, (160, 0), true, new_resolved),
+        (listed, ONE_NOT_TWO, (160, 0), false, Decision::Skip),
     ];
     are_decided(&rt, rt.alloc(), &rows);
 }

@@ -1,20 +1,19 @@
 //! Posts of silences, as events.
 
+use crate::answers::{FRESH, Wanted, is_answered};
 use crate::bytes::{
     EXPIRED, FRESH_ID, FRESH_ID_NEWER, JUST_ENDED, PENDING, TWO, V1, V1_AND_FRESH_ID, V2,
 };
-use crate::fixtures::{Moments, Time, are_sent_to, at, at_nanos, holding, is_version};
-use am_instance::{Event, Instance, Outcome, Reply, Request};
+use crate::fixtures::{Moments, Time, at, at_nanos, holding};
+use am_instance::{Event, Instance, Request};
 use am_silence::SilenceError::{
     AllMatchEmpty, BadPattern, EndInPast, IdInUse, Newer, NoMatcher, NotFound,
 };
 use am_silence::{MatcherKind, MatcherRef, Matchers, Posted, SilenceError};
+use am_version_order::Moment;
 use am_wire::Text;
 use std::alloc::Global;
 use std::process::Abort;
-
-/// The identifier that bits 0 give.
-const FRESH: &str = "00000000-0000-4000-8000-000000000000";
 
 /// Kind, name and pattern of a matcher.
 type MatcherRow = (MatcherKind, &'static str, &'static str);
@@ -22,19 +21,7 @@ type MatcherRow = (MatcherKind, &'static str, &'static str);
 /// Identifier, matchers, start, and end in seconds.
 type Post = (&'static str, &'static [MatcherRow], Time, i64);
 
-/// What comes of a post at 20 s.
-#[derive(Clone, Copy)]
-enum Wanted {
-    /// Silence `a` has a new version.
-    Updated(Moments),
-    /// There is a new silence.
-    Created(Moments),
-    /// There is a new silence, and then the end of silence `a`.
-    Replaced(Moments, Moments),
-    Refused(SilenceError),
-}
-
-/// The silence that is held, the post, and what comes of it.
+/// The silence that is held, the post, and what comes of it at 20 s.
 type Row = (&'static [u8], Post, Wanted);
 
 const JOB_IS_X: MatcherRow = (MatcherKind::Equal, "job", "x");
@@ -77,89 +64,49 @@ fn id_of(alloc: Global, id: &str) -> Option<Option<Text>> {
 }
 
 fn posted(alloc: Global, (id, rows, starts_at, ends_at): Post) -> Option<Posted> {
+    let id = id_of(alloc, id)?;
+    let matchers = matchers(alloc, rows)?;
     Some(Posted {
-        id: id_of(alloc, id)?,
-        matchers: matchers(alloc, rows)?,
+        id,
+        matchers,
         starts_at: at_nanos(starts_at),
         ends_at: at(ends_at),
-        created_by: Text::copied(alloc, "ops").ok()?,
-        comment: Text::copied(alloc, "hi").ok()?,
+        created_by: Text::new(String::new(alloc)),
+        comment: Text::new(String::new(alloc)),
     })
 }
 
-fn event(alloc: Global, post: Post) -> Option<Event> {
+// Whether a post is answered so.
+fn is_posted(
+    alloc: Global,
+    instance: &mut Instance,
+    post: Post,
+    now: Moment,
+    wanted: &Wanted,
+) -> Option<bool> {
     let posted = posted(alloc, post)?;
-    Some(Event::Request(Request::Post { posted, bits: 0 }))
-}
-
-// The identifier is the answer to a post.
-fn is_posted(outcome: &Outcome, wanted: &str) -> bool {
-    match &outcome.reply {
-        Reply::Posted(id) => id.as_str() == wanted,
-        _ => false,
-    }
-}
-
-fn is_refused(outcome: &Outcome, wanted: SilenceError) -> bool {
-    match &outcome.reply {
-        Reply::Refused(error) => *error == wanted,
-        _ => false,
-    }
-}
-
-// One version of a silence was made, and sent to both peers.
-fn is_made(outcome: &Outcome, id: &str, moments: Moments) -> bool {
-    let [version] = outcome.made.silences.as_slice() else {
-        return false;
-    };
-    is_version(version, id, moments) && is_posted(outcome, id) && are_sent_to(outcome, &[1, 2])
-}
-
-// A new silence was made, and then silence `a` was ended; both were sent to both peers.
-fn are_made(outcome: &Outcome, new: Moments, ended: Moments) -> bool {
-    let [first, second] = outcome.made.silences.as_slice() else {
-        return false;
-    };
-    is_version(first, FRESH, new)
-        && is_version(second, "a", ended)
-        && is_posted(outcome, FRESH)
-        && are_sent_to(outcome, &[1, 2, 1, 2])
-}
-
-// The answer to a post is as wanted.
-fn is_answered(outcome: &Outcome, wanted: &Wanted) -> bool {
-    match wanted {
-        Wanted::Updated(moments) => is_made(outcome, "a", *moments),
-        Wanted::Created(moments) => is_made(outcome, FRESH, *moments),
-        Wanted::Replaced(new, ended) => are_made(outcome, *new, *ended),
-        Wanted::Refused(error) => {
-            is_refused(outcome, *error)
-                && outcome.made.silences.is_empty()
-                && are_sent_to(outcome, &[])
-        }
-    }
+    let event = Event::Request(Request::Post { posted, bits: 0 });
+    is_answered(alloc, instance, event, now, wanted).ok()
 }
 
 /// So many silences are held after a post, where so many were held before.
 fn size_after(size: usize, wanted: &Wanted) -> usize {
     match wanted {
-        Wanted::Updated(_) | Wanted::Refused(_) => size,
         Wanted::Created(_) | Wanted::Replaced(..) => size.saturating_add(1),
+        _ => size,
     }
 }
 
-// What comes of an event at 20 s; its moment counts, also where it is refused.
-fn comes_of(instance: &mut Instance, event: Event, wanted: &Wanted) -> Option<bool> {
-    let size = size_after(instance.silences().len(), wanted);
-    let outcome = instance.step(event, at(20)).ok()?;
-    let answered = is_answered(&outcome, wanted);
+// Whether a row holds; its moment counts, also where the post is refused.
+fn comes_of(alloc: Global, instance: &mut Instance, row: &Row) -> Option<bool> {
+    let size = size_after(instance.silences().len(), &row.2);
+    let answered = is_posted(alloc, instance, row.1, at(20), &row.2)?;
     Some(answered && instance.silences().len() == size && instance.last() == at(20))
 }
 
 fn holds(alloc: Global, row: &Row) -> Option<bool> {
     let mut instance = holding(alloc, row.0)?;
-    let event = event(alloc, row.1)?;
-    comes_of(&mut instance, event, &row.2)
+    comes_of(alloc, &mut instance, row)
 }
 
 fn hold(rt: &impl Abort, alloc: Global, rows: &[Row]) {
@@ -311,9 +258,14 @@ fn matchers_of_a_post_are_judged(rt: HostRuntime) {
 // What comes of that post at 300 s, over a silence that is held and not live.
 fn late_answer(alloc: Global, row: &[u8], id: &'static str, wanted: SilenceError) -> Option<bool> {
     let mut instance = holding(alloc, row)?;
-    let event = event(alloc, (id, &[JOB_IS_X], (310, 0), 400))?;
-    let outcome = instance.step(event, at(300)).ok()?;
-    Some(is_refused(&outcome, wanted))
+    let post: Post = (id, &[JOB_IS_X], (310, 0), 400);
+    is_posted(
+        alloc,
+        &mut instance,
+        post,
+        at(300),
+        &Wanted::Refused(wanted),
+    )
 }
 
 #[test]

@@ -1,15 +1,18 @@
 //! Steps that are refused.
 
+use crate::answers::{Wanted, is_answered};
 use crate::fixtures::{at, frame_of, instance};
 use am_gossip::{Frame, FrameError};
-use am_instance::{Event, Place, StepError};
+use am_instance::{Event, Instance, Place, StepError};
 use am_wire::WireError;
 use std::alloc::Global;
 
 // Why a Show at a moment is refused by an instance that started at 10 s.
 fn fault_of_show(alloc: Global, seconds: i64) -> Option<Option<StepError>> {
     let mut instance = instance(alloc, 10)?;
-    Some(instance.step(Event::Show, at(seconds)).err())
+    let shown = Wanted::Shown((None, None));
+    let answered = is_answered(alloc, &mut instance, Event::Show, at(seconds), &shown);
+    Some(answered.err())
 }
 
 #[test]
@@ -20,45 +23,48 @@ fn a_moment_before_the_last_one_is_refused(rt: HostRuntime) {
     assert_eq!(rt; same, Some(None));
 }
 
-// Why an event that names a place is refused at a moment, by the first of three members which started at 10 s; its last
-// moment is then the same.
-fn fault(alloc: Global, event: Event, seconds: i64) -> Option<StepError> {
-    let mut instance = instance(alloc, 10)?;
-    let fault = instance.step(event, at(seconds)).err()?;
+// Why an event is refused at a moment by an instance that started at 10 s; its last moment is then the same.
+fn fault(alloc: Global, instance: &mut Instance, event: Event, seconds: i64) -> Option<StepError> {
+    let nothing = Wanted::Sent(&[]);
+    let fault = is_answered(alloc, instance, event, at(seconds), &nothing).err()?;
     if instance.last() != at(10) || !instance.silences().is_empty() {
         return None;
     }
     Some(fault)
 }
 
-// Why a peer can't be pulled from, and why its Tick is refused.
-fn faults(alloc: Global, place: Place, seconds: i64) -> [Option<StepError>; 2] {
-    let tick = Event::Frame {
-        sender: place,
-        frame: Frame::Tick,
-    };
-    [
-        fault(alloc, Event::PullFrom(place), seconds),
-        fault(alloc, tick, seconds),
-    ]
+// Why a Tick of a member is refused.
+fn fault_of_tick(
+    alloc: Global,
+    instance: &mut Instance,
+    sender: Place,
+    seconds: i64,
+) -> Option<StepError> {
+    let frame = Frame::Tick;
+    fault(alloc, instance, Event::Frame { sender, frame }, seconds)
+}
+
+// Whether a member can't be pulled from, and its Tick is refused, for this cause, by the first of three members.
+fn are_refused(alloc: Global, place: Place, seconds: i64, wanted: StepError) -> Option<bool> {
+    let mut instance = instance(alloc, 10)?;
+    let pull = fault(alloc, &mut instance, Event::PullFrom(place), seconds) == Some(wanted);
+    let tick = fault_of_tick(alloc, &mut instance, place, seconds) == Some(wanted);
+    Some(pull && tick)
 }
 
 #[test]
 fn a_place_of_no_peer_is_refused(rt: HostRuntime) {
     for place in [0, 3, u64::MAX] {
-        let faults = faults(rt.alloc(), place, 20);
-        assert!(rt;
-            faults == [Some(StepError::UnknownPeer), Some(StepError::UnknownPeer)],
-            "{place}"
-        );
+        let are_refused = are_refused(rt.alloc(), place, 20, StepError::UnknownPeer);
+        assert!(rt; are_refused == Some(true), "{place}");
     }
 }
 
 #[test]
 fn a_moment_before_the_last_one_comes_before_a_place_of_no_peer(rt: HostRuntime) {
-    let faults = faults(rt.alloc(), 0, 9);
-    let back = Some(StepError::MomentBack { last: at(10) });
-    assert_eq!(rt; faults[0], back);
+    let back = StepError::MomentBack { last: at(10) };
+    let are_refused = are_refused(rt.alloc(), 0, 9, back);
+    assert_eq!(rt; are_refused, Some(true));
 }
 
 /// A Delta of silences whose second row is cut: its length stands at 33.
@@ -70,9 +76,14 @@ const CUT: [u8; 62] = [
 ];
 
 // Why that Delta is refused.
-fn fault_of_cut(alloc: Global) -> Option<StepError> {
+fn fault_of_frame(alloc: Global, instance: &mut Instance) -> Option<StepError> {
     let frame = frame_of(alloc, &CUT)?;
-    fault(alloc, Event::Frame { sender: 1, frame }, 11)
+    fault(alloc, instance, Event::Frame { sender: 1, frame }, 11)
+}
+
+fn fault_of_cut(alloc: Global) -> Option<StepError> {
+    let mut instance = instance(alloc, 10)?;
+    fault_of_frame(alloc, &mut instance)
 }
 
 #[test]

@@ -1,55 +1,54 @@
 //! What is shown, and what mutes an alert.
 
+use crate::answers::{Shown, Wanted, is_answered};
 use crate::bytes::{E1, FOUR, V1};
-use crate::fixtures::{are_sent_to, at, holding, holding_both};
-use am_instance::{Event, Instance, Outcome, Reply};
-use am_matcher::{Ids, Label, Labels};
+use crate::fixtures::{at, holding, holding_both};
+use am_instance::{Event, Instance, StepError};
+use am_matcher::{Label, Labels};
 use am_silence::State;
 use am_wire::Text;
 use std::alloc::Global;
 
-// Labels with this job alone.
-fn job(alloc: Global, value: &str) -> Option<Labels> {
+// The label of this job.
+fn job(alloc: Global, value: &str) -> Option<Label> {
     let name = Text::copied(alloc, "job").ok()?;
     let value = Text::copied(alloc, value).ok()?;
-    let mut labels = Vec::new(alloc);
-    labels.push(Label { name, value }).ok()?;
-    Some(Labels::new(labels))
+    Some(Label { name, value })
 }
 
-// Whether the ids, one after the other, are the text.
-fn are(ids: &Ids, text: &str) -> bool {
-    let mut left = text;
-    for id in ids.as_slice() {
-        let Some(rest) = left.strip_prefix(id.as_str()) else {
-            return false;
-        };
-        left = rest;
-    }
-    left.is_empty()
+// That label alone.
+fn labels(alloc: Global, value: &str) -> Option<Labels> {
+    let mut labels = Vec::new(alloc);
+    labels.push(job(alloc, value)?).ok()?;
+    Some(Labels::new(labels))
 }
 
 /// A job, a moment in seconds, and the ids that mute it then, and the broken ones.
 type Job = (&'static str, i64, &'static str, &'static str);
 
-fn is_muted(outcome: &Outcome, ids: &str, broken: &str) -> bool {
-    match &outcome.reply {
-        Reply::Muted(mutes) => are(&mutes.ids, ids) && are(&mutes.broken, broken),
-        _ => false,
-    }
-}
-
 fn mutes(alloc: Global, instance: &mut Instance, row: Job) -> Option<bool> {
     let (value, seconds, ids, broken) = row;
-    let labels = job(alloc, value)?;
-    let outcome = instance.step(Event::Mutes { labels }, at(seconds)).ok()?;
-    Some(is_muted(&outcome, ids, broken) && are_sent_to(&outcome, &[]))
+    let labels = labels(alloc, value)?;
+    let wanted = Wanted::Muted(ids, broken);
+    is_answered(
+        alloc,
+        instance,
+        Event::Mutes { labels },
+        at(seconds),
+        &wanted,
+    )
+    .ok()
 }
 
 // Collects at a moment.
-fn tick(instance: &mut Instance, seconds: i64) -> Option<()> {
-    let outcome = instance.step(Event::Tick, at(seconds)).ok()?;
-    matches!(outcome.reply, Reply::Nothing).then_some(())
+fn tick(alloc: Global, instance: &mut Instance, seconds: i64) -> Result<bool, StepError> {
+    is_answered(
+        alloc,
+        instance,
+        Event::Tick,
+        at(seconds),
+        &Wanted::Sent(&[]),
+    )
 }
 
 /// At 50 s all four are active, and at 100 s none.
@@ -64,15 +63,20 @@ const JOBS: [Job; 7] = [
 ];
 
 // The first of the rows that doesn't hold. Before each a Tick comes, after which only the patterns of what is held stay.
-fn wrong_job(alloc: Global) -> Option<usize> {
-    let mut instance = holding(alloc, &FOUR)?;
+fn wrong_row(alloc: Global, instance: &mut Instance) -> usize {
     for (i, &row) in JOBS.iter().enumerate() {
-        tick(&mut instance, row.1)?;
-        if mutes(alloc, &mut instance, row) != Some(true) {
-            return Some(i);
+        let ticked = tick(alloc, instance, row.1) == Ok(true);
+        let muted = mutes(alloc, instance, row) == Some(true);
+        if !ticked || !muted {
+            return i;
         }
     }
-    Some(JOBS.len())
+    JOBS.len()
+}
+
+fn wrong_job(alloc: Global) -> Option<usize> {
+    let mut instance = holding(alloc, &FOUR)?;
+    Some(wrong_row(alloc, &mut instance))
 }
 
 #[test]
@@ -81,33 +85,11 @@ fn active_silences_mute_what_they_match(rt: HostRuntime) {
     assert_eq!(rt; wrong, Some(JOBS.len()));
 }
 
-/// The state of the one silence that is shown, and the hashes that fire in the one entry; none where none is shown.
-type Shown = (Option<State>, Option<(u64, u64)>);
-
-fn shown(outcome: &Outcome) -> Option<Shown> {
-    let Reply::Shown { silences, log } = &outcome.reply else {
-        return None;
-    };
-    let state = match silences.as_slice() {
-        [] => None,
-        [(_, state)] => Some(*state),
-        _ => return None,
-    };
-    let hashes = match log.as_slice() {
-        [] => None,
-        [entry] => match entry.entry().firing_alerts.as_slice() {
-            [one, two] => Some((*one, *two)),
-            _ => return None,
-        },
-        _ => return None,
-    };
-    Some((state, hashes))
-}
-
-fn show(alloc: Global, seconds: i64) -> Option<Shown> {
+// Whether this is shown at a moment.
+fn is_shown(alloc: Global, seconds: i64, shown: Shown) -> Option<Result<bool, StepError>> {
     let mut instance = holding_both(alloc, &V1, &E1)?;
-    let outcome = instance.step(Event::Show, at(seconds)).ok()?;
-    shown(&outcome)
+    let wanted = Wanted::Shown(shown);
+    Some(is_answered(alloc, &mut instance, Event::Show, at(seconds), &wanted))
 }
 
 #[test]
@@ -118,7 +100,7 @@ fn both_views_are_shown(rt: HostRuntime) {
         (200, (None, None)),
     ];
     for (seconds, wanted) in rows {
-        let shown = show(rt.alloc(), seconds);
-        assert!(rt; shown == Some(wanted), "{seconds}: {shown:?}");
+        let is_shown = is_shown(rt.alloc(), seconds, wanted);
+        assert!(rt; is_shown == Some(Ok(true)), "{seconds}");
     }
 }

@@ -10,18 +10,22 @@ use Rattle.am_matcher.specs.declared.compiled.BuildError.TheVariants as build
 use Rattle.am_matcher.specs.declared.filter.FilterError.{FilterError}
 use Rattle.am_matcher.specs.declared.filter.FilterError.TheVariants as filter
 
+-- a matcher that cannot be built is a fault of its filter
 abbrev pub of_build : BuildError → FilterError
 of_build build.BadPattern = filter.BadPattern
 of_build build.Memory = filter.Memory
 
+-- what the parser of patterns refuses
 abbrev pub of_parser : ErrorKind → BuildError
 of_parser parser.OutOfMemory = build.Memory
 of_parser _ = build.BadPattern
 
+-- what the compiler of patterns refuses
 abbrev pub of_compiler : Error → BuildError
 of_compiler compiler.OutOfMemory = build.Memory
 of_compiler _ = build.BadPattern
 
+-- what the maker of tables refuses
 abbrev pub of_tables : tables.BuildError → BuildError
 of_tables table.OutOfMemory = build.Memory
 of_tables table.Malformed = build.BadPattern

@@ -20,6 +20,7 @@ is_name_character c = is_ascii_alphanumeric c || (c == 0x5F) || (c == 0x3A)
 abbrev pub begins_name : ℕ → Bool
 begins_name c = is_name_character c && not (is_ascii_digit c)
 
+-- the first character passes the test
 abbrev pub begins_with : (ℕ → Bool) → List ℕ → Bool
 begins_with test [] = false
 begins_with test (c ∷ rest) = test c
@@ -35,6 +36,7 @@ pub record IsName (name : List ℕ) : Type 0 where
   pub characters : list_all is_name_character name ≡ true
   pub first : begins_with begins_name name ≡ true
 
+-- the sign of a kind
 abbrev pub sign_of : MatcherKind → List ℕ
 sign_of kinds.Regexp = codes "=~"
 sign_of kinds.NotRegexp = codes "!~"
@@ -53,6 +55,7 @@ sign_at text =
 abbrev pub escape_of : ℕ → Option ℕ
 escape_of c = if c == 0x22 then Some 0x22 else (if c == 0x5C then Some 0x5C else (if c == 0x6E then Some 0x0A else None))
 
+-- what a backslash stands for with the character behind it
 abbrev pub escape_at : ℕ → ℕ → Option ℕ
 escape_at c next = if c == 0x5C then escape_of next else None
 
@@ -69,6 +72,7 @@ pieces (c ∷ next ∷ rest) = elim (escape_at c next) [
 abbrev pub quote : Piece
 quote = record { escaped = false; character = 0x22 }
 
+-- a piece that is such a quote
 abbrev pub is_quote : Piece → Bool
 is_quote piece = not piece.escaped && (piece.character == 0x22)
 

@@ -23,6 +23,7 @@ is_met kind pattern value = elim kind [
   | kinds.NotRegexp ↦ not (is_match pattern value)
 ]
 
+-- the value is as the matcher wants it
 abbrev pub matches_value : Matcher → List ℕ → Bool
 matches_value m value = is_met m.kind m.pattern value
 

@@ -25,6 +25,7 @@ if_mutes Mutes id = id ∷ []
 if_mutes Passes id = []
 if_mutes Broken id = []
 
+-- the id alone where the silence is broken, else none
 abbrev pub if_broken : Effect → List ℕ → List (List ℕ)
 if_broken Idle id = []
 if_broken Mutes id = []
@@ -41,9 +42,11 @@ pub record IsJudged (j : Judged) : Type 0 where
   pub refused : j.broken ≡ true → Any IsBrokenMatcher j.silence.silence.matchers
   pub read : j.broken ≡ false → All IsSoundMatcher j.silence.silence.matchers
 
+-- the silence is read, and all its matchers match the labels
 abbrev pub is_muting : List Label → Judged → Bool
 is_muting labels j = not j.broken && match_all j.silence.silence.matchers labels
 
+-- the id of the silence
 abbrev pub id_of : Judged → List ℕ
 id_of j = j.silence.silence.id
 

@@ -10,6 +10,7 @@ use Rattle.am_version_order.specs.Versions.{Version}
 use Rattle.am_merge.specs.Entries.{key_entry, key_order}
 use Rattle.am_merge.specs.declared.entry.BucketEntry.{BucketEntry}
 
+-- where in the table the version of an entry stands
 abbrev pub bucket_slot : BucketEntry → ℕ
 bucket_slot e = e.key.slot
 

@@ -9,9 +9,11 @@ use Rattle.am_merge.specs.Indexes.{filed}
 use Rattle.am_merge.specs.declared.entry.KeyEntry.{KeyEntry}
 use Rattle.am_merge.specs.declared.entry.ExpiryEntry.{ExpiryEntry}
 
+-- where in the table the version of an entry by key stands
 abbrev pub key_slot : KeyEntry → ℕ
 key_slot e = e.slot
 
+-- where in the table the version of an entry by expiry stands
 abbrev pub expiry_slot : ExpiryEntry → ℕ
 expiry_slot e = e.slot
 

@@ -15,6 +15,7 @@ use Rattle.am_output.specs.declared.refusal.Refusal.TheVariants as refusals
 use Rattle.am_output.specs.declared.line.Line.{Line}
 use Rattle.am_output.specs.declared.line.Line.TheVariants as lines
 
+-- the word of an answer
 abbrev pub yes_or_no : Bool → List ℕ
 yes_or_no true = codes "yes"
 yes_or_no false = codes "no"
@@ -28,6 +29,7 @@ decision_word (Notify AllResolved) = codes "AllResolved"
 decision_word (Notify NewResolved) = codes "NewResolved"
 decision_word (Notify Repeat) = codes "Repeat"
 
+-- a kind of frame by its name
 abbrev pub kind_word : FrameKind → List ℕ
 kind_word kinds.Delta = codes "Delta"
 kind_word kinds.Push = codes "Push"

@@ -31,5 +31,6 @@ cluster_parts words = do
   names ← or_fault Cluster (names_in (drop 3 words))
   Ok (record { names = names; retention = retention; peer_timeout = peer_timeout })
 
+-- the cluster of a line
 unfoldable pub cluster_in : List (List ℕ) → Result ClusterLine FaultKind
 cluster_in words = if has_word 0 (codes "cluster") words && (nat_le 4 (length words) && nat_le (length words) 19) then cluster_parts words else Err Cluster

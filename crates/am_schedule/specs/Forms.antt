@@ -28,6 +28,7 @@ is_of (Other lines.Lose) words = is_line (codes "lose") 1 lose_row words
 is_of (Other lines.Timely) words = is_line (codes "timely") 1 timely_row words
 is_of (Other lines.Frames) words = is_line (codes "frames") 1 frames_row words
 
+-- each form, in the order in which they are looked for
 abbrev pub all_forms : List Form
 all_forms =
     Cluster ∷ Version versions.Silence ∷ Version versions.Log ∷ Other lines.At ∷ Other lines.Stop

@@ -16,10 +16,12 @@ use Rattle.am_schedule.specs.Words.{is_short}
 abbrev pub is_label : List ℕ → Bool
 is_label word = nat_lt 0 (length word) && is_short word
 
+-- the version of a silence, where the line is one
 abbrev pub silence_of : VersionLine → Option SilenceLine
 silence_of (Silence line) = Some line
 silence_of (Log line) = None
 
+-- the version of an entry, where the line is one
 abbrev pub log_of : VersionLine → Option LogLine
 log_of (Silence line) = None
 log_of (Log line) = Some line

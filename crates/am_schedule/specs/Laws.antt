@@ -52,9 +52,10 @@ OneWay =
     → IsWritableLine cluster.names version labels line → IsWritableLine cluster.names version labels other
     → written labels line ≡ written labels other → line ≡ other
 
--- a line is of one form at most, and has one verb at most: where they are looked for first makes no difference
+-- a line is of one form at most: where they are looked for first makes no difference
 abbrev pub OneForm : Type 0
 OneForm = (form : Form) (words : List (List ℕ)) → is_of form words ≡ true → form_in words ≡ Some form
 
+-- a line has one verb at most
 abbrev pub OneVerb : Type 0
 OneVerb = (verb : Verb) (words : List (List ℕ)) → has_verb verb words ≡ true → verb_in words ≡ Some verb

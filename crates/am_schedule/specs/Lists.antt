@@ -26,6 +26,7 @@ yes_or_no_in word = if bytes_eq word (codes "yes") then Some true else if bytes_
 unfoldable pub member_in : List (List ℕ) → List ℕ → Result (List ℕ) FaultKind
 member_in names word = or_fault Name (find (λ name. bytes_eq name word) names)
 
+-- the sign between a name and its value
 abbrev pub is_equals : ℕ → Bool
 is_equals byte = byte == 61
 
@@ -41,6 +42,7 @@ abbrev pub are_new : List (List ℕ) → List (List ℕ) → Bool
 are_new before [] = true
 are_new before (text ∷ texts) = not (list_any (λ t. bytes_eq t text) before) && are_new (before ++ text ∷ []) texts
 
+-- the names of pairs
 abbrev pub names_of : List Pair → List (List ℕ)
 names_of pairs = map (λ pair. pair.name) pairs
 

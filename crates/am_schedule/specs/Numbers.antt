@@ -8,6 +8,7 @@ abbrev pub decimal_behind : ℕ → List ℕ → ℕ
 decimal_behind n [] = n
 decimal_behind n (digit ∷ digits) = decimal_behind (10 * n + (digit - 48)) digits
 
+-- the number that decimal digits are
 unfoldable pub decimal_of : List ℕ → ℕ
 decimal_of digits = decimal_behind 0 digits
 
@@ -24,6 +25,7 @@ abbrev pub wanted : ℕ → ℕ → Option ℕ → Option ℕ
 wanted least most None = None
 wanted least most (Some n) = if nat_le least n && nat_le n most then Some n else None
 
+-- the number that a word is, where it lies between the least and the most
 unfoldable pub number_within : ℕ → ℕ → List ℕ → Option ℕ
 number_within least most word = wanted least most (count_in word)
 

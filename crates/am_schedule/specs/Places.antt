@@ -9,9 +9,11 @@ use Rattle.am_schedule.specs.Lists.{member_in}
 abbrev pub read_at : {A : Type 0} → (List ℕ → Option A) → ℕ → List (List ℕ) → Result A FaultKind
 read_at value place words = in_place (value (word_at place words)) (word_at place words)
 
+-- the text in a place
 abbrev pub text_at : ℕ → List (List ℕ) → Result (List ℕ) FaultKind
 text_at place words = text_in (word_at place words)
 
+-- the name of the member in a place
 abbrev pub member_at : List (List ℕ) → ℕ → List (List ℕ) → Result (List ℕ) FaultKind
 member_at names place words = member_in names (word_at place words)
 

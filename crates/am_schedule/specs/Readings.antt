@@ -3,6 +3,7 @@ use Rattle.std.specs.Prelude.{◌≡◌, ◌≢◌, Option, Some, None, Result, 
 use Rattle.am_schedule.specs.declared.error.FaultKind.{FaultKind}
 use Rattle.am_schedule.specs.declared.error.FaultKind.TheVariants.{Memory}
 
+-- what comes behind a step that may fail
 infixl 10 ◌>>=◌
 abbrev pub ◌>>=◌ : {A B : Type 0} → Result A FaultKind → (A → Result B FaultKind) → Result B FaultKind
 (Ok x) >>= f = f x

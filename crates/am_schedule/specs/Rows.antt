@@ -49,6 +49,7 @@ pub record Row (R : Type 0) : Type 0 where
   pub rest : Rest
   pub makes : Makes slots rest R
 
+-- a row of these parts
 abbrev pub row : {R : Type 0} → (slots : List Slot) → (rest : Rest) → Makes slots rest R → Row R
 row slots rest makes = record { slots = slots; rest = rest; makes = makes }
 
@@ -64,11 +65,13 @@ has_count first row words = is_count row.rest (first + length row.slots) (length
 
 -- ---- the rule of faults: word by word from the left, and the first word at fault decides
 
+-- what is made with the words behind the places
 abbrev pub rest_by : {R : Type 0} → (List ℕ → Option VersionLine) → (rest : Rest) → MakesOfRest rest R → List (List ℕ) → Result R FaultKind
 rest_by version nothing makes words = Ok makes
 rest_by version labels makes words = versions_in version words >>= λ versions. Ok (makes versions)
 rest_by version pairs makes words = pairs_in words >>= λ pairs. Ok (makes pairs)
 
+-- what is made of the words from a place on
 abbrev pub read_by : {R : Type 0} → List (List ℕ) → (List ℕ → Option VersionLine) → ℕ
     → (slots : List Slot) → (rest : Rest) → Makes slots rest R → List (List ℕ) → Result R FaultKind
 read_by names version place [] rest makes words = rest_by version rest makes (drop place words)
@@ -126,6 +129,7 @@ event_row verbs.Tick = row [] nothing events.Tick
 event_row verbs.Pull = row (member ∷ []) nothing (λ peer. events.Pull peer)
 event_row verbs.Start = row [] nothing events.Start
 
+-- the word of a verb
 abbrev pub verb_word : Verb → List ℕ
 verb_word verbs.From = codes "from"
 verb_word verbs.Post = codes "post"
@@ -138,6 +142,7 @@ verb_word verbs.Tick = codes "tick"
 verb_word verbs.Pull = codes "pull"
 verb_word verbs.Start = codes "start"
 
+-- each verb, in the order in which they are looked for
 abbrev pub all_verbs : List Verb
 all_verbs =
     verbs.From ∷ verbs.Post ∷ verbs.Expire ∷ verbs.Notified ∷ verbs.Decide ∷ verbs.Mutes ∷ verbs.Show ∷ verbs.Tick ∷ verbs.Pull ∷ verbs.Start ∷ []

@@ -26,6 +26,7 @@ abbrev pub unless_empty : List ℕ → List (List ℕ)
 unless_empty [] = []
 unless_empty (byte ∷ bytes) = (byte ∷ bytes) ∷ []
 
+-- the parts of a text but an empty last one
 abbrev pub without_empty_last : List (List ℕ) → List (List ℕ)
 without_empty_last [] = []
 without_empty_last (part ∷ []) = unless_empty part
@@ -44,6 +45,7 @@ is_passed_over (byte ∷ bytes) = byte == 35
 unfoldable pub words_in : List ℕ → List (List ℕ)
 words_in line = if is_passed_over line then [] else words_of line
 
+-- what was read, where nothing is at fault
 abbrev pub value_of : {A : Type 0} → Result A FaultKind → Option A
 value_of (Ok x) = Some x
 value_of (Err kind) = None
@@ -59,6 +61,7 @@ first_value value (x ∷ xs) = or_else (value x) (first_value value xs)
 unfoldable pub cluster_of : List (List ℕ) → Option ClusterLine
 cluster_of lines = first_value (λ line. value_of (cluster_in (words_in line))) lines
 
+-- the version of a line of this form, where it is one
 abbrev pub version_by : Option Form → List (List ℕ) → Option VersionLine
 version_by None words = None
 version_by (Some Cluster) words = None
@@ -136,6 +139,7 @@ abbrev pub whole : Option ClusterLine → ℕ → List (Line × ℕ) → Result 
 whole None count lines = Err (record { line = count + 1; kind = faults.Cluster })
 whole (Some cluster) count lines = Ok (record { names = cluster.names; retention = cluster.retention; peer_timeout = cluster.peer_timeout; lines = lines })
 
+-- the first fault, where there is one, and else the schedule
 abbrev pub schedule_by : Option ScheduleError → Result Schedule ScheduleError → Result Schedule ScheduleError
 schedule_by None schedule = schedule
 schedule_by (Some error) schedule = Err error
@@ -144,5 +148,6 @@ schedule_by (Some error) schedule = Err error
 unfoldable pub schedule_in : List (List ℕ) → Result Schedule ScheduleError
 schedule_in lines = schedule_by (first_fault 1 (meanings [] lines)) (whole (cluster_of lines) (length lines) (numbered 1 (meanings [] lines)))
 
+-- the schedule of a text, or the first line at fault
 unfoldable pub schedule_of : List ℕ → Result Schedule ScheduleError
 schedule_of text = schedule_in (lines_of text)

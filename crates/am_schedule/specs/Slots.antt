@@ -8,6 +8,7 @@ use Rattle.am_schedule.specs.Numbers.{count_in, seconds_in, bits_in}
 use Rattle.am_schedule.specs.Times.{moment_in, whole_moment_in}
 use Rattle.am_schedule.specs.Lists.{hashes_in, yes_or_no_in, member_in}
 
+-- what a word is in its place
 pub data Slot : Type 0 where
   -- seconds since 1970, with a fraction where there is a point
   moment : Slot

@@ -19,9 +19,11 @@ use Rattle.am_schedule.specs.Slots.{moment, number, member, value_at}
 use Rattle.am_schedule.specs.Rows.{by_row, no_version, post_row, group_row, event_row, stop_row, save_row, lose_row, timely_row, frames_row}
 use Rattle.am_schedule.specs.Forms.{verb_in}
 
+-- what a post says behind its verb
 unfoldable pub post_in : List (List ℕ) → Result PostLine FaultKind
 post_in words = by_row [] no_version 4 post_row words
 
+-- what a notification or a decision says behind its verb
 unfoldable pub group_in : List (List ℕ) → Result GroupLine FaultKind
 group_in words = by_row [] no_version 4 group_row words
 

@@ -20,6 +20,7 @@ whole_moment_in word = moment_behind 0 word
 unfoldable pub fraction_in : List ℕ → Option ℕ
 fraction_in digits = if nat_le (length digits) 9 then option_map (λ n. n * 10 ^ (9 - length digits)) (count_in digits) else None
 
+-- the point before a fraction
 abbrev pub is_point : ℕ → Bool
 is_point byte = byte == 46
 

@@ -10,9 +10,11 @@ use Rattle.am_schedule.specs.declared.step.VersionLine.TheVariants.{Silence, Log
 use Rattle.am_schedule.specs.Readings.{◌>>=◌}
 use Rattle.am_schedule.specs.Rows.{by_row, no_version, silence_row, log_row}
 
+-- the version of a silence that a line is
 unfoldable pub silence_in : List (List ℕ) → Result SilenceLine FaultKind
 silence_in words = by_row [] no_version 2 silence_row words
 
+-- the version of an entry that a line is
 unfoldable pub log_in : List (List ℕ) → Result LogLine FaultKind
 log_in words = by_row [] no_version 2 log_row words
 

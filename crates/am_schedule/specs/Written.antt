@@ -26,6 +26,7 @@ unfoldable pub fixed_digits : (ℕ → ℕ) → ℕ → ℕ → ℕ → List ℕ
 fixed_digits digit base zero n = []
 fixed_digits digit base (suc count) n = fixed_digits digit base count (n / base) ++ digit (n % base) ∷ []
 
+-- the byte of a decimal digit
 abbrev pub decimal_digit : ℕ → ℕ
 decimal_digit n = 48 + n
 
@@ -42,14 +43,17 @@ abbrev pub more_numbers : List ℕ → List ℕ
 more_numbers [] = []
 more_numbers (n ∷ ns) = 44 ∷ decimal n ++ more_numbers ns
 
+-- a list of numbers as a word
 abbrev pub numbers_word : List ℕ → List ℕ
 numbers_word [] = codes "-"
 numbers_word (n ∷ ns) = decimal n ++ more_numbers ns
 
+-- the word of an answer
 abbrev pub answer_word : Bool → List ℕ
 answer_word true = codes "yes"
 answer_word false = codes "no"
 
+-- the word of an id, or of none
 abbrev pub id_word : Option (List ℕ) → List ℕ
 id_word None = codes "-"
 id_word (Some id) = id
@@ -135,6 +139,7 @@ IsSince1970 at = (moment_at 0 0 ≤ at) × (at < moment_at 253_402_300_800 0)
 abbrev pub IsMember : List (List ℕ) → List ℕ → Type 0
 IsMember names name = (is_name name ≡ true) × (find (λ other. bytes_eq other name) names ≡ Some name)
 
+-- an id that can be written, or none
 abbrev pub IsId : Option (List ℕ) → Type 0
 IsId None = Unit {0}
 IsId (Some id) = (length id ≤ 1024) × (bytes_eq id (codes "-") ≡ false)
@@ -156,9 +161,11 @@ IsWritable names identifier id = IsId id
 abbrev pub is_writable_pair : Pair → Bool
 is_writable_pair pair = nat_le (length (pair_word pair)) 1024 && list_all (λ byte. not (byte == 61)) pair.name
 
+-- one or more such pairs, and no name twice
 abbrev pub ArePairs : List Pair → Type 0
 ArePairs pairs = (0 < length pairs) × (list_all is_writable_pair pairs ≡ true) × (are_new [] (names_of pairs) ≡ true)
 
+-- a group that can be written
 abbrev pub IsGroup : GroupLine → Type 0
 IsGroup group =
     IsWritable [] text group.group × IsWritable [] text group.receiver × IsWritable [] hashes group.firing
@@ -180,6 +187,7 @@ IsWritableEvent names version labels events.Tick = Unit {0}
 IsWritableEvent names version labels (events.Pull peer) = IsMember names peer
 IsWritableEvent names version labels events.Start = Unit {0}
 
+-- a line that can be written
 abbrev pub IsWritableLine : List (List ℕ) → (List ℕ → Option VersionLine) → List (List ℕ) → Line → Type 0
 IsWritableLine names version labels (kinds.Step (actions.Event at name event)) =
     IsWritable names moment at × IsMember names name × IsWritableEvent names version labels event
@@ -191,6 +199,7 @@ IsWritableLine names version labels (kinds.Settle at) = IsWritable names moment 
 IsWritableLine names version labels (kinds.Timely spread flight) = IsWritable names interval spread × IsWritable names interval flight
 IsWritableLine names version labels kinds.Frames = Unit {0}
 
+-- a version that can be written
 abbrev pub IsWritableVersion : VersionLine → Type 0
 IsWritableVersion (Silence line) =
     IsWritable [] text line.id × IsWritable [] whole_moment line.updated × IsWritable [] whole_moment line.starts

@@ -23,5 +23,6 @@ is_below v w = is_lt (rank_cmp v w)
 abbrev pub is_live : {K : Type 0} → ℕ → Version K → Bool
 is_live now v = nat_lt now v.expires
 
+-- the same, as a fact
 abbrev pub IsLive : {K : Type 0} → ℕ → Version K → Type 0
 IsLive now v = now < v.expires

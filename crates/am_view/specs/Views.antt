@@ -20,6 +20,7 @@ abbrev pub owner_words : Option (List ℕ) → List ℕ
 owner_words None = []
 owner_words (Some name) = word_of name ++ codes " "
 
+-- a state by its name
 abbrev pub state_word : State → List ℕ
 state_word Pending = codes "pending"
 state_word Active = codes "active"
@@ -44,10 +45,11 @@ unfoldable pub entry_line : Option (List ℕ) → LogMesh → List ℕ
 entry_line name m =
     owner_words name ++ codes "nfl " ++ key_words m.entry.key ++ codes " " ++ numbers_word m.entry.firing_alerts ++ codes " " ++ numbers_word m.entry.resolved_alerts ++ codes "\n"
 
--- the silences in view by id, and the entries in view by key
+-- the silences in view by id
 abbrev pub silence_lines : Option (List ℕ) → ℕ → List Mesh → List ℕ
 silence_lines name now silences = flat_map (silence_line name now) (swept mesh_version now silences)
 
+-- the entries in view by key
 abbrev pub entry_lines : Option (List ℕ) → ℕ → List LogMesh → List ℕ
 entry_lines name now log = flat_map (entry_line name) (swept entry_version now log)
 

@@ -7,6 +7,7 @@ use Rattle.am_wire.specs.declared.error.WireError.{WireError}
 use Rattle.am_wire.specs.Fields.{pieces}
 use Rattle.am_wire.specs.Grammar.{AreSpelled}
 
+-- what is read without a fault
 abbrev pub done : {A : Type 0} → A → Result A WireError
 done x = Ok x
 

@@ -23,18 +23,23 @@ pub record Puts (fits : ℕ → WireType → Bool) (at : ℕ) (text : List ℕ) 
 abbrev pub number_field : ℕ → ℕ → ℕ → FieldAt
 number_field n v at = record { number = n; payload = varint v; at = at }
 
+-- the field of bytes
 abbrev pub chunk_field : ℕ → List ℕ → ℕ → FieldAt
 chunk_field n bytes at = record { number = n; payload = chunk (at + length (tag n 2) + length (shortest (length bytes))) bytes; at = at }
 
+-- the fields of a number: none where it is 0
 abbrev pub number_fields : ℕ → ℕ → ℕ → List FieldAt
 number_fields n v at = cond (eqb v 0) [] (number_field n v at ∷ [])
 
+-- the fields of a text: none where it is empty
 abbrev pub text_fields : ℕ → List ℕ → ℕ → List FieldAt
 text_fields n bytes at = cond (eqb (length bytes) 0) [] (chunk_field n bytes at ∷ [])
 
+-- texts, each as a field of its own
 abbrev pub writes_each_delimited : ℕ → List (List ℕ) → List ℕ
 writes_each_delimited n texts = flat_map (writes_delimited n) texts
 
+-- the fields of texts
 abbrev pub chunk_fields : ℕ → List (List ℕ) → ℕ → List FieldAt
 chunk_fields n [] at = []
 chunk_fields n (t ∷ texts) at = chunk_field n t at ∷ chunk_fields n texts (at + length (writes_delimited n t))

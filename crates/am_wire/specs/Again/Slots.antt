@@ -20,13 +20,16 @@ pub data Content : Type 0 where
   part : List ℕ → Content
   items : List ℕ → List (List ℕ) → Content
 
+-- a content and its number
 pub record Slot : Type 0 where
   pub slot_number : ℕ
   pub content : Content
 
+-- a slot of these parts
 abbrev pub slot : ℕ → Content → Slot
 slot n c = record { slot_number = n; content = c }
 
+-- what is written for a content
 abbrev pub put : ℕ → Content → List ℕ
 put n (number v) = writes_number n v
 put n (text bytes) = writes_text n bytes
@@ -45,6 +48,7 @@ slot_fields n (text bytes) at = text_fields n bytes at
 slot_fields n (part bytes) at = chunk_field n bytes at ∷ []
 slot_fields n (items bytes texts) at = chunk_fields n texts at
 
+-- the fields of slots, the last of which comes first
 unfoldable pub fields_at : ℕ → List Slot → List FieldAt
 fields_at at [] = []
 fields_at at (s ∷ before) = fields_at at before ++ slot_fields s.slot_number s.content (at + length (written before))
@@ -54,10 +58,12 @@ abbrev pub content_at : ℕ → List Slot → Content
 content_at n [] = number 0
 content_at n (s ∷ before) = cond (eqb s.slot_number n) s.content (content_at n before)
 
+-- where the text of a number begins
 abbrev pub place_at : ℕ → ℕ → List Slot → ℕ
 place_at n at [] = at
 place_at n at (s ∷ before) = cond (eqb s.slot_number n) (at + length (written before)) (place_at n at before)
 
+-- no slot has the number
 abbrev pub is_new : ℕ → List Slot → Bool
 is_new n [] = true
 is_new n (s ∷ before) = cond (eqb s.slot_number n) false (is_new n before)
@@ -66,6 +72,7 @@ is_new n (s ∷ before) = cond (eqb s.slot_number n) false (is_new n before)
 abbrev pub is_next : ℕ → List Slot → Bool
 is_next n before = ltb 0 n && (ltb n (2 ^ 29) && is_new n before)
 
+-- the same as a fact
 pub record IsNext (n : ℕ) (before : List Slot) : Type 0 where
   pub low : 0 < n
   pub high : n < 2 ^ 29
@@ -77,6 +84,7 @@ IsNext-from n before h =
     let b = and_parts _ _ a.1 in
     record { low = ltb-true _ _ a.0; high = ltb-true _ _ b.0; new = b.1 }
 
+-- no two slots have one number
 abbrev pub AreDistinct : List Slot → Type 0
 AreDistinct [] = Unit {0}
 AreDistinct (s ∷ before) = (is_new s.slot_number before ≡ true) × AreDistinct before
@@ -178,6 +186,7 @@ length-content_at n (s ∷ before) =
 abbrev pub unknown_row : ℕ → Row
 unknown_row n = record { row_number = n; takes = λ kind. true; row_inside = λ e. None }
 
+-- the row of a number
 abbrev pub row_at : List Row → ℕ → Row
 row_at [] n = unknown_row n
 row_at (row ∷ rows) n = cond (eqb n row.row_number) row (row_at rows n)

@@ -5,6 +5,7 @@ use Rattle.std.proofs.lemmas.Bool.{lt-ltb, le-ltb, cases_lt}
 use Rattle.am_wire.specs.declared.error.WireError.{WireError}
 use Rattle.am_wire.specs.Varint.{total, IsChain, varint_within, groups, IsVarint, shortest}
 
+-- what is read of a spelling: its number and its length
 abbrev done : ℕ → ℕ → Result (ℕ × ℕ) WireError
 done n len = Ok (n, len)
 
@@ -34,6 +35,7 @@ spelled at (suc room) (b ∷ c ∷ bs) rest chain len fits =
     let k : length (c ∷ bs) + 1 ≡ length (b ∷ c ∷ bs) = omega arith in
     rw (t, more) (ap (λ (n : ℕ). done (b % 128 + 128 * total (c ∷ bs)) n) k)
 
+-- the bytes spell the number, in at most `room` and one of them
 pub record IsSpelled (room n : ℕ) (text : List ℕ) : Type 0 where
   pub chain : IsChain text
   pub len : length text ≤ room + 1
