@@ -36,9 +36,10 @@ HELP = """The state that instances of Alertmanager share
 Usage: am_tool <COMMAND>
 
 Commands:
-  fold  Reads a row of versions, and writes the one that counts of each key, in key order
-  show  Reads a snapshot, and prints a line for each version that is live, in key order
-  help  Print this message or the help of the given subcommand(s)
+  fold      Reads a row of versions, and writes the one that counts of each key, in key order
+  show      Reads a snapshot, and prints a line for each version that is live, in key order
+  instance  Runs one member: serves the silences of API v2 to people and tools, and frames to its peers, on 127.0.0.1
+  help      Print this message or the help of the given subcommand(s)
 
 Options:
   -h, --help  Print help

@@ -35,8 +35,8 @@ NAMES = ["a", "b", "c"]
 TICK = bytes([4, 0])
 EMPTY_PUSH = bytes([2, 0])
 
-# Where the versions of silences and of the log are in what `show` prints.
-STATES = {"sil": "silences", "nfl": "nflog"}
+# What is said where the silences and the log are to stand in one file.
+ONE_FILE = "error: '--sil <FILE>' and '--nfl <FILE>' name one file"
 
 passed, failed = 0, 0
 
@@ -491,6 +491,9 @@ def test_starts(folder):
         words += [option, value] if option == "--listen" else ["--listen", str(port), option, value]
         status, output, error = run(words)
         compare(f"{option} {value}", (status, output, error.split("'")[1].split(" ")[0]), (2, "", option))
+
+    status, output, error = run([*named, "--sil", "one", "--nfl", "one", "--peer", "broken"])
+    compare("one file for both", (status, output, error.split("\n")[0]), (2, "", ONE_FILE))
 
     row = bytes.fromhex("200a190a0161120812036a6f621a01781a02080a220208642a02080a120308c801")
     broken, twice, whole = f"{folder}/broken", f"{folder}/twice", f"{folder}/whole"

@@ -1,6 +1,6 @@
 -- One more frame that waits, for a place or for another one.
-use Rattle.std.proofs.Common.{◌≡◌, ℕ, Bool, true, false, List, [], ◌∷◌, ◌++◌, refl, append-nil}
-use Rattle.std.specs.Prelude.{◌==◌, not, map}
+use Rattle.std.proofs.Common.{◌≡◌, ℕ, true, false, List, [], ◌∷◌, ◌++◌, refl, append-nil}
+use Rattle.std.specs.Prelude.{◌==◌, not}
 use Rattle.std.specs.List.{filter}
 use Rattle.std.proofs.lemmas.List.{map_push}
 use Rattle.std.proofs.lemmas.List.Elements.{filter-append}

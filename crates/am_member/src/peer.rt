@@ -1,6 +1,6 @@
 //! Peers and numbers of the command line.
 
-ghost use Rattle.std.specs.Prelude.{◌≡◌, ◌<◌, ◌^◌, IfSome};
+ghost use Rattle.std.specs.Prelude.{◌≡◌, ◌<◌, ◌^◌, ℕ, List, IfSome, IfNone};
 ghost use Rattle.std.specs.List.{list_all};
 ghost use Rattle.std.specs.Char.{is_ascii_digit};
 ghost use Rattle.std.specs.Option.{SomeIff};
@@ -57,6 +57,7 @@ pub fn port_of(word: &str) -> Option<u16>
 /// A peer as `NAME=PORT`, which is cut at the last `=`.
 pub fn peer_of(word: &str) -> Option<Peer<'_>>
     ensures some { IfSome result (λ peer. IsPeerWord word.now peer.name.now peer.port) }
+    ensures none { IfNone result ((name : List ℕ) (port : ℕ) → ¬ IsPeerWord word.now name port) }
 {
     let (name, digits) = word.rsplit_once('=')?;
     match port_of(digits) {

@@ -71,7 +71,8 @@ fn option<'a>(alloc: Global, name: &'a str, value: &'a str, help: &'a str) -> Ar
         .action(ArgAction::Set)
 }
 
-/// The options that the words name. Numbers are judged in the order in which the help has them, and then the peers.
+/// The options that the words name. Numbers are judged in the order in which the help has them, then the files, and then
+/// the peers.
 pub fn read_options<'a>(
     alloc: Global,
     command: &mut Command<'a>,
@@ -81,6 +82,9 @@ pub fn read_options<'a>(
         Ok(numbers) => numbers,
         Err(text) => return Err(mistake(command, text)),
     };
+    if text(flags, "sil") == text(flags, "nfl") {
+        return Err(mistake(command, ONE_FILE));
+    }
     Ok(Options {
         name: text(flags, "name"),
         port: numbers.port,
@@ -202,3 +206,5 @@ const BAD_CONNECTIONS: &str =
 
 const BAD_TIME_LIMIT: &str =
     "invalid value for '--time-limit <S>': a whole number from 1 to 3600 is wanted, in digits alone";
+
+const ONE_FILE: &str = "'--sil <FILE>' and '--nfl <FILE>' name one file";
