@@ -1,5 +1,7 @@
 //! Why something outside the program did not do what it was to do.
 
+ghost use Rattle.std.specs.Prelude.{◌≡◌};
+
 use am_connection::SendError;
 use am_snapshot::SnapshotError;
 use std::io::{self, ErrorKind};
@@ -17,6 +19,11 @@ pub enum FileFault {
 }
 
 impl From<io::Error> for FileFault {
+    ghost use Rattle.std.specs.IoError.{error_kind};
+    ghost use Rattle.am_member.specs.Faults.{file_fault_of};
+
+    ghost from_gives = { λ error e. e ≡ file_fault_of (error_kind error) };
+
     fn from(error: io::Error) -> FileFault {
         match error.kind() {
             ErrorKind::OutOfMemory => FileFault::Snapshot(SnapshotError::Memory),
@@ -26,6 +33,10 @@ impl From<io::Error> for FileFault {
 }
 
 impl From<SnapshotError> for FileFault {
+    ghost use Rattle.am_member.specs.declared.error.FileFault.TheVariants.{Snapshot};
+
+    ghost from_gives = { λ error e. e ≡ Snapshot error };
+
     fn from(error: SnapshotError) -> FileFault {
         FileFault::Snapshot(error)
     }
@@ -42,12 +53,21 @@ pub enum SendFault {
 }
 
 impl From<io::Error> for SendFault {
+    ghost use Rattle.std.specs.IoError.{error_kind};
+    ghost use Rattle.am_member.specs.declared.error.SendFault.TheVariants.{Connect};
+
+    ghost from_gives = { λ error e. e ≡ Connect (error_kind error) };
+
     fn from(error: io::Error) -> SendFault {
         SendFault::Connect(error.kind())
     }
 }
 
 impl From<SendError> for SendFault {
+    ghost use Rattle.am_member.specs.declared.error.SendFault.TheVariants.{Send};
+
+    ghost from_gives = { λ error e. e ≡ Send error };
+
     fn from(error: SendError) -> SendFault {
         SendFault::Send(error)
     }

@@ -1,5 +1,9 @@
 //! The files of a member's state.
 
+ghost use Rattle.std.specs.Prelude.{◌≡◌, length, IfOk};
+ghost use Rattle.am_merge.specs.Maps.{IsMap};
+ghost use Rattle.am_rows.specs.Texts.{row_text};
+
 use crate::error::FileFault;
 use am_merge::Held;
 use am_snapshot::{load, save};
@@ -17,7 +21,9 @@ use std::rt::Files;
 pub fn load_file<V: Version + Message, R: Files + AllocGlobal>(
     rt: &R,
     path: &str,
-) -> Result<Held<V>, FileFault> {
+) -> Result<Held<V>, FileFault>
+    ensures order { IfOk result (IsMap V.seen V.Key.cmp) }
+{
     let file = match fs::open(rt, path) {
         Ok(file) => file,
         Err(error) if error.kind() == ErrorKind::NotFound => return Ok(Held::new(rt.alloc())),
@@ -33,7 +39,9 @@ fn write_file<V: Version, R: Files + AllocGlobal>(
     path: &str,
     replaced: &str,
     held: &Held<V>,
-) -> Result<u64, FileFault> {
+) -> Result<u64, FileFault>
+    ensures count { IfOk result (λ written. written ≡ length (row_text V.seen held.now)) }
+{
     let mut file = fs::create(rt, path)?;
     if let Ok(found) = fs::metadata(rt, replaced) {
         file.set_permissions(found.permissions())?;
@@ -53,7 +61,9 @@ pub fn save_file<V: Version, R: Files + AllocGlobal>(
     rt: &R,
     path: &str,
     held: &Held<V>,
-) -> Result<u64, FileFault> {
+) -> Result<u64, FileFault>
+    ensures count { IfOk result (λ written. written ≡ length (row_text V.seen held.now)) }
+{
     let Ok(beside) = format!(in rt.alloc(); "{path}.new") else {
         return Err(FileFault::Snapshot(am_snapshot::SnapshotError::Memory));
     };
@@ -70,7 +80,9 @@ fn replace<V: Version, R: Files + AllocGlobal>(
     beside: &str,
     path: &str,
     held: &Held<V>,
-) -> Result<u64, FileFault> {
+) -> Result<u64, FileFault>
+    ensures count { IfOk result (λ written. written ≡ length (row_text V.seen held.now)) }
+{
     let written = write_file(rt, beside, path, held)?;
     fs::rename(rt, beside, path)?;
     Ok(written)

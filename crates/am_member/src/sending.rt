@@ -1,5 +1,8 @@
 //! What goes to a peer.
 
+ghost use Rattle.std.specs.Prelude.{◌≡◌, length, IfOk};
+ghost use Rattle.am_connection.specs.Outgoing.{outgoing_text};
+
 use crate::error::SendFault;
 use crate::timed::{Timed, end_after, left_until};
 use am_connection::send;
@@ -22,7 +25,9 @@ pub fn send_to<R: Net<Stream = TcpStream> + Clock>(
     port: u16,
     frames: &[Frame],
     limit: Duration,
-) -> Result<u64, SendFault> {
+) -> Result<u64, SendFault>
+    ensures count { IfOk result (λ count. count ≡ length (outgoing_text name.now frames.now)) }
+{
     let end = end_after(rt, limit)?;
     let address = SocketAddr::from((Ipv4Addr::LOCALHOST, port));
     let stream = TcpStream::connect_timeout(rt, &address, left_until(rt, end)?)?;

@@ -1,5 +1,8 @@
 //! One connection over a socket.
 
+ghost use Rattle.std.specs.Prelude.{◌≡◌, None, IfOk, OnErr};
+ghost use Rattle.am_connection.specs.Serving.{IsServed};
+
 use crate::timed::{Timed, end_after};
 use am_connection::{Ended, connection};
 use am_instance::Instance;
@@ -30,7 +33,10 @@ pub fn attend<C: Clock>(
     bits: u128,
     now: Moment,
     limit: Duration,
-) -> io::Result<Ended> {
+) -> io::Result<Ended>
+    ensures taken { IfOk result (λ ended. IsServed bits now None None instance.old instance.new None None ended) }
+    ensures refused { OnErr result (instance.new ≡ instance.old) }
+{
     let end = end_after(clock, limit)?;
     let mut reader = Timed::new(clock, stream, end, limit);
     let mut writer = Timed::new(clock, stream, end, limit);
@@ -68,7 +74,10 @@ pub fn turn<C: Clock>(
     bits: u128,
     now: Moment,
     limit: Duration,
-) -> io::Result<Ended> {
+) -> io::Result<Ended>
+    ensures taken { IfOk result (λ ended. IsServed bits now None None instance.old instance.new None None ended) }
+    ensures refused { OnErr result (instance.new ≡ instance.old) }
+{
     let (stream, _) = listener.accept()?;
     attend(alloc, clock, &stream, instance, bits, now, limit)
 }
