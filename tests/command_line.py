@@ -36,9 +36,10 @@ HELP = """The state that instances of Alertmanager share
 Usage: am_tool <COMMAND>
 
 Commands:
-  fold  Reads a row of versions, and writes the one that counts of each key, in key order
-  show  Reads a snapshot, and prints a line for each version that is live, in key order
-  help  Print this message or the help of the given subcommand(s)
+  fold      Reads a row of versions, and writes the one that counts of each key, in key order
+  show      Reads a snapshot, and prints a line for each version that is live, in key order
+  instance  Runs one member: serves the silences of API v2 to people and tools, and frames to its peers, on 127.0.0.1
+  help      Print this message or the help of the given subcommand(s)
 
 Options:
   -h, --help  Print help
@@ -63,6 +64,32 @@ Options:
       --now <NANOSECONDS>  The moment of the view, in whole nanoseconds since 1970-01-01T00:00:00Z
   -h, --help               Print help
 """
+
+INSTANCE_HELP = r"""Runs one member: serves the silences of API v2 to people and tools, and frames to its peers, on 127.0.0.1
+
+Usage: am_tool instance [OPTIONS] --name <NAME> --listen <PORT> --sil <FILE> --nfl <FILE>
+
+Options:
+      --name <NAME>       Its name among the members, 1 to 255 bytes
+      --listen <PORT>     The port at which it listens, 1 to 65535, for HTTP and for the frames of peers alike
+      --peer <NAME=PORT>  Another member and the port at which it listens, cut at the last '='; any number of times
+      --sil <FILE>        The file of the silences; where there is none, it holds none
+      --nfl <FILE>        The file of the notification log; where there is none, it is empty
+      --retention <S>     For how many seconds a silence is kept after its end, 1 to 999999999 [default: 432000]
+      --peer-timeout <S>  For how many seconds members wait for one another before they notify, 1 to 999999999 [default: 15]
+      --connections <N>   After how many connections it saves both files and ends, 1 to 18446744073709551615; without it, it goes on
+      --time-limit <S>    For how many seconds a connection may last, of a client or to a peer, 1 to 3600 [default: 5]
+  -h, --help              Print help
+
+Nothing ticks by itself: what has expired is dropped, and both files are saved, when a peer sends a Tick frame, and at
+the end of --connections. A Tick is a greeting with a peer's name and the bytes 4 and 0, sent to the port; for a peer b:
+  printf '\0\1b\4\0' >/dev/tcp/127.0.0.1/PORT
+"""
+
+INSTANCE_USAGE = (
+    "\nUsage: am_tool instance --name <NAME> --listen <PORT> --sil <FILE> --nfl <FILE>\n"
+    "\nFor more information, try '--help'.\n"
+)
 
 USAGE = "\nUsage: am_tool <COMMAND>\n\nFor more information, try '--help'.\n"
 FOLD_USAGE = "\nUsage: am_tool fold --state <STATE> --now <NANOSECONDS>\n\nFor more information, try '--help'.\n"
@@ -162,6 +189,18 @@ CASES = [
     (["show"], b"", 2, b"", MISSING.format("  --state <STATE>\n  --now <NANOSECONDS>\n").replace("fold", "show")),
     (SHOW + ["0", "extra"], b"", 2, b"", UNEXPECTED.format("extra") + SHOW_USAGE),
     (SHOW + ["+5"], SECOND, 2, b"", BAD_NOW),
+    # members, whose other words tests/three_members.py tries
+    (["instance", "--help"], b"", 0, INSTANCE_HELP.encode(), ""),
+    (["help", "instance"], b"", 0, INSTANCE_HELP.encode(), ""),
+    (
+        ["instance"],
+        b"",
+        2,
+        b"",
+        MISSING.replace(FOLD_USAGE, INSTANCE_USAGE).format(
+            "  --name <NAME>\n  --listen <PORT>\n  --sil <FILE>\n  --nfl <FILE>\n"
+        ),
+    ),
     # words that are not UTF-8
     ([b"\xff"], b"", 2, b"", NOT_UTF8),
     (["fold", "--state", b"sil\xc3", "--now", "0"], FIRST, 2, b"", NOT_UTF8),

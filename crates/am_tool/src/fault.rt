@@ -1,9 +1,14 @@
 //! What is printed of a fault.
 
+mod lines;
+
 use crate::status;
+use am_connection::Fault as ConnectionFault;
+use am_instance::ConfigError;
+use am_member::{FileFault, SendFault};
 use am_snapshot::{FoldError, SnapshotError};
-use am_wire::WireError;
 use std::fmt;
+use std::io::ErrorKind;
 
 /// Prints a fault on standard error, and answers the exit status of the program.
 pub fn report<R: Eprint>(rt: &R, fault: Fault) -> u8 {
@@ -11,32 +16,84 @@ pub fn report<R: Eprint>(rt: &R, fault: Fault) -> u8 {
     fault.status()
 }
 
-/// Why a job was not done. It is printed as its names from outer to inner, and its number.
+/// Why a job was not done, or a part of it. It is printed as its names from outer to inner, and its numbers.
 #[derive(Clone, Copy)]
-pub struct Fault(pub SnapshotError);
+pub enum Fault {
+    /// In a row, or in what was written of one.
+    Snapshot(SnapshotError),
+    /// A peer is not NAME=PORT.
+    Peer,
+    /// The names of the members are at fault.
+    Config(ConfigError),
+    /// In the file of the silences.
+    Silences(FileFault),
+    /// In the file of the notification log.
+    Log(FileFault),
+    /// The system refused random bytes.
+    Random(ErrorKind),
+    /// The system refused to listen at a port.
+    Listen(ErrorKind, u16),
+    /// The system refused a connection that came.
+    Accept(ErrorKind),
+    /// In a connection.
+    Connection(ConnectionFault),
+    /// The system's clock could not be read, so a connection was not taken.
+    Clock(ErrorKind),
+    /// So many frames for peers found no memory.
+    UnsentMemory(usize),
+    /// So many frames for peers were over their limit.
+    UnsentLimit(usize),
+    /// What was to be sent to the peer at a port was not.
+    Send(SendFault, u16),
+}
 
 impl Fault {
     /// The exit status of the program.
     pub fn status(self) -> u8 {
-        match self.0 {
-            SnapshotError::Wire(_) | SnapshotError::DuplicateKey | SnapshotError::TooLarge => {
-                status::REFUSED
-            }
-            SnapshotError::Read { .. } | SnapshotError::Write { .. } => status::OUTSIDE,
-            SnapshotError::Memory => status::MEMORY,
+        match self {
+            Fault::Snapshot(error) => status_of_snapshot(error),
+            Fault::Silences(fault) | Fault::Log(fault) => status_of_file(fault),
+            Fault::Config(ConfigError::Memory) => status::MEMORY,
+            Fault::Peer | Fault::Config(_) => status::WORDS,
+            _ => status::OUTSIDE,
         }
+    }
+}
+
+/// The exit status where a row is at fault.
+fn status_of_snapshot(error: SnapshotError) -> u8 {
+    match error {
+        SnapshotError::Wire(_) | SnapshotError::DuplicateKey | SnapshotError::TooLarge => {
+            status::REFUSED
+        }
+        SnapshotError::Read { .. } | SnapshotError::Write { .. } => status::OUTSIDE,
+        SnapshotError::Memory => status::MEMORY,
+    }
+}
+
+/// The exit status where a file is at fault.
+fn status_of_file(fault: FileFault) -> u8 {
+    match fault {
+        FileFault::File(_) => status::OUTSIDE,
+        FileFault::Snapshot(error) => status_of_snapshot(error),
     }
 }
 
 impl From<SnapshotError> for Fault {
     fn from(error: SnapshotError) -> Fault {
-        Fault(error)
+        Fault::Snapshot(error)
+    }
+}
+
+impl From<ConfigError> for Fault {
+    fn from(error: ConfigError) -> Fault {
+        Fault::Config(error)
     }
 }
 
 impl From<FoldError> for Fault {
     fn from(error: FoldError) -> Fault {
-        Fault(match error {
+        Fault::Snapshot(match error {
             FoldError::Read { at } => SnapshotError::Read { at },
             FoldError::Write { written } => SnapshotError::Write { written },
             FoldError::Wire(error) => SnapshotError::Wire(error),
@@ -48,29 +105,26 @@ impl From<FoldError> for Fault {
 
 impl fmt::Display for Fault {
     fn fmt<W: fmt::Write>(&self, f: &mut fmt::Formatter<W>) -> fmt::Result {
-        match self.0 {
-            SnapshotError::Read { at } => write!(f, "Read {at}"),
-            SnapshotError::Write { written } => write!(f, "Write {written}"),
-            SnapshotError::Wire(error) => write_wire_error(error, f),
-            SnapshotError::DuplicateKey => write!(f, "DuplicateKey"),
-            SnapshotError::TooLarge => write!(f, "TooLarge"),
-            SnapshotError::Memory => write!(f, "Memory"),
+        match *self {
+            Fault::Snapshot(error) => lines::write_snapshot_error(error, f),
+            Fault::Peer => write!(f, "Peer"),
+            Fault::Config(error) => lines::write_config_error(error, f),
+            Fault::Silences(fault) => {
+                write!(f, "Silences ")?;
+                lines::write_file_fault(fault, f)
+            }
+            Fault::Log(fault) => {
+                write!(f, "Log ")?;
+                lines::write_file_fault(fault, f)
+            }
+            Fault::Random(kind) => write!(f, "Random {kind:?}"),
+            Fault::Listen(kind, port) => write!(f, "Listen {kind:?} {port}"),
+            Fault::Accept(kind) => write!(f, "Accept {kind:?}"),
+            Fault::Connection(fault) => lines::write_connection_fault(fault, f),
+            Fault::Clock(kind) => write!(f, "Clock {kind:?}"),
+            Fault::UnsentMemory(frames) => write!(f, "Unsent Memory {frames}"),
+            Fault::UnsentLimit(frames) => write!(f, "Unsent Limit {frames}"),
+            Fault::Send(fault, port) => lines::write_send_fault(fault, port, f),
         }
-    }
-}
-
-fn write_wire_error<W: fmt::Write>(error: WireError, f: &mut fmt::Formatter<W>) -> fmt::Result {
-    match error {
-        WireError::Truncated { at } => write!(f, "Wire Truncated {at}"),
-        WireError::LongVarint { at } => write!(f, "Wire LongVarint {at}"),
-        WireError::FieldNumber { at } => write!(f, "Wire FieldNumber {at}"),
-        WireError::WireType { at } => write!(f, "Wire WireType {at}"),
-        WireError::WrongType { at } => write!(f, "Wire WrongType {at}"),
-        WireError::NotUtf8 { at } => write!(f, "Wire NotUtf8 {at}"),
-        WireError::Timestamp { at } => write!(f, "Wire Timestamp {at}"),
-        WireError::MatcherType { at } => write!(f, "Wire MatcherType {at}"),
-        WireError::MissingMessage { field } => write!(f, "Wire MissingMessage {field}"),
-        WireError::TooLarge => write!(f, "Wire TooLarge"),
-        WireError::Memory => write!(f, "Memory"),
     }
 }

@@ -12,6 +12,7 @@ ghost use Rattle.am_snapshot.specs.Loads.{IsLoaded};
 ghost use Rattle.am_view.specs.Views.{view_text};
 
 mod fault;
+mod member;
 mod status;
 mod words;
 
@@ -27,15 +28,27 @@ use std::alloc::Global;
 use std::io::{BufReader, Read, Write};
 use std::mem;
 use std::process::ExitCode;
-use words::{Job, StateName, Task};
+use words::{Job, RowJob, StateName, Task};
 
-fn run(rt: &HostRuntime, job: Job) -> Result<u64, Fault> {
+/// Does what the words ask for.
+fn run<'a>(rt: &'a HostRuntime, job: Job<'a>) -> Result<(), Fault> {
+    match job {
+        Job::Rows(job) => match run_rows(rt, job) {
+            Ok(_) => Ok(()),
+            Err(fault) => Err(fault),
+        },
+        Job::Instance(options) => member::run(rt, &options),
+    }
+}
+
+/// Folds or shows what stands on standard input.
+fn run_rows(rt: &HostRuntime, job: RowJob) -> Result<u64, Fault> {
     let alloc = rt.alloc();
     let Ok(mut input) = BufReader::new(alloc, rt.stdin()) else {
         return Err(Fault::from(SnapshotError::Memory));
     };
     let mut output = rt.stdout();
-    let Job { task, state, now } = job;
+    let RowJob { task, state, now } = job;
     match (task, state) {
         (Task::Fold, StateName::Silences) => {
             fold_row::<MeshSilence, _, _>(alloc, &mut input, &mut output, now)
@@ -101,14 +114,22 @@ fn show_log<R: Read, W: Write>(
 }
 
 fn main(rt: HostRuntime) -> ExitCode {
-    let status = match words::job_of(&rt) {
-        Ok(job) => match run(&rt, job) {
-            Ok(_) => status::DONE,
-            Err(fault) => fault::report(&rt, fault),
-        },
+    let status = match words::words_of(&rt) {
+        Ok(words) => start(&rt, &words),
         Err(error) => words::report(&rt, &error),
     };
     ExitCode::from(status)
+}
+
+/// Does what the words ask for, or says why there is nothing to be done, and answers the exit status of the program.
+fn start<'a>(rt: &'a HostRuntime, words: &'a [String]) -> u8 {
+    match words::job_of(rt.alloc(), words) {
+        Ok(job) => match run(rt, job) {
+            Ok(()) => status::DONE,
+            Err(fault) => fault::report(rt, fault),
+        },
+        Err(error) => words::report(rt, &error),
+    }
 }
 
 #[cfg(test)]

@@ -2,19 +2,32 @@
 
 ghost use Rattle.std.specs.Prelude.{◌≡◌, ◌≢◌};
 
+mod instance;
+
 use crate::fault::{self, Fault};
 use crate::status;
+use am_member::number_within;
 use am_snapshot::SnapshotError;
 use am_version_order::Moment;
 use clap::error::ErrorKind;
 use clap::{Arg, ArgAction, ArgMatches, Command};
+pub use instance::Options;
 use std::alloc::{AllocError, Global};
 use std::rt::Env;
 use std::{env, io};
 
 /// What the words ask for.
+#[derive(Drop)]
+pub enum Job<'a> {
+    /// Something is to be done with what stands on standard input.
+    Rows(RowJob),
+    /// A member is to be run.
+    Instance(Options<'a>),
+}
+
+/// What is to be done with which state, and at what moment.
 #[derive(Clone, Copy, Debug)]
-pub struct Job {
+pub struct RowJob {
     pub task: Task,
     pub state: StateName,
     pub now: Moment,
@@ -45,6 +58,8 @@ pub enum WordsError {
     NotUtf8,
     /// Help was asked for, or a mistake was made: the text says which.
     Text(clap::Error),
+    /// A peer is not NAME=PORT.
+    Peer,
     /// Memory ran out.
     Memory,
 }
@@ -73,22 +88,21 @@ impl From<clap::Error> for WordsError {
 }
 
 /// The job that the words of the command line ask for.
-pub fn job_of<R: Env + AllocGlobal>(rt: &R) -> Result<Job, WordsError> {
-    let words = words_of(rt)?;
+pub fn job_of<'a>(alloc: Global, words: &'a [String]) -> Result<Job<'a>, WordsError> {
     if words.len() <= 1 {
-        return Ok(Job {
+        return Ok(Job::Rows(RowJob {
             task: Task::Fold,
             state: StateName::Silences,
             now: since_1970(0),
-        });
+        }));
     }
-    let mut command = command(rt.alloc())?;
-    let matches = command.try_get_matches_from_mut(words.as_slice())?;
-    read_job(&mut command, &matches)
+    let mut command = command(alloc)?;
+    let matches = command.try_get_matches_from_mut(words)?;
+    read_job(alloc, &mut command, &matches)
 }
 
-// The program's name and the words behind it.
-fn words_of<R: Env + AllocGlobal>(rt: &R) -> Result<Vec<String>, WordsError> {
+/// The program's name and the words behind it.
+pub fn words_of<R: Env + AllocGlobal>(rt: &R) -> Result<Vec<String>, WordsError> {
     match env::args(rt) {
         Ok(words) => Ok(words.collect(rt.alloc())?),
         Err(error) if error.kind() == io::ErrorKind::OutOfMemory => Err(WordsError::Memory),
@@ -109,6 +123,7 @@ pub fn report<R: Print + Eprint + AllocGlobal>(rt: &R, error: &WordsError) -> u8
             let _ = text.print(rt);
             status::WORDS
         }
+        WordsError::Peer => fault::report(rt, Fault::Peer),
         WordsError::Memory => fault::report(rt, Fault::from(SnapshotError::Memory)),
     }
 }
@@ -141,7 +156,8 @@ fn command<'a>(alloc: Global) -> Result<Command<'a>, AllocError> {
         .about("The state that instances of Alertmanager share")
         .subcommand_required(true)
         .subcommand(fold_command(alloc)?)?
-        .subcommand(show_command(alloc)?)
+        .subcommand(show_command(alloc)?)?
+        .subcommand(instance::command(alloc)?)
 }
 
 fn fold_command<'a>(alloc: Global) -> Result<Command<'a>, AllocError> {
@@ -183,7 +199,14 @@ fn now_flag<'a>(alloc: Global, help: &'a str) -> Arg<'a> {
         .action(ArgAction::Set)
 }
 
-fn read_job(command: &mut Command<'_>, matches: &ArgMatches<'_>) -> Result<Job, WordsError> {
+fn read_job<'a>(
+    alloc: Global,
+    command: &mut Command<'a>,
+    matches: &ArgMatches<'a>,
+) -> Result<Job<'a>, WordsError> {
+    if let Some(flags) = matches.subcommand_matches(instance::NAME) {
+        return Ok(Job::Instance(instance::read_options(alloc, command, flags)?));
+    }
     let (task, flags) = match matches.subcommand_matches(SHOW) {
         Some(flags) => (Task::Show, Some(flags)),
         None => (Task::Fold, matches.subcommand_matches(FOLD)),
@@ -193,16 +216,21 @@ fn read_job(command: &mut Command<'_>, matches: &ArgMatches<'_>) -> Result<Job, 
         _ => StateName::Silences,
     };
     let now = flags.and_then(|flags| flags.get_str("now"));
-    match now.and_then(whole_number) {
-        Some(nanos) => Ok(Job {
+    match now.and_then(|now| number_within(0, u64::MAX, now)) {
+        Some(nanos) => Ok(Job::Rows(RowJob {
             task,
             state,
             now: since_1970(nanos),
-        }),
-        None => {
-            let error = command.error(ErrorKind::ValueValidation, BAD_NOW)?;
-            Err(WordsError::from(error))
-        }
+        })),
+        None => Err(mistake(command, BAD_NOW)),
+    }
+}
+
+/// That a value is wrong, in a text.
+fn mistake(command: &mut Command<'_>, text: &str) -> WordsError {
+    match command.error(ErrorKind::ValueValidation, text) {
+        Ok(error) => WordsError::from(error),
+        Err(error) => WordsError::from(error),
     }
 }
 
@@ -213,15 +241,6 @@ const SHOW: &str = "show";
 
 const BAD_NOW: &str =
     "invalid value for '--now <NANOSECONDS>': a whole number below 2^64 is wanted, in digits alone";
-
-// A number in digits alone.
-fn whole_number(text: &str) -> Option<u64> {
-    if text.bytes().all(|byte| byte.is_ascii_digit()) {
-        text.parse::<u64>().ok()
-    } else {
-        None
-    }
-}
 
 fn since_1970(nanos: u64) -> Moment {
     let seconds = (nanos / NANOS_PER_SECOND) as i64;

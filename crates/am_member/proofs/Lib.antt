@@ -1,0 +1,4 @@
+mod Cuts
+mod Decimals
+mod Queued
+mod Signs

@@ -1,0 +1,4 @@
+pub mod Faults
+pub mod Moments
+pub mod Peers
+pub mod Queues

@@ -1,0 +1,74 @@
+//! Why something outside the program did not do what it was to do.
+
+ghost use Rattle.std.specs.Prelude.{◌≡◌};
+
+use am_connection::SendError;
+use am_snapshot::SnapshotError;
+use std::io::{self, ErrorKind};
+use thiserror::Error;
+
+/// Why a file was not read, or not written.
+#[derive(Clone, Copy, Debug, PartialEq, Eq, Error)]
+pub enum FileFault {
+    /// The system refused to open, sync or rename it.
+    #[error("the file is refused: {0}")]
+    File(ErrorKind),
+    /// What stands in it is at fault, or not all of it was read or written.
+    #[error("{0}")]
+    Snapshot(SnapshotError),
+}
+
+impl From<io::Error> for FileFault {
+    ghost use Rattle.std.specs.IoError.{error_kind};
+    ghost use Rattle.am_member.specs.Faults.{file_fault_of};
+
+    ghost from_gives = { λ error e. e ≡ file_fault_of (error_kind error) };
+
+    fn from(error: io::Error) -> FileFault {
+        match error.kind() {
+            ErrorKind::OutOfMemory => FileFault::Snapshot(SnapshotError::Memory),
+            kind => FileFault::File(kind),
+        }
+    }
+}
+
+impl From<SnapshotError> for FileFault {
+    ghost use Rattle.am_member.specs.declared.error.FileFault.TheVariants.{Snapshot};
+
+    ghost from_gives = { λ error e. e ≡ Snapshot error };
+
+    fn from(error: SnapshotError) -> FileFault {
+        FileFault::Snapshot(error)
+    }
+}
+
+/// Why not all was sent to a peer.
+#[derive(Clone, Copy, Debug, PartialEq, Eq, Error)]
+pub enum SendFault {
+    /// The system refused the connection.
+    #[error("the connection is refused: {0}")]
+    Connect(ErrorKind),
+    #[error("{0}")]
+    Send(SendError),
+}
+
+impl From<io::Error> for SendFault {
+    ghost use Rattle.std.specs.IoError.{error_kind};
+    ghost use Rattle.am_member.specs.declared.error.SendFault.TheVariants.{Connect};
+
+    ghost from_gives = { λ error e. e ≡ Connect (error_kind error) };
+
+    fn from(error: io::Error) -> SendFault {
+        SendFault::Connect(error.kind())
+    }
+}
+
+impl From<SendError> for SendFault {
+    ghost use Rattle.am_member.specs.declared.error.SendFault.TheVariants.{Send};
+
+    ghost from_gives = { λ error e. e ≡ Send error };
+
+    fn from(error: SendError) -> SendFault {
+        SendFault::Send(error)
+    }
+}

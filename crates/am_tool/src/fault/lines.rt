@@ -1,0 +1,111 @@
+//! Faults of the libraries, as their names and numbers.
+
+use am_connection::{Fault, SendError};
+use am_gossip::FrameError;
+use am_instance::{ConfigError, StepError};
+use am_member::{FileFault, SendFault};
+use am_snapshot::SnapshotError;
+use am_wire::WireError;
+use std::fmt::{self, Formatter};
+
+pub fn write_snapshot_error<W: fmt::Write>(
+    error: SnapshotError,
+    f: &mut Formatter<W>,
+) -> fmt::Result {
+    match error {
+        SnapshotError::Read { at } => write!(f, "Read {at}"),
+        SnapshotError::Write { written } => write!(f, "Write {written}"),
+        SnapshotError::Wire(error) => write_wire_error(error, f),
+        SnapshotError::DuplicateKey => write!(f, "DuplicateKey"),
+        SnapshotError::TooLarge => write!(f, "TooLarge"),
+        SnapshotError::Memory => write!(f, "Memory"),
+    }
+}
+
+fn write_wire_error<W: fmt::Write>(error: WireError, f: &mut Formatter<W>) -> fmt::Result {
+    match error {
+        WireError::Truncated { at } => write!(f, "Wire Truncated {at}"),
+        WireError::LongVarint { at } => write!(f, "Wire LongVarint {at}"),
+        WireError::FieldNumber { at } => write!(f, "Wire FieldNumber {at}"),
+        WireError::WireType { at } => write!(f, "Wire WireType {at}"),
+        WireError::WrongType { at } => write!(f, "Wire WrongType {at}"),
+        WireError::NotUtf8 { at } => write!(f, "Wire NotUtf8 {at}"),
+        WireError::Timestamp { at } => write!(f, "Wire Timestamp {at}"),
+        WireError::MatcherType { at } => write!(f, "Wire MatcherType {at}"),
+        WireError::MissingMessage { field } => write!(f, "Wire MissingMessage {field}"),
+        WireError::TooLarge => write!(f, "Wire TooLarge"),
+        WireError::Memory => write!(f, "Memory"),
+    }
+}
+
+pub fn write_config_error<W: fmt::Write>(error: ConfigError, f: &mut Formatter<W>) -> fmt::Result {
+    match error {
+        ConfigError::EmptyName => write!(f, "EmptyName"),
+        ConfigError::LongName => write!(f, "LongName"),
+        ConfigError::SameName => write!(f, "SameName"),
+        ConfigError::Memory => write!(f, "Memory"),
+    }
+}
+
+pub fn write_file_fault<W: fmt::Write>(fault: FileFault, f: &mut Formatter<W>) -> fmt::Result {
+    match fault {
+        FileFault::File(kind) => write!(f, "File {kind:?}"),
+        FileFault::Snapshot(error) => write_snapshot_error(error, f),
+    }
+}
+
+pub fn write_connection_fault<W: fmt::Write>(fault: Fault, f: &mut Formatter<W>) -> fmt::Result {
+    match fault {
+        Fault::Read { at } => write!(f, "Read {at}"),
+        Fault::Write { written } => write!(f, "Write {written}"),
+        Fault::TooLarge => write!(f, "TooLarge"),
+        Fault::Frame(error) => {
+            write!(f, "Frame ")?;
+            write_frame_error(error, f)
+        }
+        Fault::UnknownName => write!(f, "UnknownName"),
+        Fault::Step(error) => {
+            write!(f, "Step ")?;
+            write_step_error(error, f)
+        }
+    }
+}
+
+fn write_frame_error<W: fmt::Write>(error: FrameError, f: &mut Formatter<W>) -> fmt::Result {
+    match error {
+        FrameError::Kind => write!(f, "Kind"),
+        FrameError::Length => write!(f, "Length"),
+        FrameError::Wire(error) => write_wire_error(error, f),
+        FrameError::UnknownState => write!(f, "UnknownState"),
+        FrameError::Ended => write!(f, "Ended"),
+        FrameError::Memory => write!(f, "Memory"),
+    }
+}
+
+fn write_step_error<W: fmt::Write>(error: StepError, f: &mut Formatter<W>) -> fmt::Result {
+    match error {
+        StepError::MomentBack { last } => {
+            let (seconds, nanos) = last.parts();
+            write!(f, "MomentBack {seconds} {nanos}")
+        }
+        StepError::UnknownPeer => write!(f, "UnknownPeer"),
+        StepError::Frame(error) => {
+            write!(f, "Frame ")?;
+            write_frame_error(error, f)
+        }
+        StepError::Memory { taken } => write!(f, "Memory {taken}"),
+    }
+}
+
+pub fn write_send_fault<W: fmt::Write>(
+    fault: SendFault,
+    port: u16,
+    f: &mut Formatter<W>,
+) -> fmt::Result {
+    match fault {
+        SendFault::Connect(kind) => write!(f, "Connect {kind:?} {port}"),
+        SendFault::Send(SendError::Write { written }) => write!(f, "Send Write {port} {written}"),
+        SendFault::Send(SendError::Memory) => write!(f, "Send Memory {port}"),
+        SendFault::Send(SendError::Length) => write!(f, "Send Length {port}"),
+    }
+}

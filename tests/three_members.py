@@ -1,0 +1,685 @@
+#!/usr/bin/env python3
+"""Runs members of the built am_tool on loopback, as who operates them meets them.
+
+    tests/three_members.py [PROGRAM]
+
+PROGRAM is crates/am_tool/out/am_tool if it isn't given; ./am_tool and rt ci build it. Three members are started at
+free ports. Silences are posted to one by HTTP and read from all; members are made to tick and to pull by frames; one is
+killed and started again from its files. Then each thing that may go wrong is brought about once. Prints each case that
+fails, and at the end how many passed. What is wanted is written by hand, from docs/FORMATS.md and docs/OPERATING.md.
+"""
+
+import json
+import os
+import random
+import resource
+import shutil
+import signal
+import socket
+import subprocess
+import sys
+import tempfile
+import threading
+import time
+
+TOP = os.path.dirname(os.path.dirname(os.path.abspath(__file__)))
+PROGRAM = f"{TOP}/crates/am_tool/out/am_tool"
+
+# How long anything is waited for that has to come, in seconds: long, for a machine that has much else to do.
+PATIENCE = 60
+
+# The names of the members.
+NAMES = ["a", "b", "c"]
+
+# Frames: a Tick, and a Push of nothing, which is answered by a Pull with all that the member holds.
+TICK = bytes([4, 0])
+EMPTY_PUSH = bytes([2, 0])
+
+# What is said where the silences and the log are to stand in one file.
+ONE_FILE = "error: '--sil <FILE>' and '--nfl <FILE>' name one file"
+
+passed, failed = 0, 0
+
+
+def compare(name, found, wanted):
+    global passed, failed
+    if found == wanted:
+        passed += 1
+    else:
+        failed += 1
+        print(f"{name}: found\n  {found!r}\nand not\n  {wanted!r}", flush=True)
+
+
+def check(name, holds, said=""):
+    compare(name, (bool(holds), said if not holds else ""), (True, ""))
+
+
+def eventually(look):
+    """What `look` answers as soon as that counts as true, or the last of its answers."""
+    end = time.monotonic() + PATIENCE
+    while True:
+        found = look()
+        if found or time.monotonic() > end:
+            return found
+        time.sleep(0.05)
+
+
+def varint(number):
+    out = bytearray()
+    while number >= 128:
+        out.append(number % 128 + 128)
+        number //= 128
+    return bytes(out) + bytes([number])
+
+
+def field(number, payload):
+    """A field of a message whose payload has a length."""
+    return varint(number * 8 + 2) + varint(len(payload)) + payload
+
+
+def timestamp(seconds):
+    return bytes([8]) + varint(int(seconds)) if seconds else b""
+
+
+def greeting(name):
+    return b"\0" + varint(len(name)) + name.encode()
+
+
+def delta(state, version):
+    part = field(1, state.encode()) + field(2, varint(len(version)) + version)
+    return b"\1" + varint(len(part)) + part
+
+
+def entry(group, updated, expires):
+    """A version of the log: of a group at the receiver `team`, in which the hashes 1 and 2 fire."""
+    inner = field(1, group.encode()) + field(2, field(1, b"team") + field(2, b"email"))
+    inner += field(5, timestamp(updated)) + field(6, bytes([1, 2]))
+    return field(1, inner) + field(2, timestamp(expires))
+
+
+def free_ports(count):
+    """Ports of loopback at which nothing listens now, below those that the system gives to clients."""
+    ports = []
+    while len(ports) < count:
+        port = random.randrange(10_000, 32_000)
+        with socket.socket() as holder:
+            try:
+                holder.bind(("127.0.0.1", port))
+            except OSError:
+                continue
+        if port not in ports:
+            ports.append(port)
+    return ports
+
+
+class Member:
+    """A process of am_tool that runs a member, and the lines that it has printed on standard error."""
+
+    def __init__(self, name, port, peers, folder, options=(), **how):
+        self.name, self.port = name, port
+        self.sil, self.nfl = f"{folder}/{name}.sil", f"{folder}/{name}.nfl"
+        self.words = [PROGRAM, "instance", "--name", name, "--listen", str(port)]
+        for peer, at in peers:
+            self.words += ["--peer", f"{peer}={at}"]
+        self.words += ["--sil", self.sil, "--nfl", self.nfl, *options]
+        self.how = how
+        self.start()
+
+    def start(self):
+        """Starts it, and waits until it listens."""
+        self.lines = []
+        self.process = subprocess.Popen(
+            self.words, stdin=subprocess.DEVNULL, stdout=subprocess.PIPE, stderr=subprocess.PIPE, **self.how
+        )
+        self.reader = threading.Thread(target=self.read, daemon=True)
+        self.reader.start()
+        check(f"{self.name} listens", eventually(lambda: self.lines or self.process.poll() is not None))
+
+    def read(self):
+        for line in self.process.stderr:
+            self.lines.append(line.decode().rstrip("\n"))
+
+    def faults(self):
+        """What it has printed behind the line of its start, but of peers that are not there."""
+        return [line for line in self.lines[1:] if not line.startswith("am_tool: Connect ")]
+
+    def told(self, line):
+        """Whether it prints this line, now or soon."""
+        return eventually(lambda: line in self.lines)
+
+    def kill(self):
+        self.process.send_signal(signal.SIGKILL)
+        self.end()
+
+    def end(self):
+        """Its status, once it has ended."""
+        status = self.process.wait(timeout=PATIENCE)
+        self.reader.join(PATIENCE)
+        return status
+
+    def send(self, data, close=True):
+        """Sends bytes on a new connection, and answers what comes back until the connection ends."""
+        with socket.create_connection(("127.0.0.1", self.port), timeout=PATIENCE) as stream:
+            try:
+                stream.sendall(data)
+                if close:
+                    stream.shutdown(socket.SHUT_WR)
+            except OSError:
+                pass
+            return received(stream)
+
+    def frames(self, sender, *frames):
+        return self.send(greeting(sender) + b"".join(frames))
+
+    def ask(self, method, path, body=None):
+        """The status and the body of a reply."""
+        body = b"" if body is None else body
+        head = f"{method} {path} HTTP/1.1\r\nHost: localhost\r\nContent-Length: {len(body)}\r\n\r\n"
+        return parted(self.send(head.encode() + body, close=False))
+
+    def post(self, silence):
+        status, body = self.ask("POST", "/api/v2/silences", json.dumps(silence).encode())
+        return status, json.loads(body) if body else None
+
+    def listed(self):
+        """The silences that it lists, or None where it answers none."""
+        status, body = self.ask("GET", "/api/v2/silences")
+        return json.loads(body) if status == 200 else None
+
+    def saved(self, state):
+        """What stands in one of its files, as `show` prints it."""
+        with open(self.sil if state == "sil" else self.nfl, "rb") as file:
+            words = [PROGRAM, "show", "--state", state, "--now", str(time.time_ns())]
+            ran = subprocess.run(words, stdin=file, capture_output=True, timeout=PATIENCE, check=False)
+        return (ran.returncode, ran.stdout.decode(), ran.stderr.decode())
+
+
+def received(stream):
+    data = b""
+    try:
+        while piece := stream.recv(65536):
+            data += piece
+    except OSError:
+        pass
+    return data
+
+
+def parted(reply):
+    """The status and the body of a reply's bytes; no status where there is no reply."""
+    head, _, body = reply.partition(b"\r\n\r\n")
+    words = head.split(b" ", 2)
+    return (int(words[1]), body) if len(words) == 3 else (None, body)
+
+
+def moment(offset):
+    """A moment so many seconds from now, as API v2 writes it."""
+    return time.strftime("%Y-%m-%dT%H:%M:%S.000Z", time.gmtime(time.time() + offset))
+
+
+def silence(value, comment="by a test", hours=2):
+    return {
+        "matchers": [{"name": "job", "value": value, "isRegex": False, "isEqual": True}],
+        "startsAt": moment(0),
+        "endsAt": moment(3600 * hours),
+        "createdBy": "three_members.py",
+        "comment": comment,
+    }
+
+
+def values(silences):
+    """The states of silences by the value of their matcher."""
+    return sorted((s["matchers"][0]["value"], s["status"]["state"]) for s in silences or [])
+
+
+def run(words, **how):
+    """What comes of words that don't start a member: the status, and what is printed."""
+    ran = subprocess.run([PROGRAM, *words], capture_output=True, timeout=PATIENCE, check=False, **how)
+    return ran.returncode, ran.stdout.decode(), ran.stderr.decode()
+
+
+def trio(folder, options=()):
+    ports = dict(zip(NAMES, free_ports(3)))
+    return [
+        Member(name, ports[name], [(n, ports[n]) for n in NAMES if n != name], folder, options) for name in NAMES
+    ]
+
+
+# ---- three members
+
+
+def test_three_members(folder):
+    """What is posted to one is read from all, and a member that was killed comes back."""
+    members = trio(folder)
+    a, b, c = members
+    peers = " ".join(f"{m.name}={m.port}" for m in (b, c))
+    started = f"am_tool: a listens on 127.0.0.1:{a.port}, peers {peers}; loaded 0 silences, 0 entries"
+    compare("the line of the start", a.lines[:1], [started])
+
+    for value in ("x", "y", "z"):
+        status, answer = a.post(silence(value))
+        compare(f"a post of {value}", (status, list(answer or {})), (200, ["silenceID"]))
+    shown = [("x", "active"), ("y", "active"), ("z", "active")]
+    for member in members:
+        check(f"{member.name} lists them", eventually(lambda: values(member.listed()) == shown), member.lines)
+    lists = [member.listed() for member in members]
+    compare("all list the same", lists[1:], lists[:1] * 2)
+
+    first = lists[0][0]["id"]
+    compare("one is ended at b", b.ask("DELETE", f"/api/v2/silence/{first}"), (200, b""))
+    ended = lambda m: [s["status"]["state"] for s in m.listed() or [] if s["id"] == first] == ["expired"]
+    for member in members:
+        check(f"{member.name} shows it as ended", eventually(lambda: ended(member)), member.lines)
+    again = (500, b'"silence already expired"')
+    compare("it is not ended twice", c.ask("DELETE", f"/api/v2/silence/{first}"), again)
+
+    # an entry of the log comes from a peer, and goes on to the other one
+    now = int(time.time())
+    compare("an entry comes", a.frames("b", delta("nfl", entry("g", now, now + 3600))), b"")
+    for member in members:
+        line = "nfl g team email 0 1,2 -\n"
+        check(f"{member.name} saved the entry", eventually(lambda: tick_saves(member, "nfl", line)), member.lines)
+        compare(f"{member.name} saved three silences", member.saved("sil")[1].count("\n"), 3)
+
+    # what came behind the last save is lost with the process, and comes back from a peer
+    status, _ = b.post(silence("late"))
+    compare("a post before the end", status, 200)
+    late = lambda m: ("late", "active") in values(m.listed())
+    for member in (a, c):
+        check(f"{member.name} has the late one", eventually(lambda: late(member)), member.lines)
+    b.kill()
+    a.post(silence("meanwhile"))
+    unreachable = f"am_tool: Connect ConnectionRefused {b.port}"
+    check("a says that b is not there", a.told(unreachable), a.lines)
+    b.start()
+    loaded = f"am_tool: b listens on 127.0.0.1:{b.port}, peers a={a.port} c={c.port}; loaded 3 silences, 1 entries"
+    compare("b starts from its files", b.lines[:1], [loaded])
+    check("b lost what was not saved", not late(b))
+    compare("b asks a, by a Push of nothing", a.frames("b", EMPTY_PUSH), b"")
+    whole = lambda: values(b.listed()) == values(a.listed()) and len(values(a.listed())) == 5
+    check("b has all that a has", eventually(whole), (b.listed(), b.lines))
+    compare("and lists the same", b.listed(), a.listed())
+    check("b still has the entry", tick_saves(b, "nfl", "nfl g team email 0 1,2 -\n"), b.lines)
+    for member in members:
+        compare(f"{member.name} runs", member.process.poll(), None)
+        member.kill()
+
+
+def tick_saves(member, state, printed):
+    """Whether a file holds what is printed so, once the member has ticked again."""
+    member.frames("a" if member.name != "a" else "b", TICK)
+    return os.path.exists(member.nfl) and member.saved(state) == (0, printed, "")
+
+
+def test_connections(folder):
+    """A member that ends after so many connections saves both files."""
+    (port,) = free_ports(1)
+    alone = Member("solo", port, [], folder, ["--connections", "3"])
+    started = f"am_tool: solo listens on 127.0.0.1:{port}, peers none; loaded 0 silences, 0 entries"
+    compare("the line of the start, without peers", alone.lines, [started])
+    alone.post(silence("x"))
+    compare("it is listed", values(alone.listed()), [("x", "active")])
+    alone.ask("GET", "/nowhere")
+    compare("the status at the end", alone.end(), 0)
+    compare("and nothing is printed", alone.lines, [started])
+    compare("the silences are saved", alone.saved("sil")[1].count("active"), 1)
+    compare("the log is saved", os.path.getsize(alone.nfl), 0)
+    alone.start()
+    loaded = f"am_tool: solo listens on 127.0.0.1:{port}, peers none; loaded 1 silences, 0 entries"
+    compare("it starts again", alone.lines, [loaded])
+    compare("and lists the same", values(alone.listed()), [("x", "active")])
+    alone.kill()
+
+
+def test_killed_while_saving(folder):
+    """However a member is killed, its file is whole, and holds what some save put there."""
+    (port,) = free_ports(1)
+    for turn in range(5):
+        member = Member("k", port, [("p", port)], folder)
+        member.post(silence(f"turn {turn}", "c" * 200_000))
+        member.frames("p", TICK)
+        saved = lambda: os.path.exists(member.sil) and member.saved("sil")[1].count("active") == turn + 1
+        check(f"it is saved, {turn}", eventually(saved), member.lines)
+        saver = threading.Thread(target=spam, args=(member,), daemon=True)
+        saver.start()
+        time.sleep(random.random() / 5)
+        member.kill()
+        saver.join(PATIENCE)
+        status, lines, error = member.saved("sil")
+        compare(f"the file is whole, {turn}", (status, lines.count("active"), error), (0, turn + 1, ""))
+
+
+def spam(member):
+    """Ticks until the member is gone."""
+    for _ in range(1000):
+        try:
+            if member.process.poll() is not None:
+                return
+            member.frames("p", TICK)
+        except OSError:
+            return
+
+
+# ---- clients that do as they like
+
+
+def test_clients(folder):
+    """No client stops a member: each loses its connection when its time is over, and the next one is served."""
+    (port,) = free_ports(1)
+    member = Member("m", port, [("p", 1)], folder, ["--time-limit", "1"])
+    well = lambda: member.ask("GET", "/api/v2/silences")[0] == 200
+    begun = time.monotonic()
+    with socket.create_connection(("127.0.0.1", port), timeout=PATIENCE) as silent:
+        check("a client waits behind a silent one", well())
+        check("the silent one is let go", received(silent) == b"")
+    check("not before its time", time.monotonic() - begun > 0.9)
+    check("and it is told", eventually(lambda: member.lines[1:]), member.lines)
+    compare("as a read that failed", member.lines[1:], ["am_tool: Read 0"])
+
+    with socket.create_connection(("127.0.0.1", port), timeout=PATIENCE) as slow:
+        check("a slow client is let go", eventually(lambda: not drips(slow)), member.lines)
+    check("and it is told too", eventually(lambda: len(member.lines) == 3), member.lines)
+    check("in the same way", member.lines[2].startswith("am_tool: Read "), member.lines)
+    check("a client is served then", well())
+
+    compare("a client that sends nothing and closes", member.send(b""), b"")
+    early = parted(member.send(b"GET /api/v2/sil"))
+    compare("a head that ends early", early, (400, b'"request ended early"'))
+    short = b"POST /api/v2/silences HTTP/1.1\r\ncontent-length: 100\r\n\r\n{"
+    compare("a body that ends early", parted(member.send(short)), (400, b'"request ended early"'))
+    compare("garbage", parted(member.send(b"\xff\xfe garbage\r\n\r\n")), (400, b'"bad request head"'))
+    large = b"POST /api/v2/silences HTTP/1.1\r\ncontent-length: 2000000\r\n\r\n" + b"x" * 2_000_000
+    compare("a body that is too large", parted(member.send(large)), (413, b'"body too large"'))
+    compare("nothing more is told of these", member.lines[3:], [])
+
+    told = len(member.lines)
+    for data, line in [
+        (b"\1garbage", "Frame Kind"),
+        (greeting("stranger") + TICK, "UnknownName"),
+        (greeting("m") + TICK, "UnknownName"),
+        (b"\0\0", "Frame Length"),
+        (greeting("p") + b"\5", "Frame Kind"),
+        (greeting("p") + b"\1\xff\xff\xff\xff\x7f", "Frame Length"),
+        (greeting("p") + TICK + b"\1\3\x0a\1\x78", "Frame UnknownState"),
+        (greeting("p") + delta("sil", b"\0"), "Step Frame Wire FieldNumber 1"),
+    ]:
+        compare(f"{line} gets no reply", member.send(data), b"")
+        check(f"{line} is told", eventually(lambda: len(member.lines) > told), member.lines)
+        compare(f"as {line}", member.lines[told:], [f"am_tool: {line}"])
+        told = len(member.lines)
+    compare("the Tick before a fault was a step", member.saved("sil"), (0, "", ""))
+    compare("a frame that is cut", member.send(greeting("p") + b"\4"), b"")
+    check("a client is served then too", well())
+    compare("which is no fault", member.lines[told:], [])
+    member.kill()
+
+
+def drips(stream):
+    """Sends a byte of a request; whether the connection still stands."""
+    try:
+        stream.settimeout(0.3)
+        stream.sendall(b"G")
+        return stream.recv(1) != b""
+    except TimeoutError:
+        return True
+    except OSError:
+        return False
+
+
+def test_unread_reply(folder):
+    """A client that doesn't read its reply is let go, and its step stands."""
+    (port,) = free_ports(1)
+    member = Member("m", port, [], folder, ["--time-limit", "2"])
+    comment = "c" * 900_000
+    for value in range(16):
+        compare(f"a large post, {value}", member.post(silence(str(value), comment))[0], 200)
+    with socket.socket() as stream:
+        stream.setsockopt(socket.SOL_SOCKET, socket.SO_RCVBUF, 4096)
+        stream.connect(("127.0.0.1", port))
+        stream.sendall(b"GET /api/v2/silences HTTP/1.1\r\n\r\n")
+        check("it is told", eventually(lambda: member.lines[1:]), member.lines)
+    check("as a write that failed", member.lines[1].startswith("am_tool: Write "), member.lines)
+    compare("all of them are listed to another", len(member.listed() or []), 16)
+    member.kill()
+
+
+def test_most_bytes(folder):
+    """A connection gives 134,217,728 bytes and no more."""
+    (port,) = free_ports(1)
+    member = Member("m", port, [("p", 1)], folder, ["--time-limit", "600"])
+    # a field that nobody knows, which fills a Push
+    filler = bytes([0x7A]) + varint(67_108_859)
+    with socket.create_connection(("127.0.0.1", port), timeout=600) as stream:
+        try:
+            stream.sendall(greeting("p"))
+            for _ in range(3):
+                stream.sendall(b"\2" + varint(67_108_864) + filler + bytes(65_531))
+                for _ in range(1023):
+                    stream.sendall(bytes(65_536))
+        except OSError:
+            pass
+        received(stream)
+    check("a byte too many", member.told("am_tool: TooLarge"), member.lines)
+    check("the Push before it was answered", member.told("am_tool: Connect ConnectionRefused 1"), member.lines)
+    compare("and the next client is served", member.ask("GET", "/api/v2/silences"), (200, b"[]"))
+    member.kill()
+
+
+# ---- starts that are refused
+
+
+def test_starts(folder):
+    (port, taken) = free_ports(2)
+    files = ["--sil", f"{folder}/no.sil", "--nfl", f"{folder}/no.nfl"]
+    named = ["instance", "--name", "m", "--listen", str(port)]
+    refused = lambda status, line: (status, "", f"am_tool: {line}\n")
+    for peer in ("b", "b=", "b=0", "b=65536", "b=x", "b=+5", "=", "b=5="):
+        compare(f"--peer {peer}", run([*named, *files, "--peer", peer]), refused(2, "Peer"))
+    for words, line in [
+        (["--peer", "m=5"], "SameName"),
+        (["--peer", "b=5", "--peer", "b=6"], "SameName"),
+        (["--peer", "=5"], "EmptyName"),
+        (["--peer", "n" * 256 + "=5"], "LongName"),
+    ]:
+        compare(f"a name that is {line}", run([*named, *files, *words]), refused(2, line))
+    for option, value in [
+        ("--listen", "0"),
+        ("--listen", "65536"),
+        ("--listen", "+80"),
+        ("--retention", "0"),
+        ("--retention", "1000000000"),
+        ("--peer-timeout", "0"),
+        ("--peer-timeout", "1.5"),
+        ("--connections", "0"),
+        ("--connections", "18446744073709551616"),
+        ("--time-limit", "0"),
+        ("--time-limit", "3601"),
+    ]:
+        words = ["instance", "--name", "m", *files, "--peer", "broken"]
+        words += [option, value] if option == "--listen" else ["--listen", str(port), option, value]
+        status, output, error = run(words)
+        compare(f"{option} {value}", (status, output, error.split("'")[1].split(" ")[0]), (2, "", option))
+
+    status, output, error = run([*named, "--sil", "one", "--nfl", "one", "--peer", "broken"])
+    compare("one file for both", (status, output, error.split("\n")[0]), (2, "", ONE_FILE))
+
+    row = bytes.fromhex("200a190a0161120812036a6f621a01781a02080a220208642a02080a120308c801")
+    broken, twice, whole = f"{folder}/broken", f"{folder}/twice", f"{folder}/whole"
+    for path, data in ((broken, row[:9]), (twice, row * 2), (whole, row)):
+        with open(path, "wb") as file:
+            file.write(data)
+    missing = f"{folder}/no.nfl"
+    for sil, nfl, status, line in [
+        (broken, missing, 1, "Silences Wire Truncated 0"),
+        (twice, missing, 1, "Silences DuplicateKey"),
+        (folder, missing, 3, "Silences Read 0"),
+        (broken, folder, 1, "Silences Wire Truncated 0"),
+        (missing, whole, 1, "Log Wire WrongType 13"),
+        (whole, folder, 3, "Log Read 0"),
+        (f"{whole}/below", missing, 3, "Silences File NotADirectory"),
+    ]:
+        compare(line, run([*named, "--sil", sil, "--nfl", nfl]), refused(status, line))
+    test_unreadable(folder, named, files, refused)
+
+    with socket.socket() as holder:
+        holder.bind(("127.0.0.1", taken))
+        holder.listen()
+        words = ["instance", "--name", "m", "--listen", str(taken)]
+        compare("a port in use", run([*words, *files]), refused(3, f"Listen AddrInUse {taken}"))
+        compare("names come first", run([*words, *files, "--peer", "m=5"]), refused(2, "SameName"))
+        compare("files too", run([*words, "--sil", broken, *files[2:]]), refused(1, "Silences Wire Truncated 0"))
+    compare("nothing is written by these", os.path.exists(files[1]), False)
+
+
+def test_unreadable(folder, named, files, refused):
+    """A file that may not be read: as another user, where this one may read all."""
+    closed = f"{folder}/closed"
+    with open(closed, "wb"):
+        pass
+    os.chmod(closed, 0)
+    how = {"user": 65534} if os.geteuid() == 0 else {}
+    words = [*named, "--sil", closed, *files[2:]]
+    compare("an unreadable file", run(words, **how), refused(3, "Silences File PermissionDenied"))
+
+
+# ---- saves that fail
+
+
+def test_failed_saves(folder):
+    """A save that fails leaves the file that stood, says so, and the next one makes it good."""
+    (port,) = free_ports(1)
+
+    def limit():
+        signal.signal(signal.SIGXFSZ, signal.SIG_IGN)
+        resource.setrlimit(resource.RLIMIT_FSIZE, (20_000, resource.RLIM_INFINITY))
+
+    member = Member("f", port, [("p", 1)], folder, preexec_fn=limit, restore_signals=False)
+    member.post(silence("small"))
+    member.frames("p", TICK)
+    check("the first save", eventually(lambda: os.path.exists(member.nfl)), member.lines)
+    with open(member.sil, "rb") as file:
+        before = file.read()
+    member.post(silence("large", "c" * 40_000))
+    member.frames("p", TICK)
+    check("a save that is cut is told", member.told("am_tool: Silences Write 20000"), member.lines)
+    with open(member.sil, "rb") as file:
+        compare("the file stands as it was", file.read(), before)
+    check("nothing is left beside it", not os.path.exists(f"{member.sil}.new"))
+    resource.prlimit(member.process.pid, resource.RLIMIT_FSIZE, (resource.RLIM_INFINITY, resource.RLIM_INFINITY))
+    member.frames("p", TICK)
+    check("the next save", eventually(lambda: member.saved("sil")[1].count("active") == 2), member.lines)
+    compare("one line was told", member.faults(), ["am_tool: Silences Write 20000"])
+
+    # a directory that comes to stand in the file's place
+    os.rename(member.sil, f"{member.sil}.old")
+    os.mkdir(member.sil)
+    member.frames("p", TICK)
+    check("a directory in its place is told", eventually(lambda: member.faults()[1:]), member.lines)
+    compare("as what it is", member.faults()[1:], ["am_tool: Silences File IsADirectory"])
+    os.rmdir(member.sil)
+    member.frames("p", TICK)
+    check("it is saved again", eventually(lambda: os.path.exists(member.sil)), member.lines)
+    compare("both silences are listed", len(member.listed() or []), 2)
+    member.kill()
+
+
+def test_full_disk(folder):
+    """The same on a disk that is full, where one can be made."""
+    disk = f"{folder}/disk"
+    os.mkdir(disk)
+    mount = ["mount", "-t", "tmpfs", "-o", "size=256k", "tmpfs", disk]
+    if shutil.which("mount") is None or subprocess.run(mount, capture_output=True, check=False).returncode != 0:
+        print("no small disk can be made here, so none is filled")
+        return
+    try:
+        fill_disk(disk)
+    finally:
+        subprocess.run(["umount", disk], check=False)
+
+
+def fill_disk(disk):
+    (port,) = free_ports(1)
+    member = Member("d", port, [("p", 1)], disk)
+    member.post(silence("small"))
+    member.frames("p", TICK)
+    check("a save on a small disk", eventually(lambda: os.path.exists(member.nfl)), member.lines)
+    with open(member.sil, "rb") as file:
+        before = file.read()
+    for value in range(3):
+        member.post(silence(str(value), "c" * 150_000))
+    member.frames("p", TICK)
+    check("a full disk is told", eventually(member.faults), member.lines)
+    check("as a write that failed", member.faults()[0].startswith("am_tool: Silences Write "), member.lines)
+    with open(member.sil, "rb") as file:
+        compare("the file on the full disk stands as it was", file.read(), before)
+    check("nothing is left beside it there", not os.path.exists(f"{member.sil}.new"))
+    compare("the silences are there all the same", len(member.listed() or []), 4)
+    member.kill()
+
+
+# ---- clients that people have
+
+
+def test_curl(folder):
+    """curl, with a body for which it asks leave by `Expect`."""
+    if shutil.which("curl") is None:
+        print("curl is not here, so it is not tried")
+        return
+    (port,) = free_ports(1)
+    member = Member("u", port, [], folder)
+    url = f"http://127.0.0.1:{port}/api/v2/silences"
+    post = ["-H", "Content-Type: application/json", "-H", "Expect: 100-continue", "--data-binary", "@-"]
+    body = json.dumps(silence("curl", "c" * 100_000)).encode()
+    for options, given, wanted in [
+        ([], b"", "[]"),
+        (post, body, '{"silenceID"'),
+        (["-G", "--data-urlencode", 'filter=job="curl"'], b"", '[{"comment"'),
+        (["-G", "--data-urlencode", 'filter=job="other"'], b"", "[]"),
+    ]:
+        words = ["curl", "-sS", "--max-time", str(PATIENCE), *options, url]
+        ran = subprocess.run(words, input=given, capture_output=True, check=False)
+        found = (ran.returncode, ran.stdout.decode()[: len(wanted)], ran.stderr)
+        compare(f"curl {options[:1]}", found, (0, wanted, b""))
+    member.kill()
+
+
+def main():
+    global PROGRAM
+    if len(sys.argv) > 1:
+        PROGRAM = os.path.abspath(sys.argv[1])
+    if not os.access(PROGRAM, os.X_OK):
+        print(f"{PROGRAM} is not there: rt ci or ./am_tool builds it")
+        print("three members: 0 passed, 1 failed")
+        return 1
+    with tempfile.TemporaryDirectory() as top:
+        os.chmod(top, 0o755)
+        PROGRAM = shutil.copy(PROGRAM, f"{top}/am_tool")
+        for test in TESTS:
+            folder = f"{top}/{test.__name__}"
+            os.mkdir(folder)
+            begun = time.monotonic()
+            try:
+                test(folder)
+            except Exception as error:  # a case that can't go on is one that fails, and the others are tried
+                check(test.__name__, False, repr(error))
+            if os.environ.get("TIMES"):
+                print(f"{test.__name__}: {time.monotonic() - begun:.1f} s", flush=True)
+    print(f"three members: {passed} passed, {failed} failed")
+    return 1 if failed else 0
+
+
+TESTS = [
+    test_three_members,
+    test_connections,
+    test_killed_while_saving,
+    test_clients,
+    test_unread_reply,
+    test_most_bytes,
+    test_starts,
+    test_failed_saves,
+    test_full_disk,
+    test_curl,
+]
+
+
+if __name__ == "__main__":
+    sys.exit(main())
