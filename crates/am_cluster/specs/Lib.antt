@@ -8,3 +8,4 @@ pub mod Recording
 pub mod Acting
 pub mod Losing
 pub mod Delivering
+pub mod Steps

@@ -11,6 +11,7 @@ mod losing;
 mod member;
 mod recording;
 mod sending;
+mod steps;
 mod writing;
 
 pub use am_journal::CalmReport;
