@@ -9,3 +9,4 @@ pub mod Acted
 pub mod Telling
 pub mod Born
 pub mod Lost
+pub mod Lent

@@ -7,3 +7,4 @@ pub mod Writing
 pub mod Recording
 pub mod Acting
 pub mod Losing
+pub mod Settling

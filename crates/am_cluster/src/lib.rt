@@ -10,6 +10,7 @@ mod losing;
 mod member;
 mod recording;
 mod sending;
+mod settle;
 mod writing;
 
 pub use am_journal::CalmReport;
