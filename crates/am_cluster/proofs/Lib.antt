@@ -11,3 +11,4 @@ pub mod Born
 pub mod Lost
 pub mod Delivered
 pub mod Asked
+pub mod Lent

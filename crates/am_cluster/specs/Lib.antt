@@ -9,3 +9,4 @@ pub mod Acting
 pub mod Losing
 pub mod Delivering
 pub mod Steps
+pub mod Settling

@@ -12,6 +12,7 @@ mod member;
 mod recording;
 mod sending;
 mod steps;
+mod settle;
 mod writing;
 
 pub use am_journal::CalmReport;
