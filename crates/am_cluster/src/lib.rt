@@ -11,8 +11,8 @@ mod losing;
 mod member;
 mod recording;
 mod sending;
-mod steps;
 mod settle;
+mod steps;
 mod writing;
 
 pub use am_journal::CalmReport;
