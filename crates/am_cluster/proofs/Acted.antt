@@ -1,5 +1,5 @@
 -- What is known of the step of an instance, for writing it down.
-use Rattle.std.proofs.Common.{◌≡◌, ◌⊎◌, inl, inr, ℕ, Bool, true, false, eqb, ltb, ◌&&◌, List, [], Option, Result, Ok, Err, refl, sym, ap, ◌∙◌, subst, length, not, IfOk, ◌<◌}
+use Rattle.std.proofs.Common.{◌≡◌, ◌⊎◌, inl, inr, ℕ, Bool, true, false, cond, eqb, ltb, ◌&&◌, List, [], Option, Result, Ok, Err, refl, sym, ap, ◌∙◌, subst, length, not, IfOk, ◌<◌}
 use Rattle.std.specs.Prelude.{All, Contains, IfSome, None}
 use Rattle.std.proofs.lemmas.List.Elements.{All-nil, All-weaker, All-contains, All-contains_itself}
 use Rattle.std.proofs.lemmas.Bool.{and_parts, eqb-false, ltb-true, not-true}
@@ -21,11 +21,12 @@ use Rattle.am_instance.specs.Replies.{IsNothing}
 use Rattle.am_instance.specs.Stands.{Stand}
 use Rattle.am_instance.specs.Steps.{brought, delivers}
 use Rattle.am_instance.specs.OneStep.{IsStep}
+use Rattle.am_runs.specs.declared.step.Source.{Source}
 use Rattle.am_carried.specs.Contents.{IsValue}
 use Rattle.am_record.specs.Recorded.{AreInFlight, AreValues}
 use Rattle.am_cluster.specs.declared.error.ClusterError.{ClusterError}
 use Rattle.am_cluster.specs.declared.recording.Kind.TheVariants as kinds
-use Rattle.am_cluster.specs.Events.{IsTold}
+use Rattle.am_cluster.specs.Events.{IsTold, drops}
 use Rattle.am_cluster.specs.Recording.{brings_or_makes}
 use Rattle.am_cluster.specs.Ties.{CanFly}
 
@@ -61,31 +62,39 @@ pub values_known : (event : Event) (stand : Stand) (answer : Result Outcome Step
 values_known event stand (Ok outcome) each silences log held_silences held_log maps = record { delivered = each outcome.made silences log; silences = held_silences; log = held_log; maps = maps }
 values_known event stand (Err e) each silences log held_silences held_log maps = tt
 
--- the frames that fly are among those that were sent
-pub told_frames : (P : ℕ × Frame → Type 0) (answer : Result Outcome StepError) (frames : List (ℕ × Frame)) (result : Result Reply ClusterError) →
-    IfOk answer (λ outcome. All P outcome.frames.items) → IsTold answer frames result → All P frames
-told_frames P (Ok outcome) frames (Ok reply) all told = subst (All P) (sym told.1) all
-told_frames P (Ok outcome) frames (Err e) all told = subst (All P) (sym told.1) (All-nil P)
-told_frames P (Err (MomentBack last)) frames (Err e) all told = subst (All P) (sym told.1) (All-nil P)
-told_frames P (Err UnknownPeer) frames (Err e) all told = subst (All P) (sym told.1) (All-nil P)
-told_frames P (Err (Memory taken)) frames (Err e) all told = subst (All P) (sym told.1) (All-nil P)
-told_frames P (Err (FrameFault fault)) frames (Err e) all told = absurd told
-told_frames P (Err (MomentBack last)) frames (Ok reply) all told = absurd told
-told_frames P (Err UnknownPeer) frames (Ok reply) all told = absurd told
-told_frames P (Err (Memory taken)) frames (Ok reply) all told = absurd told
-told_frames P (Err (FrameFault fault)) frames (Ok reply) all told = absurd told
+all_flown : (P : ℕ × Frame → Type 0) (dropped : Bool) (frames : List (ℕ × Frame)) → All P frames → All P (cond dropped [] frames)
+all_flown P true frames all = All-nil P
+all_flown P false frames all = all
 
-pub told_flying : (answer : Result Outcome StepError) (frames : List (ℕ × Frame)) (result : Result Reply ClusterError) → IsTold answer frames result → AreInFlight answer frames
-told_flying (Ok outcome) frames (Ok reply) told = inl told.1
-told_flying (Ok outcome) frames (Err e) told = inr told.1
-told_flying (Err (MomentBack last)) frames (Err e) told = told.1
-told_flying (Err UnknownPeer) frames (Err e) told = told.1
-told_flying (Err (Memory taken)) frames (Err e) told = told.1
-told_flying (Err (FrameFault fault)) frames (Err e) told = absurd told
-told_flying (Err (MomentBack last)) frames (Ok reply) told = absurd told
-told_flying (Err UnknownPeer) frames (Ok reply) told = absurd told
-told_flying (Err (Memory taken)) frames (Ok reply) told = absurd told
-told_flying (Err (FrameFault fault)) frames (Ok reply) told = absurd told
+all_or_none : (dropped : Bool) (frames all : List (ℕ × Frame)) → frames ≡ cond dropped [] all → (frames ≡ all) ⊎ (frames ≡ [])
+all_or_none true frames all are = inr are
+all_or_none false frames all are = inl are
+
+-- the frames that fly are among those that were sent
+pub told_frames : (source : Source) (P : ℕ × Frame → Type 0) (answer : Result Outcome StepError) (frames : List (ℕ × Frame)) (result : Result Reply ClusterError) →
+    IfOk answer (λ outcome. All P outcome.frames.items) → IsTold source answer frames result → All P frames
+told_frames source P (Ok outcome) frames (Ok reply) all told = subst (All P) (sym told.1) (all_flown P (drops source) outcome.frames.items all)
+told_frames source P (Ok outcome) frames (Err e) all told = subst (All P) (sym told.1) (All-nil P)
+told_frames source P (Err (MomentBack last)) frames (Err e) all told = subst (All P) (sym told.1) (All-nil P)
+told_frames source P (Err UnknownPeer) frames (Err e) all told = subst (All P) (sym told.1) (All-nil P)
+told_frames source P (Err (Memory taken)) frames (Err e) all told = subst (All P) (sym told.1) (All-nil P)
+told_frames source P (Err (FrameFault fault)) frames (Err e) all told = absurd told
+told_frames source P (Err (MomentBack last)) frames (Ok reply) all told = absurd told
+told_frames source P (Err UnknownPeer) frames (Ok reply) all told = absurd told
+told_frames source P (Err (Memory taken)) frames (Ok reply) all told = absurd told
+told_frames source P (Err (FrameFault fault)) frames (Ok reply) all told = absurd told
+
+pub told_flying : (source : Source) (answer : Result Outcome StepError) (frames : List (ℕ × Frame)) (result : Result Reply ClusterError) → IsTold source answer frames result → AreInFlight answer frames
+told_flying source (Ok outcome) frames (Ok reply) told = all_or_none (drops source) frames outcome.frames.items told.1
+told_flying source (Ok outcome) frames (Err e) told = inr told.1
+told_flying source (Err (MomentBack last)) frames (Err e) told = told.1
+told_flying source (Err UnknownPeer) frames (Err e) told = told.1
+told_flying source (Err (Memory taken)) frames (Err e) told = told.1
+told_flying source (Err (FrameFault fault)) frames (Err e) told = absurd told
+told_flying source (Err (MomentBack last)) frames (Ok reply) told = absurd told
+told_flying source (Err UnknownPeer) frames (Ok reply) told = absurd told
+told_flying source (Err (Memory taken)) frames (Ok reply) told = absurd told
+told_flying source (Err (FrameFault fault)) frames (Ok reply) told = absurd told
 
 turned : (a b : ℕ) → eqb a b ≡ false → eqb b a ≡ false
 turned a b other = elim (eqb_tells b a) [ inl same ↦ absurd (eqb-false a b other (sym same.1)) | inr apart ↦ apart.0 ]

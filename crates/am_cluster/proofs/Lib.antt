@@ -10,3 +10,5 @@ pub mod Telling
 pub mod Born
 pub mod Lost
 pub mod Delivered
+pub mod Asked
+pub mod Lent

@@ -94,7 +94,7 @@ module _ (w : World) (a : Account) (tells : Tells a w) (place now line : ℕ) (r
 
     pub event_hangs : AreTwins w.silences w.log → IsWorld event_world
     event_hangs twins =
-        world_happened w place r stand event source now line acted.answer acted.recorded.frames is found acted.step (told_flying acted.answer acted.recorded.frames result acted.recorded.told)
+        world_happened w place r stand event source now line acted.answer acted.recorded.frames is found acted.step (told_flying source acted.answer acted.recorded.frames result acted.recorded.told)
         (twin_flights w.silences w.log twins) (subst (λ n. All (CanFly n place) acted.recorded.frames) tells.members acted.can_fly)
 
     pub event_told : (v : World) → w ≡ v → r.runs ≡ true → (n : World) → n ≡ event_world → OfMember v place (λ replica. IsEvent v place replica event source now line result n)

@@ -1,5 +1,5 @@
 -- What an event of a member does to the cluster.
-use Rattle.std.specs.Prelude.{◌≡◌, ◌⊎◌, ℕ, true, false, List, [], Result, Ok, Err}
+use Rattle.std.specs.Prelude.{◌≡◌, ◌⊎◌, ℕ, Bool, true, false, List, [], Result, Ok, Err, if◌then◌else◌}
 use Rattle.am_gossip.specs.declared.frame.Frame.{Frame}
 use Rattle.am_instance.specs.declared.event.Event.{Event}
 use Rattle.am_instance.specs.declared.error.StepError.{StepError}
@@ -9,6 +9,7 @@ use Rattle.am_instance.specs.declared.reply.Reply.{Reply}
 use Rattle.am_instance.specs.Stands.{Stand}
 use Rattle.am_instance.specs.OneStep.{IsStep}
 use Rattle.am_runs.specs.declared.step.Source.{Source}
+use Rattle.am_runs.specs.declared.step.Source.TheVariants.{Lent}
 use Rattle.am_runs.specs.Steps.Step.{Refused}
 use Rattle.am_carried.specs.Contents.{silences_in, entries_in}
 use Rattle.am_record.specs.Recorded.{event_step}
@@ -16,15 +17,25 @@ use Rattle.am_cluster.specs.declared.error.ClusterError.{ClusterError}
 use Rattle.am_cluster.specs.declared.error.ClusterError.TheVariants as errors
 use Rattle.am_cluster.specs.Worlds.{Replica, World, with_flights, with_replica, written}
 
--- What the instance answered, as the cluster tells it, and the frames that fly then. Where a frame finds no memory, none of
--- them flies.
-abbrev pub IsTold : Result Outcome StepError → List (ℕ × Frame) → Result Reply ClusterError → Type 0
-IsTold (Ok outcome) frames (Ok reply) = (reply ≡ outcome.reply) × (frames ≡ outcome.frames.items) × (outcome.unsent.memory ≡ 0)
-IsTold (Ok outcome) frames (Err error) = (error ≡ errors.Memory) × (frames ≡ [])
-IsTold (Err (MomentBack last)) frames (Err error) = (error ≡ errors.MomentBack last) × (frames ≡ [])
-IsTold (Err UnknownPeer) frames (Err error) = (error ≡ errors.UnknownPeer) × (frames ≡ [])
-IsTold (Err (Memory taken)) frames (Err error) = (error ≡ errors.Memory) × (frames ≡ [])
-IsTold _ _ _ = ⊥
+-- whether the frames that come out of a step are dropped: those of a member that takes the maps of another are
+abbrev pub drops : Source → Bool
+drops (Lent lender) = true
+drops _ = false
+
+-- the frames of a step that fly
+abbrev pub flown : Source → List (ℕ × Frame) → List (ℕ × Frame)
+flown source frames = if drops source then [] else frames
+
+-- What the instance answered, as the cluster tells it, and the frames that fly then. Where a frame that is not dropped finds
+-- no memory, none of them flies.
+abbrev pub IsTold : Source → Result Outcome StepError → List (ℕ × Frame) → Result Reply ClusterError → Type 0
+IsTold source (Ok outcome) frames (Ok reply) =
+    (reply ≡ outcome.reply) × (frames ≡ flown source outcome.frames.items) × (drops source ≡ false → outcome.unsent.memory ≡ 0)
+IsTold source (Ok outcome) frames (Err error) = (error ≡ errors.Memory) × (frames ≡ []) × (drops source ≡ false)
+IsTold source (Err (MomentBack last)) frames (Err error) = (error ≡ errors.MomentBack last) × (frames ≡ [])
+IsTold source (Err UnknownPeer) frames (Err error) = (error ≡ errors.UnknownPeer) × (frames ≡ [])
+IsTold source (Err (Memory taken)) frames (Err error) = (error ≡ errors.Memory) × (frames ≡ [])
+IsTold source _ _ _ = ⊥
 
 -- a member with another stand
 abbrev pub with_stand : Replica → Stand → Replica
@@ -37,7 +48,7 @@ pub record HasHappened (old : World) (place : ℕ) (replica : Replica) (event : 
   pub stand : Stand
   pub step : IsStep replica.stand event now answer stand
   pub frames : List (ℕ × Frame)
-  pub told : IsTold answer frames result
+  pub told : IsTold source answer frames result
   pub world : new ≡
       written (with_flights (with_replica old place (with_stand replica stand)) place now frames)
       (event_step silences_in place now source event answer frames) (event_step entries_in place now source event answer frames) line

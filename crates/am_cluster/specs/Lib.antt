@@ -8,3 +8,5 @@ pub mod Recording
 pub mod Acting
 pub mod Losing
 pub mod Delivering
+pub mod Steps
+pub mod Settling

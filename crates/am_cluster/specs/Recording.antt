@@ -73,7 +73,7 @@ pub record CanRecord (account : Account) (entry : Entry) (event : Event) (versio
 -- the step stands at the end of both runs, with its line, and its frames fly
 pub record IsRecorded (old : Account) (flights : List Flight) (entry : Entry) (event : Event) (answer : Result Outcome StepError) (result : Result Reply ClusterError) (new : Account) (after : List Flight) : Type 0 where
   pub frames : List (ℕ × Frame)
-  pub told : IsTold answer frames result
+  pub told : IsTold entry.source answer frames result
   pub members : new.members ≡ old.members
   pub silences : new.silences ≡ old.silences ++ event_step silences_in entry.place entry.moment entry.source event answer frames ∷ []
   pub log : new.log ≡ old.log ++ event_step entries_in entry.place entry.moment entry.source event answer frames ∷ []

@@ -11,6 +11,8 @@ mod losing;
 mod member;
 mod recording;
 mod sending;
+mod settle;
+mod steps;
 mod writing;
 
 pub use am_journal::CalmReport;

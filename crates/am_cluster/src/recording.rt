@@ -6,6 +6,7 @@ ghost use Rattle.am_instance.specs.declared.event.Event.{Event as Happening};
 ghost use Rattle.am_instance.specs.Replies.{IsNothing, listed};
 ghost use Rattle.am_instance.specs.Steps.{collects, made_here};
 ghost use Rattle.am_runs.specs.Steps.{flights_of};
+ghost use Rattle.am_cluster.specs.Events.{drops};
 ghost use Rattle.am_cluster.specs.Worlds.{sent_on};
 ghost use Rattle.am_cluster.specs.Writing.{CanWrite, IsWritten};
 ghost use Rattle.am_cluster.specs.Recording.{AreDelivered, CanRecord, ComesWith, IsRecorded, IsRoomFor, brings_or_makes, kind_of};
@@ -20,6 +21,7 @@ use am_gossip::Frame;
 use am_instance::{Event, Made, Outcome, Place, Reply, StepError, Unsent};
 use am_journal::{Journal, Mark};
 use am_nflog::MeshEntry;
+use am_runs::Source;
 use std::alloc::{AllocError, Global};
 
 /// What an event has to do with versions.
@@ -138,6 +140,13 @@ fn all_delivered(coming: Coming, made: Made) -> Delivered
     }
 }
 
+/// Whether the frames that come out of a step are dropped: those of a member that takes the maps of another are.
+fn drops(source: Source) -> bool
+    ensures { result ≡ drops source }
+{
+    matches!(source, Source::Lent { .. })
+}
+
 /// Writes down an event that was answered.
 fn write_outcome(
     alloc: Global,
@@ -167,6 +176,10 @@ fn write_outcome(
         return Ok(reply);
     }
     let delivered = all_delivered(coming, made);
+    if drops(entry.source) {
+        write_silent(alloc, journal, entry, delivered);
+        return Ok(reply);
+    }
     write_sent(alloc, journal, flights, entry, delivered, (frames, unsent))?;
     Ok(reply)
 }

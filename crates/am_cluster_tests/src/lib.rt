@@ -5,3 +5,5 @@
 mod beginnings;
 #[cfg(test)]
 mod fixtures;
+#[cfg(test)]
+mod played;

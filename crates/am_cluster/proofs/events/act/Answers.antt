@@ -67,7 +67,7 @@ returns c =
       answer = c.step_of-answer.result;
       step = c.step_of-answer.ensures.step;
       recorded = recorded;
-      can_fly = told_frames (CanFly c.args.journal.now.members c.args.entry.now.place) c.step_of-answer.result recorded.frames c.write_answer.result
+      can_fly = told_frames c.args.entry.now.source (CanFly c.args.journal.now.members c.args.entry.now.place) c.step_of-answer.result recorded.frames c.write_answer.result
           (on_ok_and (λ o. AreValues c.args.event o c.step_of-answer.new.instance) (λ o. All (CanFly c.args.journal.now.members c.args.entry.now.place) o.frames.items) c.args.instance.now c.step_of-answer.new.instance c.args.event c.args.entry.now.moment c.step_of-answer.result
           (λ o known step. all_fly_from c.args.instance.now.config c.args.journal.now.members c.args.entry.now.place o.frames.items c.requires.ready.own_place c.requires.ready.all_members
           (c.sent_frames_are_sound.ensures.sound c.args.instance.now c.step_of-answer.new.instance c.args.event c.args.entry.now.moment o step known) (c.sent_frames_are_sound.ensures.addressed c.args.instance.now c.step_of-answer.new.instance c.args.event c.args.entry.now.moment o step))

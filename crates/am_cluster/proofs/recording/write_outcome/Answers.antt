@@ -12,3 +12,9 @@ write_sent-requires c =
       sent = can_send _ _ c.requires.1 _ c.args.outcome _ c.args.outcome.frames.items c.requires.3 c.requires.2.brought_are other all (inl refl);
       silent = can_send _ _ c.requires.1 _ c.args.outcome _ _ c.requires.3 c.requires.2.brought_are other all (inr refl);
     }
+
+pub write_silent-requires : goal.write_silent-requires
+write_silent-requires c =
+    let other = kind_other c.requires.1 (λ e. c.in_default.not-Collects (c.requires.2.kind_is ∙ e)) in
+    let all = c.all_delivered-delivered.ensures c.requires.1 c.requires.2 c.requires.3.brings other in
+    can_send _ _ c.requires.1 _ c.args.outcome _ _ c.requires.3 c.requires.2.brought_are other all (inr refl)

@@ -1,0 +1,28 @@
+use Rattle.std.proofs.Common.{◌≡◌, refl, sym, ap, ◌∙◌, subst, length}
+use Rattle.std.specs.Prelude.{None}
+use Rattle.am_instance.specs.declared.event.Event.TheVariants as events
+use Rattle.am_instance.specs.Steps.{fault_of}
+use Rattle.am_cluster.proofs.Lent.{lent_log, lent_silences}
+use Rattle.am_cluster.proofs.Lived.{found_at, inside}
+use Rattle.am_cluster.proofs.cluster.Cluster.lent_by.Goals as goal
+
+pub returns-clause-sound : goal.returns-clause-sound
+returns-clause-sound c = λ settings now.
+    subst (λ f. fault_of settings now (events.Frame c.args.lender f) ≡ None) (sym c.in_ok-frame.ensures.frame)
+    (c.lent_maps_come_from_their_lender.ensures.sound settings c.args.lender now c.behind-self.inside.instance c.in_ok-frame.ensures.silences c.in_ok-frame.ensures.log)
+
+pub returns-clause-silences : goal.returns-clause-silences
+returns-clause-silences c = λ now.
+    let less = inside _ _ c.args.lender c.self.view_is c.requires.within in
+    let found = found_at c.self.inside.members.items c.args.lender c.index.result.now less c.index.ensures in
+    lent_silences (record { replicas = c.self.inside.members.items; silences = c.self.inside.journal.silences; log = c.self.inside.journal.log; lines = c.self.inside.journal.lines; flights = c.self.inside.flights.items })
+    c.args.self.now c.args.lender now c.index.result.now c.behind-self.inside.instance c.in_ok-frame.frame c.self.view_is c.self.invariant.world found (sym (ap (λ x. x.stand) c.behind-self.view_is)) c.requires.runs c.in_ok-frame.ensures.frame
+    (λ runs gone. c.lent_maps_come_from_their_lender.ensures.silences (length c.self.inside.members.items) c.args.lender now c.self.inside.journal.silences c.behind-self.inside.instance runs gone c.in_ok-frame.ensures.maps c.in_ok-frame.ensures.silences c.in_ok-frame.ensures.log)
+
+pub returns-clause-log : goal.returns-clause-log
+returns-clause-log c = λ now.
+    let less = inside _ _ c.args.lender c.self.view_is c.requires.within in
+    let found = found_at c.self.inside.members.items c.args.lender c.index.result.now less c.index.ensures in
+    lent_log (record { replicas = c.self.inside.members.items; silences = c.self.inside.journal.silences; log = c.self.inside.journal.log; lines = c.self.inside.journal.lines; flights = c.self.inside.flights.items })
+    c.args.self.now c.args.lender now c.index.result.now c.behind-self.inside.instance c.in_ok-frame.frame c.self.view_is c.self.invariant.world found (sym (ap (λ x. x.stand) c.behind-self.view_is)) c.requires.runs c.in_ok-frame.ensures.frame
+    (λ runs gone. c.lent_maps_come_from_their_lender.ensures.log (length c.self.inside.members.items) c.args.lender now c.self.inside.journal.log c.behind-self.inside.instance runs gone c.in_ok-frame.ensures.maps c.in_ok-frame.ensures.silences c.in_ok-frame.ensures.log)

@@ -1,0 +1,108 @@
+//! How the members of a cluster settle.
+
+ghost use Rattle.std.specs.Prelude.{◌≡◌, ◌<◌, ◌≤◌, ℕ, None, All, IfOk, OnOk, length, map, true};
+ghost use Rattle.std.specs.Ordering.{nat_cmp};
+ghost use Rattle.std.specs.Cmp.Lexicographic.{slice_cmp};
+ghost use Rattle.am_silence.specs.Mesh.{mesh_version};
+ghost use Rattle.am_nflog.specs.Mesh.{mesh_version as entry_version};
+ghost use Rattle.am_nflog.specs.Keys.{key_cmp};
+ghost use Rattle.am_gossip.specs.declared.frame.Frame.TheVariants as frames;
+ghost use Rattle.am_wire.specs.Limits.{most};
+ghost use Rattle.am_merge.specs.Maps.{IsMap};
+ghost use Rattle.am_rows.specs.Texts.{row_text};
+ghost use Rattle.am_instance.specs.Configs.{Settings};
+ghost use Rattle.am_instance.specs.Deliveries.Delivery.{OfEntry, OfSilence};
+ghost use Rattle.am_instance.specs.Laws.{HasMaps};
+ghost use Rattle.am_instance.specs.Sendings.{whole_state};
+ghost use Rattle.am_instance.specs.Steps.{fault_of};
+ghost use Rattle.am_carried.specs.Contents.{IsReadable, entries_in, silences_in};
+ghost use Rattle.am_runs.specs.declared.step.Source.TheVariants.{Lent};
+ghost use Rattle.am_record.specs.Recorded.{HasSource};
+ghost use Rattle.am_cluster.specs.Lives.{OfMember};
+ghost use Rattle.am_cluster.specs.Settling.{IsTakingOf, loan};
+
+use crate::cluster::Cluster;
+use crate::error::ClusterError;
+use am_carried::held_are_values;
+use am_carried::laws::what_keeps_its_limit_is_readable;
+use am_gossip::{Frame, FullState, Part, StateKey};
+use am_instance::{Event, Instance, Place, Reply};
+use am_merge::Held;
+use am_record::laws::lent_maps_come_from_their_lender;
+use am_rows::{row_bytes, row_length};
+use am_runs::Source;
+use am_version_order::{Moment, Version};
+use am_wire::Bytes;
+use std::alloc::{AllocError, Global};
+
+/// The row of a map, or [`AllocError`] also where it has over 67,108,864 bytes.
+fn row_of<V: Version>(alloc: Global, held: &Held<V>) -> Result<Bytes, AllocError>
+    ensures row { IfOk result (λ bytes. bytes ≡ row_text V.seen held.now) }
+    ensures short { OnOk result (length (row_text V.seen held.now) ≤ most) }
+{
+    let Some(length) = row_length(held) else {
+        return Err(AllocError);
+    };
+    row_bytes(alloc, held, length)
+}
+
+/// Both maps of an instance in a frame, or [`AllocError`] also where the row of one has over 67,108,864 bytes.
+fn frame_of(alloc: Global, instance: &Instance) -> Result<Frame, AllocError>
+    ensures frame { IfOk result (λ frame. frame ≡ frames.Pull (whole_state instance.now.silences instance.now.log)) }
+    ensures silences { OnOk result (All IsReadable (map OfSilence instance.now.silences)) }
+    ensures log { OnOk result (All IsReadable (map OfEntry instance.now.log)) }
+    ensures maps { HasMaps instance.now }
+{
+    what_keeps_its_limit_is_readable();
+    held_are_values(instance.silences());
+    held_are_values(instance.log());
+    let silences = row_of(alloc, instance.silences())?;
+    let log = row_of(alloc, instance.log())?;
+    let mut parts = Vec::with_capacity(alloc, 2)?;
+    parts.push(Part {
+        key: StateKey::Sil,
+        bytes: silences,
+    })?;
+    parts.push(Part {
+        key: StateKey::Nfl,
+        bytes: log,
+    })?;
+    Ok(Frame::Pull(FullState::new(parts)))
+}
+
+impl Cluster {
+    /// What comes to a member that takes the maps of the one at a place, which runs.
+    fn lent_by(&self, lender: usize) -> Result<Event, AllocError>
+        requires within { lender < length self.now.replicas }
+        requires runs { OfMember self.now lender (λ lent. lent.runs ≡ true) }
+        ensures event { IfOk result (λ event. OfMember self.now lender (λ lent. event ≡ loan lender lent.stand)) }
+        ensures sound { IfOk result (λ event. (settings : Settings) (now : ℕ) → fault_of settings now event ≡ None) }
+        ensures silences { IfOk result (λ event. (now : ℕ) → HasSource silences_in mesh_version (slice_cmp nat_cmp) (length self.now.replicas) self.now.silences now event (Lent lender)) }
+        ensures log { IfOk result (λ event. (now : ℕ) → HasSource entries_in entry_version key_cmp (length self.now.replicas) self.now.log now event (Lent lender)) }
+    {
+        lent_maps_come_from_their_lender();
+        let frame = frame_of(self.alloc, &self.members[lender].instance)?;
+        Ok(Event::Frame {
+            sender: lender as Place,
+            frame,
+        })
+    }
+
+    /// Has a member take the maps of another, which runs. Where the row of a map has over 67,108,864 bytes, that is
+    /// answered as want of memory.
+    fn lend(
+        &mut self,
+        borrower: usize,
+        lender: usize,
+        now: Moment,
+        line: u64,
+    ) -> Result<Reply, ClusterError>
+        requires borrower { borrower < length self.old.replicas }
+        requires lender { lender < length self.old.replicas }
+        requires runs { OfMember self.old lender (λ lent. lent.runs ≡ true) }
+        ensures { IsTakingOf self.old borrower lender now line result self.new }
+    {
+        let event = self.lent_by(lender)?;
+        self.happen(borrower, event, Source::Lent(lender), now, line)
+    }
+}

@@ -1,0 +1,107 @@
+//! The steps of a schedule.
+
+ghost use Rattle.std.specs.Prelude.{◌≡◌, ◌<◌, IfOk, IfSome, length};
+ghost use Rattle.am_line_events.specs.Events.{IsSound, asked_by};
+ghost use Rattle.am_cluster.specs.Lives.{OfMember};
+ghost use Rattle.am_cluster.specs.Steps.{Fits, IsDone, IsStepped, place_in, quiet};
+
+use crate::cluster::Cluster;
+use crate::error::ClusterError;
+use am_instance::{Config, Event, Reply};
+use am_line_events::{Asked, place_named, to_event};
+use am_runs::Source;
+use am_schedule::{Action, Event as LineEvent, Step};
+use am_version_order::Moment;
+use std::alloc::AllocError;
+
+/// What a step without an event is answered by.
+fn quiet(done: Result<(), ClusterError>) -> Result<Reply, ClusterError>
+    ensures { result ≡ quiet done }
+{
+    match done {
+        Ok(()) => Ok(Reply::Nothing),
+        Err(error) => Err(error),
+    }
+}
+
+impl Cluster {
+    /// The place of the member of a name.
+    fn place_of(&self, name: &str) -> Option<usize>
+        ensures named { result ≡ place_in self.now name.now }
+        ensures within { IfSome result (λ place. place < length self.now.replicas) }
+    {
+        match self.members.first() {
+            Some(member) => match place_named(member.instance.config(), name) {
+                Some(place) => Some(place as usize),
+                None => None,
+            },
+            None => None,
+        }
+    }
+
+    /// What a line asks of the member at a place.
+    fn asked(&self, place: usize, event: &LineEvent) -> Result<Asked, AllocError>
+        requires { place < length self.now.replicas }
+        ensures asked { IfOk result (λ asked. OfMember self.now place (λ replica. asked ≡ asked_by replica.stand.config event.now)) }
+        ensures sound { IfOk result IsSound }
+        ensures fits { IfOk result Fits }
+    {
+        to_event(self.alloc, self.members[place].instance.config(), event)
+    }
+}
+
+impl Cluster {
+    /// How many members there are. It takes no memory.
+    fn count(&self) -> usize
+        ensures { result ≡ length self.now.replicas }
+    {
+        self.members.len()
+    }
+
+    /// Has the member at a place do what a line says.
+    fn do_at(
+        &mut self,
+        place: usize,
+        event: &LineEvent,
+        now: Moment,
+        line: u64,
+    ) -> Result<Reply, ClusterError>
+        requires { place < length self.old.replicas }
+        ensures { OfMember self.old place (λ replica. IsDone self.old place replica event.now now line result self.new) }
+    {
+        match self.asked(place, event)? {
+            Asked::Event { event, source } => self.happen(place, event, source, now, line),
+            Asked::Start => quiet(self.start_at(place, now, line)),
+            Asked::NoMember => {
+                let stranger = Event::PullFrom(self.count() as u64);
+                self.happen(place, stranger, Source::Made, now, line)
+            }
+        }
+    }
+
+    /// Makes a step, which stands in this line of a schedule, and answers what its event is answered.
+    ///
+    /// # Errors
+    ///
+    /// The first [`ClusterError`] that applies, in their order; for want of room to write the step down before all others.
+    pub fn step(&mut self, step: &Step, line: u64) -> Result<Reply, ClusterError>
+        ensures { IsStepped self.old step.now line result self.new }
+    {
+        match step.action() {
+            Action::Event { at, name, event } => match self.place_of(name.as_str()) {
+                Some(place) => self.do_at(place, event, *at, line),
+                None => Err(self.refuse(ClusterError::UnknownPeer, *at, line)),
+            },
+            Action::Stop { name } => match self.place_of(name.as_str()) {
+                Some(place) => quiet(self.stop_at(place, line)),
+                None => Err(ClusterError::UnknownPeer),
+            },
+            Action::Save { name } => match self.place_of(name.as_str()) {
+                Some(place) => quiet(self.save_at(place, line)),
+                None => Err(ClusterError::UnknownPeer),
+            },
+            Action::Deliver { at, frame } => self.deliver(*frame, *at, line),
+            Action::Lose { frame } => quiet(self.lose(*frame)),
+        }
+    }
+}
