@@ -10,3 +10,4 @@ pub mod Telling
 pub mod Born
 pub mod Lost
 pub mod Lent
+pub mod Turned
