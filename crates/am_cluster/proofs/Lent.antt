@@ -1,5 +1,5 @@
 -- Maps that a member of a cluster lends.
-use Rattle.std.proofs.Common.{◌≡◌, ℕ, true, Some, refl, sym, ap, ◌∙◌, subst, length}
+use Rattle.std.proofs.Common.{◌≡◌, ℕ, true, Some, sym, ◌∙◌, subst, length}
 use Rattle.std.specs.Ordering.{nat_cmp}
 use Rattle.std.specs.Cmp.Lexicographic.{slice_cmp}
 use Rattle.am_silence.specs.Mesh.{mesh_version}
@@ -19,7 +19,7 @@ use Rattle.am_cluster.specs.Lives.{OfMember}
 use Rattle.am_cluster.specs.Ties.{IsWorld}
 
 module _ (w v : World) (place now : ℕ) (r : Replica) (s : Stand) (frame : Frame) (same : w ≡ v) (is : IsWorld w) (found : replica_at w place ≡ Some r) (stand : r.stand ≡ s)
-  (runs : OfMember v place (λ lent. lent.runs ≡ true)) (frame_is : frame ≡ Pull (whole_state s.silences s.log)) where
+    (runs : OfMember v place (λ lent. lent.runs ≡ true)) (frame_is : frame ≡ Pull (whole_state s.silences s.log)) where
   running : r.runs ≡ true
   running = runs r (subst (λ u. replica_at u place ≡ Some r) same found)
 

@@ -1,8 +1,7 @@
 -- Turns of a settle, one after the other.
-use Rattle.std.proofs.Common.{◌≡◌, ◌≢◌, ◌⊎◌, inl, inr, ℕ, zero, suc, ◌+◌, ◌-◌, ◌<◌, ◌≤◌, Bool, true, false, cond, eqb, ltb, not, ◌&&◌, List, [], ◌∷◌, ◌++◌, Some, Result, Ok, Err, refl, sym, ap, ◌∙◌, subst, slice_get, length, set, map, arith, append_assoc}
+use Rattle.std.proofs.Common.{◌≡◌, ◌≢◌, ◌⊎◌, inl, inr, ℕ, zero, suc, ◌+◌, ◌<◌, ◌≤◌, Bool, true, false, cond, eqb, ltb, not, ◌&&◌, List, [], ◌∷◌, ◌++◌, Some, Result, Ok, Err, refl, sym, ap, ◌∙◌, subst, slice_get, length, set, map, arith, append_assoc}
 use Rattle.std.proofs.lemmas.Bool.{lt-ltb}
 use Rattle.std.proofs.lemmas.Bool.Decides.{eqb_tells}
-use Rattle.std.proofs.lemmas.Option.{slice_get_within}
 use Rattle.am_collect.specs.Events.{last_moment}
 use Rattle.am_collect.specs.Events.Event.{Collected}
 use Rattle.am_gossip.specs.declared.frame.Frame.{Frame}
@@ -12,7 +11,6 @@ use Rattle.am_instance.specs.declared.error.StepError.{StepError}
 use Rattle.am_instance.specs.declared.error.StepError.TheVariants.{Memory, MomentBack, UnknownPeer, Frame as FrameFault}
 use Rattle.am_instance.specs.declared.reply.Outcome.{Outcome}
 use Rattle.am_instance.specs.declared.reply.Reply.{Reply}
-use Rattle.am_instance.specs.Configs.{Settings}
 use Rattle.am_instance.specs.Deliveries.{Delivery, events_at, to_silences}
 use Rattle.am_instance.specs.Stands.{Stand}
 use Rattle.am_instance.specs.Steps.{collects, delivers, knows_peer, peer_of}
@@ -23,13 +21,13 @@ use Rattle.am_runs.specs.declared.step.Source.TheVariants.{Lent, Made}
 use Rattle.am_cluster.specs.declared.error.ClusterError.{ClusterError}
 use Rattle.am_cluster.specs.declared.error.ClusterError.TheVariants as errors
 use Rattle.am_cluster.specs.Worlds.{Replica, World, replica_at}
-use Rattle.am_cluster.specs.Events.{HasHappened, IsEvent, IsHalted, IsTold, IsUnmade, with_stand}
+use Rattle.am_cluster.specs.Events.{HasHappened, IsEvent, IsTold, with_stand}
 use Rattle.am_cluster.specs.Lives.{OfMember}
 use Rattle.std.specs.List.{range_with_len}
 use Rattle.std.proofs.lemmas.List.FromFn.{map-range_with_len_more}
 use Rattle.am_cluster.specs.declared.error.SettleError.{SettleError}
 use Rattle.am_cluster.specs.declared.error.SettleError.TheVariants as settle_errors
-use Rattle.am_cluster.specs.Settling.{AreCutShort, AreMade, AreTurns, CanSettle, collections, gatherings, spreadings, all_turns, IsMade, IsStopped, IsTakingOf, IsTurn, Turn, loan}
+use Rattle.am_cluster.specs.Settling.{AreCutShort, AreMade, AreTurns, CanSettle, IsMade, IsStopped, IsTakingOf, Turn, loan}
 use Rattle.am_cluster.specs.Settling.Turn.{Collects, Takes}
 use Rattle.am_cluster.specs.Ties.{IsWorld}
 use Rattle.am_cluster.proofs.Places.{got_other, got_set, set_length, some_is}
@@ -219,7 +217,7 @@ module _ (f : ℕ → Turn) where
     one_fails a n k place less is settle_errors.Memory first next =
         let more = later_in a n k less in
         let all : map f (range_with_len a n) ≡ (map f (range_with_len a k) ++ f place ∷ []) ++ more.0 =
-            more.1 ∙ (ap (λ p. map f (range_with_len a k) ++ f p ∷ more.0) is ∙ sym (append_assoc (map f (range_with_len a k)) (f place ∷ []) more.0)) in
+        more.1 ∙ (ap (λ p. map f (range_with_len a k) ++ f p ∷ more.0) is ∙ sym (append_assoc (map f (range_with_len a k)) (f place ∷ []) more.0)) in
         subst (λ ts. AreCutShort old ts now line new) (sym all)
         (cut_early old new (map f (range_with_len a k) ++ f place ∷ []) more.0 now line (cut_later old between new (map f (range_with_len a k)) (f place ∷ []) now line first next))
     one_fails a n k place less is settle_errors.Stopped first next = absurd next

@@ -1,5 +1,5 @@
 -- How the members of a cluster settle: each collects, and then the first takes the maps of all others, and they take its.
-use Rattle.std.specs.Prelude.{◌≡◌, ◌⊎◌, ℕ, ◌-◌, ◌<◌, ◌≤◌, nat_lt, true, false, List, [], ◌∷◌, ◌++◌, length, map, Any, Some, Result, Ok, Err, if◌then◌else◌}
+use Rattle.std.specs.Prelude.{◌≡◌, ◌⊎◌, ℕ, ◌-◌, ◌≤◌, true, List, [], ◌∷◌, ◌++◌, map, Some, Result, Ok, Err}
 use Rattle.std.specs.List.{range_with_len}
 use Rattle.am_gossip.specs.declared.frame.Frame.TheVariants as frames
 use Rattle.am_instance.specs.declared.event.Event.{Event}
@@ -7,15 +7,13 @@ use Rattle.am_instance.specs.declared.event.Event.TheVariants as events
 use Rattle.am_instance.specs.declared.reply.Reply.{Reply}
 use Rattle.am_instance.specs.Sendings.{whole_state}
 use Rattle.am_instance.specs.Stands.{Stand}
-use Rattle.am_runs.specs.declared.step.Source.{Source}
 use Rattle.am_runs.specs.declared.step.Source.TheVariants.{Made, Lent}
-use Rattle.am_runs.specs.Steps.Step.{Back, Refused}
 use Rattle.am_cluster.specs.declared.error.ClusterError.{ClusterError}
 use Rattle.am_cluster.specs.declared.error.ClusterError.TheVariants as cluster_errors
 use Rattle.am_cluster.specs.declared.error.SettleError.{SettleError}
 use Rattle.am_cluster.specs.declared.error.SettleError.TheVariants as errors
-use Rattle.am_cluster.specs.Worlds.{Replica, World, replica_at, written}
-use Rattle.am_cluster.specs.Events.{HasHappened, IsEvent, IsUnmade}
+use Rattle.am_cluster.specs.Worlds.{Replica, World, replica_at}
+use Rattle.am_cluster.specs.Events.{HasHappened, IsEvent}
 use Rattle.am_cluster.specs.Lives.{OfMember}
 
 -- what comes to a member that takes the maps of the one at a place

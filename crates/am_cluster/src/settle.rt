@@ -1,6 +1,6 @@
 //! How the members of a cluster settle.
 
-ghost use Rattle.std.specs.Prelude.{◌≡◌, ◌≢◌, [], ◌∷◌, ◌<◌, ◌≤◌, ℕ, None, All, IfOk, OnOk, length, map, true};
+ghost use Rattle.std.specs.Prelude.{◌≡◌, ◌≢◌, [], ◌∷◌, ◌<◌, ◌≤◌, ◌↔◌, ℕ, None, All, Any, IsTrue, false, IfOk, OnOk, length, map, true};
 ghost use Rattle.std.specs.Ordering.{nat_cmp};
 ghost use Rattle.std.specs.Cmp.Lexicographic.{slice_cmp};
 ghost use Rattle.am_silence.specs.Mesh.{mesh_version};
@@ -147,6 +147,13 @@ impl Cluster {
         ensures { result ≡ length self.now.replicas }
     {
         self.members.len()
+    }
+
+    /// Whether a member is stopped.
+    fn has_stopped(&self) -> bool
+        ensures { IsTrue result ↔ Any (λ replica. replica.runs ≡ false) self.now.replicas }
+    {
+        self.members.iter().any(|member| !member.runs)
     }
 
     /// Has every member collect.

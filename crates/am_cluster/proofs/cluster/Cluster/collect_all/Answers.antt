@@ -1,8 +1,8 @@
-use Rattle.std.proofs.Common.{◌≡◌, [], ◌∷◌, ◌++◌, ◌+◌, ◌-◌, ◌<◌, ◌≤◌, Err, refl, sym, ap, ◌∙◌, subst, length, arith}
+use Rattle.std.proofs.Common.{[], ◌∷◌, Err, sym, subst, length, arith}
 use Rattle.std.proofs.lemmas.Result.{err_from_is_err_and}
-use Rattle.am_cluster.specs.Settling.{AreMade, AreTurns, all_turns, collections, gatherings, spreadings}
-use Rattle.am_cluster.specs.Settling.Turn.{Collects, Takes}
-use Rattle.am_cluster.proofs.Turned.{made_then, one_fails, one_more, still_can, turns_fail, turns_then}
+use Rattle.am_cluster.specs.Settling.{AreTurns, collections}
+use Rattle.am_cluster.specs.Settling.Turn.{Collects}
+use Rattle.am_cluster.proofs.Turned.{one_fails, one_more, still_can}
 use Rattle.am_cluster.proofs.cluster.Cluster.collect_all.Goals as goal
 
 pub collect_at-requires-clause-within : goal.collect_at-requires-clause-within

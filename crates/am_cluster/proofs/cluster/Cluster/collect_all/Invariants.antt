@@ -1,4 +1,3 @@
-use Rattle.std.proofs.Common.{◌≤◌}
 use Rattle.am_cluster.specs.Settling.{AreMade, collections}
 use Rattle.am_cluster.proofs.cluster.Cluster.collect_all.Given as goal
 

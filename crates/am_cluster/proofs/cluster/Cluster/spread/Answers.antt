@@ -1,9 +1,9 @@
-use Rattle.std.proofs.Common.{◌≡◌, [], ◌∷◌, ◌++◌, ◌+◌, ◌-◌, ◌<◌, ◌≤◌, Err, refl, sym, ap, ◌∙◌, subst, length, map, arith}
+use Rattle.std.proofs.Common.{[], ◌∷◌, ◌-◌, Err, sym, subst, length, map, arith}
 use Rattle.std.specs.List.{range_with_len}
 use Rattle.std.proofs.lemmas.Result.{err_from_is_err_and}
-use Rattle.am_cluster.specs.Settling.{AreMade, AreTurns, all_turns, collections, gatherings, spreadings}
-use Rattle.am_cluster.specs.Settling.Turn.{Collects, Takes}
-use Rattle.am_cluster.proofs.Turned.{made_then, one_fails, one_more, still_can, turns_fail, turns_then}
+use Rattle.am_cluster.specs.Settling.{AreMade, AreTurns, spreadings}
+use Rattle.am_cluster.specs.Settling.Turn.{Takes}
+use Rattle.am_cluster.proofs.Turned.{one_fails, one_more, still_can}
 use Rattle.am_cluster.proofs.cluster.Cluster.spread.Goals as goal
 
 pub take_from-requires-clause-borrower : goal.take_from-requires-clause-borrower
