@@ -8,7 +8,6 @@ ghost use Rattle.am_nflog.specs.Mesh.{mesh_version as entry_version};
 ghost use Rattle.am_nflog.specs.Keys.{key_cmp};
 ghost use Rattle.am_gossip.specs.declared.frame.Frame.TheVariants as frames;
 ghost use Rattle.am_wire.specs.Limits.{most};
-ghost use Rattle.am_merge.specs.Maps.{IsMap};
 ghost use Rattle.am_rows.specs.Texts.{row_text};
 ghost use Rattle.am_instance.specs.Configs.{Settings};
 ghost use Rattle.am_instance.specs.Deliveries.Delivery.{OfEntry, OfSilence};
