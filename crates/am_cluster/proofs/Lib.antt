@@ -12,3 +12,4 @@ pub mod Lost
 pub mod Delivered
 pub mod Asked
 pub mod Lent
+pub mod Turned

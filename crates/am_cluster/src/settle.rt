@@ -1,6 +1,6 @@
 //! How the members of a cluster settle.
 
-ghost use Rattle.std.specs.Prelude.{◌≡◌, ◌<◌, ◌≤◌, ℕ, None, All, IfOk, OnOk, length, map, true};
+ghost use Rattle.std.specs.Prelude.{◌≡◌, ◌≢◌, [], ◌∷◌, ◌<◌, ◌≤◌, ◌↔◌, ℕ, None, All, Any, IsTrue, false, IfOk, OnOk, length, map, true};
 ghost use Rattle.std.specs.Ordering.{nat_cmp};
 ghost use Rattle.std.specs.Cmp.Lexicographic.{slice_cmp};
 ghost use Rattle.am_silence.specs.Mesh.{mesh_version};
@@ -8,7 +8,6 @@ ghost use Rattle.am_nflog.specs.Mesh.{mesh_version as entry_version};
 ghost use Rattle.am_nflog.specs.Keys.{key_cmp};
 ghost use Rattle.am_gossip.specs.declared.frame.Frame.TheVariants as frames;
 ghost use Rattle.am_wire.specs.Limits.{most};
-ghost use Rattle.am_merge.specs.Maps.{IsMap};
 ghost use Rattle.am_rows.specs.Texts.{row_text};
 ghost use Rattle.am_instance.specs.Configs.{Settings};
 ghost use Rattle.am_instance.specs.Deliveries.Delivery.{OfEntry, OfSilence};
@@ -19,10 +18,11 @@ ghost use Rattle.am_carried.specs.Contents.{IsReadable, entries_in, silences_in}
 ghost use Rattle.am_runs.specs.declared.step.Source.TheVariants.{Lent};
 ghost use Rattle.am_record.specs.Recorded.{HasSource};
 ghost use Rattle.am_cluster.specs.Lives.{OfMember};
-ghost use Rattle.am_cluster.specs.Settling.{IsTakingOf, loan};
+ghost use Rattle.am_cluster.specs.Settling.{AreTurns, CanSettle, IsTakingOf, all_turns, collections, gatherings, loan, spreadings};
+ghost use Rattle.am_cluster.specs.Settling.Turn.{Collects, Takes};
 
 use crate::cluster::Cluster;
-use crate::error::ClusterError;
+use crate::error::{ClusterError, SettleError};
 use am_carried::held_are_values;
 use am_carried::laws::what_keeps_its_limit_is_readable;
 use am_gossip::{Frame, FullState, Part, StateKey};
@@ -104,5 +104,97 @@ impl Cluster {
     {
         let event = self.lent_by(lender)?;
         self.happen(borrower, event, Source::Lent(lender), now, line)
+    }
+}
+
+impl Cluster {
+    /// Has the member at a place collect.
+    fn collect_at(&mut self, place: usize, now: Moment, line: u64) -> Result<(), SettleError>
+        requires within { place < length self.old.replicas }
+        requires ready { CanSettle self.old now }
+        ensures { AreTurns self.old (Collects place ∷ []) now line result self.new }
+    {
+        match self.happen(place, Event::Tick, Source::Made, now, line) {
+            Ok(_reply) => Ok(()),
+            Err(_) => Err(SettleError::Memory),
+        }
+    }
+
+    /// Has a member take the maps of another.
+    fn take_from(
+        &mut self,
+        borrower: usize,
+        lender: usize,
+        now: Moment,
+        line: u64,
+    ) -> Result<(), SettleError>
+        requires borrower { borrower < length self.old.replicas }
+        requires lender { lender < length self.old.replicas }
+        requires other { borrower ≢ lender }
+        requires ready { CanSettle self.old now }
+        ensures { AreTurns self.old (Takes borrower lender ∷ []) now line result self.new }
+    {
+        let _ = &self.alloc;
+        match self.lend(borrower, lender, now, line) {
+            Ok(_reply) => Ok(()),
+            Err(_) => Err(SettleError::Memory),
+        }
+    }
+
+    /// How many members there are.
+    fn count(&self) -> usize
+        ensures { result ≡ length self.now.replicas }
+    {
+        self.members.len()
+    }
+
+    /// Whether a member is stopped.
+    fn has_stopped(&self) -> bool
+        ensures { IsTrue result ↔ Any (λ replica. replica.runs ≡ false) self.now.replicas }
+    {
+        self.members.iter().any(|member| !member.runs)
+    }
+
+    /// Has every member collect.
+    fn collect_all(&mut self, now: Moment, line: u64) -> Result<(), SettleError>
+        requires ready { CanSettle self.old now }
+        ensures { AreTurns self.old (collections (length self.old.replicas)) now line result self.new }
+    {
+        for place in 0..self.count() {
+            self.collect_at(place, now, line)?;
+        }
+        Ok(())
+    }
+
+    /// Has the first member take the maps of all others, in their order.
+    fn gather(&mut self, now: Moment, line: u64) -> Result<(), SettleError>
+        requires ready { CanSettle self.old now }
+        ensures { AreTurns self.old (gatherings (length self.old.replicas)) now line result self.new }
+    {
+        for place in 1..self.count() {
+            self.take_from(0, place, now, line)?;
+        }
+        Ok(())
+    }
+
+    /// Has each other member take the maps of the first.
+    fn spread(&mut self, now: Moment, line: u64) -> Result<(), SettleError>
+        requires ready { CanSettle self.old now }
+        ensures { AreTurns self.old (spreadings (length self.old.replicas)) now line result self.new }
+    {
+        for place in 1..self.count() {
+            self.take_from(place, 0, now, line)?;
+        }
+        Ok(())
+    }
+
+    /// Makes all turns of a settle.
+    fn make_turns(&mut self, now: Moment, line: u64) -> Result<(), SettleError>
+        requires ready { CanSettle self.old now }
+        ensures { AreTurns self.old (all_turns (length self.old.replicas)) now line result self.new }
+    {
+        self.collect_all(now, line)?;
+        self.gather(now, line)?;
+        self.spread(now, line)
     }
 }

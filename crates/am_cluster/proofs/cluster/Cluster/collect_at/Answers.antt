@@ -1,0 +1,8 @@
+use Rattle.am_cluster.proofs.Turned.{collected, not_collected}
+use Rattle.am_cluster.proofs.cluster.Cluster.collect_at.Goals as goal
+
+pub returns-in-Ok : goal.returns-in-Ok
+returns-in-Ok c = collected c.args.self.now c.args.place c.args.now c.args.line c.happen.new.self c.requires.within _ c.in-Ok.ensures
+
+pub returns-in-Err : goal.returns-in-Err
+returns-in-Err c = not_collected c.args.self.now c.args.place c.args.now c.args.line c.happen.new.self c.requires.within _ c.requires.ready c.in-Err.ensures
