@@ -142,7 +142,7 @@ impl Cluster {
     }
 
     /// How many members there are.
-    fn count(&self) -> usize
+    pub(crate) fn count(&self) -> usize
         ensures { result ≡ length self.now.replicas }
     {
         self.members.len()

@@ -51,13 +51,6 @@ impl Cluster {
 }
 
 impl Cluster {
-    /// How many members there are. It takes no memory.
-    fn count(&self) -> usize
-        ensures { result ≡ length self.now.replicas }
-    {
-        self.members.len()
-    }
-
     /// Has the member at a place do what a line says.
     fn do_at(
         &mut self,
