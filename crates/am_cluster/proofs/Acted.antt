@@ -1,5 +1,5 @@
 -- What is known of the step of an instance, for writing it down.
-use Rattle.std.proofs.Common.{◌≡◌, ◌⊎◌, inl, inr, ℕ, Bool, true, false, cond, eqb, ltb, ◌&&◌, List, [], Option, Result, Ok, Err, refl, sym, ap, ◌∙◌, subst, length, not, IfOk, ◌<◌}
+use Rattle.std.proofs.Common.{◌≡◌, ◌⊎◌, inl, inr, ℕ, Bool, true, false, cond, eqb, ltb, List, [], Result, Ok, Err, sym, subst, length, not, IfOk, ◌<◌}
 use Rattle.std.specs.Prelude.{All, Contains, IfSome, None}
 use Rattle.std.proofs.lemmas.List.Elements.{All-nil, All-weaker, All-contains, All-contains_itself}
 use Rattle.std.proofs.lemmas.Bool.{and_parts, eqb-false, ltb-true, not-true}
@@ -19,7 +19,7 @@ use Rattle.am_instance.specs.Deliveries.{first_fault, rows_in, parts_of}
 use Rattle.am_instance.specs.Laws.{HasMaps}
 use Rattle.am_instance.specs.Replies.{IsNothing}
 use Rattle.am_instance.specs.Stands.{Stand}
-use Rattle.am_instance.specs.Steps.{brought, delivers}
+use Rattle.am_instance.specs.Steps.{delivers}
 use Rattle.am_instance.specs.OneStep.{IsStep}
 use Rattle.am_runs.specs.declared.step.Source.{Source}
 use Rattle.am_carried.specs.Contents.{IsValue}

@@ -1,25 +1,17 @@
 -- What a line asks comes from where it says.
 use Rattle.std.proofs.Common.{◌≡◌, ℕ, ◌≤◌, List, [], ◌∷◌, Option, Some, None, Result, Ok, Err, IfOk, refl, sym, subst}
 use Rattle.std.specs.Prelude.{All}
-use Rattle.std.specs.declared.cmp.Ordering.{Ordering}
-use Rattle.std.specs.Ordering.{nat_cmp}
-use Rattle.std.specs.Cmp.Lexicographic.{slice_cmp}
 use Rattle.std.proofs.lemmas.List.Elements.{All-nil, All-cons, All-head, All-tail}
-use Rattle.am_silence.specs.Mesh.{Mesh, mesh_version}
-use Rattle.am_nflog.specs.Mesh.{Mesh as LogMesh, mesh_version as entry_version}
-use Rattle.am_nflog.specs.Keys.{key_cmp}
-use Rattle.am_instance.specs.declared.event.Event.{Event as Happening}
+use Rattle.am_silence.specs.Mesh.{mesh_version}
+use Rattle.am_nflog.specs.Mesh.{mesh_version as entry_version}
 use Rattle.am_instance.specs.Configs.{Settings}
 use Rattle.am_instance.specs.Deliveries.{Delivery}
 use Rattle.am_instance.specs.Deliveries.Delivery.{OfSilence, OfEntry}
-use Rattle.am_runs.specs.declared.step.Source.{Source}
-use Rattle.am_runs.specs.Steps.{Step}
 use Rattle.am_carried.specs.Contents.{silences_in, entries_in}
 use Rattle.am_schedule.specs.declared.step.Event.{Event as LineEvent}
 use Rattle.am_schedule.specs.declared.step.Event.TheVariants as lines
 use Rattle.am_schedule.specs.declared.step.Versions.{Versions}
 use Rattle.am_line_events.specs.declared.asked.Asked.{Asked}
-use Rattle.am_line_events.specs.declared.asked.Asked.TheVariants as asked
 use Rattle.am_line_events.specs.Events.{Brings, IsSentBefore, asked_by, brought_by, from, pull}
 use Rattle.am_line_events.specs.Places.{place_named}
 use Rattle.am_line_events.specs.Versions.{sent_at, updated, versions_of}

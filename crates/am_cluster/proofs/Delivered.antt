@@ -1,15 +1,13 @@
 -- A frame in flight as it arrives.
-use Rattle.std.proofs.Common.{◌≡◌, ℕ, ◌+◌, ◌-◌, ◌<◌, ◌≤◌, List, Option, Some, Result, refl, sym, ap, ◌∙◌, subst, slice_get, slice_index_or, length, arith}
+use Rattle.std.proofs.Common.{◌≡◌, ℕ, ◌+◌, ◌-◌, List, Option, Some, Result, refl, sym, ap, ◌∙◌, subst, slice_get, slice_index_or, arith}
 use Rattle.std.specs.Prelude.{All, Contains, IsSomeAnd}
 use Rattle.std.proofs.lemmas.List.Elements.{All-contains_itself}
 use Rattle.std.proofs.lemmas.Option.{get_or_from_slice_get, slice_get-get_or, slice_get_within}
-use Rattle.am_silence.specs.Mesh.{Mesh}
-use Rattle.am_nflog.specs.Mesh.{Mesh as LogMesh}
 use Rattle.am_gossip.specs.declared.frame.Frame.{Frame}
 use Rattle.am_instance.specs.declared.event.Event.TheVariants as events
 use Rattle.am_instance.specs.declared.reply.Reply.{Reply}
 use Rattle.am_runs.specs.declared.step.Source.TheVariants.{Arrived}
-use Rattle.am_runs.specs.Steps.{Flight as Sending, flights_of}
+use Rattle.am_runs.specs.Steps.{flights_of}
 use Rattle.am_carried.specs.Contents.{carries, silences_in, entries_in}
 use Rattle.am_cluster.specs.declared.delivering.Arrival.{Arrival}
 use Rattle.am_cluster.specs.declared.error.ClusterError.{ClusterError}

@@ -1,6 +1,6 @@
 -- Elements of lists by their places.
-use Rattle.std.proofs.Common.{◌≡◌, ◌≢◌, ℕ, zero, suc, false, true, eqb, List, [], ◌∷◌, ◌++◌, Option, Some, None, refl, ap, slice_get, length, set}
-use Rattle.std.proofs.lemmas.Bool.{eq-eqb, false≢true}
+use Rattle.std.proofs.Common.{◌≡◌, ◌≢◌, ℕ, zero, suc, true, eqb, List, [], ◌∷◌, ◌++◌, Some, refl, ap, slice_get, length, set}
+use Rattle.std.proofs.lemmas.Bool.{eq-eqb}
 
 module _ {A : Type 0} where
   pub got_before : (xs ys : List A) (n : ℕ) (x : A) → slice_get xs n ≡ Some x → slice_get (xs ++ ys) n ≡ Some x

@@ -1,7 +1,6 @@
 -- What is known of an answer is what writing it down asks for.
-use Rattle.std.proofs.Common.{◌≡◌, ◌⊎◌, inl, inr, ℕ, ◌+◌, ◌<◌, ◌≤◌, Bool, true, false, cond, List, [], ◌∷◌, ◌++◌, Option, Some, None, Result, Ok, Err, refl, sym, ap, ◌∙◌, subst, length, map, take, min, arith}
+use Rattle.std.proofs.Common.{◌≡◌, ◌⊎◌, inl, inr, ℕ, ◌+◌, ◌≤◌, Bool, true, false, cond, List, [], ◌∷◌, ◌++◌, Option, Some, None, Ok, Err, refl, sym, ap, ◌∙◌, subst, length, map, take, min, arith}
 use Rattle.std.proofs.lemmas.List.{length-append, length-map, length-take}
-use Rattle.am_silence.specs.Mesh.{Mesh, mesh_version}
 use Rattle.am_nflog.specs.Mesh.{Mesh as LogMesh}
 use Rattle.am_gossip.specs.declared.frame.Frame.{Frame}
 use Rattle.am_instance.specs.declared.event.Event.{Event}
@@ -18,14 +17,13 @@ use Rattle.am_journal.specs.Accounts.{Account}
 use Rattle.am_journal.specs.Reports.{IsPossibleForSilences, IsPossibleForLog}
 use Rattle.am_carried.specs.Contents.{delivery_of, silences_in, entries_in}
 use Rattle.am_carried.specs.declared.version.Carried.{Carried}
-use Rattle.am_record.specs.Recorded.{AreInFlight, event_step, sent_in}
+use Rattle.am_record.specs.Recorded.{AreInFlight, sent_in}
 use Rattle.am_cluster.specs.declared.recording.Kind.{Kind}
 use Rattle.am_cluster.specs.declared.recording.Kind.TheVariants as kinds
-use Rattle.am_cluster.specs.declared.recording.Coming.{Coming}
 use Rattle.am_cluster.specs.declared.writing.Delivered.{Delivered}
 use Rattle.am_cluster.specs.declared.writing.Entry.{Entry}
-use Rattle.am_cluster.specs.Recording.{AreDelivered, CanRecord, ComesWith, brings_or_makes, kind_of}
-use Rattle.am_cluster.specs.Writing.{CanWrite, took_silences, took_entries}
+use Rattle.am_cluster.specs.Recording.{AreDelivered, CanRecord, brings_or_makes, kind_of}
+use Rattle.am_cluster.specs.Writing.{CanWrite}
 
 -- ---- the kind of an event
 

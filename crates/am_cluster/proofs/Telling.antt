@@ -1,5 +1,5 @@
 -- What came of an event at a member, for the cluster.
-use Rattle.std.proofs.Common.{◌≡◌, ◌⊎◌, inl, inr, ℕ, ◌≤◌, Bool, true, false, List, [], ◌∷◌, ◌++◌, Some, Result, Err, refl, sym, ap, ◌∙◌, subst, length, set, slice_get}
+use Rattle.std.proofs.Common.{◌≡◌, inl, inr, ℕ, true, false, List, [], ◌∷◌, ◌++◌, Some, Result, Err, refl, sym, ap, ◌∙◌, subst, length, set}
 use Rattle.std.specs.Prelude.{All, None}
 use Rattle.std.specs.Ordering.{nat_cmp}
 use Rattle.std.specs.Cmp.Lexicographic.{slice_cmp}
@@ -24,13 +24,13 @@ use Rattle.am_cluster.specs.declared.error.ClusterError.TheVariants as errors
 use Rattle.am_cluster.specs.declared.flight.Flight.{Flight}
 use Rattle.am_cluster.specs.declared.writing.Entry.{Entry}
 use Rattle.am_cluster.specs.Worlds.{Replica, World, replica_at, sent_on, with_flights, with_replica, written}
-use Rattle.am_cluster.specs.Events.{HasHappened, IsEvent, IsHalted, with_stand}
+use Rattle.am_cluster.specs.Events.{IsEvent, with_stand}
 use Rattle.am_cluster.specs.Lives.{OfMember}
 use Rattle.am_cluster.specs.Ties.{CanFly, IsWorld}
 use Rattle.am_cluster.specs.Acting.{CanAct, HasActed}
 use Rattle.am_cluster.proofs.Acted.{told_flying}
 use Rattle.am_cluster.proofs.Happened.{world_happened}
-use Rattle.am_cluster.proofs.Lived.{for_replica, runs_told}
+use Rattle.am_cluster.proofs.Lived.{for_replica}
 
 -- a stopped member
 pub halted : (w v n : World) (place : ℕ) (r : Replica) (event : Event) (source : Source) (now line : ℕ) → w ≡ v → replica_at w place ≡ Some r → r.runs ≡ false → n ≡ written w (Refused now) (Refused now) line →

@@ -1,5 +1,5 @@
 -- The step of a member's instance in the cluster, and how it is written down.
-use Rattle.std.specs.Prelude.{◌≡◌, ℕ, true, None, length, List, All, Result}
+use Rattle.std.specs.Prelude.{◌≡◌, true, None, length, List, All, Result}
 use Rattle.std.specs.Ordering.{nat_cmp}
 use Rattle.std.specs.Cmp.Lexicographic.{slice_cmp}
 use Rattle.am_silence.specs.Mesh.{mesh_version}

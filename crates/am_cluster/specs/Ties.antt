@@ -1,6 +1,6 @@
 -- How a cluster hangs together: each member stands as its past says, and each frame in flight is one that a step sent.
 -- X is the type of versions, and `seen` is what the merge sees of one.
-use Rattle.std.specs.Prelude.{◌≡◌, ℕ, ◌+◌, ◌<◌, ◌==◌, Bool, true, false, List, [], ◌∷◌, ◌++◌, length, Option, Some, None, slice_get, Contains}
+use Rattle.std.specs.Prelude.{◌≡◌, ℕ, ◌+◌, ◌<◌, ◌==◌, Bool, false, List, [], ◌∷◌, length, Some, None, slice_get, Contains}
 use Rattle.std.specs.List.{AllByRecursion}
 use Rattle.std.specs.declared.cmp.Ordering.{Ordering}
 use Rattle.std.specs.Ordering.{nat_cmp}
@@ -11,11 +11,10 @@ use Rattle.am_nflog.specs.Mesh.{Mesh as LogMesh, mesh_version as entry_version}
 use Rattle.am_nflog.specs.Keys.{key_cmp}
 use Rattle.am_merge.specs.Maps.{at}
 use Rattle.am_collect.specs.Kept.{Kept}
-use Rattle.am_collect.specs.Events.{Events, last_moment}
 use Rattle.am_gossip.specs.declared.frame.Frame.{Frame}
-use Rattle.am_instance.specs.Stands.{Stand, kept_silences, kept_log}
+use Rattle.am_instance.specs.Stands.{kept_silences, kept_log}
 use Rattle.am_instance.specs.Deliveries.{first_fault, rows_in, parts_of}
-use Rattle.am_runs.specs.Steps.{Step, flights_of}
+use Rattle.am_runs.specs.Steps.{flights_of}
 use Rattle.am_runs.specs.Members.{Member, member_of, map_of}
 use Rattle.am_record.specs.Recorded.{HasGoneThrough}
 use Rattle.am_carried.specs.Contents.{carries, silences_in, entries_in}

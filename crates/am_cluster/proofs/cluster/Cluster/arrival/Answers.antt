@@ -1,4 +1,4 @@
-use Rattle.std.proofs.Common.{◌≡◌, ◌+◌, ◌<◌, ◌∙◌, length, ap, subst, sym, arith}
+use Rattle.std.proofs.Common.{◌≡◌, ◌+◌, ◌<◌, ◌∙◌, length, ap, subst, arith}
 use Rattle.am_cluster.specs.Losing.{IsNoNumber, IsNumberedAt}
 use Rattle.am_cluster.proofs.Delivered.{arrival_of, it_flies}
 use Rattle.am_cluster.proofs.Lost.{place_within}

@@ -1,4 +1,4 @@
-use Rattle.std.proofs.Common.{◌≡◌, length, subst}
+use Rattle.std.proofs.Common.{length, subst}
 use Rattle.am_cluster.specs.Steps.{Fits}
 use Rattle.am_cluster.proofs.cluster.Cluster.do_at.Goals as goal
 

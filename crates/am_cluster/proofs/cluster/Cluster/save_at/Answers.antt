@@ -1,4 +1,4 @@
-use Rattle.std.proofs.Common.{◌≡◌, ◌<◌, ℕ, Bool, true, false, List, [], ◌∷◌, ◌++◌, Some, refl, sym, ap, ◌∙◌, subst, length, set}
+use Rattle.std.proofs.Common.{true, [], ◌∷◌, ◌++◌, sym, ap, ◌∙◌, subst, set}
 use Rattle.am_runs.specs.Steps.Step.{Saved}
 use Rattle.am_cluster.specs.Worlds.{with_replica, written}
 use Rattle.am_cluster.specs.Lives.{saved}

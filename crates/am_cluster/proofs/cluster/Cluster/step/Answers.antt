@@ -1,4 +1,4 @@
-use Rattle.std.proofs.Common.{◌≡◌, sym, ◌∙◌, subst}
+use Rattle.std.proofs.Common.{sym, ◌∙◌, subst}
 use Rattle.am_cluster.specs.Steps.{IsStepped}
 use Rattle.am_cluster.proofs.cluster.Cluster.step.Goals as goal
 
