@@ -3,7 +3,7 @@
     python3 bench/mutes.py [--rounds N]
 
 Each count without patterns, in 1,000 buckets, with a pattern in a tenth of the silences, and in all of them; those are in
-the empty bucket, and no two patterns are the same. First with nothing kept, and then three calls with one cache of
+the empty bucket. No two patterns are the same, or of 10,000 silences those whose numbers differ by 4,000 have the same. First with nothing kept, and then three calls with one cache of
 patterns, and the dropping of what no silence has: the least time of the rounds in nanoseconds, and for each silence with a
 pattern, or where there are none, for each silence.
 """

@@ -6,6 +6,7 @@ ghost use Rattle.am_instance.specs.Configs.{HasTwice, IsEmptyName, IsLongName};
 ghost use Rattle.am_instance.specs.declared.error.ConfigError.TheVariants as errors;
 ghost use Rattle.am_journal.specs.Reports.{AreTimely, IsCalmInBoth, IsLineOfFault};
 ghost use Rattle.am_cluster.specs.Beginnings.{AreNewborn, AreUnborn, newborns};
+ghost use Rattle.am_cluster.specs.Ties.{IsWorld};
 ghost use Rattle.am_cluster.specs.Worlds.{replica_at};
 
 use crate::flight::Flight;
@@ -113,6 +114,14 @@ impl Cluster {
             journal,
             flights: Vec::new(alloc),
         }
+    }
+
+    /// Says how the cluster hangs together: each member stands as its past in both runs tells, and each frame in flight
+    /// is one that a step sent. It does nothing.
+    pub fn hangs_together(&self)
+        ensures { IsWorld self.now }
+    {
+        let _flights = &self.flights;
     }
 
     /// The frames in flight, by their numbers. It takes no memory.

@@ -13,3 +13,4 @@ pub mod NoticeWorks
 pub mod Passing
 pub mod Histories
 pub mod Alike
+pub mod Muted

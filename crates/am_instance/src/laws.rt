@@ -1,6 +1,6 @@
 //! What holds of runs of an instance.
 
-ghost use Rattle.std.specs.Prelude.{◌≡◌, ◌≤◌, ℕ, List, [], All, true};
+ghost use Rattle.std.specs.Prelude.{◌≡◌, ◌≤◌, ℕ, List, [], All, Contains, true};
 ghost use Rattle.std.specs.List.{flat_map};
 ghost use Rattle.std.specs.Ordering.{nat_cmp};
 ghost use Rattle.std.specs.Cmp.Lexicographic.{slice_cmp};
@@ -9,6 +9,8 @@ ghost use Rattle.am_nflog.specs.Mesh.{IsMesh as IsLogMesh, mesh_version as entry
 ghost use Rattle.am_nflog.specs.Keys.{key_cmp};
 ghost use Rattle.am_nflog.specs.declared.entry.LogKey.{LogKey};
 ghost use Rattle.am_gossip.specs.Streams.{fed_in, stream_of};
+ghost use Rattle.am_matcher.specs.declared.labels.Label.{Label};
+ghost use Rattle.am_matcher.specs.Mutes.{AreMuted};
 ghost use Rattle.am_merge.specs.Maps.{IsMap, at, if_live, swept};
 ghost use Rattle.am_merge.specs.Views.{IsViewAt};
 ghost use Rattle.am_collect.specs.Events.{HaveSame, taken};
@@ -70,6 +72,17 @@ pub fn equal_views_reply_alike()
 {
     equal_views_are_one::<MeshSilence>();
     equal_views_are_one::<MeshEntry>();
+}
+
+/// Of two instances that show the same, a silence that mutes an alert at one mutes it at the other, if its patterns are not
+/// told as broken there.
+pub fn equal_views_mute_alike()
+    ensures { (one other : Stand) (now : ℕ) (labels : List Label) (ids broken others broken_too : List (List ℕ)) →
+        HasMaps one → HasMaps other → ShowSame now one other →
+        AreMuted labels now one.silences ids broken → AreMuted labels now other.silences others broken_too →
+        (id : List ℕ) → Contains ids id → ¬ Contains broken_too id → Contains others id }
+{
+    equal_views_are_one::<MeshSilence>();
 }
 
 /// The frames of a peer's stream are the same events, wherever it was cut.

@@ -12,7 +12,7 @@ use std::collections::HashMap;
 use std::marker::Model;
 
 /// So many patterns a cache keeps at most.
-const MOST_PATTERNS: usize = 4_096;
+const MOST_PATTERNS: usize = 16_384;
 
 /// Compiled patterns, so that each is compiled once and not at each call.
 ///
@@ -34,7 +34,7 @@ impl Model for PatternCache {
 
     ghost view = { λ _. tt };
 
-    ghost invariant = { λ c. (hash_map_len c.kept ≤ c.most) × (c.most ≤ 4096) };
+    ghost invariant = { λ c. (hash_map_len c.kept ≤ c.most) × (c.most ≤ 16384) };
 }
 
 impl PatternCache {

@@ -1,0 +1,34 @@
+-- Questions whether a group is notified.
+use Rattle.std.specs.Prelude.{ℕ, Bool, not, List}
+use Rattle.am_nflog.specs.declared.entry.LogKey.{LogKey}
+use Rattle.am_nflog.specs.declared.receiver.Receiver.{Receiver}
+use Rattle.am_dedup.specs.Decisions.{has_none, set_of}
+use Rattle.am_dedup.specs.declared.decision.Decision.TheVariants.{Notify}
+use Rattle.am_dedup.specs.declared.decision.Reason.TheVariants.{First}
+use Rattle.am_instance.specs.declared.event.Event.{Event}
+use Rattle.am_instance.specs.declared.event.Event.TheVariants as events
+use Rattle.am_instance.specs.declared.reply.Reply.{Reply}
+use Rattle.am_instance.specs.declared.reply.Reply.TheVariants as replies
+
+-- whether a group is notified, of which these alerts fire and those are resolved
+pub record Asked : Type 0 where
+  pub group_key : List ℕ
+  pub receiver : Receiver
+  pub firing : List ℕ
+  pub resolved : List ℕ
+  pub repeat : ℕ
+  pub send_resolved : Bool
+
+abbrev pub asks : Asked → Event
+asks asked = events.Decide asked.group_key asked.receiver asked.firing asked.resolved asked.repeat asked.send_resolved
+
+-- the key of the group's entry
+abbrev pub key_of : Asked → LogKey
+key_of asked = record { group_key = asked.group_key; receiver = asked.receiver }
+
+abbrev pub something_fires : Asked → Bool
+something_fires asked = not (has_none (set_of asked.firing))
+
+-- it is notified for the first time
+abbrev pub is_first : Reply
+is_first = replies.Decided (Notify First)

@@ -1,0 +1,20 @@
+-- The bare sets of the members of a cluster.
+use Rattle.std.specs.Prelude.{◌≡◌, ◌≤◌, ℕ, List, length}
+use Rattle.am_silence.specs.Mesh.{Mesh}
+use Rattle.am_nflog.specs.Mesh.{Mesh as LogMesh}
+use Rattle.am_runs.specs.Members.{member_of, set_of}
+use Rattle.am_journal.specs.Reports.{IsCalmInBoth}
+use Rattle.am_cluster.specs.Worlds.{Replica, World}
+
+-- every silence that was delivered to the member at a place, live or not; a start brings back what was delivered before the save
+abbrev pub silences_taken : World → ℕ → List Mesh
+silences_taken world place = set_of (member_of (length world.replicas) place world.silences)
+
+-- and every entry of the log
+abbrev pub entries_taken : World → ℕ → List LogMesh
+entries_taken world place = set_of (member_of (length world.replicas) place world.log)
+
+-- the member at a place was calm with each step so far, and its last event or start came no later than now
+pub record IsCalmBy (world : World) (place : ℕ) (replica : Replica) (now : ℕ) : Type 0 where
+  pub calm : IsCalmInBoth (length world.replicas) place world.silences world.log
+  pub past : replica.stand.last ≤ now

@@ -1,0 +1,11 @@
+//! What holds of all members of a cluster, as it stands after any steps: laws, which do nothing.
+#![tactic(auto)]
+
+mod first;
+mod shown;
+
+pub use first::{first_is_told_after_a_spread, first_is_told_exactly};
+pub use shown::{
+    members_show_the_bare_sets, members_with_equal_sets_mute_alike,
+    members_with_equal_sets_reply_alike,
+};
