@@ -5,7 +5,6 @@ use Rattle.std.specs.FinSet.{is_subset}
 use Rattle.am_nflog.specs.Mesh.{Mesh as LogMesh, mesh_version as entry_version}
 use Rattle.am_nflog.specs.declared.entry.LogKey.{LogKey}
 use Rattle.am_dedup.specs.Decisions.{Hashes, Logged, decision, decision_after, has_none, logged}
-use Rattle.am_dedup.specs.declared.decision.Decision.{Decision}
 use Rattle.am_dedup.specs.declared.decision.Decision.TheVariants.{Skip, Notify}
 use Rattle.am_dedup.specs.declared.decision.Reason.TheVariants.{First, NewFiring, AllResolved, NewResolved, Repeat}
 use Rattle.am_merge.specs.Views.{IsInView, IsViewAt}
@@ -51,9 +50,10 @@ pub told_first : (set : List LogMesh) (now : ℕ) (key : LogKey) (found : Option
 told_first set now key found firing resolved repeat wanted reply view is =
     let d = decision (option_map (λ m. logged m.entry) found) firing resolved repeat wanted now in
     let exactly = first_exactly found firing resolved repeat wanted now in
-    let none = nothing_told entry_version set now key found view in
-    (λ e. let same : replies.Decided d ≡ is_first = sym is ∙ e in let first : d ≡ Notify First = cc in let both = exactly.0 first in (both.0, none.0 both.1),
-    λ both. is ∙ ap replies.Decided (exactly.1 (both.0, none.1 both.1)))
+    let none = nothing_told entry_version set now key found view in (
+      λ e. let same : replies.Decided d ≡ is_first = sym is ∙ e in let first : d ≡ Notify First = cc in let both = exactly.0 first in (both.0, none.0 both.1),
+      λ both. is ∙ ap replies.Decided (exactly.1 (both.0, none.1 both.1)),
+    )
 
 -- it is only where nothing of the key is in view
 pub first_alone : (found : Option LogMesh) (firing resolved : Hashes) (repeat : ℕ) (wanted : Bool) (now : ℕ) →

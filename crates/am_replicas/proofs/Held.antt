@@ -1,12 +1,7 @@
 -- What members hold, as their pasts tell it.
-use Rattle.std.proofs.Common.{◌≡◌, ℕ, ◌≤◌, List, [], Option, Some, length, sym, subst, ◌∙◌, arith}
-use Rattle.std.specs.Ordering.{nat_cmp}
-use Rattle.std.specs.Cmp.Lexicographic.{slice_cmp}
+use Rattle.std.proofs.Common.{ℕ, ◌≤◌, sym, subst}
 use Rattle.std.specs.declared.cmp.Ordering.{Ordering}
 use Rattle.am_version_order.specs.Versions.{Version}
-use Rattle.am_silence.specs.Mesh.{mesh_version}
-use Rattle.am_nflog.specs.Mesh.{mesh_version as entry_version}
-use Rattle.am_nflog.specs.Keys.{key_cmp}
 use Rattle.am_merge.specs.Maps.{at, if_live}
 use Rattle.am_merge.specs.Views.{IsViewAt}
 use Rattle.am_collect.specs.Kept.{Kept}

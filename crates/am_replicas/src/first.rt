@@ -32,7 +32,7 @@ pub fn first_is_told_exactly(cluster: &Cluster)
     ensures { (place now : ℕ) (asked : Asked) (reply : Reply) (made : Made) → OfMember cluster.now place (λ replica. IsCalmBy cluster.now place replica now →
         IsReply replica.stand (asks asked) now reply made →
         (reply ≡ is_first) ↔ ((something_fires asked ≡ true)
-            × ((v : LogMesh) → IsInView entry_version (entries_taken cluster.now place) now v → (entry_version v).key ≢ key_of asked))) }
+        × ((v : LogMesh) → IsInView entry_version (entries_taken cluster.now place) now v → (entry_version v).key ≢ key_of asked))) }
 {
     members_show_the_bare_sets(cluster);
 }
