@@ -5,7 +5,7 @@
 A version comes to each member in turn, one step a second; there are a thousand silences, each of which is made anew again
 and again. `steps` is the mean of all steps in microseconds, with the version made, the room for it and the step written
 down; the others are microseconds for one question at the end: the first fault of each member, and whether the run is
-timely (not asked after 100,000 steps, since that takes minutes). The least of the rounds counts.
+timely. The least of the rounds counts.
 """
 import tempfile
 

@@ -16,3 +16,5 @@ pub mod Remade
 pub mod Stands
 pub mod Follows
 pub mod Takes
+pub mod Brings
+pub mod Flights

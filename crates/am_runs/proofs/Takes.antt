@@ -54,7 +54,7 @@ last_same (z ∷ xs) x y e = last_same xs x y (tail_of e) where
   tail_of : {A : Type 0} {z w : A} {us vs : List A} → z ∷ us ≡ w ∷ vs → us ≡ vs
   tail_of e = cc
 
-drop_all : {A : Type 0} (xs : List A) (n : ℕ) → length xs ≤ n → drop n xs ≡ []
+pub drop_all : {A : Type 0} (xs : List A) (n : ℕ) → length xs ≤ n → drop n xs ≡ []
 drop_all [] zero past = refl
 drop_all [] (suc n) past = refl
 drop_all (x ∷ xs) zero past = absurd (omega arith)

@@ -1,14 +1,14 @@
 -- The questions about a run, as tests that go over its steps.
 -- X is the type of versions, and `seen` is what the merge sees of one.
-use Rattle.std.specs.Prelude.{◌≡◌, ℕ, ◌+◌, ◌-◌, ◌<◌, length, List, [], ◌∷◌, Bool, true, false, not, ◌&&◌, ◌||◌, ◌==◌, max, Option, Some, None, if◌then◌else◌, nat_lt, nat_le}
-use Rattle.std.specs.List.{list_any}
+use Rattle.std.specs.Prelude.{◌≡◌, ℕ, ◌+◌, ◌-◌, ◌<◌, ◌≤◌, All, length, List, [], ◌∷◌, Bool, true, false, not, ◌&&◌, ◌||◌, ◌==◌, max, Option, Some, None, if◌then◌else◌, nat_lt, nat_le}
+use Rattle.std.specs.List.{list_all, list_any}
 use Rattle.std.specs.declared.cmp.Ordering.{Ordering}
 use Rattle.std.specs.Ordering.{eq_by_cmp}
 use Rattle.am_version_order.specs.Versions.{Version, is_below, is_live}
 use Rattle.am_merge.specs.Maps.{greater_of, at}
 use Rattle.am_runs.specs.declared.step.Source.{Source}
 use Rattle.am_runs.specs.declared.step.Source.TheVariants.{Made, Written, Arrived, Lent}
-use Rattle.am_runs.specs.Steps.{Step, EachStep, clock_after, is_at, flights_by, moment}
+use Rattle.am_runs.specs.Steps.{Step, EachStep, clock_after, delivered_in, is_at, flights_by, moment}
 use Rattle.am_runs.specs.Steps.Step.{Took, Ticked, Back, Refused, Saved, Stopped, Started}
 
 -- ---- whether a member runs
@@ -179,6 +179,40 @@ abbrev pub is_wanting : ℕ → Watched → Option ℕ → Bool
 is_wanting due w None = false
 is_wanting due w (Some now) = nat_le due now && (w.runs && not w.has)
 
+-- a moment, if there is one, is this one or a later one
+abbrev pub is_due : ℕ → Option ℕ → Bool
+is_due due None = false
+is_due due (Some now) = nat_le due now
+
+-- the latest moment at which a member ran as a step began, with one step more
+abbrev pub ran_after : Bool → Option ℕ → Option ℕ → Option ℕ
+ran_after false ran now = ran
+ran_after true ran None = ran
+ran_after true ran (Some now) = later ran now
+
+abbrev pub ran_from : {X : Type 0} → ℕ → Bool → Option ℕ → List (Step X) → Option ℕ
+ran_from q runs ran [] = ran
+ran_from q runs ran (step ∷ steps) = ran_from q (runs_after q runs step) (ran_after runs ran (moment step)) steps
+
+-- with this step a member keeps what it has, whatever comes, or loses what wasn't saved, if it does either
+abbrev pub kept_by : {X : Type 0} → ℕ → Step X → Option Bool
+kept_by q (Took place now source versions frames) = None
+kept_by q (Ticked place now) = None
+kept_by q (Back place now) = None
+kept_by q (Refused now) = None
+kept_by q (Saved place) = if place == q then Some true else None
+kept_by q (Stopped place) = None
+kept_by q (Started place now) = if place == q then Some false else None
+
+abbrev pub first_kept : Option Bool → Bool → Bool
+first_kept None later = later
+first_kept (Some kept) later = kept
+
+-- a member keeps what it has as steps begin: it isn't started in them before it is saved
+abbrev pub is_kept : {X : Type 0} → ℕ → List (Step X) → Bool
+is_kept q [] = true
+is_kept q (step ∷ steps) = first_kept (kept_by q step) (is_kept q steps)
+
 module _ {K X : Type 0} (seen : X → Version K) (cmp : K → K → Ordering) where
   -- a version that was taken is this one, or a greater one of its key
   abbrev pub counts_for : X → X → Bool
@@ -201,6 +235,23 @@ module _ {K X : Type 0} (seen : X → Version K) (cmp : K → K → Ordering) wh
   comes spread q v w [] = true
   comes spread q v w (step ∷ steps) = not (is_wanting ((seen v).updated + spread) w (moment step)) && comes spread q v (watch_after q v w step) steps
 
+  -- a step brings a member a version, or a greater one of its key, before that should have come
+  abbrev pub brings : ℕ → ℕ → X → Step X → Bool
+  brings spread q v (Took place now source versions frames) = place == q && (not (nat_le ((seen v).updated + spread) now) && list_any (counts_for v) versions)
+  brings spread q v (Ticked place now) = false
+  brings spread q v (Back place now) = false
+  brings spread q v (Refused now) = false
+  brings spread q v (Saved place) = false
+  brings spread q v (Stopped place) = false
+  brings spread q v (Started place now) = false
+
   -- it comes to each of so many members
   abbrev pub ComesToAll : ℕ → ℕ → List (Step X) → X → Type 0
   ComesToAll spread members steps v = (q : ℕ) → q < members → comes spread q v (record { runs = true; has = false; saved = false }) steps ≡ true
+
+  -- each test of a timely run answers yes
+  pub record PassesAll (spread flight members : ℕ) (steps : List (Step X)) : Type 0 where
+    pub onward : are_onward 0 steps ≡ true
+    pub lasting : All (λ v. ((seen v).updated + spread) + flight ≤ (seen v).expires) (delivered_in steps)
+    pub swift : list_all (is_swift flight steps) steps ≡ true
+    pub come : All (ComesToAll spread members steps) (delivered_in steps)

@@ -19,7 +19,7 @@ pub struct Lasts {
     pub saved: Option<Moment>,
 }
 
-fn later(last: Option<Moment>, now: Moment) -> Option<Moment>
+pub fn later(last: Option<Moment>, now: Moment) -> Option<Moment>
     ensures { result ≡ later last now }
 {
     match last {

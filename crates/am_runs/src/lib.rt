@@ -3,6 +3,7 @@
 #![tactic(auto)]
 
 mod calm;
+mod flight;
 mod follow;
 pub mod laws;
 mod peaks;
@@ -11,6 +12,7 @@ pub mod plain;
 mod run;
 mod running;
 mod spans;
+mod spread;
 mod standing;
 mod step;
 mod timely;

@@ -1,12 +1,10 @@
-//! Whether a run keeps a spread and a flight time.
+//! Whether a run keeps a spread and a flight time, by plain loops.
 
 ghost use Rattle.std.specs.Prelude.{◌≡◌, ◌+◌, ◌<◌, ◌≤◌, ◌↔◌, IsTrue, All, true, false, map};
 ghost use Rattle.std.specs.List.{list_all, list_any};
 ghost use Rattle.am_runs.specs.Records.{step_of, watch_seen};
 ghost use Rattle.am_runs.specs.Steps.{clock_after, delivered_by, delivered_in, moment};
-ghost use Rattle.am_runs.specs.Runs.{IsRun};
-ghost use Rattle.am_runs.specs.Timely.{IsTimely};
-ghost use Rattle.am_runs.specs.Tests.{is_onward, are_onward, sent_in, sent_at, flies_short, is_swift, is_wanting, counts_for, watched, watch_after, comes, ComesToAll};
+ghost use Rattle.am_runs.specs.Tests.{is_onward, are_onward, sent_in, sent_at, flies_short, is_swift, is_wanting, counts_for, watched, watch_after, comes, ComesToAll, PassesAll};
 
 use crate::calm::{has_key, is_below};
 use crate::spans::{both_end_by, ends_by, is_within};
@@ -23,7 +21,7 @@ fn is_onward(clock: Moment, now: Option<Moment>) -> bool
 }
 
 /// Whether the moments written in steps never fall.
-fn are_onward<V>(steps: &[Step<V>]) -> bool
+pub fn are_onward<V>(steps: &[Step<V>]) -> bool
     ensures { result ≡ are_onward 0 (map step_of steps.now) }
 {
     let mut clock = Moment::LEAST;
@@ -56,7 +54,7 @@ fn are_lasting<V: Version>(versions: &[V], spread: Interval, flight: Interval) -
 }
 
 /// Whether each version delivered in steps does.
-fn all_lasting<V: Version>(steps: &[Step<V>], spread: Interval, flight: Interval) -> bool
+pub fn all_lasting<V: Version>(steps: &[Step<V>], spread: Interval, flight: Interval) -> bool
     ensures { IsTrue result ↔ All (λ v. ((V.seen v).updated + spread) + flight ≤ (V.seen v).expires)
         (delivered_in (map step_of steps.now)) }
 {
@@ -84,7 +82,7 @@ fn sent_in<V>(number: usize, steps: &[Step<V>]) -> Option<Moment>
 }
 
 /// When the versions of a source were sent, if they were.
-fn sent_at<V>(steps: &[Step<V>], source: Source) -> Option<Moment>
+pub fn sent_at<V>(steps: &[Step<V>], source: Source) -> Option<Moment>
     ensures { result ≡ sent_at (map step_of steps.now) source }
 {
     match source {
@@ -94,7 +92,7 @@ fn sent_at<V>(steps: &[Step<V>], source: Source) -> Option<Moment>
     }
 }
 
-fn flies_short(flight: Interval, now: Moment, sent: Option<Moment>) -> bool
+pub fn flies_short(flight: Interval, now: Moment, sent: Option<Moment>) -> bool
     ensures { result ≡ flies_short flight now sent }
 {
     match sent {
@@ -113,7 +111,7 @@ fn is_swift<V>(flight: Interval, steps: &[Step<V>], step: &Step<V>) -> bool
     }
 }
 
-fn are_swift<V>(flight: Interval, steps: &[Step<V>]) -> bool
+pub fn are_swift<V>(flight: Interval, steps: &[Step<V>]) -> bool
     ensures { result ≡ list_all (is_swift flight (map step_of steps.now)) (map step_of steps.now) }
 {
     for step in steps {
@@ -149,7 +147,7 @@ fn counts_for<V: Version>(version: &V, taken: &V) -> bool
     has_key(version.key(), taken) && !is_below(taken, version)
 }
 
-fn any_counts<V: Version>(version: &V, taken: &[V]) -> bool
+pub fn any_counts<V: Version>(version: &V, taken: &[V]) -> bool
     ensures { result ≡ list_any (counts_for V.seen V.Key.cmp version.now) taken.now }
 {
     for one in taken {
@@ -194,7 +192,7 @@ fn watch_after<V: Version>(member: usize, version: &V, watch: Watch, step: &Step
 }
 
 /// Whether at no step that begins when a version should have come the member runs without it.
-fn comes<V: Version>(spread: Interval, member: usize, version: &V, steps: &[Step<V>]) -> bool
+pub fn comes<V: Version>(spread: Interval, member: usize, version: &V, steps: &[Step<V>]) -> bool
     ensures { result ≡ comes V.seen V.Key.cmp spread member version.now
         (record { runs = true; has = false; saved = false }) (map step_of steps.now) }
 {
@@ -259,15 +257,14 @@ fn all_come_to_all<V: Version>(spread: Interval, members: usize, steps: &[Step<V
     true
 }
 
-/// Whether a run keeps a spread and a flight time.
+/// Whether a run keeps a spread and a flight time, where the steps are a run.
 pub fn is_timely<V: Version>(
     spread: Interval,
     flight: Interval,
     members: usize,
     steps: &[Step<V>],
 ) -> bool
-    requires { IsRun V.seen V.Key.cmp members (map step_of steps.now) }
-    ensures { IsTrue result ↔ IsTimely V.seen spread flight members (map step_of steps.now) }
+    ensures { IsTrue result ↔ PassesAll V.seen V.Key.cmp spread flight members (map step_of steps.now) }
 {
     if !are_onward(steps) {
         return false;

@@ -171,12 +171,17 @@ pub fn play(alloc: Global, acts: &[Act]) -> Result<Told, AllocError> {
     Ok(read_off(acts.len(), &run))
 }
 
-// An act that follows from two numbers, in no order.
-fn drawn(seed: u64, number: u64) -> Act {
+// A number that follows from two, in no order.
+fn mixed_of(seed: u64, number: u64) -> u64 {
     let spread = seed
         .wrapping_mul(0x9E37_79B9_7F4A_7C15)
         .wrapping_add(number.wrapping_mul(0xBF58_476D_1CE4_E5B9));
-    let mixed = (spread ^ (spread >> 31)).wrapping_mul(0x94D0_49BB_1331_11EB) >> 20;
+    (spread ^ (spread >> 31)).wrapping_mul(0x94D0_49BB_1331_11EB) >> 20
+}
+
+// An act that follows from two numbers.
+fn drawn(seed: u64, number: u64) -> Act {
+    let mixed = mixed_of(seed, number);
     let verb = match mixed % 10 {
         0 => Verb::Tick,
         1 => Verb::Save,
@@ -217,4 +222,65 @@ pub fn play_drawn(alloc: Global, seed: u64) -> Result<(usize, usize), AllocError
         }
     }
     Ok((made, agreed))
+}
+
+// An act of a run in which versions last, and most of them come to both members soon, in turn of one key and of another.
+fn drawn_spreading(seed: u64, number: u64) -> Act {
+    let mixed = mixed_of(seed, number);
+    let verb = match mixed % 16 {
+        0 => Verb::Tick,
+        1 | 2 => Verb::Save,
+        3 => Verb::Stop,
+        4 | 5 => Verb::Start,
+        _ => Verb::Take,
+    };
+    let place = if mixed / 16 % 8 == 0 { 0 } else { number % 2 };
+    let late = if mixed / 128 % 8 == 0 { 3 } else { 0 };
+    let made = (number / 4).saturating_sub(late);
+    let updated = 20 + made * 2;
+    let place = if place == 0 { 0 } else { 1 };
+    (
+        verb,
+        place,
+        20 + number / 2,
+        (updated, updated + 200 + made % 2),
+    )
+}
+
+// How many spreads were asked for, for how many a run told whether it is timely as the plain loops do, and for how
+// many it is.
+fn compare(run: &Run<Note>) -> (usize, usize, usize) {
+    let mut agreed = 0usize;
+    let mut timely = 0usize;
+    let flight = Interval::from_seconds(60);
+    for seconds in [2u64, 4, 6, 9] {
+        if let (Some(spread), Some(flight)) = (Interval::from_seconds(seconds), flight) {
+            let told = run.timely(spread, flight);
+            if told == plain::is_timely(spread, flight, run.members(), run.steps()) {
+                agreed = agreed.wrapping_add(1);
+            }
+            if told {
+                timely = timely.wrapping_add(1);
+            }
+        }
+    }
+    (4, agreed, timely)
+}
+
+/// Plays acts that follow from a number, where they are possible. How often it was asked then whether the run is
+/// timely, how often it told what the plain loops tell, and how often it was.
+pub fn play_spreading(alloc: Global, seed: u64) -> Result<(usize, usize, usize), AllocError> {
+    let mut run = Run::new(alloc, 2);
+    let mut all = (0usize, 0usize, 0usize);
+    for number in 0..60u64 {
+        if write_down(alloc, &mut run, drawn_spreading(seed, number))? {
+            let (asked, agreed, timely) = compare(&run);
+            all = (
+                all.0.wrapping_add(asked),
+                all.1.wrapping_add(agreed),
+                all.2.wrapping_add(timely),
+            );
+        }
+    }
+    Ok(all)
 }

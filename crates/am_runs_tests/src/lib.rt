@@ -7,3 +7,5 @@ mod acts;
 mod examples;
 #[cfg(test)]
 mod notes;
+#[cfg(test)]
+mod spreads;

@@ -3,7 +3,7 @@ use Rattle.std.proofs.lemmas.Bool.{false≢true}
 use Rattle.am_merge.proofs.Keys.{key_order}
 use Rattle.am_runs.specs.Records.{step_of}
 use Rattle.am_runs.proofs.Spreads.{from_onward, from_swift, from_spread, timely_from}
-use Rattle.am_runs.proofs.timely.is_timely.Goals as goal
+use Rattle.am_runs.proofs.spread.is_timely.Goals as goal
 
 pub returns-then-not-are_onward : goal.returns-then-not-are_onward
 returns-then-not-are_onward g c =

@@ -1,0 +1,242 @@
+-- What tells that a version comes to a member in time: the member didn't run since it should have come, or a step brought it.
+use Rattle.std.proofs.Common.{◌≡◌, ℕ, ◌+◌, ◌<◌, ◌≤◌, Bool, true, false, not, ◌&&◌, ◌||◌, cond, eqb, leb, max, List, [], ◌∷◌, ◌++◌, Option, Some, None, refl, sym, ap, ◌∙◌, subst, arith, map, take, drop, get_or, length, suc, drop-cons}
+use Rattle.std.specs.Prelude.{All}
+use Rattle.std.specs.List.{list_any}
+use Rattle.std.specs.declared.cmp.Ordering.{Ordering}
+use Rattle.std.proofs.Math.Nat.{le-max_left, le-max_right}
+use Rattle.std.proofs.lemmas.Bool.{leb-true, leb-false, lt-leb, and_parts, and_from, or_left, or_right, false≢true, not-true}
+use Rattle.std.proofs.lemmas.List.{map-append}
+use Rattle.std.proofs.lemmas.List.Elements.{All-contains}
+use Rattle.am_version_order.specs.Versions.{Version}
+use Rattle.am_runs.specs.Steps.{Step, moment, clock_after}
+use Rattle.am_runs.specs.Steps.Step.{Took, Ticked, Back, Refused, Saved, Stopped, Started}
+use Rattle.am_runs.specs.Tests.{Watched, later, runs_after, is_onward, are_onward, is_due, ran_after, ran_from, kept_by, first_kept, is_kept, is_wanting, counts_for, watched, watch_after, comes, brings, ComesToAll}
+use Rattle.am_runs.proofs.Cuts.{cut_at}
+use Rattle.am_runs.proofs.Loops.{all_from}
+use Rattle.am_runs.proofs.Takes.{drop_all}
+
+-- ---- what isn't due by the latest moment isn't by an earlier one
+
+later_due : (due : ℕ) (ran : Option ℕ) (now : ℕ) → is_due due (later ran now) ≡ false → (is_due due ran ≡ false) × (leb due now ≡ false)
+later_due due None now e = (refl, e)
+later_due due (Some last) now e =
+    let past : max last now < due = leb-false due (max last now) e in
+    let one = le-max_left last now in
+    let other = le-max_right last now in
+    (lt-leb due last (omega (arith, past, one)), lt-leb due now (omega (arith, past, other)))
+
+ran_due : (due : ℕ) (runs : Bool) (ran now : Option ℕ) → is_due due (ran_after runs ran now) ≡ false → is_due due ran ≡ false
+ran_due due false ran now e = e
+ran_due due true ran None e = e
+ran_due due true ran (Some now) e = (later_due due ran now e).0
+
+ran_before : {X : Type 0} (due q : ℕ) (runs : Bool) (ran : Option ℕ) (steps : List (Step X)) → is_due due (ran_from q runs ran steps) ≡ false → is_due due ran ≡ false
+ran_before due q runs ran [] e = e
+ran_before due q runs ran (s ∷ steps) e = ran_due due runs ran (moment s) (ran_before due q (runs_after q runs s) (ran_after runs ran (moment s)) steps e)
+
+-- ---- when nothing is wanting
+
+not_due : (a b : Bool) → a ≡ false → not (a && b) ≡ true
+not_due a b e = ap (λ c. not (c && b)) e
+
+has_it : (a b c : Bool) → c ≡ true → not (a && (b && not c)) ≡ true
+has_it true true true e = refl
+has_it true false true e = refl
+has_it false b true e = refl
+has_it a b false e = absurd (false≢true e)
+
+not_running : (a : Bool) → not (a && false) ≡ true
+not_running true = refl
+not_running false = refl
+
+unwanted_ran : (due : ℕ) (runs has : Bool) (ran : Option ℕ) (now : ℕ) → is_due due (ran_after runs ran (Some now)) ≡ false → not (leb due now && (runs && not has)) ≡ true
+unwanted_ran due false has ran now e = not_running (leb due now)
+unwanted_ran due true has ran now e = not_due (leb due now) (not has) (later_due due ran now e).1
+
+unwanted_run : (due : ℕ) (w : Watched) (ran o : Option ℕ) → is_due due (ran_after w.runs ran o) ≡ false → not (is_wanting due w o) ≡ true
+unwanted_run due w ran None e = refl
+unwanted_run due w ran (Some now) e = unwanted_ran due w.runs w.has ran now e
+
+unwanted_has : (due : ℕ) (w : Watched) (o : Option ℕ) → w.has ≡ true → not (is_wanting due w o) ≡ true
+unwanted_has due w None has = refl
+unwanted_has due w (Some now) has = has_it (leb due now) w.runs w.has has
+
+unwanted_early : (due : ℕ) (w : Watched) (o : Option ℕ) (clock now : ℕ) → clock_after clock o ≤ now → leb due now ≡ false → not (is_wanting due w o) ≡ true
+unwanted_early due w None clock now before early = refl
+unwanted_early due w (Some t) clock now before early =
+    let past = leb-false due now early in
+    not_due (leb due t) (w.runs && not w.has) (lt-leb due t (omega (arith, before, past)))
+
+-- ---- the clock goes on
+
+forward : (clock : ℕ) (o : Option ℕ) → is_onward clock o ≡ true → clock ≤ clock_after clock o
+forward clock None on = omega arith
+forward clock (Some now) on = leb-true clock now on
+
+reached : {X : Type 0} (clock : ℕ) (before : List (Step X)) (s : Step X) (rest : List (Step X)) (now : ℕ) → are_onward clock (before ++ s ∷ rest) ≡ true → moment s ≡ Some now → clock ≤ now
+reached clock [] s rest now on at =
+    let here = (and_parts (is_onward clock (moment s)) (are_onward (clock_after clock (moment s)) rest) on).0 in
+    leb-true clock now (subst (λ o. is_onward clock o ≡ true) at here)
+reached clock (b ∷ before) s rest now on at =
+    let both = and_parts (is_onward clock (moment b)) (are_onward (clock_after clock (moment b)) (before ++ s ∷ rest)) on in
+    let first = forward clock (moment b) both.0 in
+    let then = reached (clock_after clock (moment b)) before s rest now both.1 at in
+    omega (arith, first, then)
+
+module _ {K X : Type 0} (seen : X → Version K) (cmp : K → K → Ordering) (spread q : ℕ) (v : X) where
+  abbrev due : ℕ
+  due = (seen v).updated + spread
+
+  -- ---- whether it runs
+  runs_where : (b : Bool) (u w : Watched) (r : Bool) → u.runs ≡ r → w.runs ≡ r → (cond b u w).runs ≡ r
+  runs_where true u w r one other = one
+  runs_where false u w r one other = other
+
+  runs_turned : (b r : Bool) (u w : Watched) → u.runs ≡ r → (cond b u w).runs ≡ cond b r w.runs
+  runs_turned true r u w e = e
+  runs_turned false r u w e = refl
+
+  runs_watched : (w : Watched) (s : Step X) → (watch_after seen cmp q v w s).runs ≡ runs_after q w.runs s
+  runs_watched w (Took place now source versions frames) = runs_where (eqb place q) _ w w.runs refl refl
+  runs_watched w (Ticked place now) = runs_where (eqb place q) w w w.runs refl refl
+  runs_watched w (Back place now) = runs_where (eqb place q) w w w.runs refl refl
+  runs_watched w (Refused now) = refl
+  runs_watched w (Saved place) = runs_where (eqb place q) _ w w.runs refl refl
+  runs_watched w (Stopped place) = runs_turned (eqb place q) false _ w refl
+  runs_watched w (Started place now) = runs_turned (eqb place q) true _ w refl
+
+  -- the member didn't run since the version should have come
+  pub comes_unseen : (w : Watched) (ran : Option ℕ) (steps : List (Step X)) → is_due due (ran_from q w.runs ran steps) ≡ false → comes seen cmp spread q v w steps ≡ true
+  comes_unseen w ran [] e = refl
+  comes_unseen w ran (s ∷ steps) e =
+      and_from (not (is_wanting due w (moment s))) (comes seen cmp spread q v (watch_after seen cmp q v w s) steps)
+      (unwanted_run due w ran (moment s) (ran_before due q (runs_after q w.runs s) (ran_after w.runs ran (moment s)) steps e))
+      (comes_unseen (watch_after seen cmp q v w s) (ran_after w.runs ran (moment s)) steps
+      (subst (λ r. is_due due (ran_from q r (ran_after w.runs ran (moment s)) steps) ≡ false) (sym (runs_watched w s)) e))
+
+  -- ---- whether it keeps what it has
+  abbrev Has : Watched → Type 0
+  Has w = w.has ≡ true
+
+  abbrev HasBoth : Watched → Type 0
+  HasBoth w = (w.has ≡ true) × (w.saved ≡ true)
+
+  where_either : (P : Watched → Type 0) (b : Bool) (u w : Watched) → P u → P w → P (cond b u w)
+  where_either P true u w one other = one
+  where_either P false u w one other = other
+
+  has_taken : (w : Watched) (versions : List X) → w.has ≡ true → (w.has || list_any (counts_for seen cmp v) versions) ≡ true
+  has_taken w versions has = or_left w.has (list_any (counts_for seen cmp v) versions) has
+
+  both_after : (w : Watched) (s : Step X) → HasBoth w → HasBoth (watch_after seen cmp q v w s)
+  both_after w (Took place now source versions frames) h = where_either HasBoth (eqb place q) _ w (has_taken w versions h.0, h.1) h
+  both_after w (Ticked place now) h = where_either HasBoth (eqb place q) w w h h
+  both_after w (Back place now) h = where_either HasBoth (eqb place q) w w h h
+  both_after w (Refused now) h = h
+  both_after w (Saved place) h = where_either HasBoth (eqb place q) _ w (h.0, h.0) h
+  both_after w (Stopped place) h = where_either HasBoth (eqb place q) _ w h h
+  both_after w (Started place now) h = where_either HasBoth (eqb place q) _ w (h.1, h.1) h
+
+  -- what is saved too is never lost
+  comes_saved : (w : Watched) (steps : List (Step X)) → HasBoth w → comes seen cmp spread q v w steps ≡ true
+  comes_saved w [] h = refl
+  comes_saved w (s ∷ steps) h =
+      and_from (not (is_wanting due w (moment s))) (comes seen cmp spread q v (watch_after seen cmp q v w s) steps)
+      (unwanted_has due w (moment s) h.0) (comes_saved (watch_after seen cmp q v w s) steps (both_after w s h))
+
+  saved_turn : (b : Bool) (w : Watched) (steps : List (Step X)) → w.has ≡ true → first_kept (cond b (Some true) None) (is_kept q steps) ≡ true
+      → ((u : Watched) → u.has ≡ true → is_kept q steps ≡ true → comes seen cmp spread q v u steps ≡ true)
+      → comes seen cmp spread q v (cond b (record { runs = w.runs; has = w.has; saved = w.has }) w) steps ≡ true
+  saved_turn true w steps has kept later = comes_saved (record { runs = w.runs; has = w.has; saved = w.has }) steps (has, has)
+  saved_turn false w steps has kept later = later w has kept
+
+  started_turn : (b : Bool) (w : Watched) (steps : List (Step X)) → w.has ≡ true → first_kept (cond b (Some false) None) (is_kept q steps) ≡ true
+      → ((u : Watched) → u.has ≡ true → is_kept q steps ≡ true → comes seen cmp spread q v u steps ≡ true)
+      → comes seen cmp spread q v (cond b (record { runs = true; has = w.saved; saved = w.saved }) w) steps ≡ true
+  started_turn true w steps has kept later = absurd (false≢true kept)
+  started_turn false w steps has kept later = later w has kept
+
+  kept_turn : (w : Watched) (s : Step X) (steps : List (Step X)) → w.has ≡ true → is_kept q (s ∷ steps) ≡ true
+      → ((u : Watched) → u.has ≡ true → is_kept q steps ≡ true → comes seen cmp spread q v u steps ≡ true)
+      → comes seen cmp spread q v (watch_after seen cmp q v w s) steps ≡ true
+  kept_turn w (Took place now source versions frames) steps has kept later = later _ (where_either Has (eqb place q) _ w (has_taken w versions has) has) kept
+  kept_turn w (Ticked place now) steps has kept later = later _ (where_either Has (eqb place q) w w has has) kept
+  kept_turn w (Back place now) steps has kept later = later _ (where_either Has (eqb place q) w w has has) kept
+  kept_turn w (Refused now) steps has kept later = later w has kept
+  kept_turn w (Saved place) steps has kept later = saved_turn (eqb place q) w steps has kept later
+  kept_turn w (Stopped place) steps has kept later = later _ (where_either Has (eqb place q) _ w has has) kept
+  kept_turn w (Started place now) steps has kept later = started_turn (eqb place q) w steps has kept later
+
+  -- what is kept isn't wanting
+  comes_kept : (w : Watched) (steps : List (Step X)) → w.has ≡ true → is_kept q steps ≡ true → comes seen cmp spread q v w steps ≡ true
+  comes_kept w [] has kept = refl
+  comes_kept w (s ∷ steps) has kept =
+      and_from (not (is_wanting due w (moment s))) (comes seen cmp spread q v (watch_after seen cmp q v w s) steps)
+      (unwanted_has due w (moment s) has) (kept_turn w s steps has kept (λ u h k. comes_kept u steps h k))
+
+  -- ---- a step that brings it
+  brought_at : (s : Step X) → brings seen cmp spread q v s ≡ true → (now : ℕ) × (moment s ≡ Some now) × (leb due now ≡ false)
+  brought_at (Took place now source versions frames) b =
+      let parts = and_parts (eqb place q) (not (leb due now) && list_any (counts_for seen cmp v) versions) b in
+      (now, refl, not-true (leb due now) (and_parts (not (leb due now)) (list_any (counts_for seen cmp v) versions) parts.1).0)
+  brought_at (Ticked place now) b = absurd (false≢true b)
+  brought_at (Back place now) b = absurd (false≢true b)
+  brought_at (Refused now) b = absurd (false≢true b)
+  brought_at (Saved place) b = absurd (false≢true b)
+  brought_at (Stopped place) b = absurd (false≢true b)
+  brought_at (Started place now) b = absurd (false≢true b)
+
+  brought_has : (w : Watched) (s : Step X) → brings seen cmp spread q v s ≡ true → (watch_after seen cmp q v w s).has ≡ true
+  brought_has w (Took place now source versions frames) b =
+      let parts = and_parts (eqb place q) (not (leb due now) && list_any (counts_for seen cmp v) versions) b in
+      let any = (and_parts (not (leb due now)) (list_any (counts_for seen cmp v) versions) parts.1).1 in
+      ap (λ c. (cond c (watched seen cmp v w (Took place now source versions frames)) w).has) parts.0 ∙ or_right w.has (list_any (counts_for seen cmp v) versions) any
+  brought_has w (Ticked place now) b = absurd (false≢true b)
+  brought_has w (Back place now) b = absurd (false≢true b)
+  brought_has w (Refused now) b = absurd (false≢true b)
+  brought_has w (Saved place) b = absurd (false≢true b)
+  brought_has w (Stopped place) b = absurd (false≢true b)
+  brought_has w (Started place now) b = absurd (false≢true b)
+
+  comes_brought : (clock : ℕ) (w : Watched) (before : List (Step X)) (s : Step X) (rest : List (Step X)) → are_onward clock (before ++ s ∷ rest) ≡ true → brings seen cmp spread q v s ≡ true → is_kept q rest ≡ true → comes seen cmp spread q v w (before ++ s ∷ rest) ≡ true
+  comes_brought clock w [] s rest on brought kept =
+      let at = brought_at s brought in
+      let next : clock_after clock (moment s) ≤ at.0 = subst (λ o. clock_after clock o ≤ at.0) (sym at.1) (omega arith) in
+      and_from (not (is_wanting due w (moment s))) (comes seen cmp spread q v (watch_after seen cmp q v w s) rest)
+      (unwanted_early due w (moment s) clock at.0 next at.2)
+      (comes_kept (watch_after seen cmp q v w s) rest (brought_has w s brought) kept)
+  comes_brought clock w (b ∷ before) s rest on brought kept =
+      let at = brought_at s brought in
+      let both = and_parts (is_onward clock (moment b)) (are_onward (clock_after clock (moment b)) (before ++ s ∷ rest)) on in
+      and_from (not (is_wanting due w (moment b))) (comes seen cmp spread q v (watch_after seen cmp q v w b) (before ++ s ∷ rest))
+      (unwanted_early due w (moment b) clock at.0 (reached (clock_after clock (moment b)) before s rest at.0 both.1 at.1) at.2)
+      (comes_brought (clock_after clock (moment b)) (watch_after seen cmp q v w b) before s rest both.1 brought kept)
+
+  -- among steps that are images
+  pub comes_told : {A : Type 0} (f : A → Step X) (w : Watched) (steps : List A) (n : ℕ) (s : A) → n < length steps → s ≡ get_or steps n s → are_onward 0 (map f steps) ≡ true → brings seen cmp spread q v (f s) ≡ true → is_kept q (map f (drop (n + 1) steps)) ≡ true → comes seen cmp spread q v w (map f steps) ≡ true
+  comes_told f w steps n s within is on brought kept =
+      let cut : map f (take n steps) ++ f s ∷ map f (drop (n + 1) steps) ≡ map f steps = sym (map-append f (take n steps) (s ∷ drop (n + 1) steps)) ∙ ap (map f) (cut_at steps n s within is) in
+      subst (λ ss. comes seen cmp spread q v w ss ≡ true) cut
+      (comes_brought 0 w (map f (take n steps)) (f s) (map f (drop (n + 1) steps)) (subst (λ ss. are_onward 0 ss ≡ true) (sym cut) on) brought kept)
+
+-- ---- one member after the other
+module _ {K X : Type 0} (seen : X → Version K) (cmp : K → K → Ordering) (spread members : ℕ) (steps : List (Step X)) where
+  abbrev pub ComeTo : ℕ → List X → Type 0
+  ComeTo q vs = All (λ v. comes seen cmp spread q v (record { runs = true; has = false; saved = false }) steps ≡ true) vs
+
+  pub to_members : (vs : List X) → ((q : ℕ) → q < members → ComeTo q vs) → All (ComesToAll seen cmp spread members steps) vs
+  to_members vs each = all_from (ComesToAll seen cmp spread members steps) vs (λ v has q within. All-contains (λ u. comes seen cmp spread q u (record { runs = true; has = false; saved = false }) steps ≡ true) vs v (each q within) has)
+
+  pub to_member : (vs : List X) (q : ℕ) → q < members → All (ComesToAll seen cmp spread members steps) vs → ComeTo q vs
+  to_member vs q within all = all_from (λ v. comes seen cmp spread q v (record { runs = true; has = false; saved = false }) steps ≡ true) vs (λ v has. All-contains (ComesToAll seen cmp spread members steps) vs v all has q within)
+
+-- ---- until it is saved or started
+module _ {A X : Type 0} (f : A → Step X) (q : ℕ) (steps : List A) where
+  pub kept_end : (n : ℕ) → length steps ≤ n → is_kept q (map f (drop n steps)) ≡ true
+  kept_end n past = ap (λ ss. is_kept q (map f ss)) (drop_all steps n past)
+
+  pub kept_here : (n : ℕ) (s : A) (kept : Option Bool) → n < length steps → s ≡ get_or steps n s → kept ≡ kept_by q (f s) → is_kept q (map f (drop n steps)) ≡ first_kept kept (is_kept q (map f (drop (n + 1) steps)))
+  kept_here n s kept within is e =
+      let next : suc n ≡ n + 1 = omega arith in
+      ap (λ ss. is_kept q (map f ss)) (drop-cons steps n s within ∙ ap (λ y. y ∷ drop (suc n) steps) (sym is) ∙ ap (λ m. s ∷ drop m steps) next)
+      ∙ ap (λ k. first_kept k (is_kept q (map f (drop (n + 1) steps)))) (sym e)

@@ -1,0 +1,35 @@
+-- When a frame was sent, looked for from a place back.
+use Rattle.std.proofs.Common.{◌≡◌, ℕ, ◌+◌, ◌-◌, ◌<◌, ◌≤◌, Bool, ◌&&◌, cond, List, [], ◌∷◌, ◌++◌, sym, ap, ◌∙◌, subst, arith, map, take, drop, get_or, length, length-append, suc, drop-cons}
+use Rattle.std.specs.List.{list_all}
+use Rattle.std.proofs.lemmas.Bool.{lt-ltb, le-ltb}
+use Rattle.std.proofs.lemmas.List.{map-append, take_more}
+use Rattle.am_runs.specs.Steps.{Step, moment, flights_by, flights_of}
+use Rattle.am_runs.specs.Tests.{sent_in}
+use Rattle.am_runs.proofs.Cuts.{cut_at}
+use Rattle.am_runs.proofs.Pasts.{flights_of-push}
+
+module _ {X : Type 0} where
+  sent_found : (before : List (Step X)) (s : Step X) (rest : List (Step X)) (number : ℕ) → length (flights_of before) ≤ number → number < length (flights_of before) + length (flights_by s) → sent_in number (before ++ s ∷ rest) ≡ moment s
+  sent_found [] s rest number low high = ap (λ b. cond b (moment s) (sent_in (number - length (flights_by s)) rest)) (lt-ltb number (length (flights_by s)) (omega (arith, high)))
+  sent_found (b ∷ before) s rest number low high =
+      let long : length (flights_of (b ∷ before)) ≡ length (flights_by b) + length (flights_of before) = length-append (flights_by b) (flights_of before) in
+      ap (λ t. cond t (moment b) (sent_in (number - length (flights_by b)) (before ++ s ∷ rest))) (le-ltb number (length (flights_by b)) (omega (arith, long, low)))
+      ∙ sent_found before s rest (number - length (flights_by b)) (omega (arith, long, low)) (omega (arith, long, low, high))
+
+module _ {A X : Type 0} (f : A → Step X) (steps : List A) where
+  pub count_more : (n : ℕ) (s : A) → n < length steps → s ≡ get_or steps n s → length (flights_of (map f (take (n + 1) steps))) ≡ length (flights_of (map f (take n steps))) + length (flights_by (f s))
+  count_more n s within is =
+      let more : take (n + 1) steps ≡ take n steps ++ s ∷ [] = take_more steps n s within ∙ ap (λ y. take n steps ++ y ∷ []) (sym is) in
+      ap (λ ss. length (flights_of (map f ss))) more ∙ ap (λ ss. length (flights_of ss)) (map-append f (take n steps) (s ∷ []))
+      ∙ ap length (flights_of-push (map f (take n steps)) (f s)) ∙ length-append (flights_of (map f (take n steps))) (flights_by (f s))
+
+  pub sent_at_place : (n : ℕ) (s : A) (number : ℕ) → n < length steps → s ≡ get_or steps n s → length (flights_of (map f (take n steps))) ≤ number → number < length (flights_of (map f (take n steps))) + length (flights_by (f s)) → sent_in number (map f steps) ≡ moment (f s)
+  sent_at_place n s number within is low high =
+      let cut : map f (take n steps) ++ f s ∷ map f (drop (n + 1) steps) ≡ map f steps = sym (map-append f (take n steps) (s ∷ drop (n + 1) steps)) ∙ ap (map f) (cut_at steps n s within is) in
+      subst (λ ss. sent_in number ss ≡ moment (f s)) cut (sent_found (map f (take n steps)) (f s) (map f (drop (n + 1) steps)) number low high)
+
+  -- a test of each step from a place on
+  pub all_on : (p : Step X → Bool) (n : ℕ) (s : A) → n < length steps → s ≡ get_or steps n s → list_all p (map f (drop n steps)) ≡ (p (f s) && list_all p (map f (drop (n + 1) steps)))
+  all_on p n s within is =
+      let next : suc n ≡ n + 1 = omega arith in
+      ap (λ ss. list_all p (map f ss)) (drop-cons steps n s within ∙ ap (λ y. y ∷ drop (suc n) steps) (sym is) ∙ ap (λ m. s ∷ drop m steps) next)
