@@ -164,6 +164,7 @@ fn main() {
     ];
     for count in [1_000, 10_000] {
         let mut held: BTreeMap<String, Silence> = (0..count).map(silence).collect();
+        println!("held {count} 0 {}", held.len());
         for (name, request) in requests {
             let begin = Instant::now();
             let bytes = answer(&mut held, request);
