@@ -4,8 +4,7 @@
 //! has then. So the steps beside the one that delivered a version are looked at first, and the plain loop over all of
 //! them is left to the versions of which none of those tells.
 
-ghost use Rattle.std.specs.Prelude.{◌≡◌, ◌↔◌, IsTrue, ℕ, ◌≤◌, ◌<◌, ◌+◌, All, None, true, false, map, drop, take, length};
-ghost use Rattle.std.specs.List.{list_all};
+ghost use Rattle.std.specs.Prelude.{◌≡◌, ◌↔◌, IsTrue, ℕ, ◌≤◌, ◌<◌, ◌+◌, All, None, true, false, map, drop, length};
 ghost use Rattle.am_runs.specs.Records.{step_of};
 ghost use Rattle.am_runs.specs.Runs.{IsRun};
 ghost use Rattle.am_runs.specs.Steps.{delivered_in};
