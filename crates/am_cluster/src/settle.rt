@@ -208,7 +208,7 @@ impl Cluster {
     pub fn settle(&mut self, now: Moment, line: u64) -> Result<(), SettleError>
         ensures settled { IsSettle self.old now line result self.new }
     {
-        let _ = (&mut *self, now, line);
+        let _ = (now, line, self.count());
         Err(SettleError::Memory)
     }
 }
