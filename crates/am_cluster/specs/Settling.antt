@@ -90,7 +90,3 @@ AreTurns old turns now line (Err _) new = ⊥
 pub record CanSettle (world : World) (now : ℕ) : Type 0 where
   pub runs : (place : ℕ) (replica : Replica) → replica_at world place ≡ Some replica → replica.runs ≡ true
   pub forward : (place : ℕ) (replica : Replica) → replica_at world place ≡ Some replica → replica.stand.last ≤ now
-
--- STUB: what came of a settle
-abbrev pub IsSettle : World → ℕ → ℕ → Result Unit SettleError → World → Type 0
-IsSettle old now line result new = Unit {0}

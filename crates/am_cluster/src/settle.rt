@@ -18,7 +18,7 @@ ghost use Rattle.am_carried.specs.Contents.{IsReadable, entries_in, silences_in}
 ghost use Rattle.am_runs.specs.declared.step.Source.TheVariants.{Lent};
 ghost use Rattle.am_record.specs.Recorded.{HasSource};
 ghost use Rattle.am_cluster.specs.Lives.{OfMember};
-ghost use Rattle.am_cluster.specs.Settling.{AreTurns, CanSettle, IsSettle, IsTakingOf, all_turns, collections, gatherings, loan, spreadings};
+ghost use Rattle.am_cluster.specs.Settling.{AreTurns, CanSettle, IsTakingOf, all_turns, collections, gatherings, loan, spreadings};
 ghost use Rattle.am_cluster.specs.Settling.Turn.{Collects, Takes};
 
 use crate::cluster::Cluster;
@@ -196,19 +196,5 @@ impl Cluster {
         self.collect_all(now, line)?;
         self.gather(now, line)?;
         self.spread(now, line)
-    }
-}
-
-impl Cluster {
-    /// STUB: has all members settle.
-    ///
-    /// # Errors
-    ///
-    /// The first [`SettleError`] that applies, in their order.
-    pub fn settle(&mut self, now: Moment, line: u64) -> Result<(), SettleError>
-        ensures settled { IsSettle self.old now line result self.new }
-    {
-        let _ = (now, line, self.count());
-        Err(SettleError::Memory)
     }
 }
