@@ -13,3 +13,4 @@ pub mod Delivered
 pub mod Asked
 pub mod Lent
 pub mod Turned
+pub mod Admitted

@@ -10,7 +10,7 @@ use Rattle.am_runs.specs.Members.{Member, stepped, member_of}
 use Rattle.am_runs.proofs.Pasts.{member_of-push, last-one, map_of-append}
 use Rattle.am_cluster.specs.Ties.{IsTied}
 
-same_where : {A : Type 0} (b : Bool) (m : A) → cond b m m ≡ m
+pub same_where : {A : Type 0} (b : Bool) (m : A) → cond b m m ≡ m
 same_where true m = refl
 same_where false m = refl
 

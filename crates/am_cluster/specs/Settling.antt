@@ -1,5 +1,5 @@
 -- How the members of a cluster settle: each collects, and then the first takes the maps of all others, and they take its.
-use Rattle.std.specs.Prelude.{◌≡◌, ◌⊎◌, ℕ, ◌-◌, ◌≤◌, true, List, [], ◌∷◌, ◌++◌, map, Some, Result, Ok, Err}
+use Rattle.std.specs.Prelude.{◌≡◌, ◌⊎◌, ℕ, ◌-◌, ◌<◌, ◌≤◌, Bool, true, false, List, [], ◌∷◌, ◌++◌, map, filter, length, nat_lt, slice_get, Any, Option, Some, None, Result, Ok, Err}
 use Rattle.std.specs.List.{range_with_len}
 use Rattle.am_gossip.specs.declared.frame.Frame.TheVariants as frames
 use Rattle.am_instance.specs.declared.event.Event.{Event}
@@ -8,11 +8,13 @@ use Rattle.am_instance.specs.declared.reply.Reply.{Reply}
 use Rattle.am_instance.specs.Sendings.{whole_state}
 use Rattle.am_instance.specs.Stands.{Stand}
 use Rattle.am_runs.specs.declared.step.Source.TheVariants.{Made, Lent}
+use Rattle.am_runs.specs.Steps.Step.{Back, Refused}
+use Rattle.am_journal.specs.Accounts.{Account}
 use Rattle.am_cluster.specs.declared.error.ClusterError.{ClusterError}
 use Rattle.am_cluster.specs.declared.error.ClusterError.TheVariants as cluster_errors
 use Rattle.am_cluster.specs.declared.error.SettleError.{SettleError}
 use Rattle.am_cluster.specs.declared.error.SettleError.TheVariants as errors
-use Rattle.am_cluster.specs.Worlds.{Replica, World, replica_at}
+use Rattle.am_cluster.specs.Worlds.{Replica, World, replica_at, written}
 use Rattle.am_cluster.specs.Events.{HasHappened, IsEvent}
 use Rattle.am_cluster.specs.Lives.{OfMember}
 
@@ -90,3 +92,58 @@ AreTurns old turns now line (Err _) new = ⊥
 pub record CanSettle (world : World) (now : ℕ) : Type 0 where
   pub runs : (place : ℕ) (replica : Replica) → replica_at world place ≡ Some replica → replica.runs ≡ true
   pub forward : (place : ℕ) (replica : Replica) → replica_at world place ≡ Some replica → replica.stand.last ≤ now
+
+-- a member is stopped
+abbrev pub HasStopped : List Replica → Type 0
+HasStopped replicas = Any (λ replica. replica.runs ≡ false) replicas
+
+-- a member's last moment is after this one
+abbrev pub HasLate : ℕ → List Replica → Type 0
+HasLate now replicas = Any (λ replica. now < replica.stand.last) replicas
+
+abbrev pub is_late : ℕ → Option Replica → Bool
+is_late now None = false
+is_late now (Some replica) = nat_lt now replica.stand.last
+
+-- the places of the members whose last moments are after this one
+abbrev pub late_places : List Replica → ℕ → List ℕ
+late_places replicas now = filter (λ place. is_late now (slice_get replicas place)) (range_with_len 0 (length replicas))
+
+-- to each of the members at these places it is refused since the moment is before its last one, all in one line
+abbrev pub with_backs : World → List ℕ → ℕ → ℕ → World
+with_backs world places now line = record world {
+  silences = world.silences ++ map (λ place. Back place now) places;
+  log = world.log ++ map (λ place. Back place now) places;
+  lines = world.lines ++ map (λ place. line) places;
+}
+
+-- the same of a journal
+pub record HasBacks (old : Account) (places : List ℕ) (now line : ℕ) (new : Account) : Type 0 where
+  pub members : new.members ≡ old.members
+  pub silences : new.silences ≡ old.silences ++ map (λ place. Back place now) places
+  pub log : new.log ≡ old.log ++ map (λ place. Back place now) places
+  pub lines : new.lines ≡ old.lines ++ map (λ place. line) places
+
+-- nothing happens to any member, and the moment is written down
+abbrev pub IsRefusedAsStopped : World → ℕ → ℕ → World → Type 0
+IsRefusedAsStopped old now line new = HasStopped old.replicas × (new ≡ written old (Refused now) (Refused now) line)
+
+-- nor does it here, but it counts against each member whose last moment is after this one
+abbrev pub IsRefusedAsBack : World → ℕ → ℕ → World → Type 0
+IsRefusedAsBack old now line new =
+    (¬ HasStopped old.replicas) × HasLate now old.replicas × (new ≡ with_backs old (late_places old.replicas now) now line)
+
+-- what came of asking whether the members can settle
+abbrev pub IsAdmitted : World → ℕ → ℕ → Result Unit SettleError → World → Type 0
+IsAdmitted old now line (Ok _) new = CanSettle old now × (new ≡ old)
+IsAdmitted old now line (Err errors.Stopped) new = IsRefusedAsStopped old now line new
+IsAdmitted old now line (Err errors.MomentBack) new = IsRefusedAsBack old now line new
+IsAdmitted old now line (Err errors.Memory) new = new ≡ old
+
+-- what came of a settle: all its turns, a refusal, or for want of memory nothing or the first turns alone
+abbrev pub IsSettle : World → ℕ → ℕ → Result Unit SettleError → World → Type 0
+IsSettle old now line (Ok _) new = CanSettle old now × AreMade old (all_turns (length old.replicas)) now line new
+IsSettle old now line (Err errors.Stopped) new = IsRefusedAsStopped old now line new
+IsSettle old now line (Err errors.MomentBack) new = IsRefusedAsBack old now line new
+IsSettle old now line (Err errors.Memory) new =
+    (new ≡ old) ⊎ (CanSettle old now × AreCutShort old (all_turns (length old.replicas)) now line new)

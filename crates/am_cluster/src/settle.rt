@@ -1,6 +1,6 @@
 //! How the members of a cluster settle.
 
-ghost use Rattle.std.specs.Prelude.{◌≡◌, ◌≢◌, [], ◌∷◌, ◌<◌, ◌≤◌, ◌↔◌, ℕ, None, All, Any, IsTrue, false, IfOk, OnOk, length, map, true};
+ghost use Rattle.std.specs.Prelude.{◌≡◌, ◌≢◌, [], ◌∷◌, ◌<◌, ◌≤◌, ◌↔◌, ℕ, None, Some, All, IsTrue, IfOk, OnOk, length, map, slice_get, true};
 ghost use Rattle.std.specs.Ordering.{nat_cmp};
 ghost use Rattle.std.specs.Cmp.Lexicographic.{slice_cmp};
 ghost use Rattle.am_silence.specs.Mesh.{mesh_version};
@@ -16,17 +16,21 @@ ghost use Rattle.am_instance.specs.Sendings.{whole_state};
 ghost use Rattle.am_instance.specs.Steps.{fault_of};
 ghost use Rattle.am_carried.specs.Contents.{IsReadable, entries_in, silences_in};
 ghost use Rattle.am_runs.specs.declared.step.Source.TheVariants.{Lent};
+ghost use Rattle.am_runs.specs.Members.{last_of, member_of};
 ghost use Rattle.am_record.specs.Recorded.{HasSource};
 ghost use Rattle.am_cluster.specs.Lives.{OfMember};
-ghost use Rattle.am_cluster.specs.Settling.{AreTurns, CanSettle, IsTakingOf, all_turns, collections, gatherings, loan, spreadings};
+ghost use Rattle.am_cluster.specs.Settling.{AreTurns, CanSettle, HasBacks, HasLate, HasStopped, IsAdmitted, IsSettle, IsTakingOf, all_turns, collections, gatherings, late_places, loan, spreadings};
 ghost use Rattle.am_cluster.specs.Settling.Turn.{Collects, Takes};
+ghost use Rattle.am_cluster.specs.Worlds.{Replica};
 
 use crate::cluster::Cluster;
 use crate::error::{ClusterError, SettleError};
+use crate::member::Member;
 use am_carried::held_are_values;
 use am_carried::laws::what_keeps_its_limit_is_readable;
 use am_gossip::{Frame, FullState, Part, StateKey};
 use am_instance::{Event, Instance, Place, Reply};
+use am_journal::{Journal, Mark};
 use am_merge::Held;
 use am_record::laws::lent_maps_come_from_their_lender;
 use am_rows::{row_bytes, row_length};
@@ -148,13 +152,6 @@ impl Cluster {
         self.members.len()
     }
 
-    /// Whether a member is stopped.
-    fn has_stopped(&self) -> bool
-        ensures { IsTrue result ↔ Any (λ replica. replica.runs ≡ false) self.now.replicas }
-    {
-        self.members.iter().any(|member| !member.runs)
-    }
-
     /// Has every member collect.
     fn collect_all(&mut self, now: Moment, line: u64) -> Result<(), SettleError>
         requires ready { CanSettle self.old now }
@@ -196,5 +193,67 @@ impl Cluster {
         self.collect_all(now, line)?;
         self.gather(now, line)?;
         self.spread(now, line)
+    }
+}
+
+/// Whether a member is stopped.
+fn has_stopped(members: &[Member]) -> bool
+    ensures { IsTrue result ↔ HasStopped members.now }
+{
+    members.iter().any(|member| !member.runs)
+}
+
+/// Whether a member's last moment is after this one.
+fn has_late(members: &[Member], now: Moment) -> bool
+    ensures { IsTrue result ↔ HasLate now members.now }
+{
+    members.iter().any(|member| now < member.instance.last())
+}
+
+/// Writes down that a step of this moment is refused to each member whose last moment is after it. It takes no memory.
+fn mark_late(journal: &mut Journal, members: &[Member], now: Moment, line: u64)
+    requires room { length members.now ≤ journal.old.room }
+    requires told { (place : ℕ) (replica : Replica) → slice_get members.now place ≡ Some replica →
+        replica.stand.last ≡ last_of (member_of journal.old.members place journal.old.silences) }
+    ensures { HasBacks journal.old (late_places members.now now) now line journal.new }
+{
+    for place in 0..members.len() {
+        let member = &members[place];
+        if now < member.instance.last() {
+            journal.mark(Mark::Back { place, now }, line);
+        }
+    }
+}
+
+impl Cluster {
+    /// Asks whether all members can settle, and writes it down if they can't.
+    fn admit(&mut self, now: Moment, line: u64) -> Result<(), SettleError>
+        ensures { IsAdmitted self.old now line result self.new }
+    {
+        let count = self.members.len();
+        self.journal.make_room(count.max(1), 0)?;
+        if has_stopped(&self.members) {
+            self.journal.mark(Mark::Refused { now }, line);
+            return Err(SettleError::Stopped);
+        }
+        if has_late(&self.members, now) {
+            mark_late(&mut self.journal, &self.members, now, line);
+            return Err(SettleError::MomentBack);
+        }
+        Ok(())
+    }
+
+    /// Has every member collect, the first by name take the maps of all others in their order, and each other take the
+    /// first one's. Each taking counts as a delivery, and no frame of it flies.
+    ///
+    /// # Errors
+    ///
+    /// The first [`SettleError`] that applies, in their order; for want of room to write down what it is before all
+    /// others, and then nothing has changed.
+    pub fn settle(&mut self, now: Moment, line: u64) -> Result<(), SettleError>
+        ensures settled { IsSettle self.old now line result self.new }
+    {
+        self.admit(now, line)?;
+        self.make_turns(now, line)
     }
 }
