@@ -111,8 +111,9 @@ fn play_lines<P: Progress>(
 {
     for (index, (line, number)) in lines.iter().enumerate() {
         progress.played(index, lines.len());
-        if play_line(cluster, line, *number, out).is_err() {
-            return Err(Halt { line: *number });
+        match play_line(cluster, line, *number, out) {
+            Ok(()) => {}
+            Err(_) => return Err(Halt { line: *number }),
         }
     }
     Ok(())
