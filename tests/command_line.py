@@ -9,6 +9,8 @@ those of the command line as clap words them.
 """
 
 import os
+import pty
+import re
 import resource
 import signal
 import subprocess
@@ -36,10 +38,19 @@ HELP = """The state that instances of Alertmanager share
 Usage: am_tool <COMMAND>
 
 Commands:
+  replay    Plays a schedule on a cluster, and prints what its members answer; so does am_tool without words
   fold      Reads a row of versions, and writes the one that counts of each key, in key order
   show      Reads a snapshot, and prints a line for each version that is live, in key order
   instance  Runs one member: serves the silences of API v2 to people and tools, and frames to its peers, on 127.0.0.1
   help      Print this message or the help of the given subcommand(s)
+
+Options:
+  -h, --help  Print help
+"""
+
+REPLAY_HELP = """Plays a schedule on a cluster, and prints what its members answer; so does am_tool without words
+
+Usage: am_tool replay
 
 Options:
   -h, --help  Print help
@@ -86,6 +97,124 @@ the end of --connections. A Tick is a greeting with a peer's name and the bytes 
   printf '\0\1b\4\0' >/dev/tcp/127.0.0.1/PORT
 """
 
+# Schedules beside what is printed of them: three members that take the same in other orders; two of which one forgets; a
+# restart; and a settle.
+ORDERS = b"""cluster 100 15 a b c
+sil s1 x 10 10 50 200 job m
+sil s2 x 20 10 60 210 job m
+sil s3 y 15 40 90 300 job n
+nfl n1 g r 10 200 1,2 -
+nfl n2 g r 30 220 1 2
+at 31 a from b s1 s2 s3
+at 31 a from b n1 n2
+at 31 b from c s3 s2
+at 32 b from c s1 s2
+at 32 b from c n2 n1 n2
+at 31 c from a n2
+at 32 c from a s2 s1 s3 s1
+at 33 c from a n1
+at 45 a show
+at 45 b show
+at 45 c show
+at 46 a decide g r 1,3 - 3600 yes
+at 46 c decide g r 1,3 - 3600 yes
+"""
+
+ORDERS_OUTPUT = b"""a shows 2 1
+a sil x active
+a sil y active
+a nfl g r - 0 1 2
+b shows 2 1
+b sil x active
+b sil y active
+b nfl g r - 0 1 2
+c shows 2 1
+c sil x active
+c sil y active
+c nfl g r - 0 1 2
+a decide NewFiring
+c decide NewFiring
+calm a
+calm b
+calm c
+"""
+
+FORGOTTEN = b"""cluster 100 15 a b
+sil m k 6 5 8 10 job x
+sil v k 3 5 90 100 job x
+at 7 a from b m
+at 12 a tick
+at 20 a from b v
+at 7 b from a v
+at 8 b from a m
+at 12 b tick
+at 21 a show
+at 21 b show
+"""
+
+FORGOTTEN_OUTPUT = b"""a shows 1 0
+a sil k active
+b shows 0 0
+uncalm a line 6
+calm b
+"""
+
+RESTARTED = b"""cluster 100 15 a b
+sil s1 x 10 10 50 200 job m
+sil s2 x 20 10 60 210 job m
+sil s3 y 20 10 90 300 job n
+at 21 a from b s1
+save a
+at 22 a from b s2
+at 23 a from b s3
+stop a
+at 24 a start
+at 25 a show
+at 25 b from a s2 s3
+at 26 a pull b
+at 27 deliver 1
+at 28 deliver 2
+at 29 a show
+at 29 b show
+"""
+
+RESTARTED_OUTPUT = b"""a shows 1 0
+a sil x active
+a shows 2 0
+a sil x active
+a sil y active
+b shows 2 0
+b sil x active
+b sil y active
+calm a
+calm b
+"""
+
+SETTLED = b"""cluster 100 15 a b c d
+sil m k 6 5 8 10 job x
+sil v k 3 5 90 100 job x
+sil w z 7 5 60 90 job y
+at 7 a from b m
+at 7 b from c v
+at 8 c from d w
+at 20 settle
+at 21 a show
+at 21 d show
+"""
+
+SETTLED_OUTPUT = b"""settled
+a shows 2 0
+a sil k active
+a sil z active
+d shows 2 0
+d sil k active
+d sil z active
+uncalm a line 8
+calm b
+calm c
+calm d
+"""
+
 INSTANCE_USAGE = (
     "\nUsage: am_tool instance --name <NAME> --listen <PORT> --sil <FILE> --nfl <FILE>\n"
     "\nFor more information, try '--help'.\n"
@@ -93,6 +222,7 @@ INSTANCE_USAGE = (
 
 USAGE = "\nUsage: am_tool <COMMAND>\n\nFor more information, try '--help'.\n"
 FOLD_USAGE = "\nUsage: am_tool fold --state <STATE> --now <NANOSECONDS>\n\nFor more information, try '--help'.\n"
+REPLAY_USAGE = "\nUsage: am_tool replay\n\nFor more information, try '--help'.\n"
 SHOW_USAGE = FOLD_USAGE.replace("fold", "show")
 
 TWICE = "error: the argument '{}' cannot be used multiple times\n" + FOLD_USAGE
@@ -115,11 +245,27 @@ NOT_UTF8 = "am_tool: a word of the command line is not UTF-8\n"
 
 # Words and standard input; status, standard output and standard error.
 CASES = [
-    # without words silences are folded
-    ([], b"", 0, b"", ""),
-    ([], FIRST + SECOND, 0, SECOND, ""),
+    # without words a schedule is played
+    ([], ORDERS, 0, ORDERS_OUTPUT, ""),
+    ([], b"", 1, b"", "am_tool: Schedule Cluster 1\n"),
+    (["replay"], ORDERS, 0, ORDERS_OUTPUT, ""),
+    (["replay"], FORGOTTEN, 0, FORGOTTEN_OUTPUT, ""),
+    (["replay"], RESTARTED, 0, RESTARTED_OUTPUT, ""),
+    (["replay"], SETTLED, 0, SETTLED_OUTPUT, ""),
+    (["replay"], b"cluster 1 1 a", 0, b"calm a\n", ""),
+    # faults of a schedule, of which nothing is written
+    (["replay"], ORDERS + b"# \xff\n", 1, b"", "am_tool: Schedule NotUtf8 20\n"),
+    (["replay"], ORDERS + ORDERS, 1, b"", "am_tool: Schedule Cluster 20\n"),
+    (["replay"], ORDERS + b"at 46 a\n", 1, b"", "am_tool: Schedule Words 20\n"),
+    (["replay"], ORDERS + b"at 46s a show\n", 1, b"", "am_tool: Schedule Number 20\n"),
+    (["replay"], ORDERS + b"\nat 46 d show", 1, b"", "am_tool: Schedule Name 21\n"),
+    (["replay"], b"#" * (1 << 24), 1, b"", "am_tool: Schedule Cluster 2\n"),
+    (["replay"], b"#" * ((1 << 24) + 1), 1, b"", "am_tool: TooLarge\n"),
     # both flags in both orders, parted by a blank or by `=`
+    (FOLD, FIRST + SECOND, 0, SECOND, ""),
     (FOLD, SECOND + FIRST, 0, SECOND, ""),
+    (FOLD, FIRST + SECOND + FIRST, 0, SECOND, ""),
+    (FOLD, b"", 0, b"", ""),
     (["fold", "--now", "0", "--state", "sil"], FIRST + SECOND, 0, SECOND, ""),
     (["fold", "--now=0", "--state=nfl"], ENTRY + ENTRY, 0, ENTRY, ""),
     (["fold", "--state", "nfl", "--now", "0"], FIRST, 1, b"", "am_tool: Wire WrongType 13\n"),
@@ -129,6 +275,8 @@ CASES = [
     (["--help"], b"", 0, HELP.encode(), ""),
     (["-h"], b"", 0, HELP.encode(), ""),
     (["help"], b"", 0, HELP.encode(), ""),
+    (["replay", "--help"], b"", 0, REPLAY_HELP.encode(), ""),
+    (["help", "replay"], b"", 0, REPLAY_HELP.encode(), ""),
     (["fold", "--help"], b"", 0, FOLD_HELP.encode(), ""),
     (["fold", "-h"], b"", 0, FOLD_HELP.encode(), ""),
     (["help", "fold"], b"", 0, FOLD_HELP.encode(), ""),
@@ -166,7 +314,9 @@ CASES = [
     (["--now", "0"], b"", 2, b"", UNEXPECTED.format("--now") + USAGE),
     (["--version"], b"", 2, b"", UNEXPECTED.format("--version") + USAGE),
     (["unfold"], b"", 2, b"", UNKNOWN.format("unfold") + "\n  tip: a similar subcommand exists: 'fold'\n" + USAGE),
-    (["replay"], b"", 2, b"", UNKNOWN.format("replay") + USAGE),
+    (["replay", "extra"], b"", 2, b"", UNEXPECTED.format("extra") + REPLAY_USAGE),
+    (["replay", "--now", "0"], b"", 2, b"", UNEXPECTED.format("--now") + REPLAY_USAGE),
+    (["replays"], b"", 2, b"", UNKNOWN.format("replays") + "\n  tip: a similar subcommand exists: 'replay'\n" + USAGE),
     ([""], b"", 2, b"", UNKNOWN.format("") + USAGE),
     # views
     (SHOW + ["50000000000"], SECOND, 0, b"sil a active\n", ""),
@@ -253,12 +403,14 @@ def test_streams():
         compare("a full disk", run(FOLD, **row, **on_full), (3, None, stopped))
         compare("nothing to write on a full disk", run(FOLD, **on_full), (0, None, ""))
         compare("a view on a full disk", run(SHOW + ["50000000000"], input=SECOND, **on_full), (3, None, stopped))
+        compare("a schedule on a full disk", run(["replay"], input=ORDERS, **on_full), (3, None, stopped))
         compare("help on a full disk", run(["--help"], **on_full), (3, None, stopped))
         compare("a mistake told on a full disk", run(["fold"], stderr=full), (2, b"", None))
         compare("a fault told on a full disk", run(FOLD, input=FIRST[:9], stderr=full), (1, b"", None))
     compare("a closed output", run(FOLD, **row, **closing(1)), (3, b"", stopped))
     compare("help on a closed output", run(["--help"], **closing(1)), (3, b"", stopped))
     compare("a closed input", run(FOLD, **closing(0)), (3, b"", "am_tool: Read 0\n"))
+    compare("a schedule of a closed input", run([], **closing(0)), (3, b"", "am_tool: Read 0\n"))
     compare("a view of a closed input", run(SHOW + ["0"], **closing(0)), (3, b"", "am_tool: Read 0\n"))
     directory = os.open("/", os.O_RDONLY)
     compare("a directory as input", run(FOLD, stdin=directory), (3, b"", "am_tool: Read 0\n"))
@@ -281,6 +433,28 @@ def test_cut_output():
         compare("an output that is cut", run(FOLD, **how), (3, None, f"am_tool: Write {CUT}\n"))
         file.seek(0)
         compare("the bytes before the cut", file.read(), TWO_KEYS[:CUT])
+    with tempfile.TemporaryFile() as file:
+        how = {"input": ORDERS, "stdout": file, "preexec_fn": limit, "restore_signals": False}
+        compare("a replay that is cut", run(["replay"], **how), (3, None, f"am_tool: Write {CUT}\n"))
+        file.seek(0)
+        compare("its bytes before the cut", file.read(), ORDERS_OUTPUT[:CUT])
+
+
+# So many lines take over a second.
+LONG = 1_000_000
+
+
+def test_progress():
+    """How far a long schedule is played is shown on a terminal, and taken away in the end; elsewhere nothing is."""
+    schedule = {"input": b"cluster 1 1 a\n" + b"at 10 a tick\n" * LONG}
+    compare("a long schedule", run([], **schedule), (0, b"calm a\n", ""))
+    terminal, end = pty.openpty()
+    compare("a long schedule at a terminal", run([], **schedule, stderr=end), (0, b"calm a\n", None))
+    os.close(end)
+    shown = os.read(terminal, 1 << 16).decode()
+    os.close(terminal)
+    lines = re.fullmatch(rf"(\ram_tool: \d+ of {LONG} lines played)+\r\x1b\[K", shown)
+    compare(f"what is shown of it, {shown!r}", lines is not None, True)
 
 
 # How many bytes the program may take: page by page at first, and then by more.
@@ -312,6 +486,10 @@ def test_memory():
     compare("refused memory", outcomes_under_limits(FOLD, input=FIRST), [refused, (0, FIRST, "")])
     view = outcomes_under_limits(SHOW + ["50000000000"], input=SECOND)
     compare("refused memory for a view", view, [refused, (0, b"sil a active\n", "")])
+    replayed = outcomes_under_limits(["replay"], input=RESTARTED)
+    compare("enough memory for a schedule", replayed[-1:], [(0, RESTARTED_OUTPUT, "")])
+    wants = {(4, b"", "am_tool: Memory\n"), *((4, b"", f"am_tool: Memory {line}\n") for line in range(18))}
+    compare("refused memory for a schedule", [told for told in replayed[:-1] if told not in wants], [])
     many = FOLD + ["x"] * 20_000
     mistake = (2, b"", UNEXPECTED.format("x") + FOLD_USAGE)
     compare("refused memory among many words", outcomes_under_limits(many), [refused, mistake])
@@ -328,6 +506,7 @@ def main():
     test_words()
     test_streams()
     test_cut_output()
+    test_progress()
     test_memory()
     print(f"command line: {passed} passed, {failed} failed")
     return 1 if failed else 0

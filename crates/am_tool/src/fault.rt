@@ -6,6 +6,7 @@ use crate::status;
 use am_connection::Fault as ConnectionFault;
 use am_instance::ConfigError;
 use am_member::{FileFault, SendFault};
+use am_replay::ReplayError;
 use am_snapshot::{FoldError, SnapshotError};
 use std::fmt;
 use std::io::ErrorKind;
@@ -21,6 +22,8 @@ pub fn report<R: Eprint>(rt: &R, fault: Fault) -> u8 {
 pub enum Fault {
     /// In a row, or in what was written of one.
     Snapshot(SnapshotError),
+    /// In a schedule, or in what was written of it.
+    Replay(ReplayError),
     /// A peer is not NAME=PORT.
     Peer,
     /// The names of the members are at fault.
@@ -52,6 +55,7 @@ impl Fault {
     pub fn status(self) -> u8 {
         match self {
             Fault::Snapshot(error) => status_of_snapshot(error),
+            Fault::Replay(error) => status_of_replay(error),
             Fault::Silences(fault) | Fault::Log(fault) => status_of_file(fault),
             Fault::Config(ConfigError::Memory) => status::MEMORY,
             Fault::Peer | Fault::Config(_) => status::WORDS,
@@ -71,6 +75,15 @@ fn status_of_snapshot(error: SnapshotError) -> u8 {
     }
 }
 
+/// The exit status where a schedule is at fault.
+fn status_of_replay(error: ReplayError) -> u8 {
+    match error {
+        ReplayError::Schedule(_) | ReplayError::TooLarge => status::REFUSED,
+        ReplayError::Read { .. } | ReplayError::Write { .. } => status::OUTSIDE,
+        ReplayError::Memory { .. } => status::MEMORY,
+    }
+}
+
 /// The exit status where a file is at fault.
 fn status_of_file(fault: FileFault) -> u8 {
     match fault {
@@ -82,6 +95,12 @@ fn status_of_file(fault: FileFault) -> u8 {
 impl From<SnapshotError> for Fault {
     fn from(error: SnapshotError) -> Fault {
         Fault::Snapshot(error)
+    }
+}
+
+impl From<ReplayError> for Fault {
+    fn from(error: ReplayError) -> Fault {
+        Fault::Replay(error)
     }
 }
 
@@ -107,6 +126,7 @@ impl fmt::Display for Fault {
     fn fmt<W: fmt::Write>(&self, f: &mut fmt::Formatter<W>) -> fmt::Result {
         match *self {
             Fault::Snapshot(error) => lines::write_snapshot_error(error, f),
+            Fault::Replay(error) => lines::write_replay_error(error, f),
             Fault::Peer => write!(f, "Peer"),
             Fault::Config(error) => lines::write_config_error(error, f),
             Fault::Silences(fault) => {

@@ -1,10 +1,11 @@
-//! The program: folds a row of versions to the ones that count, and shows a snapshot.
+//! The program: plays a schedule, folds a row of versions to the ones that count, shows a snapshot, runs a member.
 #![tactic(auto)]
 
 ghost use Rattle.std.specs.Prelude.{ℕ, List, [], None, IfSome, OnOk};
 ghost use Rattle.std.specs.Io.KnownBytes.{Appends};
 ghost use Rattle.am_nflog.specs.Mesh as entries;
 ghost use Rattle.am_nflog.specs.MeshTable.{reads_mesh_entry};
+ghost use Rattle.am_replay.specs.Replays.{IsReplay};
 ghost use Rattle.am_silence.specs.Mesh as silences;
 ghost use Rattle.am_silence.specs.MeshTable.{reads_mesh_silence};
 ghost use Rattle.am_snapshot.specs.Folds.{IsFold};
@@ -13,17 +14,20 @@ ghost use Rattle.am_view.specs.Views.{view_text};
 
 mod fault;
 mod member;
+mod progress;
 mod status;
 mod words;
 
 use am_merge::Held;
 use am_nflog::MeshEntry;
+use am_replay::{Progress, run_shown};
 use am_silence::MeshSilence;
 pub use am_snapshot::{SnapshotError, fold_held, load};
 use am_version_order::{Moment, Version};
 pub use am_view::write_view;
 use am_wire::Message;
 use fault::Fault;
+use progress::Display;
 use std::alloc::Global;
 use std::io::{BufReader, Read, Write};
 use std::mem;
@@ -33,12 +37,37 @@ use words::{Job, RowJob, StateName, Task};
 /// Does what the words ask for.
 fn run<'a>(rt: &'a HostRuntime, job: Job<'a>) -> Result<(), Fault> {
     match job {
+        Job::Replay => replay(rt),
         Job::Rows(job) => match run_rows(rt, job) {
             Ok(_) => Ok(()),
             Err(fault) => Err(fault),
         },
         Job::Instance(options) => member::run(rt, &options),
     }
+}
+
+/// Plays the schedule that stands on standard input.
+fn replay(rt: &HostRuntime) -> Result<(), Fault> {
+    let mut input = rt.stdin();
+    let mut output = rt.stdout();
+    let mut display = Display::new(rt);
+    let played = play(rt.alloc(), &mut input, &mut output, &mut display);
+    display.clear();
+    played
+}
+
+/// Plays the schedule that stands on the input.
+fn play<R: Read, W: Write, P: Progress>(
+    alloc: Global,
+    input: &mut R,
+    output: &mut W,
+    progress: &mut P,
+) -> Result<(), Fault>
+    ensures played { OnOk result (IfSome (R.remaining input.old) (λ bytes.
+        (text : List ℕ) × IsReplay bytes text × Appends (W.contents output.old) (W.contents output.new) text)) }
+{
+    run_shown(alloc, input, output, progress)?;
+    Ok(())
 }
 
 /// Folds or shows what stands on standard input.

@@ -19,7 +19,9 @@ use std::{env, io};
 /// What the words ask for.
 #[derive(Drop)]
 pub enum Job<'a> {
-    /// Something is to be done with what stands on standard input.
+    /// The schedule that stands on standard input is to be played.
+    Replay,
+    /// Something is to be done with the row that stands on standard input.
     Rows(RowJob),
     /// A member is to be run.
     Instance(Options<'a>),
@@ -33,7 +35,7 @@ pub struct RowJob {
     pub now: Moment,
 }
 
-/// What is to be done with what stands on standard input.
+/// What is to be done with the row that stands on standard input.
 #[derive(Clone, Copy, Debug)]
 pub enum Task {
     /// Fold a row of versions, which are taken at the moment.
@@ -87,14 +89,10 @@ impl From<clap::Error> for WordsError {
     }
 }
 
-/// The job that the words of the command line ask for.
+/// The job that the words of the command line ask for; without words a schedule is played.
 pub fn job_of<'a>(alloc: Global, words: &'a [String]) -> Result<Job<'a>, WordsError> {
     if words.len() <= 1 {
-        return Ok(Job::Rows(RowJob {
-            task: Task::Fold,
-            state: StateName::Silences,
-            now: since_1970(0),
-        }));
+        return Ok(Job::Replay);
     }
     let mut command = command(alloc)?;
     let matches = command.try_get_matches_from_mut(words)?;
@@ -155,9 +153,16 @@ fn command<'a>(alloc: Global) -> Result<Command<'a>, AllocError> {
     Command::new(alloc, "am_tool")
         .about("The state that instances of Alertmanager share")
         .subcommand_required(true)
+        .subcommand(replay_command(alloc))?
         .subcommand(fold_command(alloc)?)?
         .subcommand(show_command(alloc)?)?
         .subcommand(instance::command(alloc)?)
+}
+
+fn replay_command<'a>(alloc: Global) -> Command<'a> {
+    let about =
+        "Plays a schedule on a cluster, and prints what its members answer; so does am_tool without words";
+    Command::new(alloc, REPLAY).about(about)
 }
 
 fn fold_command<'a>(alloc: Global) -> Result<Command<'a>, AllocError> {
@@ -204,6 +209,9 @@ fn read_job<'a>(
     command: &mut Command<'a>,
     matches: &ArgMatches<'a>,
 ) -> Result<Job<'a>, WordsError> {
+    if matches.subcommand_matches(REPLAY).is_some() {
+        return Ok(Job::Replay);
+    }
     if let Some(flags) = matches.subcommand_matches(instance::NAME) {
         return Ok(Job::Instance(instance::read_options(alloc, command, flags)?));
     }
@@ -235,6 +243,8 @@ fn mistake(command: &mut Command<'_>, text: &str) -> WordsError {
 }
 
 /// The names of the tasks.
+const REPLAY: &str = "replay";
+
 const FOLD: &str = "fold";
 
 const SHOW: &str = "show";

@@ -4,6 +4,8 @@ use am_connection::{Fault, SendError};
 use am_gossip::FrameError;
 use am_instance::{ConfigError, StepError};
 use am_member::{FileFault, SendFault};
+use am_replay::ReplayError;
+use am_schedule::FaultKind;
 use am_snapshot::SnapshotError;
 use am_wire::WireError;
 use std::fmt::{self, Formatter};
@@ -19,6 +21,30 @@ pub fn write_snapshot_error<W: fmt::Write>(
         SnapshotError::DuplicateKey => write!(f, "DuplicateKey"),
         SnapshotError::TooLarge => write!(f, "TooLarge"),
         SnapshotError::Memory => write!(f, "Memory"),
+    }
+}
+
+pub fn write_replay_error<W: fmt::Write>(error: ReplayError, f: &mut Formatter<W>) -> fmt::Result {
+    match error {
+        ReplayError::Read { at } => write!(f, "Read {at}"),
+        ReplayError::Schedule(error) => {
+            write!(f, "Schedule {} {}", kind_name(error.kind), error.line)
+        }
+        ReplayError::TooLarge => write!(f, "TooLarge"),
+        ReplayError::Memory { line } => write!(f, "Memory {line}"),
+        ReplayError::Write { written } => write!(f, "Write {written}"),
+    }
+}
+
+/// What is wrong with a line of a schedule, by its name.
+fn kind_name(kind: FaultKind) -> &'static str {
+    match kind {
+        FaultKind::NotUtf8 => "NotUtf8",
+        FaultKind::Cluster => "Cluster",
+        FaultKind::Words => "Words",
+        FaultKind::Number => "Number",
+        FaultKind::Name => "Name",
+        FaultKind::Memory => "Memory",
     }
 }
 

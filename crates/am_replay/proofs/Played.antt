@@ -1,0 +1,67 @@
+-- Lines that are played one after the other, and what they print.
+use Rattle.std.proofs.Common.{◌≡◌, ℕ, ◌+◌, ◌<◌, List, [], ◌∷◌, ◌++◌, refl, sym, ap, ◌∙◌, subst, append_assoc, append-nil, take, drop, length, get_or, suc, take-append-drop, drop-cons}
+use Rattle.std.proofs.lemmas.List.{take_more}
+use Rattle.am_schedule.specs.declared.schedule.Schedule.{Schedule}
+use Rattle.am_schedule.specs.declared.step.Line.{Line}
+use Rattle.am_cluster.specs.Beginnings.{AreNewborn}
+use Rattle.am_cluster.specs.Worlds.{World}
+use Rattle.am_replay.specs.Lines.{Plays}
+use Rattle.am_replay.specs.Members.{names_of}
+use Rattle.am_replay.specs.Playing.{ArePlayed, IsOutput, PlaysAll, Reaches}
+use Rattle.am_replay.specs.Reports.{PrintsReports}
+
+pub played_append : (a b c : World) (xs ys : List (Line × ℕ)) (t u : List ℕ) → ArePlayed a xs t b → ArePlayed b ys u c → ArePlayed a (xs ++ ys) (t ++ u) c
+played_append a b c [] ys t u first next =
+    let P : World → Type 0 = λ w. ArePlayed w ys (t ++ u) c in
+    let Q : List ℕ → Type 0 = λ v. ArePlayed b ys (v ++ u) c in
+    subst P first.1 (subst Q (sym first.0) next)
+played_append a b c (x ∷ xs) ys t u first next =
+    (first.0, first.1, first.2 ++ u, first.3, played_append first.0 b c xs ys first.2 u first.4 next, ap (λ v. v ++ u) first.5 ∙ append_assoc first.1 first.2 u)
+
+-- nothing was played yet
+pub plays_none : (a : World) (start : List ℕ) → PlaysAll a [] a start start
+plays_none a start = record { text = []; played = (refl, refl); printed = sym (append-nil start) }
+
+-- one line more was played
+pub plays_more : (a b c : World) (lines : List (Line × ℕ)) (i : ℕ) (line : Line) (number : ℕ) (start mid end : List ℕ) →
+    i < length lines → (line, number) ≡ get_or lines i (line, number) →
+    PlaysAll a (take i lines) b start mid → Plays b line number c mid end → PlaysAll a (take (i + 1) lines) c start end
+plays_more a b c lines i line number start mid end within is all one =
+    let x : Line × ℕ = (line, number) in
+    let next : take (i + 1) lines ≡ take i lines ++ x ∷ [] = take_more lines i x within ∙ ap (λ (y : Line × ℕ). take i lines ++ y ∷ []) (sym is) in
+    let P : List (Line × ℕ) → Type 0 = λ xs. PlaysAll a xs c start end in
+    subst P (sym next) (record {
+      text = all.text ++ one.text;
+      played = played_append a b c (take i lines) (x ∷ []) all.text one.text all.played (c, one.text, [], one.played, (refl, refl), sym (append-nil one.text));
+      printed = one.printed ∙ ap (λ v. v ++ one.text) all.printed ∙ append_assoc start all.text one.text;
+    })
+
+-- playing came to this line
+pub reached : (a b : World) (lines : List (Line × ℕ)) (i : ℕ) (line : Line) (number : ℕ) (start mid : List ℕ) →
+    i < length lines → (line, number) ≡ get_or lines i (line, number) → PlaysAll a (take i lines) b start mid → Reaches a lines number
+reached a b lines i line number start mid within is all =
+    let x : Line × ℕ = (line, number) in
+    record {
+      before = take i lines;
+      line = line;
+      behind = drop (suc i) lines;
+      lines_are = sym (take-append-drop i lines) ∙ ap (λ ys. take i lines ++ ys) (drop-cons lines i x within) ∙ ap (λ (y : Line × ℕ). take i lines ++ y ∷ drop (suc i) lines) (sym is);
+      text = all.text;
+      stands = b;
+      played = all.played;
+    }
+
+-- all lines were played on a newborn cluster, and all members were reported on
+pub output_of : (schedule : Schedule) (begins ends : World) (start mid end : List ℕ) → start ≡ [] → AreNewborn schedule.names schedule.retention schedule.peer_timeout begins →
+    PlaysAll begins schedule.lines ends start mid → PrintsReports ends (names_of ends) mid end → IsOutput schedule end
+output_of schedule begins ends start mid end none newborn all told =
+    record {
+      begins = begins;
+      newborn = newborn;
+      ends = ends;
+      printed = all.text;
+      played = all.played;
+      reports = told.text;
+      calm = told.reports;
+      text_is = told.printed ∙ ap (λ v. v ++ told.text) (all.printed ∙ ap (λ s. s ++ all.text) none);
+    }

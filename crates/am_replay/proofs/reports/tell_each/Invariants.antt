@@ -1,0 +1,7 @@
+use Rattle.std.proofs.Common.{◌≡◌, List, ℕ, ◌++◌, drop, string_bytes}
+use Rattle.am_replay.specs.Reports.{AreReportsFrom}
+use Rattle.am_replay.proofs.Reported.{HasTold}
+use Rattle.am_replay.proofs.reports.tell_each.Given as goal
+
+abbrev pub invariant-loop-place : goal.invariant-loop-place
+invariant-loop-place l = HasTold l.cluster l.names l.place (string_bytes l.fn.out) (string_bytes l.out)

@@ -1,0 +1,48 @@
+-- How a schedule is played: a cluster is born, its lines are played one after the other, and the members are reported on.
+use Rattle.std.specs.Prelude.{◌≡◌, ◌⊎◌, ℕ, List, [], ◌∷◌, ◌++◌}
+use Rattle.am_schedule.specs.declared.schedule.Schedule.{Schedule}
+use Rattle.am_schedule.specs.declared.step.Line.{Line}
+use Rattle.am_cluster.specs.Beginnings.{AreNewborn}
+use Rattle.am_cluster.specs.Worlds.{World}
+use Rattle.am_replay.specs.Lines.{IsPlayed}
+use Rattle.am_replay.specs.Reports.{AreReports}
+
+-- lines with their numbers, one after the other, and what they print
+abbrev pub ArePlayed : World → List (Line × ℕ) → List ℕ → World → Type 0
+ArePlayed old [] text new = (text ≡ []) × (new ≡ old)
+ArePlayed old (line ∷ lines) text new =
+    (between : World) × (first others : List ℕ) × IsPlayed old line.0 line.1 first between × ArePlayed between lines others new
+    × (text ≡ first ++ others)
+
+-- they printed behind what stood there before
+pub record PlaysAll (old : World) (lines : List (Line × ℕ)) (new : World) (before after : List ℕ) : Type 0 where
+  pub text : List ℕ
+  pub played : ArePlayed old lines text new
+  pub printed : after ≡ before ++ text
+
+-- All that the playing of a schedule prints.
+pub record IsOutput (schedule : Schedule) (text : List ℕ) : Type 0 where
+  pub begins : World
+  pub newborn : AreNewborn schedule.names schedule.retention schedule.peer_timeout begins
+  pub ends : World
+  pub printed : List ℕ
+  pub played : ArePlayed begins schedule.lines printed ends
+  pub reports : List ℕ
+  pub calm : AreReports ends reports
+  pub text_is : text ≡ printed ++ reports
+
+-- the lines before the one of this number were played
+pub record Reaches (begins : World) (lines : List (Line × ℕ)) (number : ℕ) : Type 0 where
+  pub before : List (Line × ℕ)
+  pub line : Line
+  pub behind : List (Line × ℕ)
+  pub lines_are : lines ≡ before ++ (line, number) ∷ behind
+  pub text : List ℕ
+  pub stands : World
+  pub played : ArePlayed begins before text stands
+
+-- playing came to the line of this number, or to none
+abbrev pub IsHaltedAt : Schedule → ℕ → Type 0
+IsHaltedAt schedule number =
+    (number ≡ 0)
+    ⊎ ((begins : World) × AreNewborn schedule.names schedule.retention schedule.peer_timeout begins × Reaches begins schedule.lines number)

@@ -1,0 +1,127 @@
+-- What is printed of the steps of a schedule, each line with its end.
+use Rattle.std.specs.Prelude.{◌≡◌, ℕ, Bool, List, [], ◌++◌, Option, Some, None, Result, Ok, Err, option_map, codes}
+use Rattle.std.specs.Borrow.{Bor}
+use Rattle.am_silence.specs.declared.error.SilenceError.{SilenceError}
+use Rattle.am_gossip.specs.Frames.{kind_of}
+use Rattle.am_matcher.specs.declared.muted.Mutes.{Mutes}
+use Rattle.am_instance.specs.Stands.{Stand}
+use Rattle.am_instance.specs.declared.reply.Reply.{Reply}
+use Rattle.am_instance.specs.declared.reply.Reply.TheVariants as replies
+use Rattle.am_schedule.specs.declared.step.Action.{Action}
+use Rattle.am_schedule.specs.declared.step.Action.TheVariants as actions
+use Rattle.am_schedule.specs.declared.step.Event.{Event}
+use Rattle.am_schedule.specs.declared.step.Event.TheVariants as events
+use Rattle.am_cluster.specs.declared.error.ClusterError.{ClusterError}
+use Rattle.am_cluster.specs.declared.error.ClusterError.TheVariants as errors
+use Rattle.am_cluster.specs.declared.error.SettleError.{SettleError}
+use Rattle.am_cluster.specs.declared.error.SettleError.TheVariants as settle_errors
+use Rattle.am_cluster.specs.declared.flight.Flight.{Flight}
+use Rattle.am_cluster.specs.Worlds.{World}
+use Rattle.am_view.specs.Views.{view_text}
+use Rattle.am_output.specs.declared.line.Line.{Line}
+use Rattle.am_output.specs.declared.line.Line.TheVariants as lines
+use Rattle.am_output.specs.declared.refusal.Refusal.{Refusal}
+use Rattle.am_output.specs.declared.refusal.Refusal.TheVariants as refusals
+use Rattle.am_output.specs.Lines.{line_text}
+use Rattle.am_output.specs.Refusals.{kind_of as silence_refusal}
+use Rattle.am_replay.specs.Members.{stand_named, name_at}
+
+-- a value as a line holds it
+abbrev pub lent : {A : Type 0} → A → Bor A
+lent x = record { ref_ptr = (0, 0); now = x }
+
+-- a line and its end
+abbrev pub told : Line → List ℕ
+told line = line_text line ++ codes "\n"
+
+-- ---- what a member answers
+
+-- what it shows: the view of both its maps at the moment
+abbrev pub shown_text : Option Stand → List ℕ → ℕ → List ℕ
+shown_text None name now = []
+shown_text (Some stand) name now = view_text (Some name) now stand.silences stand.log
+
+-- a silence was ended
+abbrev pub ended_text : List ℕ → Event → List ℕ
+ended_text name (events.Expire id) = told (lines.Expired (lent name) (lent id))
+ended_text name _ = []
+
+-- which silences mute a label set, and which are broken
+abbrev pub muted_text : List ℕ → Mutes → List ℕ
+muted_text name mutes = told (lines.Muted (lent name) (lent mutes.ids) (lent mutes.broken))
+
+-- what is printed of the reply of the member of that name, in the world that the step leaves
+abbrev pub reply_text : World → ℕ → List ℕ → Event → Reply → List ℕ
+reply_text world now name event (replies.Posted id) = told (lines.Posted (lent name) (lent id))
+reply_text world now name event replies.Deleted = ended_text name event
+reply_text world now name event (replies.Refused error) = told (lines.Refused (Some (lent name)) (silence_refusal error))
+reply_text world now name event (replies.Logged changed) = told (lines.Logged (lent name) changed)
+reply_text world now name event (replies.Decided decision) = told (lines.Decided (lent name) decision)
+reply_text world now name event (replies.Muted mutes) = muted_text name mutes
+reply_text world now name event (replies.Shown silences log) = shown_text (stand_named world name) name now
+reply_text world now name event (replies.Silences shown) = []
+reply_text world now name event (replies.Silence silence state) = []
+reply_text world now name event replies.Nothing = []
+
+-- of steps other than the events of a member nothing is printed but a refusal
+abbrev pub answer_text : World → Action → Reply → List ℕ
+answer_text world (actions.Event at name event) reply = reply_text world at name event reply
+answer_text world (actions.Stop name) reply = []
+answer_text world (actions.Save name) reply = []
+answer_text world (actions.Deliver at frame) reply = []
+answer_text world (actions.Lose frame) reply = []
+
+-- ---- what is refused
+
+-- the member that a step names, as its refusal begins with it; a frame is of none
+abbrev pub owner_of : Action → Option (List ℕ)
+owner_of (actions.Event at name event) = Some name
+owner_of (actions.Stop name) = Some name
+owner_of (actions.Save name) = Some name
+owner_of (actions.Deliver at frame) = None
+owner_of (actions.Lose frame) = None
+
+-- the kind of a refusal; want of memory is none, and ends the playing
+abbrev pub step_refusal : ClusterError → Option Refusal
+step_refusal errors.NoFrame = Some refusals.NoFrame
+step_refusal errors.Running = Some refusals.Running
+step_refusal errors.Stopped = Some refusals.Stopped
+step_refusal (errors.MomentBack last) = Some refusals.MomentBack
+step_refusal errors.UnknownPeer = Some refusals.UnknownPeer
+step_refusal errors.Memory = None
+
+abbrev pub settle_refusal : SettleError → Option Refusal
+settle_refusal settle_errors.Stopped = Some refusals.Stopped
+settle_refusal settle_errors.MomentBack = Some refusals.MomentBack
+settle_refusal settle_errors.Memory = None
+
+-- what is printed of a refusal
+abbrev pub refused_text : Option (List ℕ) → Option Refusal → Option (List ℕ)
+refused_text owner None = None
+refused_text owner (Some refusal) = Some (told (lines.Refused (option_map lent owner) refusal))
+
+-- ---- what a line prints
+
+-- a step, in the world that it leaves; nothing where memory ran out
+abbrev pub step_text : World → Action → Result Reply ClusterError → Option (List ℕ)
+step_text world action (Ok reply) = Some (answer_text world action reply)
+step_text world action (Err error) = refused_text (owner_of action) (step_refusal error)
+
+-- a settle, which is of no member
+abbrev pub settle_text : Result Unit SettleError → Option (List ℕ)
+settle_text (Ok _) = Some (told lines.Settled)
+settle_text (Err error) = refused_text None (settle_refusal error)
+
+-- whether the run was timely so far
+abbrev pub timely_text : Bool → List ℕ
+timely_text is_timely = told (lines.Timely is_timely)
+
+-- a frame in flight
+abbrev pub flight_text : World → Flight → List ℕ
+flight_text world flight =
+    told (lines.Frame flight.number (lent (name_at world flight.sender)) (lent (name_at world flight.addressee)) (kind_of flight.frame))
+
+-- what was printed behind what stood there before
+abbrev pub Prints : Option (List ℕ) → List ℕ → List ℕ → Type 0
+Prints None before after = ⊥
+Prints (Some text) before after = after ≡ before ++ text

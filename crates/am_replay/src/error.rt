@@ -1,0 +1,66 @@
+//! Why a schedule was not played.
+
+ghost use Rattle.std.specs.Prelude.{◌≡◌};
+
+use am_schedule::{FaultKind, ScheduleError};
+use std::alloc::AllocError;
+use thiserror::Error;
+
+/// Why a schedule was not played, or its output not written: the first fault that stands.
+#[derive(Clone, Copy, Debug, PartialEq, Eq, Error)]
+pub enum ReplayError {
+    #[error("a read failed after {at} bytes")]
+    Read { at: usize },
+    /// A line of the schedule is at fault.
+    #[error("{0}")]
+    Schedule(ScheduleError),
+    #[error("the schedule is too large")]
+    TooLarge,
+    /// Memory ran out at this line of the schedule; 0 where it was at none: while the schedule was read, before its
+    /// first line was played, or behind its last.
+    #[error("out of memory at line {line}")]
+    Memory { line: u64 },
+    #[error("a write failed after {written} bytes")]
+    Write { written: u64 },
+}
+
+impl From<ScheduleError> for ReplayError {
+    ghost use Rattle.am_replay.specs.Faults.{schedule_fault};
+
+    ghost from_gives = { λ error fault. fault ≡ schedule_fault error.kind error };
+
+    fn from(error: ScheduleError) -> ReplayError {
+        match error.kind {
+            FaultKind::Memory => ReplayError::Memory { line: error.line },
+            FaultKind::NotUtf8
+            | FaultKind::Cluster
+            | FaultKind::Words
+            | FaultKind::Number
+            | FaultKind::Name => ReplayError::Schedule(error),
+        }
+    }
+}
+
+/// Memory ran out at this line, or at none, which is 0.
+#[derive(Clone, Copy, Debug)]
+pub struct Halt {
+    pub line: u64,
+}
+
+impl From<AllocError> for Halt {
+    ghost from_gives = { λ _ halt. halt.line ≡ 0 };
+
+    fn from(_e: AllocError) -> Halt {
+        Halt { line: 0 }
+    }
+}
+
+impl From<Halt> for ReplayError {
+    ghost use Rattle.am_replay.specs.declared.error.ReplayError.TheVariants.{Memory};
+
+    ghost from_gives = { λ halt fault. fault ≡ Memory halt.line };
+
+    fn from(halt: Halt) -> ReplayError {
+        ReplayError::Memory { line: halt.line }
+    }
+}

@@ -1,0 +1,30 @@
+//! Lines of output, with their ends.
+
+ghost use Rattle.std.specs.Prelude.{◌≡◌, ◌++◌, OnOk, string_bytes};
+ghost use Rattle.std.specs.Option.{option_copied};
+ghost use Rattle.am_replay.specs.Texts.{Prints, refused_text, told};
+
+use am_output::{Line, Refusal, append_line};
+use std::alloc::AllocError;
+
+/// Appends a line and its end.
+pub fn tell(out: &mut String, line: &Line<'_>) -> Result<(), AllocError>
+    ensures { OnOk result (string_bytes out.new ≡ string_bytes out.old ++ told line.now) }
+{
+    append_line(out, line)
+}
+
+/// Appends that a step was refused, of a member or of none. Want of memory, which is no kind of refusal, stays one.
+#[tactic(auto, unfolding(am_output::specs::Lines::line_text))]
+pub fn tell_refusal(
+    out: &mut String,
+    name: Option<&str>,
+    refusal: Option<Refusal>,
+) -> Result<(), AllocError>
+    ensures { OnOk result (Prints (refused_text (option_copied name.entry) refusal) (string_bytes out.old) (string_bytes out.new)) }
+{
+    match refusal {
+        Some(refusal) => tell(out, &Line::Refused { name, refusal }),
+        None => Err(AllocError),
+    }
+}

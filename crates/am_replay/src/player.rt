@@ -1,0 +1,163 @@
+//! The player of schedules.
+
+ghost use Rattle.std.specs.Prelude.{◌≡◌, ◌++◌, [], IfOk, IfErr, OnOk, string_bytes};
+ghost use Rattle.std.specs.Option.{option_copied};
+ghost use Rattle.am_cluster.specs.Beginnings.{AreNewborn};
+ghost use Rattle.am_output.specs.declared.refusal.Refusal.TheVariants as refusals;
+ghost use Rattle.am_schedule.specs.declared.step.Line.TheVariants as kinds;
+ghost use Rattle.am_replay.specs.Lines.{Plays};
+ghost use Rattle.am_replay.specs.Playing.{IsHaltedAt, IsOutput, PlaysAll, Reaches};
+ghost use Rattle.am_replay.specs.Texts.{Prints, settle_refusal, settle_text};
+
+use crate::error::Halt;
+use crate::flights::tell_flights;
+use crate::output::{tell, tell_refusal};
+use crate::progress::Progress;
+use crate::replies::{tell_answer, tell_refused};
+use crate::reports::tell_reports;
+use am_cluster::{Cluster, SettleError};
+use am_output::{Line as OutputLine, Refusal};
+use am_schedule::{Line, Schedule, Step, Word};
+use am_version_order::Moment;
+use am_wire::Text;
+use std::alloc::{AllocError, Global};
+
+/// Makes a step, and appends what it prints.
+fn play_step(
+    cluster: &mut Cluster,
+    step: &Step,
+    number: u64,
+    out: &mut String,
+) -> Result<(), AllocError>
+    ensures { OnOk result (Plays cluster.old (kinds.Step step.now) number cluster.new (string_bytes out.old) (string_bytes out.new)) }
+{
+    match cluster.step(step, number) {
+        Ok(reply) => tell_answer(out, cluster, step.action(), &reply),
+        Err(error) => tell_refused(out, step.action(), error),
+    }
+}
+
+/// The kind of a settle's refusal, which want of memory is none.
+fn refusal_of(error: SettleError) -> Option<Refusal>
+    ensures { result ≡ settle_refusal error }
+{
+    match error {
+        SettleError::Stopped => Some(Refusal::Stopped),
+        SettleError::MomentBack => Some(Refusal::MomentBack),
+        SettleError::Memory => None,
+    }
+}
+
+/// Appends what a settle prints.
+///
+/// # Errors
+///
+/// [`AllocError`] also where it was refused for want of memory.
+fn tell_settled(out: &mut String, settled: Result<(), SettleError>) -> Result<(), AllocError>
+    ensures { OnOk result (Prints (settle_text settled) (string_bytes out.old) (string_bytes out.new)) }
+{
+    match settled {
+        Ok(()) => tell(out, &OutputLine::Settled),
+        Err(error) => tell_refusal(out, None, refusal_of(error)),
+    }
+}
+
+/// Makes a settle, and appends what it prints.
+fn play_settle(
+    cluster: &mut Cluster,
+    now: Moment,
+    number: u64,
+    out: &mut String,
+) -> Result<(), AllocError>
+    ensures { OnOk result (Plays cluster.old (kinds.Settle now) number cluster.new (string_bytes out.old) (string_bytes out.new)) }
+{
+    let settled = cluster.settle(now, number);
+    tell_settled(out, settled)
+}
+
+/// Plays a line, and appends what it prints.
+fn play_line(
+    cluster: &mut Cluster,
+    line: &Line,
+    number: u64,
+    out: &mut String,
+) -> Result<(), AllocError>
+    ensures { OnOk result (Plays cluster.old line.now number cluster.new (string_bytes out.old) (string_bytes out.new)) }
+{
+    match line {
+        Line::Step(step) => play_step(cluster, step, number, out),
+        Line::Settle(now) => play_settle(cluster, *now, number, out),
+        Line::Timely(spread, flight) => {
+            let is_timely = cluster.timely(*spread, *flight);
+            tell(out, &OutputLine::Timely { is_timely })
+        }
+        Line::Frames => tell_flights(out, cluster),
+    }
+}
+
+/// Plays lines one after the other, and appends what they print.
+///
+/// # Errors
+///
+/// [`Halt`] at the line at which memory ran out.
+fn play_lines<P: Progress>(
+    cluster: &mut Cluster,
+    lines: &[(Line, u64)],
+    out: &mut String,
+    progress: &mut P,
+) -> Result<(), Halt>
+    ensures played { OnOk result (PlaysAll cluster.old lines.now cluster.new (string_bytes out.old) (string_bytes out.new)) }
+    ensures halted { IfErr result (λ halt. Reaches cluster.old lines.now halt.line) }
+{
+    for (index, (line, number)) in lines.iter().enumerate() {
+        progress.played(index, lines.len());
+        match play_line(cluster, line, *number, out) {
+            Ok(()) => {}
+            Err(_) => return Err(Halt { line: *number }),
+        }
+    }
+    Ok(())
+}
+
+/// Copies of words, as texts.
+fn texts(alloc: Global, words: &[Word]) -> Result<Vec<Text>, AllocError>
+    ensures { IfOk result (λ texts. texts.items ≡ words.now) }
+{
+    let mut texts = Vec::with_capacity(alloc, words.len())?;
+    for word in words {
+        texts.push(Text::copied(alloc, word.as_str())?)?;
+    }
+    Ok(texts)
+}
+
+/// The cluster of a schedule, before its first line.
+fn newborn(alloc: Global, schedule: &Schedule) -> Result<Cluster, AllocError>
+    ensures { IfOk result (AreNewborn schedule.now.names schedule.now.retention schedule.now.peer_timeout) }
+{
+    let names = texts(alloc, schedule.names.as_slice())?;
+    match Cluster::new(alloc, names, schedule.retention, schedule.peer_timeout) {
+        Ok(cluster) => Ok(cluster),
+        // The names of a schedule that was read are distinct and have 1 to 255 bytes, so it is for want of memory.
+        Err(_) => Err(AllocError),
+    }
+}
+
+/// Plays a schedule: all that it prints.
+///
+/// # Errors
+///
+/// [`Halt`] where memory ran out, with the line at which it did, or 0 before the first line and behind the last.
+pub fn play<P: Progress>(
+    alloc: Global,
+    schedule: &Schedule,
+    progress: &mut P,
+) -> Result<String, Halt>
+    ensures output { IfOk result (λ text. IsOutput schedule.now (string_bytes text)) }
+    ensures halted { IfErr result (λ halt. IsHaltedAt schedule.now halt.line) }
+{
+    let mut cluster = newborn(alloc, schedule)?;
+    let mut out = String::new(alloc);
+    play_lines(&mut cluster, schedule.lines.as_slice(), &mut out, progress)?;
+    tell_reports(&mut out, &cluster)?;
+    Ok(out)
+}

@@ -1,0 +1,84 @@
+//! Schedules from any reader, played to any writer.
+
+ghost use Rattle.std.specs.Prelude.{◌≡◌, ◌≤◌, List, ℕ, length, IfOk, IfErr, IfSome, OnOk, Ok, string_bytes};
+ghost use Rattle.std.specs.Io.KnownBytes.{Appends};
+ghost use Rattle.am_replay.specs.Inputs.{most_bytes};
+ghost use Rattle.am_replay.specs.Replays.{IsReplay, StopsBefore, StopsReplay, StopsText};
+
+use crate::error::ReplayError;
+use crate::input::read_input;
+use crate::player::play;
+use crate::progress::{Progress, Unseen};
+use am_http::send;
+use am_schedule::parse;
+use std::alloc::Global;
+use std::io::{Read, Write};
+
+/// Plays the schedule of a text: all that it prints.
+fn play_text<P: Progress>(
+    alloc: Global,
+    text: &[u8],
+    progress: &mut P,
+) -> Result<String, ReplayError>
+    requires { length text.now ≤ most_bytes }
+    ensures output { IfOk result (λ out. IsReplay text.now (string_bytes out)) }
+    ensures stopped { IfErr result (StopsText text.now) }
+{
+    let schedule = parse(alloc, text)?;
+    Ok(play(alloc, &schedule, progress)?)
+}
+
+/// Reads a schedule and plays it: all that it prints.
+fn played<R: Read, P: Progress>(
+    alloc: Global,
+    reader: &mut R,
+    progress: &mut P,
+) -> Result<String, ReplayError>
+    ensures output { IfOk result (λ out. IfSome (R.remaining reader.old) (λ input. IsReplay input (string_bytes out))) }
+    ensures stopped { IfErr result (StopsBefore (R.remaining reader.old) (R.remaining reader.new)) }
+{
+    let input = read_input(alloc, reader)?;
+    play_text(alloc, &input, progress)
+}
+
+/// Reads a schedule of at most 16,777,216 bytes, plays it, and then writes all that it prints.
+///
+/// # Errors
+///
+/// The first [`ReplayError`] that stands. Where it is [`ReplayError::Write`], a write failed or took nothing: exactly the
+/// first `written` bytes of the output went out, and it is not tried again. Nothing is written at any other.
+pub fn run<R: Read, W: Write>(
+    alloc: Global,
+    reader: &mut R,
+    writer: &mut W,
+) -> Result<(), ReplayError>
+    ensures played { OnOk result ((text : List ℕ) × Appends (W.contents writer.old) (W.contents writer.new) text ×
+        IfSome (R.remaining reader.old) (λ input. IsReplay input text)) }
+    ensures stopped { IfErr result (StopsReplay (R.remaining reader.old) (R.remaining reader.new) W.contents writer.old writer.new) }
+{
+    run_shown(alloc, reader, writer, &mut Unseen)
+}
+
+/// Does as [`run`] does, and tells how far the playing is.
+///
+/// # Errors
+///
+/// Those of [`run`].
+pub fn run_shown<R: Read, W: Write, P: Progress>(
+    alloc: Global,
+    reader: &mut R,
+    writer: &mut W,
+    progress: &mut P,
+) -> Result<(), ReplayError>
+    ensures played { OnOk result ((text : List ℕ) × Appends (W.contents writer.old) (W.contents writer.new) text ×
+        IfSome (R.remaining reader.old) (λ input. IsReplay input text)) }
+    ensures stopped { IfErr result (StopsReplay (R.remaining reader.old) (R.remaining reader.new) W.contents writer.old writer.new) }
+{
+    let text = played(alloc, reader, progress)?;
+    match send(writer, text.as_str().as_bytes()) {
+        Ok(()) => Ok(()),
+        Err(fault) => Err(ReplayError::Write {
+            written: fault.written,
+        }),
+    }
+}
