@@ -8,6 +8,8 @@ mod faults;
 #[cfg(test)]
 mod frames;
 #[cfg(test)]
+mod premises;
+#[cfg(test)]
 mod printed;
 #[cfg(test)]
 mod refusals;
