@@ -10,13 +10,13 @@ use Rattle.std.proofs.lemmas.Option.{slice_get-get_or, slice_get_within}
 use Rattle.am_journal.specs.Accounts.{Account}
 use Rattle.am_runs.specs.Steps.{Step}
 use Rattle.am_runs.specs.Steps.Step.{Back, Refused}
-use Rattle.am_runs.specs.Members.{last_of, member_of, stepped}
+use Rattle.am_runs.specs.Members.{last_of, member_of}
 use Rattle.am_runs.proofs.Pasts.{member_of-push}
 use Rattle.am_cluster.specs.declared.flight.Flight.{Flight}
 use Rattle.am_cluster.specs.declared.error.SettleError.{SettleError}
 use Rattle.am_cluster.specs.declared.error.SettleError.TheVariants as errors
 use Rattle.am_cluster.specs.Worlds.{Replica, World, replica_at, written}
-use Rattle.am_cluster.specs.Settling.{AreMade, AreTurns, CanSettle, HasBacks, HasLate, HasStopped, IsAdmitted, IsRefusedAsBack, IsRefusedAsStopped, IsSettle, all_turns, is_late, late_places, with_backs}
+use Rattle.am_cluster.specs.Settling.{AreTurns, CanSettle, HasBacks, HasLate, HasStopped, IsAdmitted, IsRefusedAsBack, IsRefusedAsStopped, IsSettle, all_turns, is_late, late_places, with_backs}
 use Rattle.am_cluster.specs.Ties.{IsWorld}
 use Rattle.am_cluster.proofs.Goes.{goes_on_idle}
 use Rattle.am_cluster.proofs.Lived.{last_told, same_world}

@@ -16,7 +16,9 @@ use Rattle.am_carried.specs.Contents.{carries, silences_in, entries_in}
 use Rattle.am_record.specs.Recorded.{HasGoneThrough}
 use Rattle.am_cluster.specs.Worlds.{Replica, World, replica_at}
 use Rattle.am_cluster.specs.Lives.{OfMember}
+use Rattle.am_cluster.specs.Settling.{CanLend}
 use Rattle.am_cluster.specs.Ties.{IsWorld}
+use Rattle.am_cluster.proofs.Lived.{for_replica}
 
 module _ (w v : World) (place now : ℕ) (r : Replica) (s : Stand) (frame : Frame) (same : w ≡ v) (is : IsWorld w) (found : replica_at w place ≡ Some r) (stand : r.stand ≡ s)
     (runs : OfMember v place (λ lent. lent.runs ≡ true)) (frame_is : frame ≡ Pull (whole_state s.silences s.log)) where
@@ -42,3 +44,6 @@ module _ (w v : World) (place now : ℕ) (r : Replica) (s : Stand) (frame : Fram
       (subst (λ f. AreFrom entry_version key_cmp (length w.replicas) w.log now (Lent place) (entries_in (carries f))) (sym frame_is)
       (law ((is.members place r found).log.runs ∙ running)
       (subst (λ t. HasGoneThrough entry_version key_cmp (member_of (length w.replicas) place w.log).past (kept_log t)) stand (is.members place r found).log.held)))
+
+pub lendable : (w v : World) (place : ℕ) (r : Replica) (s : Stand) → w ≡ v → replica_at w place ≡ Some r → r.stand ≡ s → CanLend s → OfMember v place (λ lent. CanLend lent.stand)
+lendable w v place r s same found stand can = for_replica (λ u lent. CanLend lent.stand) w v place r same found (subst CanLend (sym stand) can)

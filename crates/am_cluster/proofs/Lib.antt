@@ -14,3 +14,4 @@ pub mod Asked
 pub mod Lent
 pub mod Turned
 pub mod Admitted
+pub mod Settled

@@ -86,7 +86,10 @@ module _ (old : World) (borrower lender now line : ℕ) (new : World) (within : 
       let here = got old.replicas borrower within in
       let there = got old.replicas lender lender_within in
       one_made old (Takes borrower lender) now line new
-      (reply, (here.0, there.0, here.1, there.1, happened_with old borrower here.0 (loan lender there.0.stand) (Lent lender) now line new reply (event there.0 there.1 here.0 here.1)))
+      (elim (event there.0 there.1 here.0 here.1) [
+        | inl unmade ↦ absurd (let e = unmade.error in cc)
+        | inr does ↦ (reply, (here.0, there.0, here.1, there.1, does.0, happened_with old borrower here.0 (loan lender there.0.stand) (Lent lender) now line new reply does.1))
+      ])
 
   pub not_taken : (e : ClusterError) → CanSettle old now → ((replica : Replica) → replica_at old borrower ≡ Some replica → knows_peer replica.stand.config (Some lender) ≡ true) →
       IsTakingOf old borrower lender now line (Err e) new → AreCutShort old (Takes borrower lender ∷ []) now line new
@@ -94,8 +97,13 @@ module _ (old : World) (borrower lender now line : ℕ) (new : World) (within : 
       let here = got old.replicas borrower within in
       let there = got old.replicas lender lender_within in
       one_stopped old (Takes borrower lender) now line new
-      (elim (stopped_by old borrower here.0 (loan lender there.0.stand) (Lent lender) now line new e (ready.runs borrower here.0 here.1) (ready.forward borrower here.0 here.1) (known here.0 here.1) (event there.0 there.1 here.0 here.1))
-      [ inl same ↦ inl same | inr h ↦ inr (here.0, there.0, here.1, there.1, h) ])
+      (elim (event there.0 there.1 here.0 here.1) [
+        | inl unmade ↦ inl unmade.world
+        | inr does ↦ elim (stopped_by old borrower here.0 (loan lender there.0.stand) (Lent lender) now line new e (ready.runs borrower here.0 here.1) (ready.forward borrower here.0 here.1) (known here.0 here.1) does.1) [
+          | inl same ↦ inl same
+          | inr h ↦ inr (here.0, there.0, here.1, there.1, does.0, h)
+        ]
+      ])
 
 -- ---- turns, one after the other
 
@@ -170,7 +178,7 @@ module _ (old : World) (place : ℕ) (replica : Replica) (event : Event) (source
 
 still_made : (old : World) (turn : Turn) (now line : ℕ) (new : World) → CanSettle old now → IsMade old turn now line new → StillCan old now new
 still_made old (Collects place) now line new ready made = still_after old place made.1.0 events.Tick Made now line made.0 new ready made.1.1 made.1.2
-still_made old (Takes borrower lender) now line new ready made = still_after old borrower made.1.0 (loan lender made.1.1.stand) (Lent lender) now line made.0 new ready made.1.2 made.1.4
+still_made old (Takes borrower lender) now line new ready made = still_after old borrower made.1.0 (loan lender made.1.1.stand) (Lent lender) now line made.0 new ready made.1.2 made.1.5
 
 pub still_can : (old : World) (turns : List Turn) (now line : ℕ) (new : World) → CanSettle old now → AreMade old turns now line new → StillCan old now new
 still_can old [] now line new ready made = subst (λ w. StillCan old now w) (sym made) (record { members = refl; ready = ready })

@@ -1,12 +1,19 @@
 -- How the members of a cluster settle: each collects, and then the first takes the maps of all others, and they take its.
-use Rattle.std.specs.Prelude.{◌≡◌, ◌⊎◌, ℕ, ◌-◌, ◌<◌, ◌≤◌, Bool, true, false, List, [], ◌∷◌, ◌++◌, map, filter, length, nat_lt, slice_get, Any, Option, Some, None, Result, Ok, Err}
+use Rattle.std.specs.Prelude.{◌≡◌, ◌⊎◌, ℕ, ◌-◌, ◌<◌, ◌≤◌, Bool, true, false, List, [], ◌∷◌, ◌++◌, map, filter, length, nat_lt, slice_get, All, Any, Option, Some, None, Result, Ok, Err}
 use Rattle.std.specs.List.{range_with_len}
 use Rattle.am_gossip.specs.declared.frame.Frame.TheVariants as frames
 use Rattle.am_instance.specs.declared.event.Event.{Event}
 use Rattle.am_instance.specs.declared.event.Event.TheVariants as events
 use Rattle.am_instance.specs.declared.reply.Reply.{Reply}
 use Rattle.am_instance.specs.Sendings.{whole_state}
-use Rattle.am_instance.specs.Stands.{Stand}
+use Rattle.am_instance.specs.Deliveries.Delivery.{OfEntry, OfSilence}
+use Rattle.am_instance.specs.Laws.{HasMaps}
+use Rattle.am_instance.specs.Stands.{Stand, entry_at, log_in_view, silence_at, silences_in_view}
+use Rattle.am_carried.specs.Contents.{IsReadable}
+use Rattle.am_silence.specs.Mesh.{Mesh, mesh_version}
+use Rattle.am_nflog.specs.Mesh.{Mesh as LogMesh, mesh_version as entry_version}
+use Rattle.am_nflog.specs.declared.entry.LogKey.{LogKey}
+use Rattle.am_runs.specs.Settles.{join_of}
 use Rattle.am_runs.specs.declared.step.Source.TheVariants.{Made, Lent}
 use Rattle.am_runs.specs.Steps.Step.{Back, Refused}
 use Rattle.am_journal.specs.Accounts.{Account}
@@ -15,17 +22,25 @@ use Rattle.am_cluster.specs.declared.error.ClusterError.TheVariants as cluster_e
 use Rattle.am_cluster.specs.declared.error.SettleError.{SettleError}
 use Rattle.am_cluster.specs.declared.error.SettleError.TheVariants as errors
 use Rattle.am_cluster.specs.Worlds.{Replica, World, replica_at, written}
-use Rattle.am_cluster.specs.Events.{HasHappened, IsEvent}
+use Rattle.am_cluster.specs.Events.{HasHappened, IsEvent, IsUnmade}
 use Rattle.am_cluster.specs.Lives.{OfMember}
 
 -- what comes to a member that takes the maps of the one at a place
 abbrev pub loan : ℕ → Stand → Event
 loan lender lent = events.Frame lender (frames.Pull (whole_state lent.silences lent.log))
 
--- what came of a member's taking the maps of another
+-- What can be lent: both maps, and each version in them is a value that is read again where it is written. So what comes
+-- with a loan are the maps.
+pub record CanLend (stand : Stand) : Type 0 where
+  pub maps : HasMaps stand
+  pub silences : All IsReadable (map OfSilence stand.silences)
+  pub log : All IsReadable (map OfEntry stand.log)
+
+-- what came of a member's taking the maps of another: there is no room for them, or they can be lent and come to it
 abbrev pub IsTakingOf : World → ℕ → ℕ → ℕ → ℕ → Result Reply ClusterError → World → Type 0
 IsTakingOf old borrower lender now line result new =
-    OfMember old lender (λ lent. OfMember old borrower (λ replica. IsEvent old borrower replica (loan lender lent.stand) (Lent lender) now line result new))
+    OfMember old lender (λ lent. OfMember old borrower (λ replica. IsUnmade old result new
+    ⊎ (CanLend lent.stand × IsEvent old borrower replica (loan lender lent.stand) (Lent lender) now line result new)))
 
 -- ---- the turns of a settle
 
@@ -55,7 +70,7 @@ IsTurn old (Collects place) now line result new =
     (replica : Replica) × (replica_at old place ≡ Some replica) × HasHappened old place replica events.Tick Made now line result new
 IsTurn old (Takes borrower lender) now line result new =
     (replica : Replica) × (lent : Replica) × (replica_at old borrower ≡ Some replica) × (replica_at old lender ≡ Some lent)
-    × HasHappened old borrower replica (loan lender lent.stand) (Lent lender) now line result new
+    × CanLend lent.stand × HasHappened old borrower replica (loan lender lent.stand) (Lent lender) now line result new
 
 -- a turn was answered
 abbrev pub IsMade : World → Turn → ℕ → ℕ → World → Type 0
@@ -147,3 +162,22 @@ IsSettle old now line (Err errors.Stopped) new = IsRefusedAsStopped old now line
 IsSettle old now line (Err errors.MomentBack) new = IsRefusedAsBack old now line new
 IsSettle old now line (Err errors.Memory) new =
     (new ≡ old) ⊎ (CanSettle old now × AreCutShort old (all_turns (length old.replicas)) now line new)
+
+-- ---- what a settle leaves
+
+-- what the member at a place holds, if there is one
+abbrev pub held_silences : Option Replica → List Mesh
+held_silences None = []
+held_silences (Some replica) = replica.stand.silences
+
+abbrev pub held_log : Option Replica → List LogMesh
+held_log None = []
+held_log (Some replica) = replica.stand.log
+
+-- All members hold one pair of maps: at each key the greatest of what any member held of it that was live.
+pub record HasSettled (old : World) (now : ℕ) (new : World) : Type 0 where
+  pub members : length new.replicas ≡ length old.replicas
+  pub silences : (place : ℕ) (replica : Replica) → replica_at new place ≡ Some replica → (id : List ℕ) →
+      silence_at replica.stand.silences id ≡ join_of mesh_version (length old.replicas) (λ other. silence_at (silences_in_view now (held_silences (replica_at old other)))) id
+  pub log : (place : ℕ) (replica : Replica) → replica_at new place ≡ Some replica → (key : LogKey) →
+      entry_at replica.stand.log key ≡ join_of entry_version (length old.replicas) (λ other. entry_at (log_in_view now (held_log (replica_at old other)))) key

@@ -19,7 +19,7 @@ ghost use Rattle.am_runs.specs.declared.step.Source.TheVariants.{Lent};
 ghost use Rattle.am_runs.specs.Members.{last_of, member_of};
 ghost use Rattle.am_record.specs.Recorded.{HasSource};
 ghost use Rattle.am_cluster.specs.Lives.{OfMember};
-ghost use Rattle.am_cluster.specs.Settling.{AreTurns, CanSettle, HasBacks, HasLate, HasStopped, IsAdmitted, IsSettle, IsTakingOf, all_turns, collections, gatherings, late_places, loan, spreadings};
+ghost use Rattle.am_cluster.specs.Settling.{AreTurns, CanLend, CanSettle, HasBacks, HasLate, HasSettled, HasStopped, IsAdmitted, IsSettle, IsTakingOf, all_turns, collections, gatherings, late_places, loan, spreadings};
 ghost use Rattle.am_cluster.specs.Settling.Turn.{Collects, Takes};
 ghost use Rattle.am_cluster.specs.Worlds.{Replica};
 
@@ -80,6 +80,7 @@ impl Cluster {
         requires within { lender < length self.now.replicas }
         requires runs { OfMember self.now lender (λ lent. lent.runs ≡ true) }
         ensures event { IfOk result (λ event. OfMember self.now lender (λ lent. event ≡ loan lender lent.stand)) }
+        ensures lendable { OnOk result (OfMember self.now lender (λ lent. CanLend lent.stand)) }
         ensures sound { IfOk result (λ event. (settings : Settings) (now : ℕ) → fault_of settings now event ≡ None) }
         ensures silences { IfOk result (λ event. (now : ℕ) → HasSource silences_in mesh_version (slice_cmp nat_cmp) (length self.now.replicas) self.now.silences now event (Lent lender)) }
         ensures log { IfOk result (λ event. (now : ℕ) → HasSource entries_in entry_version key_cmp (length self.now.replicas) self.now.log now event (Lent lender)) }
@@ -244,7 +245,8 @@ impl Cluster {
     }
 
     /// Has every member collect, the first by name take the maps of all others in their order, and each other take the
-    /// first one's. Each taking counts as a delivery, and no frame of it flies.
+    /// first one's. Then all hold the join of what they held that was live. Each taking counts as a delivery, and no
+    /// frame of it flies.
     ///
     /// # Errors
     ///
@@ -252,6 +254,7 @@ impl Cluster {
     /// others, and then nothing has changed.
     pub fn settle(&mut self, now: Moment, line: u64) -> Result<(), SettleError>
         ensures settled { IsSettle self.old now line result self.new }
+        ensures joined { OnOk result (HasSettled self.old now self.new) }
     {
         self.admit(now, line)?;
         self.make_turns(now, line)

@@ -2,6 +2,7 @@
 
 use am_cluster::Cluster;
 use am_instance::ConfigError;
+use am_schedule::{Schedule, Word};
 use am_version_order::Interval;
 use am_wire::Text;
 use std::alloc::Global;
@@ -29,4 +30,19 @@ pub fn texts(alloc: Global, names: &[&str]) -> Option<Vec<Text>> {
 pub fn made(alloc: Global, names: &[&str]) -> Option<Result<Cluster, ConfigError>> {
     let names = texts(alloc, names)?;
     Some(Cluster::new(alloc, names, retention(), peer_timeout()))
+}
+
+// The names of a schedule's members; `None` without memory.
+fn names_of(alloc: Global, words: &[Word]) -> Option<Vec<Text>> {
+    let mut names = Vec::new(alloc);
+    for word in words {
+        names.push(Text::copied(alloc, word.as_str()).ok()?).ok()?;
+    }
+    Some(names)
+}
+
+/// The cluster of a schedule, in which nothing happened yet.
+pub fn begun(alloc: Global, schedule: &Schedule) -> Option<Cluster> {
+    let names = names_of(alloc, schedule.names.as_slice())?;
+    Cluster::new(alloc, names, schedule.retention, schedule.peer_timeout).ok()
 }

@@ -7,3 +7,5 @@ mod beginnings;
 mod fixtures;
 #[cfg(test)]
 mod played;
+#[cfg(test)]
+mod settled;

@@ -1,9 +1,9 @@
 //! Schedules, step by step.
 
+use crate::fixtures::begun;
 use am_cluster::Cluster;
-use am_schedule::{Line, Schedule, Word, parse};
+use am_schedule::{Line, Schedule, parse};
 use am_version_order::Interval;
-use am_wire::Text;
 use std::alloc::Global;
 
 /// Of two members: a version of silence k that goes sooner, and a lesser one that lives longer.
@@ -61,15 +61,6 @@ at 15 a show
 /// fly, how many silences the members hold, and whether the run is timely within two pairs of times.
 type Told = (usize, [Option<u64>; 2], usize, [usize; 2], [bool; 2]);
 
-// The names of a schedule's members; `None` without memory.
-fn names_of(alloc: Global, words: &[Word]) -> Option<Vec<Text>> {
-    let mut names = Vec::new(alloc);
-    for word in words {
-        names.push(Text::copied(alloc, word.as_str()).ok()?).ok()?;
-    }
-    Some(names)
-}
-
 // How many silences the member at a place holds.
 fn held(cluster: &Cluster, place: u64) -> usize {
     match cluster.instance(place) {
@@ -109,9 +100,7 @@ fn play(cluster: &mut Cluster, schedule: &Schedule) -> usize {
 // The run of a schedule; `None` without memory.
 fn played(alloc: Global, text: &str, times: [(u64, u64); 2]) -> Option<Told> {
     let schedule = parse(alloc, text.as_bytes()).ok()?;
-    let names = names_of(alloc, schedule.names.as_slice())?;
-    let made = Cluster::new(alloc, names, schedule.retention, schedule.peer_timeout);
-    let mut cluster = made.ok()?;
+    let mut cluster = begun(alloc, &schedule)?;
     let refused = play(&mut cluster, &schedule);
     told(&cluster, refused, times)
 }

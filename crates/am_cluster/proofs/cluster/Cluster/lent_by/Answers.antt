@@ -2,7 +2,7 @@ use Rattle.std.proofs.Common.{◌≡◌, sym, ap, subst, length}
 use Rattle.std.specs.Prelude.{None}
 use Rattle.am_instance.specs.declared.event.Event.TheVariants as events
 use Rattle.am_instance.specs.Steps.{fault_of}
-use Rattle.am_cluster.proofs.Lent.{lent_log, lent_silences}
+use Rattle.am_cluster.proofs.Lent.{lendable, lent_log, lent_silences}
 use Rattle.am_cluster.proofs.Lived.{found_at, inside}
 use Rattle.am_cluster.proofs.cluster.Cluster.lent_by.Goals as goal
 
@@ -26,3 +26,10 @@ returns-clause-log c = λ now.
     lent_log (record { replicas = c.self.inside.members.items; silences = c.self.inside.journal.silences; log = c.self.inside.journal.log; lines = c.self.inside.journal.lines; flights = c.self.inside.flights.items })
     c.args.self.now c.args.lender now c.index.result.now c.behind-self.inside.instance c.in_ok-frame.frame c.self.view_is c.self.invariant.world found (sym (ap (λ x. x.stand) c.behind-self.view_is)) c.requires.runs c.in_ok-frame.ensures.frame
     (λ runs gone. c.lent_maps_come_from_their_lender.ensures.log (length c.self.inside.members.items) c.args.lender now c.self.inside.journal.log c.behind-self.inside.instance runs gone c.in_ok-frame.ensures.maps c.in_ok-frame.ensures.silences c.in_ok-frame.ensures.log)
+
+pub returns-clause-lendable : goal.returns-clause-lendable
+returns-clause-lendable c =
+    let less = inside _ _ c.args.lender c.self.view_is c.requires.within in
+    let found = found_at c.self.inside.members.items c.args.lender c.index.result.now less c.index.ensures in
+    lendable _ _ c.args.lender c.index.result.now c.behind-self.inside.instance c.self.view_is found (sym (ap (λ x. x.stand) c.behind-self.view_is))
+    (record { maps = c.in_ok-frame.ensures.maps; silences = c.in_ok-frame.ensures.silences; log = c.in_ok-frame.ensures.log })

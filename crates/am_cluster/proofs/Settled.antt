@@ -1,0 +1,364 @@
+-- What a settle leaves: the join of what all members held that was live, everywhere.
+use Rattle.std.proofs.Common.{◌≡◌, ◌≢◌, ◌⊎◌, inl, inr, ℕ, zero, suc, ◌+◌, ◌-◌, ◌<◌, ◌≤◌, Bool, true, false, cond, eqb, List, [], ◌∷◌, ◌++◌, Option, Some, None, Result, Ok, Err, refl, sym, ap, ◌∙◌, subst, slice_get, length, map, set, arith, append-nil}
+use Rattle.std.specs.Prelude.{All, OnOk}
+use Rattle.std.specs.List.{range_with_len}
+use Rattle.std.specs.Ordering.{eq_by_cmp, nat_cmp}
+use Rattle.std.specs.declared.cmp.Ordering.{Ordering}
+use Rattle.std.specs.Cmp.Lexicographic.{slice_cmp}
+use Rattle.std.proofs.lemmas.Bool.{cases_lt}
+use Rattle.std.proofs.lemmas.Bool.Decides.{eqb_tells}
+use Rattle.std.proofs.lemmas.Cmp.{nat_cmp_total, nat_list_cmp_total, on_total, then_total}
+use Rattle.std.proofs.lemmas.List.Elements.{All-nil, All-cons, All-head, All-tail, All-contains}
+use Rattle.std.proofs.lemmas.Map.Lookups.{exact_bytes}
+use Rattle.std.proofs.lemmas.Option.{slice_get_within}
+use Rattle.am_version_order.specs.Versions.{Version, is_below}
+use Rattle.am_version_order.proofs.Ranks.{below_itself, below_trans, tied}
+use Rattle.am_silence.specs.Mesh.{Mesh, IsMesh, mesh_version}
+use Rattle.am_silence.specs.Again.{mesh_exact as silences_exact}
+use Rattle.am_nflog.specs.Mesh.{Mesh as LogMesh, IsMesh as IsLogMesh, mesh_version as entry_version}
+use Rattle.am_nflog.specs.Again.{mesh_exact as entries_exact}
+use Rattle.am_nflog.specs.Keys.{exact_keys, key_cmp}
+use Rattle.am_nflog.specs.declared.entry.LogKey.{LogKey}
+use Rattle.am_merge.specs.Maps.{IsMap, at, greater_of, swept}
+use Rattle.am_merge.proofs.Keys.{IsKeyOrder, at-Contains, at-above, key_order, same_key}
+use Rattle.am_merge.proofs.Joins.{greater_of-assoc, greater_of-comm, greater_of-same}
+use Rattle.am_merge.proofs.Puts.{greater_of-none}
+use Rattle.am_collect.proofs.Greatest.{first_kept}
+use Rattle.am_collect.specs.Events.{after, after_all}
+use Rattle.am_collect.specs.Events.Event.{Delivered}
+use Rattle.am_gossip.specs.declared.frame.Frame.{Frame}
+use Rattle.am_instance.specs.declared.event.Event.TheVariants as events
+use Rattle.am_instance.specs.declared.error.StepError.{StepError}
+use Rattle.am_instance.specs.declared.error.StepError.TheVariants.{Memory, MomentBack, UnknownPeer, Frame as FrameFault}
+use Rattle.am_instance.specs.declared.reply.Outcome.{Outcome}
+use Rattle.am_instance.specs.declared.reply.Reply.{Reply}
+use Rattle.am_instance.specs.Deliveries.{Delivery}
+use Rattle.am_instance.specs.Deliveries.Delivery.{OfEntry, OfSilence}
+use Rattle.am_instance.specs.OneStep.{IsStep}
+use Rattle.am_instance.specs.Stands.{Stand}
+use Rattle.am_instance.specs.Steps.{AreSwept, brought, delivers}
+use Rattle.am_carried.specs.Contents.{IsReadable, entries_in, held_in, silences_in}
+use Rattle.am_carried.proofs.Again.{entries_parted, silences_parted, whole_carries}
+use Rattle.am_record.proofs.Making.{frame_makes_nothing}
+use Rattle.am_record.proofs.States.{log_state, silences_state, takings}
+use Rattle.am_runs.specs.declared.step.Source.{Source}
+use Rattle.am_runs.specs.declared.step.Source.TheVariants.{Lent, Made}
+use Rattle.am_runs.specs.Settles.{join_of}
+use Rattle.am_cluster.specs.declared.error.SettleError.{SettleError}
+use Rattle.am_cluster.specs.Events.{IsTold, with_stand}
+use Rattle.am_cluster.specs.Settling.{AreMade, CanLend, HasSettled, IsMade, IsSettle, Turn, all_turns, collections, gatherings, held_log, held_silences, loan, spreadings}
+use Rattle.am_cluster.specs.Settling.Turn.{Collects, Takes}
+use Rattle.am_cluster.specs.Worlds.{Replica, World, replica_at}
+use Rattle.am_cluster.proofs.Places.{got_other, got_set}
+use Rattle.am_cluster.proofs.Turned.{still_can}
+
+-- ---- joins of maps, at one key
+
+module _ {K X : Type 0} (seen : X → Version K) where
+  -- what a version adds nothing to, it adds nothing to when something greater came
+  kept_below : (u w t : X) (b : Bool) → is_below (seen u) (seen w) ≡ b → cond b (Some w) (Some u) ≡ Some u → is_below (seen u) (seen t) ≡ true → is_below (seen t) (seen w) ≡ false
+  kept_below u w t true less same up = absurd (let one : w ≡ u = cc in let never : is_below (seen u) (seen u) ≡ true = subst (λ x. is_below (seen u) (seen x) ≡ true) one less in let itself = below_itself (seen u) in cc)
+  kept_below u w t false not same up = by (is_below (seen t) (seen w)) refl where
+    by : (b : Bool) → is_below (seen t) (seen w) ≡ b → is_below (seen t) (seen w) ≡ false
+    by true less = absurd (let further = below_trans (seen u) (seen t) (seen w) up less in cc)
+    by false is = is
+
+  kept_by : (u w t : X) (b : Bool) → is_below (seen u) (seen t) ≡ b → greater_of seen (Some u) (Some w) ≡ Some u → greater_of seen (cond b (Some t) (Some u)) (Some w) ≡ cond b (Some t) (Some u)
+  kept_by u w t true up same = first_kept seen t w (kept_below u w t (is_below (seen u) (seen w)) refl same up)
+  kept_by u w t false not same = same
+
+  still_kept : (j s x : Option X) → greater_of seen j x ≡ j → greater_of seen (greater_of seen j s) x ≡ greater_of seen j s
+  still_kept None s x same = ap (greater_of seen s) same ∙ greater_of-none seen s
+  still_kept (Some u) s None same = greater_of-none seen (greater_of seen (Some u) s)
+  still_kept (Some u) None (Some w) same = same
+  still_kept (Some u) (Some t) (Some w) same = kept_by u w t (is_below (seen u) (seen t)) refl same
+
+  -- the join of maps has all of them in it
+  pub covers : (maps : ℕ → K → Option X) (key : K) (n place : ℕ) → place < n → greater_of seen (join_of seen n maps key) (maps place key) ≡ join_of seen n maps key
+  covers maps key zero place less = absurd (omega arith)
+  covers maps key (suc n) place less = by (cases_lt place n) (covers maps key n place) where
+    by : (place < n) ⊎ (n ≤ place) → (place < n → greater_of seen (join_of seen n maps key) (maps place key) ≡ join_of seen n maps key) →
+        greater_of seen (join_of seen (suc n) maps key) (maps place key) ≡ join_of seen (suc n) maps key
+    by (inl earlier) rest = still_kept (join_of seen n maps key) (maps n key) (maps place key) (rest earlier)
+    by (inr last) rest =
+        let here : n ≡ place = omega (arith, less, last) in
+        subst (λ p. greater_of seen (join_of seen (suc n) maps key) (maps p key) ≡ join_of seen (suc n) maps key) here
+        (greater_of-assoc seen (join_of seen n maps key) (maps n key) (maps n key) ∙ ap (greater_of seen (join_of seen n maps key)) (greater_of-same seen (maps n key)))
+
+  module _ (cmp : K → K → Ordering) (keys : IsKeyOrder cmp) where
+    -- taking the versions of a map one after the other joins it
+    taken_one : (held : Option X) (v : X) (vs : List X) (key : K) (b : Bool) → eq_by_cmp cmp (seen v).key key ≡ b → IsMap seen cmp (v ∷ vs) →
+        greater_of seen (greater_of seen held (cond b (Some v) None)) (at seen cmp vs key) ≡ greater_of seen held (cond b (Some v) (at seen cmp vs key))
+    taken_one held v vs key true e is =
+        let same : (seen v).key ≡ key = same_key seen cmp keys (seen v).key key e in
+        let none : at seen cmp vs key ≡ None = subst (λ k. at seen cmp vs k ≡ None) same (at-above seen cmp keys vs (seen v).key is.0) in
+        ap (greater_of seen (greater_of seen held (Some v))) none ∙ greater_of-none seen (greater_of seen held (Some v))
+    taken_one held v vs key false e is = ap (λ o. greater_of seen o (at seen cmp vs key)) (greater_of-none seen held)
+
+    pub taken_all : (held : K → Option X) (now : ℕ) (vs : List X) (key : K) → IsMap seen cmp vs → after_all seen cmp held (takings now vs) key ≡ greater_of seen (held key) (at seen cmp vs key)
+    taken_all held now [] key is = sym (greater_of-none seen (held key))
+    taken_all held now (v ∷ vs) key is = taken_all (after seen cmp held (Delivered v) now) now vs key is.1 ∙ taken_one (held key) v vs key (eq_by_cmp cmp (seen v).key key) refl is
+
+-- ---- what a turn leaves of one state, which `of` has of a member
+
+module _ {K X : Type 0} (seen : X → Version K) (cmp : K → K → Ordering) (of : Option Replica → List X) where
+  -- a member's map is swept
+  pub record IsSweeping (old : World) (place now : ℕ) (new : World) : Type 0 where
+    pub here : of (replica_at new place) ≡ swept seen now (of (replica_at old place))
+    pub others : (q : ℕ) → place ≢ q → of (replica_at new q) ≡ of (replica_at old q)
+
+  -- one is joined with that of another, whose versions are values
+  pub record IsJoining (is_value : X → Type 0) (old : World) (borrower lender : ℕ) (new : World) : Type 0 where
+    pub here : (key : K) → at seen cmp (of (replica_at new borrower)) key ≡ greater_of seen (at seen cmp (of (replica_at old borrower)) key) (at seen cmp (of (replica_at old lender)) key)
+    pub others : (q : ℕ) → borrower ≢ q → of (replica_at new q) ≡ of (replica_at old q)
+    pub values : All is_value (of (replica_at old lender))
+
+module _ {X : Type 0} (of : Option Replica → List X) (old : World) (place : ℕ) (was will : Replica) (new : World) (found : replica_at old place ≡ Some was) (are : new.replicas ≡ set old.replicas place will) where
+  changed_here : of (replica_at new place) ≡ of (Some will)
+  changed_here = ap of (ap (λ rs. slice_get rs place) are ∙ got_set old.replicas place will was found)
+
+  same_elsewhere : (q : ℕ) → place ≢ q → of (replica_at new q) ≡ of (replica_at old q)
+  same_elsewhere q other = ap of (ap (λ rs. slice_get rs q) are ∙ got_other old.replicas place q will other)
+
+-- ---- turns, one after the other
+
+made_apart : (old new : World) (turns more : List Turn) (now line : ℕ) → AreMade old (turns ++ more) now line new → (between : World) × AreMade old turns now line between × AreMade between more now line new
+made_apart old new [] more now line made = (old, refl, made)
+made_apart old new (turn ∷ turns) more now line made =
+    let rest = made_apart made.0 new turns more now line made.2 in
+    (rest.0, (made.0, made.1, rest.1), rest.2)
+
+module _ {K X : Type 0} (seen : X → Version K) (cmp : K → K → Ordering) (keys : IsKeyOrder cmp) (is_value : X → Type 0) (exact : (v w : X) → is_value v → is_value w → seen v ≡ seen w → v ≡ w) (of : Option Replica → List X) (now line : ℕ)
+    (sweeps : (old new : World) (place : ℕ) → IsMade old (Collects place) now line new → IsSweeping seen cmp of old place now new)
+    (joins : (old new : World) (borrower lender : ℕ) → IsMade old (Takes borrower lender) now line new → IsJoining seen cmp of is_value old borrower lender new) (start : World) (count : ℕ) where
+  -- what was live at each member
+  abbrev pub live : ℕ → List X
+  live place = swept seen now (of (replica_at start place))
+
+  abbrev pub maps : ℕ → K → Option X
+  maps place key = at seen cmp (live place) key
+
+  -- all members before a place have collected
+  record AreSweptTo (w : World) (place : ℕ) : Type 0 where
+    done : (q : ℕ) → q < place → of (replica_at w q) ≡ live q
+    left : (q : ℕ) → place ≤ q → of (replica_at w q) ≡ of (replica_at start q)
+
+  swept_one : (w new : World) (place : ℕ) → IsSweeping seen cmp of w place now new → AreSweptTo w place → AreSweptTo new (place + 1)
+  swept_one w new place s so_far = record {
+    done = λ q less. by q less (eqb_tells place q);
+    left = λ q from. s.others q (λ e. omega (arith, e, from)) ∙ so_far.left q (omega (arith, from));
+  } where
+    by : (q : ℕ) → q < place + 1 → ((eqb place q ≡ true) × (place ≡ q)) ⊎ ((eqb place q ≡ false) × (place ≢ q)) → of (replica_at new q) ≡ live q
+    by q less (inl own) = subst (λ p. of (replica_at new p) ≡ live p) own.1 (s.here ∙ ap (swept seen now) (so_far.left place (omega arith)))
+    by q less (inr other) = let apart = other.1 in s.others q apart ∙ so_far.done q (before q less apart) where
+      before : (q : ℕ) → q < place + 1 → place ≢ q → q < place
+      before q less apart = omega arith
+
+  swept_all : (n place : ℕ) (w new : World) → AreSweptTo w place → AreMade w (map Collects (range_with_len place n)) now line new → AreSweptTo new (place + n)
+  swept_all zero place w new so_far made = subst (AreSweptTo new) (omega arith) (subst (λ u. AreSweptTo u place) (sym made) so_far)
+  swept_all (suc n) place w new so_far made =
+      subst (AreSweptTo new) (omega arith) (swept_all n (place + 1) made.0 new (swept_one w made.0 place (sweeps w made.0 place made.1) so_far) made.2)
+
+  -- the first member has the maps of all before a place
+  record HasGathered (w : World) (place : ℕ) : Type 0 where
+    first : (key : K) → at seen cmp (of (replica_at w 0)) key ≡ join_of seen place maps key
+    others : (q : ℕ) → 0 < q → q < count → of (replica_at w q) ≡ live q
+    values : (q : ℕ) → 0 < q → q < place → All is_value (live q)
+
+  gathered_one : (w new : World) (place : ℕ) → 0 < place → place < count → IsJoining seen cmp of is_value w 0 place new → HasGathered w place → HasGathered new (place + 1)
+  gathered_one w new place positive within j so_far = record {
+    first = λ key. j.here key ∙ (ap (λ o. greater_of seen o (at seen cmp (of (replica_at w place)) key)) (so_far.first key)
+        ∙ (ap (λ vs. greater_of seen (join_of seen place maps key) (at seen cmp vs key)) (so_far.others place positive within) ∙ ap (λ n. join_of seen n maps key) next));
+    others = λ q above below. j.others q (λ e. omega (arith, e, above)) ∙ so_far.others q above below;
+    values = λ q above below. by q above below (cases_lt q place);
+  } where
+    next : suc place ≡ place + 1
+    next = omega arith
+
+    by : (q : ℕ) → 0 < q → q < place + 1 → (q < place) ⊎ (place ≤ q) → All is_value (live q)
+    by q above below (inl earlier) = so_far.values q above earlier
+    by q above below (inr last) =
+        let here : place ≡ q = omega (arith, below, last) in
+        subst (λ p. All is_value (live p)) here (subst (All is_value) (so_far.others place positive within) j.values)
+
+  gathered_all : (n place : ℕ) (w new : World) → 0 < place → place + n ≡ count → HasGathered w place → AreMade w (map (λ p. Takes 0 p) (range_with_len place n)) now line new → HasGathered new count
+  gathered_all zero place w new positive all so_far made = subst (HasGathered new) (omega (arith, all)) (subst (λ u. HasGathered u place) (sym made) so_far)
+  gathered_all (suc n) place w new positive all so_far made =
+      gathered_all n (place + 1) made.0 new (omega arith) (omega (arith, all)) (gathered_one w made.0 place positive (omega (arith, all)) (joins w made.0 0 place made.1) so_far) made.2
+
+  -- all members before a place have the join of all
+  record HasSpread (w : World) (place : ℕ) : Type 0 where
+    done : (q : ℕ) → q < place → (key : K) → at seen cmp (of (replica_at w q)) key ≡ join_of seen count maps key
+    left : (q : ℕ) → place ≤ q → q < count → of (replica_at w q) ≡ live q
+
+  -- who takes the join of all has that join
+  joined : (place : ℕ) (whole : List X) (key : K) → place < count → All is_value (live place) → All is_value whole → at seen cmp whole key ≡ join_of seen count maps key →
+      greater_of seen (maps place key) (join_of seen count maps key) ≡ join_of seen count maps key
+  joined place whole key within own all is = greater_of-comm seen (maps place key) (join_of seen count maps key) one ∙ covers seen maps key count place within where
+    one : (v w : X) → maps place key ≡ Some v → join_of seen count maps key ≡ Some w → is_below (seen v) (seen w) ≡ false → is_below (seen w) (seen v) ≡ false → v ≡ w
+    one v w here there not_up not_down =
+        let first = at-Contains seen cmp keys (live place) key v here in
+        let second = at-Contains seen cmp keys whole key w (is ∙ there) in
+        exact v w (All-contains is_value (live place) v own first.1) (All-contains is_value whole w all second.1) (tied (seen v) (seen w) (first.0 ∙ sym second.0) not_up not_down)
+
+  spread_one : (w new : World) (place : ℕ) → 0 < place → place < count → All is_value (live place) → IsJoining seen cmp of is_value w place 0 new → HasSpread w place → HasSpread new (place + 1)
+  spread_one w new place positive within own j so_far = record {
+    done = λ q less key. by q less key (eqb_tells place q);
+    left = λ q from below. j.others q (λ e. omega (arith, e, from)) ∙ so_far.left q (omega (arith, from)) below;
+  } where
+    here : (key : K) → at seen cmp (of (replica_at new place)) key ≡ join_of seen count maps key
+    here key =
+        j.here key ∙ (ap (λ vs. greater_of seen (at seen cmp vs key) (at seen cmp (of (replica_at w 0)) key)) (so_far.left place (omega arith) within)
+        ∙ (ap (greater_of seen (maps place key)) (so_far.done 0 positive key) ∙ joined place (of (replica_at w 0)) key within own j.values (so_far.done 0 positive key)))
+
+    by : (q : ℕ) → q < place + 1 → (key : K) → ((eqb place q ≡ true) × (place ≡ q)) ⊎ ((eqb place q ≡ false) × (place ≢ q)) → at seen cmp (of (replica_at new q)) key ≡ join_of seen count maps key
+    by q less key (inl own) = subst (λ p. at seen cmp (of (replica_at new p)) key ≡ join_of seen count maps key) own.1 (here key)
+    by q less key (inr other) = let apart = other.1 in ap (λ vs. at seen cmp vs key) (j.others q apart) ∙ so_far.done q (before q less apart) key where
+      before : (q : ℕ) → q < place + 1 → place ≢ q → q < place
+      before q less apart = omega arith
+
+  spread_all : (n place : ℕ) (w new : World) → 0 < place → place + n ≡ count → ((q : ℕ) → 0 < q → q < count → All is_value (live q)) → HasSpread w place →
+      AreMade w (map (λ p. Takes p 0) (range_with_len place n)) now line new → HasSpread new count
+  spread_all zero place w new positive all values so_far made = subst (HasSpread new) (omega (arith, all)) (subst (λ u. HasSpread u place) (sym made) so_far)
+  spread_all (suc n) place w new positive all values so_far made =
+      spread_all n (place + 1) made.0 new (omega arith) (omega (arith, all)) values
+      (spread_one w made.0 place positive (omega (arith, all)) (values place positive (omega (arith, all))) (joins w made.0 place 0 made.1) so_far) made.2
+
+  pub all_joined : (new : World) → AreMade start (collections count ++ (gatherings count ++ spreadings count)) now line new →
+      (q : ℕ) → q < count → (key : K) → at seen cmp (of (replica_at new q)) key ≡ join_of seen count maps key
+  all_joined new made q within key =
+      let first = made_apart start new (collections count) (gatherings count ++ spreadings count) now line made in
+      let second = made_apart first.0 new (gatherings count) (spreadings count) now line first.2 in
+      let swept_now : AreSweptTo first.0 count =
+      subst (AreSweptTo first.0) (omega arith) (swept_all count 0 start first.0 (record { done = λ p less. absurd (omega (arith, less)); left = λ p from. refl }) first.1) in
+      let gathered : HasGathered second.0 count = gathered_all (count - 1) 1 first.0 second.0 (omega arith) (omega (arith, within)) (record {
+        first = λ k. ap (λ vs. at seen cmp vs k) (swept_now.done 0 (omega (arith, within)));
+        others = λ p above below. swept_now.done p below;
+        values = λ p above below. absurd (omega (arith, above, below));
+      }) second.1 in
+      let spread : HasSpread new count = spread_all (count - 1) 1 second.0 new (omega arith) (omega (arith, within)) gathered.values (record {
+        done = λ p less k. ap (λ x. at seen cmp (of (replica_at second.0 x)) k) (nought p less) ∙ gathered.first k;
+        left = λ p from below. gathered.others p from below;
+      }) second.2 in
+      spread.done q within key where
+        nought : (p : ℕ) → p < 1 → p ≡ 0
+        nought p less = omega arith
+
+-- ---- both states
+
+-- the orders of their keys
+silence_keys : IsKeyOrder (slice_cmp nat_cmp)
+silence_keys = key_order nat_list_cmp_total exact_bytes
+
+entry_keys : IsKeyOrder key_cmp
+entry_keys = key_order
+    (then_total (on_total (λ (k : LogKey). k.group_key) nat_list_cmp_total)
+    (then_total (on_total (λ (k : LogKey). k.receiver.group_name) nat_list_cmp_total)
+    (then_total (on_total (λ (k : LogKey). k.receiver.integration) nat_list_cmp_total) (on_total (λ (k : LogKey). k.receiver.idx) nat_cmp_total))))
+    exact_keys
+
+values_of : {X : Type 0} (f : X → Delivery) (is_value : X → Type 0) → ((v : X) → IsReadable (f v) → is_value v) → (vs : List X) → All IsReadable (map f vs) → All is_value vs
+values_of f is_value readable [] are = All-nil is_value
+values_of f is_value readable (v ∷ vs) are =
+    All-cons is_value v vs (readable v (All-head IsReadable (f v) (map f vs) are)) (values_of f is_value readable vs (All-tail IsReadable (f v) (map f vs) are))
+
+swept_told : (source : Source) (before after : Stand) (now : ℕ) (answer : Result Outcome StepError) (frames : List (ℕ × Frame)) (reply : Reply) →
+    IsStep before events.Tick now answer after → IsTold source answer frames (Ok reply) → AreSwept now before after
+swept_told source before after now (Ok outcome) frames reply step told = step.swept refl
+swept_told source before after now (Err (MomentBack last)) frames reply step told = absurd told
+swept_told source before after now (Err UnknownPeer) frames reply step told = absurd told
+swept_told source before after now (Err (Memory taken)) frames reply step told = absurd told
+swept_told source before after now (Err (FrameFault fault)) frames reply step told = absurd told
+
+-- what comes with the maps of another is those maps
+lent_whole : (lender now : ℕ) (before lent : Stand) (outcome : Outcome) (after : Stand) → CanLend lent → IsStep before (loan lender lent) now (Ok outcome) after → delivers (loan lender lent) outcome.made ≡ held_in lent.silences lent.log
+lent_whole lender now before lent outcome after can step =
+    ap (λ ds. brought (loan lender lent) ++ ds) (frame_makes_nothing outcome.made step.reply.1)
+    ∙ (append-nil (brought (loan lender lent)) ∙ whole_carries lent.silences lent.log can.silences can.log)
+
+module _ (source : Source) (lender now : ℕ) (before lent after : Stand) (can : CanLend lent) where
+  silences_joined : (answer : Result Outcome StepError) (frames : List (ℕ × Frame)) (reply : Reply) → IsStep before (loan lender lent) now answer after → IsTold source answer frames (Ok reply) → (id : List ℕ) →
+      at mesh_version (slice_cmp nat_cmp) after.silences id ≡ greater_of mesh_version (at mesh_version (slice_cmp nat_cmp) before.silences id) (at mesh_version (slice_cmp nat_cmp) lent.silences id)
+  silences_joined (Ok outcome) frames reply step told id =
+      let held : List ℕ → Option Mesh = at mesh_version (slice_cmp nat_cmp) before.silences in
+      let came = ap silences_in (lent_whole lender now before lent outcome after can step) ∙ silences_parted lent.silences lent.log in
+      step.silences.map id ∙ (ap (λ f. f id) (silences_state.lift now held (delivers (loan lender lent) outcome.made))
+      ∙ (ap (λ vs. after_all mesh_version (slice_cmp nat_cmp) held (takings now vs) id) came ∙ taken_all mesh_version (slice_cmp nat_cmp) silence_keys held now lent.silences id can.maps.silences))
+  silences_joined (Err (MomentBack last)) frames reply step told id = absurd told
+  silences_joined (Err UnknownPeer) frames reply step told id = absurd told
+  silences_joined (Err (Memory taken)) frames reply step told id = absurd told
+  silences_joined (Err (FrameFault fault)) frames reply step told id = absurd told
+
+  log_joined : (answer : Result Outcome StepError) (frames : List (ℕ × Frame)) (reply : Reply) → IsStep before (loan lender lent) now answer after → IsTold source answer frames (Ok reply) → (key : LogKey) →
+      at entry_version key_cmp after.log key ≡ greater_of entry_version (at entry_version key_cmp before.log key) (at entry_version key_cmp lent.log key)
+  log_joined (Ok outcome) frames reply step told key =
+      let held : LogKey → Option LogMesh = at entry_version key_cmp before.log in
+      let came = ap entries_in (lent_whole lender now before lent outcome after can step) ∙ entries_parted lent.silences lent.log in
+      step.log.map key ∙ (ap (λ f. f key) (log_state.lift now held (delivers (loan lender lent) outcome.made))
+      ∙ (ap (λ vs. after_all entry_version key_cmp held (takings now vs) key) came ∙ taken_all entry_version key_cmp entry_keys held now lent.log key can.maps.log))
+  log_joined (Err (MomentBack last)) frames reply step told key = absurd told
+  log_joined (Err UnknownPeer) frames reply step told key = absurd told
+  log_joined (Err (Memory taken)) frames reply step told key = absurd told
+  log_joined (Err (FrameFault fault)) frames reply step told key = absurd told
+
+module _ (now line : ℕ) (old new : World) where
+  silences_sweep : (place : ℕ) → IsMade old (Collects place) now line new → IsSweeping mesh_version (slice_cmp nat_cmp) held_silences old place now new
+  silences_sweep place made =
+      let was = made.1.0 in let h = made.1.2 in let are = ap (λ w. w.replicas) h.world in
+      record {
+        here = changed_here held_silences old place was (with_stand was h.stand) new made.1.1 are
+            ∙ ((swept_told Made was.stand h.stand now h.answer h.frames made.0 h.step h.told).silences ∙ ap (λ o. swept mesh_version now (held_silences o)) (sym made.1.1));
+        others = same_elsewhere held_silences old place was (with_stand was h.stand) new made.1.1 are;
+      }
+
+  log_sweep : (place : ℕ) → IsMade old (Collects place) now line new → IsSweeping entry_version key_cmp held_log old place now new
+  log_sweep place made =
+      let was = made.1.0 in let h = made.1.2 in let are = ap (λ w. w.replicas) h.world in
+      record {
+        here = changed_here held_log old place was (with_stand was h.stand) new made.1.1 are
+            ∙ ((swept_told Made was.stand h.stand now h.answer h.frames made.0 h.step h.told).log ∙ ap (λ o. swept entry_version now (held_log o)) (sym made.1.1));
+        others = same_elsewhere held_log old place was (with_stand was h.stand) new made.1.1 are;
+      }
+
+  silences_join : (borrower lender : ℕ) → IsMade old (Takes borrower lender) now line new → IsJoining mesh_version (slice_cmp nat_cmp) held_silences IsMesh old borrower lender new
+  silences_join borrower lender made =
+      let was = made.1.0 in let lent = made.1.1 in let found = made.1.2 in let there = made.1.3 in let can = made.1.4 in let h = made.1.5 in let are = ap (λ w. w.replicas) h.world in
+      record {
+        here = λ id. ap (λ vs. at mesh_version (slice_cmp nat_cmp) vs id) (changed_here held_silences old borrower was (with_stand was h.stand) new found are)
+            ∙ (silences_joined (Lent lender) lender now was.stand lent.stand h.stand can h.answer h.frames made.0 h.step h.told id
+            ∙ (ap (λ o. greater_of mesh_version (at mesh_version (slice_cmp nat_cmp) (held_silences o) id) (at mesh_version (slice_cmp nat_cmp) lent.stand.silences id)) (sym found)
+            ∙ ap (λ o. greater_of mesh_version (at mesh_version (slice_cmp nat_cmp) (held_silences (replica_at old borrower)) id) (at mesh_version (slice_cmp nat_cmp) (held_silences o) id)) (sym there)));
+        others = same_elsewhere held_silences old borrower was (with_stand was h.stand) new found are;
+        values = subst (λ o. All IsMesh (held_silences o)) (sym there) (values_of OfSilence IsMesh (λ v r. r.value) lent.stand.silences can.silences);
+      }
+
+  log_join : (borrower lender : ℕ) → IsMade old (Takes borrower lender) now line new → IsJoining entry_version key_cmp held_log IsLogMesh old borrower lender new
+  log_join borrower lender made =
+      let was = made.1.0 in let lent = made.1.1 in let found = made.1.2 in let there = made.1.3 in let can = made.1.4 in let h = made.1.5 in let are = ap (λ w. w.replicas) h.world in
+      record {
+        here = λ key. ap (λ es. at entry_version key_cmp es key) (changed_here held_log old borrower was (with_stand was h.stand) new found are)
+            ∙ (log_joined (Lent lender) lender now was.stand lent.stand h.stand can h.answer h.frames made.0 h.step h.told key
+            ∙ (ap (λ o. greater_of entry_version (at entry_version key_cmp (held_log o) key) (at entry_version key_cmp lent.stand.log key)) (sym found)
+            ∙ ap (λ o. greater_of entry_version (at entry_version key_cmp (held_log (replica_at old borrower)) key) (at entry_version key_cmp (held_log o) key)) (sym there)));
+        others = same_elsewhere held_log old borrower was (with_stand was h.stand) new found are;
+        values = subst (λ o. All IsLogMesh (held_log o)) (sym there) (values_of OfEntry IsLogMesh (λ e r. r.value) lent.stand.log can.log);
+      }
+
+pub has_settled : (old new : World) (now line : ℕ) (result : Result Unit SettleError) → IsSettle old now line result new → OnOk result (HasSettled old now new)
+has_settled old new now line (Ok done) is = record {
+  members = members;
+  silences = λ place replica there id.
+      ap (λ o. at mesh_version (slice_cmp nat_cmp) (held_silences o) id) (sym there)
+      ∙ all_joined mesh_version (slice_cmp nat_cmp) silence_keys IsMesh silences_exact held_silences now line (λ o n p made. silences_sweep now line o n p made) (λ o n b l made. silences_join now line o n b l made)
+      old (length old.replicas) new is.1 place (within place replica there) id;
+  log = λ place replica there key.
+      ap (λ o. at entry_version key_cmp (held_log o) key) (sym there)
+      ∙ all_joined entry_version key_cmp entry_keys IsLogMesh entries_exact held_log now line (λ o n p made. log_sweep now line o n p made) (λ o n b l made. log_join now line o n b l made)
+      old (length old.replicas) new is.1 place (within place replica there) key;
+} where
+  members : length new.replicas ≡ length old.replicas
+  members = (still_can old (all_turns (length old.replicas)) now line new is.0 is.1).members
+
+  within : (place : ℕ) (replica : Replica) → replica_at new place ≡ Some replica → place < length old.replicas
+  within place replica there = subst (λ n. place < n) members (slice_get_within new.replicas place replica there)
+has_settled old new now line (Err error) is = tt
