@@ -1,5 +1,5 @@
 -- The faults of reading, of the text and of playing, as those of a call that does all.
-use Rattle.std.proofs.Common.{◌≡◌, ◌≢◌, ℕ, ◌+◌, ◌≤◌, List, [], ◌++◌, length, Option, Some, None, IfSome, Ok, Err, inl, inr, refl, sym, ap, ◌∙◌, subst}
+use Rattle.std.proofs.Common.{◌≡◌, ◌≢◌, ℕ, ◌≤◌, List, [], ◌++◌, length, Option, Some, None, IfSome, Ok, Err, inl, inr, refl, subst}
 use Rattle.std.proofs.KnownBytes.{Consumes-all}
 use Rattle.std.specs.Io.KnownBytes.{Consumes, IsAtEnd}
 use Rattle.am_schedule.specs.declared.error.FaultKind.{FaultKind}
@@ -11,8 +11,8 @@ use Rattle.am_replay.specs.declared.error.ReplayError.{ReplayError}
 use Rattle.am_replay.specs.declared.error.ReplayError.TheVariants.{Read, Schedule as InSchedule, TooLarge, Memory, Write}
 use Rattle.am_replay.specs.Faults.{schedule_fault}
 use Rattle.am_replay.specs.Inputs.{StopsReading, most_bytes}
-use Rattle.am_replay.specs.Playing.{IsHaltedAt, IsOutput}
-use Rattle.am_replay.specs.Replays.{IsFaulty, IsReplay, IsWanting, StopsBefore, StopsReplay, StopsText}
+use Rattle.am_replay.specs.Playing.{IsHaltedAt}
+use Rattle.am_replay.specs.Replays.{IsFaulty, IsWanting, StopsBefore, StopsReplay, StopsText}
 
 -- a fault of the text
 text_faulty : (text : List ℕ) (kind : FaultKind) (error : ScheduleError) → length text ≤ most_bytes → error.kind ≡ kind →
