@@ -1,4 +1,2 @@
 mod Played
-mod Printed
 mod Reported
-mod Stopped

@@ -1,14 +1,10 @@
 -- Lines that are played one after the other, and what they print.
 use Rattle.std.proofs.Common.{◌≡◌, ℕ, ◌+◌, ◌<◌, List, [], ◌∷◌, ◌++◌, refl, sym, ap, ◌∙◌, subst, append_assoc, append-nil, take, drop, length, get_or, suc, take-append-drop, drop-cons}
 use Rattle.std.proofs.lemmas.List.{take_more}
-use Rattle.am_schedule.specs.declared.schedule.Schedule.{Schedule}
 use Rattle.am_schedule.specs.declared.step.Line.{Line}
-use Rattle.am_cluster.specs.Beginnings.{AreNewborn}
 use Rattle.am_cluster.specs.Worlds.{World}
 use Rattle.am_replay.specs.Lines.{Plays}
-use Rattle.am_replay.specs.Members.{names_of}
-use Rattle.am_replay.specs.Playing.{ArePlayed, IsOutput, PlaysAll, Reaches}
-use Rattle.am_replay.specs.Reports.{PrintsReports}
+use Rattle.am_replay.specs.Playing.{ArePlayed, PlaysAll, Reaches}
 
 pub played_append : (a b c : World) (xs ys : List (Line × ℕ)) (t u : List ℕ) → ArePlayed a xs t b → ArePlayed b ys u c → ArePlayed a (xs ++ ys) (t ++ u) c
 played_append a b c [] ys t u first next =
@@ -49,19 +45,4 @@ reached a b lines i line number start mid within is all =
       text = all.text;
       stands = b;
       played = all.played;
-    }
-
--- all lines were played on a newborn cluster, and all members were reported on
-pub output_of : (schedule : Schedule) (begins ends : World) (start mid end : List ℕ) → start ≡ [] → AreNewborn schedule.names schedule.retention schedule.peer_timeout begins →
-    PlaysAll begins schedule.lines ends start mid → PrintsReports ends (names_of ends) mid end → IsOutput schedule end
-output_of schedule begins ends start mid end none newborn all told =
-    record {
-      begins = begins;
-      newborn = newborn;
-      ends = ends;
-      printed = all.text;
-      played = all.played;
-      reports = told.text;
-      calm = told.reports;
-      text_is = told.printed ∙ ap (λ v. v ++ told.text) (all.printed ∙ ap (λ s. s ++ all.text) none);
     }

@@ -1,7 +1,6 @@
 -- What is printed of the steps of a schedule, each line with its end.
 use Rattle.std.specs.Prelude.{◌≡◌, ℕ, Bool, List, [], ◌++◌, Option, Some, None, Result, Ok, Err, option_map, codes}
 use Rattle.std.specs.Borrow.{Bor}
-use Rattle.am_silence.specs.declared.error.SilenceError.{SilenceError}
 use Rattle.am_gossip.specs.Frames.{kind_of}
 use Rattle.am_matcher.specs.declared.muted.Mutes.{Mutes}
 use Rattle.am_instance.specs.Stands.{Stand}

@@ -2,6 +2,7 @@
 
 use am_replay::run;
 use std::alloc::Global;
+use std::process::Abort;
 
 /// A schedule, and its output.
 pub type Row = (&'static str, &'static str);

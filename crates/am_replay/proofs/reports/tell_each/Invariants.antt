@@ -1,5 +1,4 @@
-use Rattle.std.proofs.Common.{◌≡◌, List, ℕ, ◌++◌, drop, string_bytes}
-use Rattle.am_replay.specs.Reports.{AreReportsFrom}
+use Rattle.std.proofs.Common.{string_bytes}
 use Rattle.am_replay.proofs.Reported.{HasTold}
 use Rattle.am_replay.proofs.reports.tell_each.Given as goal
 
