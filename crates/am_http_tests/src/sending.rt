@@ -16,11 +16,17 @@ fn all_bytes_go_out(rt: HostRuntime) {
 
 #[test]
 fn a_write_that_stops_is_told_with_its_place(rt: HostRuntime) {
-    for stop in [Stop::Fails, Stop::TakesNothing] {
-        for k in 1..4usize {
+    for (step, stop) in [
+        (1, Stop::Fails),
+        (1, Stop::TakesNothing),
+        (2, Stop::Fails),
+        (2, Stop::TakesNothing),
+    ] {
+        for k in 1..=5usize.div_ceil(step) {
             let mut writer = two_by_two(rt.alloc(), k, stop);
+            writer.step = step;
             let sent = send(&mut writer, b"abcde");
-            let written = 2 * (k - 1);
+            let written = step * (k - 1);
             let fault = WriteFault {
                 written: written as u64,
             };

@@ -172,12 +172,18 @@ fn views_are_printed(rt: HostRuntime) {
 
 #[test]
 fn a_write_that_stops_leaves_the_first_bytes(rt: HostRuntime) {
-    for stop in [Stop::Fails, Stop::TakesNothing] {
-        for k in 1..=BOTH.len().div_ceil(2) {
+    for (step, stop) in [
+        (1, Stop::Fails),
+        (1, Stop::TakesNothing),
+        (2, Stop::Fails),
+        (2, Stop::TakesNothing),
+    ] {
+        for k in 1..=BOTH.len().div_ceil(step) {
             let mut writer = two_by_two(rt.alloc(), k, stop);
+            writer.step = step;
             let now = at_seconds(45, 0);
             let answer = write_both(rt.alloc(), &SILENCES, &LOG, Some("a"), now, &mut writer);
-            let written = 2 * (k - 1);
+            let written = step * (k - 1);
             let fault = SnapshotError::Write {
                 written: written as u64,
             };
