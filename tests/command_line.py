@@ -440,18 +440,36 @@ def test_cut_output():
         compare("its bytes before the cut", file.read(), ORDERS_OUTPUT[:CUT])
 
 
-# So many lines take over a second.
-LONG = 1_000_000
+# So many settles of 16 members take over a second.
+LONG = 100_000
+
+# What a terminal gives at once at most.
+PIECE = 1 << 16
+
+
+def all_of(terminal):
+    """What was written to a terminal whose other end is closed, and which ends by a failed read."""
+    shown = b""
+    while True:
+        try:
+            piece = os.read(terminal, PIECE)
+        except OSError:
+            return shown.decode()
+        if not piece:
+            return shown.decode()
+        shown += piece
 
 
 def test_progress():
     """How far a long schedule is played is shown on a terminal, and taken away in the end; elsewhere nothing is."""
-    schedule = {"input": b"cluster 1 1 a\n" + b"at 10 a tick\n" * LONG}
-    compare("a long schedule", run([], **schedule), (0, b"calm a\n", ""))
+    names = "abcdefghijklmnop"
+    schedule = {"input": f"cluster 1 1 {' '.join(names)}\n".encode() + b"at 1 settle\n" * LONG}
+    output = b"settled\n" * LONG + "".join(f"calm {name}\n" for name in names).encode()
+    compare("a long schedule", run([], **schedule), (0, output, ""))
     terminal, end = pty.openpty()
-    compare("a long schedule at a terminal", run([], **schedule, stderr=end), (0, b"calm a\n", None))
+    compare("a long schedule at a terminal", run([], **schedule, stderr=end), (0, output, None))
     os.close(end)
-    shown = os.read(terminal, 1 << 16).decode()
+    shown = all_of(terminal)
     os.close(terminal)
     lines = re.fullmatch(rf"(\ram_tool: \d+ of {LONG} lines played)+\r\x1b\[K", shown)
     compare(f"what is shown of it, {shown!r}", lines is not None, True)

@@ -302,6 +302,14 @@ def has_command(lanes, name):
     return lanes.run([PROGRAM, name, "--help"], b"", 0).status == 0
 
 
+def tells_memory(words, given, error):
+    """Whether the line says that memory ran out, for replay with one of the schedule's lines, or 0 where it was at none."""
+    if words[0] != "replay":
+        return error == MEMORY
+    told = re.fullmatch(r"am_tool: Memory(?: (\d+))?\n", error)
+    return bool(told) and int(told[1] or 0) <= given.count(b"\n")
+
+
 def test_jobs(lanes):
     for place, (words, given, wanted) in enumerate(JOBS):
         name = f"am_tool {' '.join(words)}, {place}"
@@ -315,13 +323,16 @@ def test_jobs(lanes):
         not_needed = 0
         for number, ran in runs:
             found, refused = (ran.status, ran.output, ran.error), int(number <= whole.asked)
-            if ran.refused != refused or found != ((4, b"", MEMORY) if refused else (0, wanted, "")):
-                # what is asked for again, in a smaller size, is no want of memory
-                if ran.refused == 1 and found == (0, wanted, "") and ran.asked > whole.asked:
+            if refused and ran.refused == 1 and found[:2] == (4, b"") and tells_memory(words, given, ran.error):
+                continue
+            if refused or ran.refused != 0 or found != (0, wanted, ""):
+                # what is asked for again, in a smaller size, is no want of memory; nor is it where a step of a schedule
+                # makes the bytes of a Delta for which there is no peer, or a settle those of frames that never fly
+                if ran.refused == 1 and found == (0, wanted, "") and (ran.asked > whole.asked or words[0] == "replay"):
                     not_needed += 1
                 else:
                     faults.append(f"{number}: {ran}")
-        settle(name, faults, f"{whole.asked} requests, of which {not_needed} are asked again")
+        settle(name, faults, f"{whole.asked} requests, of which {not_needed} are not needed")
 
 
 # ---- a member
@@ -420,7 +431,7 @@ def test_starts(folder, library):
         file.write(SECOND)
     with open(member.files[1], "wb") as file:
         file.write(ENTRY)
-    faults, number = [], 0
+    faults, number, not_needed = [], 0, 0
     while True:
         number += 1
         listens = member.start(number)
@@ -429,6 +440,10 @@ def test_starts(folder, library):
         refused = member.counts.refused()
         if listens and refused == 0:
             break
+        if listens and refused == 1 and member.lines[0].endswith("loaded 1 silences, 1 entries"):
+            # what is asked for again, in a smaller size, is no want of memory
+            not_needed += 1
+            continue
         told = len(member.lines) == 1 and re.fullmatch(r"am_tool: ((Silences|Log) )?Memory", member.lines[0])
         if listens or refused != 1 or member.process.returncode != 4 or not told:
             faults.append(f"{number}: status {member.process.returncode}, {member.lines}, {refused} refused")
@@ -440,7 +455,9 @@ def test_starts(folder, library):
             faults.append(f"{number}: the files are others: {found}")
     if number == 1:
         faults.append("no request was refused")
-    settle("am_tool instance, its start", faults, f"{number - 1} requests")
+    if not_needed > 1:
+        faults.append(f"{not_needed} requests are not needed, and 1 was to be at most")
+    settle("am_tool instance, its start", faults, f"{number - 1} requests, of which {not_needed} are asked again")
 
 
 # What a member may print where a request was refused while it served a connection.
