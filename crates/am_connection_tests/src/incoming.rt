@@ -5,6 +5,7 @@ use am_connection::{Ended, Fault, connection};
 use am_gossip::FrameError;
 use am_instance::{Instance, Place, StepError};
 use std::alloc::Global;
+use std::process::Abort;
 
 /// How many frames are to be sent, and to whom the first one; whether a Tick was made; why the connection ended.
 type Told = (usize, Option<Place>, bool, Option<Fault>);
@@ -84,23 +85,39 @@ fn wanted(at: u64, fault: Option<Fault>) -> (Told, usize) {
     }
 }
 
-// The first read gives a byte, and the others up to ten: 1, 11, 21, 31, 41, 45, and the end.
+// Sees what comes of reads of so many bytes where the read at a call fails; whether there was such a call.
+fn is_failed_at(rt: &impl Abort, alloc: Global, step: usize, k: usize) -> bool {
+    let mut reader = stepwise(&DELTA_FROM_B, step, k);
+    let heard = heard(alloc, &mut reader, 11);
+    let came = DELTA_FROM_B.len().saturating_sub(reader.left.len()) as u64;
+    let is_failed = reader.calls >= k;
+    let fault = if is_failed {
+        Some(Fault::Read { at: came })
+    } else {
+        None
+    };
+    assert!(rt; heard == Some(wanted(came, fault)), "{step} {k}: {heard:?}");
+    is_failed
+}
+
+// The first read gives a byte, and the others up to ten: 1, 11, 21, 31, 41, 45, and the end; or one each.
 #[test]
 fn each_read_that_fails_ends_it(rt: HostRuntime) {
-    let mut failed = 0;
-    for k in 1..100usize {
-        let mut reader = stepwise(&DELTA_FROM_B, 10, k);
-        let heard = heard(rt.alloc(), &mut reader, 11);
-        let came = DELTA_FROM_B.len().saturating_sub(reader.left.len()) as u64;
-        if reader.calls < k {
-            assert!(rt; heard == Some(wanted(came, None)), "{k}: none failed");
-            break;
+    for (step, reads) in [(1usize, 46usize), (10, 7)] {
+        for k in 1..=reads + 1 {
+            let is_failed = is_failed_at(&rt, rt.alloc(), step, k);
+            assert!(rt; is_failed == (k <= reads), "{step} {k}");
         }
-        let fault = Fault::Read { at: came };
-        assert!(rt; heard == Some(wanted(came, Some(fault))), "{k}: {heard:?}");
-        failed = k;
     }
-    assert_eq!(rt; failed, 7);
+}
+
+// What ends within a greeting or a frame is dropped.
+#[test]
+fn each_end_of_the_input_within_a_frame_is_no_fault(rt: HostRuntime) {
+    for size in 0..DELTA_FROM_B.len() {
+        let heard = heard(rt.alloc(), &mut stepwise(&DELTA_FROM_B[..size], 1, 0), 11);
+        assert!(rt; heard == Some((NOTHING, 0)), "{size}: {heard:?}");
+    }
 }
 
 #[test]

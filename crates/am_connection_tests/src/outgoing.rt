@@ -1,6 +1,6 @@
 //! What is sent to peers.
 
-use crate::streams::{Brittle, failing_at};
+use crate::streams::{Brittle, Stop, failing_at};
 use am_connection::{SendError, send};
 use am_gossip::Frame;
 use std::alloc::Global;
@@ -23,27 +23,28 @@ fn a_greeting_and_frames_go_out(rt: HostRuntime) {
     );
 }
 
-// Each write takes two bytes.
 #[test]
-fn each_write_that_fails_is_told_with_its_place(rt: HostRuntime) {
-    let mut failed = 0;
-    for k in 1..100usize {
-        let mut writer = failing_at(rt.alloc(), k);
-        let sent = send_tick(rt.alloc(), "a", &mut writer);
-        if writer.calls < k {
-            assert!(rt; sent == Ok(5), "{k}: none failed");
-            break;
+fn each_write_that_stops_is_told_with_its_place(rt: HostRuntime) {
+    for (step, stop) in [
+        (1, Stop::Fails),
+        (1, Stop::TakesNothing),
+        (2, Stop::Fails),
+        (2, Stop::TakesNothing),
+    ] {
+        for k in 1..=TICK_OF_A.len().div_ceil(step) {
+            let mut writer = failing_at(rt.alloc(), k);
+            writer.stop = stop;
+            writer.step = step;
+            let sent = send_tick(rt.alloc(), "a", &mut writer);
+            let written = step * (k - 1);
+            let told = SendError::Write {
+                written: written as u64,
+            };
+            let taken = writer.taken.as_slice();
+            assert!(rt; sent == Err(told) && writer.calls == k, "{k}: {sent:?}");
+            assert!(rt; TICK_OF_A.get(..written) == Some(taken), "{k}");
         }
-        let written = 2 * (k - 1);
-        let told = SendError::Write {
-            written: written as u64,
-        };
-        let taken = writer.taken.as_slice();
-        assert!(rt; sent == Err(told) && writer.calls == k, "{k}: {sent:?}");
-        assert!(rt; TICK_OF_A.get(..written) == Some(taken), "{k}");
-        failed = k;
     }
-    assert_eq!(rt; failed, 3);
 }
 
 #[test]

@@ -43,12 +43,21 @@ pub fn stepwise(left: &[u8], step: usize, fails_at: usize) -> Fitful<'_> {
     }
 }
 
-/// A writer over memory that takes at most two bytes a call, and fails at a call (0: at none).
+/// What a writer does at the call at which it stops.
+#[derive(Clone, Copy, PartialEq, Eq)]
+pub enum Stop {
+    Fails,
+    TakesNothing,
+}
+
+/// A writer over memory that takes at most `step` bytes a call, and stops at a call (0: at none).
 #[derive(Drop)]
 pub struct Brittle {
     pub taken: Vec<u8>,
+    pub step: usize,
     pub calls: usize,
-    pub fails_at: usize,
+    pub stops_at: usize,
+    pub stop: Stop,
 }
 
 impl Write for Brittle {
@@ -56,10 +65,13 @@ impl Write for Brittle {
 
     fn write(&mut self, buf: &[u8]) -> io::Result<usize> {
         self.calls = self.calls.saturating_add(1);
-        if self.calls == self.fails_at {
-            return Err(io::Error::from(io::ErrorKind::BrokenPipe));
+        if self.calls == self.stops_at {
+            return match self.stop {
+                Stop::Fails => Err(io::Error::from(io::ErrorKind::BrokenPipe)),
+                Stop::TakesNothing => Ok(0),
+            };
         }
-        let n = buf.len().min(2);
+        let n = self.step.min(buf.len());
         self.taken.extend_from_slice(&buf[..n])?;
         Ok(n)
     }
@@ -85,12 +97,14 @@ impl Write for Closed {
     }
 }
 
-/// Nothing taken so far.
-pub fn failing_at(alloc: Global, fails_at: usize) -> Brittle {
+/// Nothing taken so far; at most two bytes a call, and a failure at one.
+pub fn failing_at(alloc: Global, stops_at: usize) -> Brittle {
     Brittle {
         taken: Vec::new(alloc),
+        step: 2,
         calls: 0,
-        fails_at,
+        stops_at,
+        stop: Stop::Fails,
     }
 }
 

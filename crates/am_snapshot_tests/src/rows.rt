@@ -35,28 +35,49 @@ fn a_row_is_loaded_and_saved_in_key_order(rt: HostRuntime) {
     }
 }
 
+/// How many bytes a writer takes a call, at which call it stops, how, and how many bytes went out by then.
+type Stopped = (usize, usize, Stop, usize);
+
+/// A writer that stops at each of the calls that the rows ask for, in pieces of one byte and of two.
+const STOPPED: [Stopped; 18] = [
+    (1, 1, Stop::Fails, 0),
+    (1, 2, Stop::Fails, 1),
+    (1, 3, Stop::Fails, 2),
+    (1, 4, Stop::Fails, 3),
+    (1, 5, Stop::Fails, 4),
+    (1, 6, Stop::Fails, 5),
+    (1, 1, Stop::TakesNothing, 0),
+    (1, 2, Stop::TakesNothing, 1),
+    (1, 3, Stop::TakesNothing, 2),
+    (1, 4, Stop::TakesNothing, 3),
+    (1, 5, Stop::TakesNothing, 4),
+    (1, 6, Stop::TakesNothing, 5),
+    (2, 1, Stop::Fails, 0),
+    (2, 2, Stop::Fails, 2),
+    (2, 3, Stop::Fails, 4),
+    (2, 1, Stop::TakesNothing, 0),
+    (2, 2, Stop::TakesNothing, 2),
+    (2, 3, Stop::TakesNothing, 4),
+];
+
 /// The answer of the call after it is that of a call which nothing failed before.
 #[test]
 fn a_stopped_save_leaves_the_first_bytes(rt: HostRuntime) {
-    for (k, stop, written) in [
-        (1, Stop::Fails, 0),
-        (2, Stop::Fails, 2),
-        (3, Stop::Fails, 4),
-        (1, Stop::TakesNothing, 0),
-        (2, Stop::TakesNothing, 2),
-        (3, Stop::TakesNothing, 4),
-    ] {
+    for (step, k, stop, written) in STOPPED {
         let mut writer = two_by_two(rt.alloc(), k, stop);
+        writer.step = step;
         let answer = resaved(rt.alloc(), &mut ROWS.as_slice(), &mut writer);
         let fault = SnapshotError::Write {
             written: written as u64,
         };
-        assert!(rt; answer == Err(fault), "{k}");
-        assert!(rt; writer.taken.as_slice() == &ROWS[..written], "{k}");
+        assert!(rt; answer == Err(fault), "{step} {k}");
+        let taken = writer.taken.as_slice();
+        assert!(rt; ROWS.get(..written) == Some(taken), "{step} {k}");
         assert!(rt; writer.calls == k, "tried again");
         let next = resaved(rt.alloc(), &mut ROWS.as_slice(), &mut writer);
-        assert!(rt; next == Ok(6), "{k}");
-        assert!(rt; writer.taken.len() == written + 6, "{k}");
+        assert!(rt; next == Ok(6), "{step} {k}");
+        let added = writer.taken.len().checked_sub(written);
+        assert!(rt; added == Some(6), "{step} {k}");
     }
 }
 
@@ -208,18 +229,16 @@ fn a_fold_writes_the_best_of_each_key(rt: HostRuntime) {
 
 #[test]
 fn a_stopped_fold_leaves_the_first_bytes(rt: HostRuntime) {
-    for (k, stop, written) in [
-        (1, Stop::Fails, 0),
-        (2, Stop::Fails, 2),
-        (3, Stop::TakesNothing, 4),
-    ] {
+    for (step, k, stop, written) in STOPPED {
         let mut writer = two_by_two(rt.alloc(), k, stop);
+        writer.step = step;
         let answer = folded(rt.alloc(), &mut ROWS.as_slice(), &mut writer);
         let fault = FoldError::Write {
             written: written as u64,
         };
-        assert!(rt; answer == Err(fault), "{k}");
-        assert!(rt; writer.taken.as_slice() == &ROWS[..written], "{k}");
+        assert!(rt; answer == Err(fault), "{step} {k}");
+        let taken = writer.taken.as_slice();
+        assert!(rt; ROWS.get(..written) == Some(taken), "{step} {k}");
         assert!(rt; writer.calls == k, "tried again");
     }
 }
@@ -227,10 +246,14 @@ fn a_stopped_fold_leaves_the_first_bytes(rt: HostRuntime) {
 #[test]
 fn a_cut_row_is_folded_up_to_nothing(rt: HostRuntime) {
     for (n, at) in [(1, 0), (2, 0), (4, 3), (5, 3)] {
+        let cut = WireError::Truncated { at };
+        let loaded = load_fault(rt.alloc(), &mut one_by_one(&ROWS[..n], 0));
+        assert!(rt; loaded == Some(SnapshotError::Wire(cut)), "{n}");
+        let refused = row_fault(rt.alloc(), &mut one_by_one(&ROWS[..n], 0));
+        assert!(rt; refused == Some(RowFault::Wire(cut)), "{n}");
         let mut writer = in_one(rt.alloc());
-        let answer = folded(rt.alloc(), &mut &ROWS[..n], &mut writer);
-        let fault = FoldError::Wire(WireError::Truncated { at });
-        assert!(rt; answer == Err(fault), "{n}");
+        let answer = folded(rt.alloc(), &mut one_by_one(&ROWS[..n], 0), &mut writer);
+        assert!(rt; answer == Err(FoldError::Wire(cut)), "{n}");
         assert!(rt; writer.calls == 0, "{n}");
     }
 }
