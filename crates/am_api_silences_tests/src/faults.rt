@@ -51,11 +51,26 @@ fn a_read_that_fails_makes_no_step(rt: HostRuntime) {
     assert!(rt; wrong == Some(None), "{wrong:?}");
 }
 
-/// What is served of a post whose reply is written in pieces of ten bytes, where a write stops.
-fn served_to(alloc: Global, instance: &mut Instance, stops_at: usize, stop: Stop) -> (Seen, usize) {
+/// At which call the writing of a reply stops, how, and how many bytes a call takes.
+#[derive(Clone, Copy)]
+struct Writing {
+    stops_at: usize,
+    stop: Stop,
+    step: usize,
+}
+
+/// Ten bytes a call, to the end.
+const WHOLE: Writing = Writing {
+    stops_at: 0,
+    stop: Stop::Fails,
+    step: 10,
+};
+
+/// What is served of a post whose reply is written so, and how many bytes are.
+fn served_to(alloc: Global, instance: &mut Instance, writing: Writing) -> (Seen, usize) {
     let mut reader = stepwise(POST, 1_000, 0);
-    let mut writer = writer(alloc, stops_at, stop);
-    writer.step = 10;
+    let mut writer = writer(alloc, writing.stops_at, writing.stop);
+    writer.step = writing.step;
     let seen = serve_it(
         alloc,
         instance,
@@ -68,17 +83,28 @@ fn served_to(alloc: Global, instance: &mut Instance, stops_at: usize, stop: Stop
 }
 
 /// What is served by a new member of two, and whether the silence is held then.
-fn posted_to(alloc: Global, stops_at: usize, stop: Stop) -> Option<(Seen, usize, bool)> {
+fn posted_to(alloc: Global, writing: Writing) -> Option<(Seen, usize, bool)> {
     let mut instance = member(alloc, &["b"])?;
-    let (seen, taken) = served_to(alloc, &mut instance, stops_at, stop);
+    let (seen, taken) = served_to(alloc, &mut instance, writing);
     Some((seen, taken, instance.silences().len() == 1))
 }
 
+/// The reply has 142 bytes.
 #[test]
 fn the_step_stands_where_a_write_stops(rt: HostRuntime) {
-    for stop in [Stop::Fails, Stop::TakesNothing] {
-        for k in 1..15usize {
-            let taken = 10 * (k - 1);
+    for (step, stop) in [
+        (1, Stop::Fails),
+        (1, Stop::TakesNothing),
+        (10, Stop::Fails),
+        (10, Stop::TakesNothing),
+    ] {
+        for stops_at in 1..=142usize.div_ceil(step) {
+            let writing = Writing {
+                stops_at,
+                stop,
+                step,
+            };
+            let taken = step * (stops_at - 1);
             let wanted = Seen {
                 status: Some(200),
                 frames: 1,
@@ -87,8 +113,11 @@ fn the_step_stands_where_a_write_stops(rt: HostRuntime) {
                     written: taken as u64,
                 }),
             };
-            let served = posted_to(rt.alloc(), k, stop);
-            assert!(rt; served == Some((wanted, taken, true)), "{k}: {served:?}");
+            let served = posted_to(rt.alloc(), writing);
+            assert!(rt;
+                served == Some((wanted, taken, true)),
+                "{stops_at}: {served:?}"
+            );
         }
     }
 }
@@ -96,12 +125,12 @@ fn the_step_stands_where_a_write_stops(rt: HostRuntime) {
 /// Whether a post that finds no memory can be made again, or stands; `None` where there was none for the instance.
 fn is_made_again(alloc: Global) -> Option<bool> {
     let mut instance = member(alloc, &["b"])?;
-    let (first, _) = served_to(alloc, &mut instance, 0, Stop::Fails);
+    let (first, _) = served_to(alloc, &mut instance, WHOLE);
     if first.status == Some(200) {
         return Some(true);
     }
     let held = instance.silences().len();
-    let (again, _) = served_to(alloc, &mut instance, 0, Stop::Fails);
+    let (again, _) = served_to(alloc, &mut instance, WHOLE);
     let wanted = if held == 0 { Some(200) } else { Some(500) };
     Some(first.status == Some(500) && again.status == wanted)
 }

@@ -215,7 +215,7 @@ fn a_silence_that_is_held(rt: HostRuntime) {
 
 /// Two faults a row, of which the one that is tested first is told; in the first rows the clock ran back too, since the
 /// last moment is 10 s.
-const PAIRS: [Exchange; 18] = [
+const PAIRS: [Exchange; 19] = [
     (
         (5, 0),
         0,
@@ -346,6 +346,8 @@ const PAIRS: [Exchange; 18] = [
         FAILED,
         "\"newer version held\"",
     ),
+    // The id is in use too.
+    ((100, 0), 0, POST, FINE, BAD, "\"end in the past\""),
 ];
 
 #[test]
