@@ -26,3 +26,10 @@ whole_of seconds nanos h = omega arith
 
 pub rest_of : (seconds nanos : ℕ) → nanos < 1_000_000_000 → (seconds * 1_000_000_000 + nanos) % 1_000_000_000 ≡ nanos
 rest_of seconds nanos h = omega arith
+
+-- ---- and the halves of its seconds in theirs
+pub high_of : (high low : ℕ) → low < 4_294_967_296 → (high * 4_294_967_296 + low) / 4_294_967_296 ≡ high
+high_of high low h = omega arith
+
+pub low_of : (high low : ℕ) → low < 4_294_967_296 → (high * 4_294_967_296 + low) % 4_294_967_296 ≡ low
+low_of high low h = omega arith
