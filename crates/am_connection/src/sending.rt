@@ -8,19 +8,16 @@ ghost use Rattle.am_connection.specs.Outgoing.{all_fit, greeting_text, is_name, 
 ghost use Rattle.am_connection.specs.declared.error.SendError.TheVariants as errors;
 
 use crate::error::SendError;
-use am_gossip::{Frame, FrameError, append_frame, frame_fits};
+use am_gossip::{Frame, FrameError, MOST_NAME_BYTES, append_frame, frame_fits};
 use am_wire::write_varint;
 use std::alloc::{AllocError, Global};
 use std::io::Write;
-
-/// The most bytes of a member's name.
-const MOST_NAME_BYTES: usize = 255;
 
 /// Whether a greeting may have this name.
 fn is_name(name: &str) -> bool
     ensures { result ≡ is_name name.now }
 {
-    !name.is_empty() && name.len() <= MOST_NAME_BYTES
+    !name.is_empty() && name.len() as u64 <= MOST_NAME_BYTES
 }
 
 /// Whether each frame keeps its limit.

@@ -7,7 +7,7 @@ use crate::error::FrameError;
 use am_wire::{WireError, read_varint};
 
 /// The most bytes of a member's name.
-const MOST_NAME_BYTES: u64 = 255;
+pub const MOST_NAME_BYTES: u64 = 255;
 
 /// The name at the front of the bytes, behind `start` others.
 fn name_from(bytes: &[u8], size: usize, start: usize) -> Result<Option<(&str, usize)>, FrameError>

@@ -20,5 +20,5 @@ pub use encode::{append_frame, delta_fits, encode_frame, frame_fits, states_fit}
 pub use error::FrameError;
 pub use feeder::{Fed, Feeder};
 pub use frame::{Frame, FullState, Part, StateKey};
-pub use hello::read_hello;
+pub use hello::{MOST_NAME_BYTES, read_hello};
 pub use kind::FrameKind;

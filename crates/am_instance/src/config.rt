@@ -9,13 +9,11 @@ ghost use Rattle.am_instance.specs.declared.error.ConfigError.TheVariants as err
 use crate::error::ConfigError;
 use crate::event::Place;
 use am_dedup::due;
+use am_gossip::MOST_NAME_BYTES;
 use am_version_order::{Interval, Moment};
 use am_wire::Text;
 use std::alloc::{AllocError, Global};
 use std::marker::Model;
-
-/// The most bytes of a member's name.
-const MOST_NAME_BYTES: usize = 255;
 
 /// Whether a name has no byte.
 fn is_empty(name: &Text) -> bool
@@ -28,7 +26,7 @@ fn is_empty(name: &Text) -> bool
 fn is_long(name: &Text) -> bool
     ensures { IsTrue result ↔ IsLongName name.now }
 {
-    name.as_str().len() > MOST_NAME_BYTES
+    name.as_str().len() as u64 > MOST_NAME_BYTES
 }
 
 /// Whether one of the names has no byte.

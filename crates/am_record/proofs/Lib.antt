@@ -5,6 +5,5 @@ pub mod Sendings
 pub mod Happening
 pub mod BothStates
 pub mod Lending
-pub mod Outlines
 pub mod Outgoing
 pub mod Counting

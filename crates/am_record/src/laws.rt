@@ -14,7 +14,7 @@ ghost use Rattle.am_runs.specs.declared.step.Source.{Source};
 ghost use Rattle.am_runs.specs.declared.step.Source.TheVariants.{Arrived, Lent};
 ghost use Rattle.am_runs.specs.Steps.{Step, flights_of};
 ghost use Rattle.am_runs.specs.Steps.Step.{Started};
-ghost use Rattle.am_runs.specs.Members.{Member, last_of, member_of, stepped};
+ghost use Rattle.am_runs.specs.Members.{Member, member_of, stepped};
 ghost use Rattle.am_runs.specs.Runs.{AreFrom, IsPossible};
 ghost use Rattle.am_instance.specs.declared.event.Event.{Event};
 ghost use Rattle.am_instance.specs.declared.event.Event.TheVariants as events;
@@ -22,7 +22,6 @@ ghost use Rattle.am_instance.specs.declared.error.StepError.{StepError};
 ghost use Rattle.am_instance.specs.declared.reply.Made.{Made};
 ghost use Rattle.am_instance.specs.declared.reply.Outcome.{Outcome};
 ghost use Rattle.am_instance.specs.Configs.{Settings};
-ghost use Rattle.am_instance.specs.Deliveries.{Delivery};
 ghost use Rattle.am_instance.specs.Deliveries.Delivery.{OfSilence, OfEntry};
 ghost use Rattle.am_instance.specs.Stands.{Stand, kept_log, kept_silences};
 ghost use Rattle.am_instance.specs.Steps.{brought, counts, delivers, fault_of};
@@ -31,7 +30,6 @@ ghost use Rattle.am_instance.specs.Sendings.{whole_state};
 ghost use Rattle.am_instance.specs.Laws.{HasMaps};
 ghost use Rattle.am_carried.specs.Contents.{carries, entries_in, held_in, silences_in, IsReadable, IsValue};
 ghost use Rattle.am_record.specs.Recorded.{AreInFlight, AreValues, HasGoneThrough, HasSource, event_step, flights_in};
-ghost use Rattle.am_record.specs.Twins.{AreTwins, IsTwin};
 
 pub use crate::sent::{collecting_leaves_nothing_out, few_are_made, sent_frames_are_sound};
 use am_nflog::MeshEntry;
@@ -139,19 +137,4 @@ pub fn frames_come_from_their_flights()
     ensures log { (members now number sent : ℕ) (before : List (Step LogMesh)) (frame : Frame) →
         slice_get (flights_of before) number ≡ Some (record { sent = sent; versions = entries_in (carries frame) }) →
         AreFrom entry_version key_cmp members before now (Arrived number) (entries_in (carries frame)) }
-{}
-
-/// A step is recorded alike in both runs, so that members run in both or in neither, have the same last moments, and frames
-/// have the same numbers and moments.
-pub fn twins()
-    ensures steps { (place now : ℕ) (source : Source) (event : Event) (answer : Result Outcome StepError) (frames : List (ℕ × Frame)) →
-        IsTwin (event_step silences_in place now source event answer frames) (event_step entries_in place now source event answer frames) }
-    ensures more { (steps : List (Step Mesh)) (others : List (Step LogMesh)) (step : Step Mesh) (other : Step LogMesh) → AreTwins steps others → IsTwin step other →
-        AreTwins (steps ++ step ∷ []) (others ++ other ∷ []) }
-    ensures runs { (members place : ℕ) (steps : List (Step Mesh)) (others : List (Step LogMesh)) → AreTwins steps others →
-        (member_of members place steps).runs ≡ (member_of members place others).runs }
-    ensures last { (members place : ℕ) (steps : List (Step Mesh)) (others : List (Step LogMesh)) → AreTwins steps others →
-        last_of (member_of members place steps) ≡ last_of (member_of members place others) }
-    ensures sent { (steps : List (Step Mesh)) (others : List (Step LogMesh)) → AreTwins steps others →
-        map (λ flight. flight.sent) (flights_of steps) ≡ map (λ flight. flight.sent) (flights_of others) }
 {}
