@@ -9,6 +9,7 @@ use Rattle.am_cluster.specs.Worlds.{Replica, World, replica_at, with_replica, wr
 abbrev pub saved : Replica → Replica
 saved replica = record replica { saved_silences = replica.stand.silences; saved_log = replica.stand.log }
 
+-- the member runs no more; its maps stay as they are
 abbrev pub stopped : Replica → Replica
 stopped replica = record replica { runs = false }
 

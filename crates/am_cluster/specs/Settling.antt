@@ -61,6 +61,7 @@ gatherings members = map (λ place. Takes 0 place) (range_with_len 1 (members - 
 abbrev pub spreadings : ℕ → List Turn
 spreadings members = map (λ place. Takes place 0) (range_with_len 1 (members - 1))
 
+-- the turns of a settle, in their order
 abbrev pub all_turns : ℕ → List Turn
 all_turns members = collections members ++ (gatherings members ++ spreadings members)
 
@@ -116,6 +117,7 @@ HasStopped replicas = Any (λ replica. replica.runs ≡ false) replicas
 abbrev pub HasLate : ℕ → List Replica → Type 0
 HasLate now replicas = Any (λ replica. now < replica.stand.last) replicas
 
+-- whether the last moment of a member, if there is one, is after this one
 abbrev pub is_late : ℕ → Option Replica → Bool
 is_late now None = false
 is_late now (Some replica) = nat_lt now replica.stand.last
@@ -170,6 +172,7 @@ abbrev pub held_silences : Option Replica → List Mesh
 held_silences None = []
 held_silences (Some replica) = replica.stand.silences
 
+-- and the entries
 abbrev pub held_log : Option Replica → List LogMesh
 held_log None = []
 held_log (Some replica) = replica.stand.log

@@ -27,11 +27,12 @@ use Rattle.am_cluster.specs.Lives.{IsSave, IsStart, IsStop, OfMember}
 use Rattle.am_cluster.specs.Losing.{IsLoss}
 use Rattle.am_cluster.specs.Worlds.{Replica, World, replica_at}
 
--- the place of the member of a name, as the first member is told of all of them
+-- the place of the member of a name, as a member is told of all of them
 abbrev pub named_by : Option Replica → List ℕ → Option ℕ
 named_by None name = None
 named_by (Some replica) name = place_named replica.stand.config name
 
+-- as the first member is
 abbrev pub place_in : World → List ℕ → Option ℕ
 place_in world name = named_by (replica_at world 0) name
 

@@ -39,6 +39,7 @@ pub record IsMember (world : World) (q : ℕ) (replica : Replica) : Type 0 where
 abbrev pub silences_of : Flight → List Mesh
 silences_of flight = silences_in (carries flight.frame)
 
+-- and the entries
 abbrev pub entries_of : Flight → List LogMesh
 entries_of flight = entries_in (carries flight.frame)
 
@@ -64,6 +65,7 @@ abbrev pub AreAscending : List Flight → Type 0
 AreAscending [] = Unit {0}
 AreAscending (flight ∷ flights) = AllByRecursion (λ other. flight.number < other.number) flights × AreAscending flights
 
+-- each member stands as its past tells, each frame in flight was sent, and they stand by their numbers
 pub record IsWorld (world : World) : Type 0 where
   pub members : (place : ℕ) (replica : Replica) → replica_at world place ≡ Some replica → IsMember world place replica
   pub flights : (flight : Flight) → Contains world.flights flight → IsFlying world flight

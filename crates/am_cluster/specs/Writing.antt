@@ -17,6 +17,7 @@ use Rattle.am_cluster.specs.declared.writing.Delivered.{Delivered}
 abbrev pub took_silences : Entry → Delivered → List (ℕ × Frame) → Step Mesh
 took_silences entry versions frames = Took entry.place entry.moment entry.source versions.silences.items (sent_in silences_in frames)
 
+-- the same of the log
 abbrev pub took_entries : Entry → Delivered → List (ℕ × Frame) → Step LogMesh
 took_entries entry versions frames = Took entry.place entry.moment entry.source versions.log.items (sent_in entries_in frames)
 

@@ -53,6 +53,7 @@ notified group = events.Notified group.group (receiver_of group.receiver) group.
 abbrev pub decide : GroupLine → Bool → Event
 decide group wanted = events.Decide group.group (receiver_of group.receiver) group.firing group.resolved group.repeat wanted
 
+-- a pair of words of a line, as a label
 abbrev pub label_of : Pair → Label
 label_of pair = record { name = pair.name; value = pair.value }
 

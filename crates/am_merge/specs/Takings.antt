@@ -19,10 +19,11 @@ module _ {K X : Type 0} (seen : X → Version K) (cmp : K → K → Ordering) wh
     pub changed : IsTrue (replaces seen cmp map v) ↔ (new ≢ map)
     pub kept : replaces seen cmp map v ≡ false → new ≡ map
 
-  -- how many keys come with v, and how many versions: 1 or 0
+  -- how many keys come with v: 1 or 0
   abbrev pub new_keys : List X → X → ℕ
   new_keys map v = if is_none (at seen cmp map (seen v).key) then 1 else 0
 
+  -- and how many versions: 1 or 0
   abbrev pub new_versions : List X → X → ℕ
   new_versions map v = if replaces seen cmp map v then 1 else 0
 

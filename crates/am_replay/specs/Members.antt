@@ -13,6 +13,7 @@ abbrev pub names_by : Option Stand → List (List ℕ)
 names_by None = []
 names_by (Some stand) = stand.config.members
 
+-- as the first member of a cluster has them
 abbrev pub names_of : World → List (List ℕ)
 names_of world = names_by (stand_at world 0)
 
@@ -21,6 +22,7 @@ abbrev pub name_by : Option Stand → ℕ → List ℕ
 name_by None place = []
 name_by (Some stand) place = unwrap_or (slice_get stand.config.members place) []
 
+-- as the first member of a cluster has it
 abbrev pub name_at : World → ℕ → List ℕ
 name_at world place = name_by (stand_at world 0) place
 
@@ -34,5 +36,6 @@ abbrev pub stand_by : World → Option ℕ → Option Stand
 stand_by world None = None
 stand_by world (Some place) = stand_at world place
 
+-- how the member of a name stands
 abbrev pub stand_named : World → List ℕ → Option Stand
 stand_named world name = stand_by world (place_by (stand_at world 0) name)

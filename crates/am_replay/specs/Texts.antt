@@ -89,6 +89,7 @@ step_refusal (errors.MomentBack last) = Some refusals.MomentBack
 step_refusal errors.UnknownPeer = Some refusals.UnknownPeer
 step_refusal errors.Memory = None
 
+-- and of a settle
 abbrev pub settle_refusal : SettleError → Option Refusal
 settle_refusal settle_errors.Stopped = Some refusals.Stopped
 settle_refusal settle_errors.MomentBack = Some refusals.MomentBack

@@ -19,6 +19,7 @@ pub record Asked : Type 0 where
   pub repeat : ℕ
   pub send_resolved : Bool
 
+-- asking it, as an event
 abbrev pub asks : Asked → Event
 asks asked = events.Decide asked.group_key asked.receiver asked.firing asked.resolved asked.repeat asked.send_resolved
 
@@ -26,6 +27,7 @@ asks asked = events.Decide asked.group_key asked.receiver asked.firing asked.res
 abbrev pub key_of : Asked → LogKey
 key_of asked = record { group_key = asked.group_key; receiver = asked.receiver }
 
+-- some alert of the group fires
 abbrev pub something_fires : Asked → Bool
 something_fires asked = not (has_none (set_of asked.firing))
 

@@ -5,6 +5,7 @@ use Rattle.am_runs.specs.declared.step.Source.TheVariants.{Made, Written, Arrive
 use Rattle.am_runs.specs.Steps.{Step}
 use Rattle.am_runs.specs.Steps.Step.{Took, Ticked, Stopped, Started}
 
+-- a version of one key, of these moments
 abbrev pub version : ℕ → ℕ → Version ℕ
 version updated expires = record { key = 0; updated = updated; expires = expires; content = [] }
 
@@ -12,6 +13,7 @@ version updated expires = record { key = 0; updated = updated; expires = expires
 abbrev pub greater : Version ℕ
 greater = version 6 10
 
+-- the lesser one stays longer
 abbrev pub lesser : Version ℕ
 lesser = version 3 100
 
@@ -26,6 +28,7 @@ forgotten =
     ∷ (Ticked 1 22
     ∷ [])))))
 
+-- a version that lives long enough to spread
 abbrev pub spreading : Version ℕ
 spreading = version 10 200
 
@@ -48,6 +51,7 @@ behind =
     ∷ (Took 0 15 Made [] []
     ∷ []))))
 
+-- a version that expires soon after it was made
 abbrev pub passing : Version ℕ
 passing = version 10 20
 

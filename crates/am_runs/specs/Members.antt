@@ -34,6 +34,7 @@ module _ {X : Type 0} where
   abbrev pub member_after : ℕ → Member X → Step X → Member X
   member_after q m step = if is_at q step then stepped m step else m
 
+  -- and after steps
   abbrev pub member_from : ℕ → Member X → List (Step X) → Member X
   member_from q m [] = m
   member_from q m (step ∷ steps) = member_from q (member_after q m step) steps
@@ -42,10 +43,11 @@ module _ {X : Type 0} where
   abbrev pub member_of : ℕ → ℕ → List (Step X) → Member X
   member_of members q steps = member_from q (record { past = []; saved = []; runs = nat_lt q members }) steps
 
-  -- its bare set, and the moment of its last event or start
+  -- its bare set
   abbrev pub set_of : Member X → List X
   set_of m = taken [] m.past
 
+  -- and the moment of its last event or start
   abbrev pub last_of : Member X → ℕ
   last_of m = last_moment 0 m.past
 

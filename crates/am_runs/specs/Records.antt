@@ -32,6 +32,7 @@ pub record Record (X : Type 0) : Type 0 where
 abbrev pub lasts_seen : KeptLasts → Lasts
 lasts_seen l = record { last = l.last; saved = l.saved }
 
+-- of one key
 abbrev pub tops_seen : {X : Type 0} → KeptTops X → Tops X
 tops_seen t = record { top = option_copied t.top; saved = option_copied t.saved }
 
