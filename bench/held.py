@@ -1,9 +1,10 @@
-"""What sweeping a held map takes, where nothing, ten or all of its versions have expired, asking for the next expiry, and walking a bucket.
+"""What sweeping a held map takes, where nothing, ten or all of its versions have expired, asking for the next expiry, walking a
+bucket, and merging as large a map, half of whose silences are held.
 
     python3 bench/held.py [--rounds N]
 
-For 1,000, 10,000 and 100,000 silences in 100 buckets: the least time of the rounds in nanoseconds, and for each version that went
-or was walked over.
+For 1,000, 10,000 and 100,000 silences in 100 buckets: the least time of the rounds in nanoseconds, and for each version that
+went, was walked over or came.
 """
 import tempfile
 

@@ -177,6 +177,23 @@ fn silences_are_loaded_as_they_are_saved(rt: HostRuntime) {
     }
 }
 
+fn copied<W: Write>(alloc: Global, row: &[u8], writer: &mut W) -> Result<u64, SnapshotError> {
+    let mut reader = row;
+    let held: Held<MeshSilence> = load(alloc, &mut reader)?;
+    let copy = held.try_clone()?;
+    save(alloc, &copy, writer)
+}
+
+#[test]
+fn a_copied_map_is_equal(rt: HostRuntime) {
+    for row in [FIRST, SECOND] {
+        let mut output = Vec::new(rt.alloc());
+        let answer = copied(rt.alloc(), &row, &mut output);
+        assert!(rt; answer == Ok(33), "answer");
+        assert!(rt; output.as_slice() == row.as_slice(), "saved");
+    }
+}
+
 #[test]
 fn a_failed_write_is_told(rt: HostRuntime) {
     let fault = SnapshotError::Write { written: 7 };
