@@ -14,6 +14,15 @@ use am_version_order::{Interval, Moment};
 use am_wire::{Bytes, WireError};
 use std::alloc::Global;
 
+/// When the entry of a notification at `now` expires.
+fn expiry(repeat: Interval, retention: Interval, now: Moment) -> Moment
+    ensures { result ≡ expiry repeat retention now }
+{
+    let by_retention = now.capped_add(retention);
+    let by_repeat = now.capped_add(repeat).capped_add(repeat);
+    by_retention.min(by_repeat)
+}
+
 /// The entry of a notification at `now`: it expires after the smaller of `retention` and two times
 /// `repeat`, and [`Moment::GREATEST`] caps that. Where this is not after `now`, no entry is made, and nothing
 /// is refused.
@@ -39,9 +48,7 @@ pub fn make_entry(
         (most < length (writes_mesh_entry (made_entry group_key receiver firing resolved repeat retention now)))) }
     ensures refused { IfErr result (λ e. (e ≡ errors.Memory) ⊎ (e ≡ errors.TooLarge)) }
 {
-    let by_retention = now.capped_add(retention);
-    let by_repeat = now.capped_add(repeat).capped_add(repeat);
-    let expires_at = by_retention.min(by_repeat);
+    let expires_at = expiry(repeat, retention, now);
     if expires_at <= now {
         return Ok(None);
     }
