@@ -13,18 +13,12 @@ import pty
 import re
 import resource
 import signal
-import subprocess
 import sys
 import tempfile
 
-TOP = os.path.dirname(os.path.dirname(os.path.abspath(__file__)))
-PROGRAM = f"{TOP}/crates/am_tool/out/am_tool"
-
-# Id `a`, EQUAL job `x`, start 10 s, end 100 s, update 10 s, expiry 200 s; and the same with update 20 s.
-FIRST = bytes.fromhex("200a190a0161120812036a6f621a01781a02080a220208642a02080a120308c801")
-SECOND = FIRST.replace(bytes.fromhex("2a02080a"), bytes.fromhex("2a020814"))
-# Group key `g`, receiver `r`, `w`, 0, timestamp 10 s, firing 1 and 2, expiry 200 s.
-ENTRY = bytes.fromhex("1a0a130a016712060a01721201772a02080a32020102120308c801")
+from members import choose, run
+from samples import ENTRY, FIRST, ORDERS, ORDERS_OUTPUT, RESTARTED, RESTARTED_OUTPUT, SECOND, SETTLED, SETTLED_OUTPUT
+from tally import compare, finish
 
 # Versions of two keys.
 TWO_KEYS = SECOND + SECOND.replace(b"\x01a", b"\x01b")
@@ -97,48 +91,7 @@ the end of --connections. A Tick is a greeting with a peer's name and the bytes 
   printf '\0\1b\4\0' >/dev/tcp/127.0.0.1/PORT
 """
 
-# Schedules beside what is printed of them: three members that take the same in other orders; two of which one forgets; a
-# restart; and a settle.
-ORDERS = b"""cluster 100 15 a b c
-sil s1 x 10 10 50 200 job m
-sil s2 x 20 10 60 210 job m
-sil s3 y 15 40 90 300 job n
-nfl n1 g r 10 200 1,2 -
-nfl n2 g r 30 220 1 2
-at 31 a from b s1 s2 s3
-at 31 a from b n1 n2
-at 31 b from c s3 s2
-at 32 b from c s1 s2
-at 32 b from c n2 n1 n2
-at 31 c from a n2
-at 32 c from a s2 s1 s3 s1
-at 33 c from a n1
-at 45 a show
-at 45 b show
-at 45 c show
-at 46 a decide g r 1,3 - 3600 yes
-at 46 c decide g r 1,3 - 3600 yes
-"""
-
-ORDERS_OUTPUT = b"""a shows 2 1
-a sil x active
-a sil y active
-a nfl g r - 0 1 2
-b shows 2 1
-b sil x active
-b sil y active
-b nfl g r - 0 1 2
-c shows 2 1
-c sil x active
-c sil y active
-c nfl g r - 0 1 2
-a decide NewFiring
-c decide NewFiring
-calm a
-calm b
-calm c
-"""
-
+# A schedule of two members of which one forgets, and what is printed of it.
 FORGOTTEN = b"""cluster 100 15 a b
 sil m k 6 5 8 10 job x
 sil v k 3 5 90 100 job x
@@ -157,62 +110,6 @@ a sil k active
 b shows 0 0
 uncalm a line 6
 calm b
-"""
-
-RESTARTED = b"""cluster 100 15 a b
-sil s1 x 10 10 50 200 job m
-sil s2 x 20 10 60 210 job m
-sil s3 y 20 10 90 300 job n
-at 21 a from b s1
-save a
-at 22 a from b s2
-at 23 a from b s3
-stop a
-at 24 a start
-at 25 a show
-at 25 b from a s2 s3
-at 26 a pull b
-at 27 deliver 1
-at 28 deliver 2
-at 29 a show
-at 29 b show
-"""
-
-RESTARTED_OUTPUT = b"""a shows 1 0
-a sil x active
-a shows 2 0
-a sil x active
-a sil y active
-b shows 2 0
-b sil x active
-b sil y active
-calm a
-calm b
-"""
-
-SETTLED = b"""cluster 100 15 a b c d
-sil m k 6 5 8 10 job x
-sil v k 3 5 90 100 job x
-sil w z 7 5 60 90 job y
-at 7 a from b m
-at 7 b from c v
-at 8 c from d w
-at 20 settle
-at 21 a show
-at 21 d show
-"""
-
-SETTLED_OUTPUT = b"""settled
-a shows 2 0
-a sil k active
-a sil z active
-d shows 2 0
-d sil k active
-d sil z active
-uncalm a line 8
-calm b
-calm c
-calm d
 """
 
 INSTANCE_USAGE = (
@@ -364,26 +261,6 @@ CASES = [
 # How many bytes a file takes.
 CUT = 40
 
-passed, failed = 0, 0
-
-
-def run(words, **how):
-    """Status, standard output and standard error, each None where it did not go to a pipe."""
-    if "input" not in how:
-        how.setdefault("stdin", subprocess.DEVNULL)
-    how = {"stdout": subprocess.PIPE, "stderr": subprocess.PIPE, **how}
-    ran = subprocess.run([PROGRAM, *words], check=False, timeout=60, **how)
-    return ran.returncode, ran.stdout, None if ran.stderr is None else ran.stderr.decode()
-
-
-def compare(name, found, wanted):
-    global passed, failed
-    if found == wanted:
-        passed += 1
-    else:
-        failed += 1
-        print(f"{name}: status, output and error are\n  {found}\nand not\n  {wanted}")
-
 
 def test_words():
     for words, given, status, output, error in CASES:
@@ -478,18 +355,20 @@ def test_progress():
 # How many bytes the program may take: page by page at first, and then by more.
 LIMITS = [*range(0, 1 << 20, 1 << 12), *range(1 << 20, 1 << 26, 1 << 16)]
 
+# The statuses at the lowest limits, where the program doesn't start: its loader ends it, or the system kills it.
+NOT_STARTED = [127, *range(-signal.NSIG, 0)]
+
 
 def outcomes_under_limits(words, **how):
     """What comes of the words as the memory that the program may take rises, until it is enough.
 
     The limit is on data. One on the whole address space would be met by the stack too, which the kernel has to
-    refuse by killing the program. At the lowest limits the program doesn't start: the system kills it, or its
-    loader ends it. Once it has started it has to at each higher one.
+    refuse by killing the program. Once the program has started it has to at each higher limit.
     """
     found = []
     for limit in LIMITS:
         ran = run(words, preexec_fn=lambda: resource.setrlimit(resource.RLIMIT_DATA, (limit, limit)), **how)
-        if not found and (ran[0] < 0 or ran[0] == 127):
+        if not found and ran[0] in NOT_STARTED:
             continue
         if ran not in found:
             found.append(ran)
@@ -514,21 +393,14 @@ def test_memory():
 
 
 def main():
-    global PROGRAM
-    if len(sys.argv) > 1:
-        PROGRAM = os.path.abspath(sys.argv[1])
-    if not os.access(PROGRAM, os.X_OK):
-        print(f"{PROGRAM} is not there: rt ci or ./am_tool builds it")
-        print("command line: 0 passed, 1 failed")
-        return 1
+    choose("command line", sys.argv[1:])
     test_words()
     test_streams()
     test_cut_output()
     test_progress()
     test_memory()
-    print(f"command line: {passed} passed, {failed} failed")
-    return 1 if failed else 0
+    finish("command line")
 
 
 if __name__ == "__main__":
-    sys.exit(main())
+    main()

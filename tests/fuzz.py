@@ -17,20 +17,13 @@ import json
 import os
 import random
 import re
-import socket
-import subprocess
-import sys
 import tempfile
-import threading
 
-TOP = os.path.dirname(os.path.dirname(os.path.abspath(__file__)))
-PROGRAM = f"{TOP}/crates/am_tool/out/am_tool"
-
-# How long an answer may take, in seconds: long, for a machine that has much else to do.
-PATIENCE = 60
-
-# How many processes run at once.
-LANES = 4
+import members
+import tally
+from members import LANES, run
+from samples import silence_of_job
+from wire import TICK, delimited, field, frame, varint
 
 # How many inputs of each kind a round has.
 COUNTS = {"rows": 2400, "schedules": 800, "words": 400, "requests": 2400, "frames": 1600}
@@ -51,34 +44,15 @@ REPLY = re.compile(
     rb"content-length: (\d+)\r\n(allow: GET, (POST|DELETE)\r\n)?connection: close\r\n\r\n"
 )
 
-passed, failed = 0, 0
-
 
 def settle(name, fault, data):
     """Counts an input, and prints one that is at fault."""
-    global passed, failed
-    if fault is None:
-        passed += 1
-        return
-    failed += 1
-    if failed <= 20:
+    if not tally.count(fault is None) and tally.failed <= 20:
         shown = data if len(data) <= 2000 else data[:1000] + b".." + data[-200:]
         print(f"{name}: {fault}\n  {len(data)} bytes: {shown!r}", flush=True)
 
 
 # ---- bytes
-
-
-def varint(number):
-    out = bytearray()
-    while number >= 128:
-        out.append(number % 128 + 128)
-        number //= 128
-    return bytes(out) + bytes([number])
-
-
-def field(number, payload):
-    return varint(number * 8 + 2) + varint(len(payload)) + payload
 
 
 def moment(draw):
@@ -139,7 +113,7 @@ def version(draw, state):
 def row(draw, state):
     """Versions, each behind its length."""
     versions = [version(draw, state) for _ in range(draw.choice([0, 1, 2, 3, 10]))]
-    return b"".join(varint(len(v)) + v for v in versions)
+    return b"".join(map(delimited, versions))
 
 
 def worst(draw):
@@ -153,22 +127,22 @@ def worst(draw):
         return b"\2\x0a\0" * draw.randrange(1, 400)
     if kind == 3:
         inner = field(1, b"a") + b"\x12\0" * draw.randrange(1, 30_000)
-        return varint(len(field(1, inner))) + field(1, inner)
+        return delimited(field(1, inner))
     if kind == 4:
         inner = field(1, b"g") + field(2, b"") + field(6, b"\1" * draw.randrange(1, 60_000))
-        return varint(len(field(1, inner))) + field(1, inner)
+        return delimited(field(1, inner))
     if kind == 5:
         inner = field(1, b"i" * draw.randrange(1, 200_000))
-        return varint(len(field(1, inner))) + field(1, inner)
+        return delimited(field(1, inner))
     if kind == 6:
         return b"\x80" * draw.randrange(9) + b"\0" * draw.randrange(9)
     if kind == 7:
         nested = b""
         for _ in range(draw.randrange(200)):
             nested = field(1, nested)
-        return varint(len(nested)) + nested
+        return delimited(nested)
     versions = [field(1, field(1, b"%06d" % draw.randrange(10**6))) for _ in range(draw.randrange(2000))]
-    return b"".join(varint(len(v)) + v for v in versions)
+    return b"".join(map(delimited, versions))
 
 
 def changed(draw, data, changes=4):
@@ -206,18 +180,9 @@ def some_row(draw, state):
 # ---- the program
 
 
-def run(words, given):
-    """Status, output and error; the status is a text where the process did not end."""
-    try:
-        ran = subprocess.run([PROGRAM, *words], input=given, capture_output=True, timeout=PATIENCE, check=False)
-        return ran.returncode, ran.stdout, ran.stderr.decode("utf-8", "backslashreplace")
-    except subprocess.TimeoutExpired:
-        return "no end", b"", ""
-
-
 def fault_of_row(words, given):
     """What is wrong in how a row is answered, or None."""
-    status, output, error = run(words, given)
+    status, output, error = run(words, input=given)
     if status == 1:
         told = ROW_FAULT.fullmatch(error) and not (words[0] == "fold" and "DuplicateKey" in error)
         return None if told and not output else f"{words}: {status}, {output!r}, {error!r}"
@@ -226,10 +191,10 @@ def fault_of_row(words, given):
     if words[0] == "show":
         wrong = [line for line in output.split(b"\n")[:-1] if not SHOWN.fullmatch(line)]
         return f"{words}: {wrong}" if wrong or not output.endswith(b"\n") and output else None
-    again = run(words, output)
+    again = run(words, input=output)
     if again != (0, output, ""):
         return f"{words}, folded again: {again[0]}, {again[1][:200]!r}, {again[2]!r}"
-    shown = run(["show", *words[1:]], output)
+    shown = run(["show", *words[1:]], input=output)
     return None if shown[0] == 0 and not shown[2] else f"what was folded is not shown: {shown}"
 
 
@@ -298,7 +263,7 @@ def some_schedule(draw):
 
 def test_schedule(seed):
     given = some_schedule(random.Random(seed))
-    status, output, error = run(["replay"], given)
+    status, output, error = run(["replay"], input=given)
     if status == 0 and not error and (not output or output.endswith(b"\n")):
         return None, given
     if status == 1 and not output and SCHEDULE_FAULT.fullmatch(error):
@@ -316,7 +281,7 @@ def test_words(seed):
     words = [draw.choice(WORDS) for _ in range(draw.randrange(7))]
     words = [changed(draw, word) if draw.random() < 0.2 else word for word in words]
     words = [word.replace(b"\0", b"") for word in words if word != b"instance" or draw.random() < 0.9]
-    status, output, error = run(words, b"")
+    status, output, error = run(words, input=b"")
     shown = b" ".join(words)
     if status not in (0, 1, 2):
         return f"{words}: {status}, {output[:200]!r}, {error!r}", shown
@@ -332,14 +297,6 @@ def test_words(seed):
 
 
 GOOD = b"GET /api/v2/silences HTTP/1.1\r\n\r\n"
-
-POSTED = {
-    "matchers": [{"name": "job", "value": "x", "isRegex": False}],
-    "startsAt": "2000-01-01T00:00:00Z",
-    "endsAt": "2200-01-01T00:00:00Z",
-    "createdBy": "ops",
-    "comment": "hi",
-}
 
 MOMENTS = """2000-01-01T00:00:00Z 0001-01-01T00:00:00Z 9999-12-31T23:59:59.999999999Z 9999-12-31T23:59:59-00:01
 0000-12-31T23:30:00-01:00 1970-02-30T00:00:00Z 2000-01-01T24:00:00Z 2000-01-01T00:00:60Z 2000-01-01T00:00:00.Z
@@ -363,11 +320,11 @@ def some_json(draw):
         return b'{"comment":' + number + b"}"
     if kind == 3:
         return b'{"comment":"' + draw.choice([b"\\u0000", b"\\ud800", b"\\udc00\\ud800", b"\\x", b"\0", b"\xff", b"\\"]) + b'"}'
-    body = json.loads(json.dumps(POSTED))
+    body = silence_of_job("x")
     body["matchers"][0]["isRegex"] = draw.choice([True, False])
     body["matchers"][0]["value"] = draw.choice(PATTERNS)
     body["matchers"] *= draw.choice([0, 1, 1, 1, 2, 50])
-    body["startsAt"], body["endsAt"] = draw.choice(MOMENTS), draw.choice(MOMENTS + [POSTED["endsAt"]] * 10)
+    body["startsAt"], body["endsAt"] = draw.choice(MOMENTS), draw.choice(MOMENTS + [body["endsAt"]] * 10)
     if draw.random() < 0.3:
         body[draw.choice([*body, "id", "other"])] = draw.choice(VALUES)
     if draw.random() < 0.2:
@@ -428,169 +385,104 @@ def some_frames(draw):
     for _ in range(draw.randrange(4)):
         kind = draw.randrange(12)
         if kind == 0:
-            data += b"\4\0"
+            data += TICK
         elif kind == 1:
             data += draw.randbytes(draw.randrange(60))
         elif kind == 2:
             data += bytes([draw.randrange(6)]) + varint(draw.choice([0, 1, 4_194_304, 4_194_305, 67_108_864, 67_108_865, (1 << 64) - 1]))
         elif kind < 9:
-            payload = part(draw)
-            data += b"\1" + varint(len(payload)) + payload
+            data += frame(1, part(draw))
         else:
             payload = b"".join(field(1, part(draw)) for _ in range(draw.randrange(3)))
-            data += bytes([draw.choice([2, 3])]) + varint(len(payload)) + payload
+            data += frame(draw.choice([2, 3]), payload)
     return changed(draw, data) if draw.random() < 0.3 else data
 
 
-class Member:
-    """A process that runs the member `m`, whose peer `p` takes what it is sent and says nothing."""
+def fault_after(member, data, reply):
+    """What is wrong in a reply, or in what is printed by then, or None."""
+    lines = member.lines[1:]
+    del member.lines[1 : len(lines) + 1]
+    wrong = [line for line in lines if not MEMBER_LINE.fullmatch(line)]
+    if wrong:
+        return f"lines {wrong}"
+    if member.process.poll() is not None:
+        return f"the member ended with {member.process.returncode}"
+    if reply:
+        head = REPLY.match(reply)
+        if head is None or len(reply) - head.end() != int(head[2]) or data[0] < 0x20:
+            return f"the reply {reply[:300]!r}"
+        body = reply[head.end() :]
+        try:
+            if body:
+                json.loads(body)
+        except ValueError:
+            return f"no JSON: {body[:300]!r}"
+    return None
 
-    def __init__(self, folder):
-        self.sink = socket.create_server(("127.0.0.1", 0))
-        threading.Thread(target=self.swallow, daemon=True).start()
-        with socket.socket() as holder:
-            holder.bind(("127.0.0.1", 0))
-            self.port = holder.getsockname()[1]
-        words = [PROGRAM, "instance", "--name", "m", "--listen", str(self.port), "--peer", f"p={self.sink.getsockname()[1]}"]
-        words += ["--sil", f"{folder}/m.sil", "--nfl", f"{folder}/m.nfl"]
-        self.process = subprocess.Popen(words, stdin=subprocess.DEVNULL, stdout=subprocess.PIPE, stderr=subprocess.PIPE)
-        self.listens = b" listens on " in self.process.stderr.readline()
-        self.lines = []
-        threading.Thread(target=self.read, daemon=True).start()
 
-    def swallow(self):
-        while True:
-            try:
-                stream, _ = self.sink.accept()
-                with stream:
-                    while stream.recv(65536):
-                        pass
-            except OSError:
-                if self.sink.fileno() < 0:
-                    return
-
-    def read(self):
-        for line in self.process.stderr:
-            self.lines.append(line.decode("utf-8", "backslashreplace").rstrip("\n"))
-
-    def send(self, data, draw=None):
-        """What comes back for these bytes; they go in pieces where a number is drawn for them."""
-        with socket.create_connection(("127.0.0.1", self.port), timeout=PATIENCE) as stream:
-            stream.setsockopt(socket.IPPROTO_TCP, socket.TCP_NODELAY, 1)
-            reply = b""
-            try:
-                at = draw.randrange(len(data) + 1) if draw else 0
-                stream.sendall(data[:at])
-                stream.sendall(data[at:])
-                stream.shutdown(socket.SHUT_WR)
-            except OSError:
-                pass
-            try:
-                while piece := stream.recv(65536):
-                    reply += piece
-            except TimeoutError:
-                return None
-            except OSError:
-                pass
-            return reply
-
-    def fault_after(self, data, reply):
-        """What is wrong in a reply, or in what is printed by then, or None."""
-        lines, self.lines = self.lines, []
-        wrong = [line for line in lines if not MEMBER_LINE.fullmatch(line)]
-        if wrong:
-            return f"lines {wrong}"
-        if reply is None:
-            return "no end of the reply"
-        if self.process.poll() is not None:
-            return f"the member ended with {self.process.returncode}"
-        if reply:
-            head = REPLY.match(reply)
-            if head is None or len(reply) - head.end() != int(head[2]) or data[0] < 0x20:
-                return f"the reply {reply[:300]!r}"
-            body = reply[head.end() :]
-            try:
-                if body:
-                    json.loads(body)
-            except ValueError:
-                return f"no JSON: {body[:300]!r}"
-        return None
-
-    def serves(self):
-        reply = self.send(GOOD)
-        return bool(reply) and reply.startswith(b"HTTP/1.1 200 ")
-
-    def kill(self):
-        self.process.kill()
-        self.process.wait(PATIENCE)
-        self.sink.close()
+def serves(member):
+    """Whether a good request is answered."""
+    try:
+        return member.send(GOOD).startswith(b"HTTP/1.1 200 ")
+    except OSError:
+        return False
 
 
 def test_member(seeds, make, folder):
     """Inputs to one member, one after the other; now and then a good request."""
-    member = Member(folder)
-    if not member.listens:
-        return settle("am_tool instance", "it does not listen", b"")
+    peer = members.silent_peer()
+    member = members.Member("m", *members.free_ports(1), [("p", peer.getsockname()[1])], folder)
+    if not member.start():
+        return settle("am_tool instance", f"it does not listen: {member.lines}", b"")
     for number, seed in enumerate(seeds):
         draw = random.Random(seed)
         data = make(draw)
+        at = draw.randrange(len(data) + 1)
         try:
-            fault = member.fault_after(data, member.send(data, draw if data else None))
-            if fault is None and number % 20 == 0 and not member.serves():
-                fault = "a good request is not answered behind it"
+            fault = fault_after(member, data, member.send(data[:at], data[at:]))
         except OSError as error:
             fault = f"{error!r}, status {member.process.poll()}"
+        if fault is None and number % 20 == 0 and not serves(member):
+            fault = "a good request is not answered behind it"
         settle(seed, fault, data)
-        if fault is not None and not member_serves(member):
+        if fault is not None and not serves(member):
             member.kill()
-            member = Member(folder)
-    if not member_serves(member):
+            member.start()
+    if not serves(member):
         settle("am_tool instance", "a good request is not answered in the end", b"")
     member.kill()
-    for state, path in (("sil", f"{folder}/m.sil"), ("nfl", f"{folder}/m.nfl")):
+    peer.close()
+    for state, path in (("sil", member.sil), ("nfl", member.nfl)):
         if os.path.exists(path):
             with open(path, "rb") as file:
                 saved = file.read()
             settle(f"{state} that was saved", fault_of_row(["show", "--state", state, "--now", "0"], saved), saved)
 
 
-def member_serves(member):
-    try:
-        return member.serves()
-    except OSError:
-        return False
-
-
 def main():
-    global PROGRAM
     words = argparse.ArgumentParser(description=__doc__, formatter_class=argparse.RawDescriptionHelpFormatter)
-    words.add_argument("program", nargs="?", default=PROGRAM)
+    words.add_argument("program", nargs="?", default=members.program)
     words.add_argument("--rounds", type=int, default=1)
     words.add_argument("--seed", type=int, default=1)
     asked = words.parse_args()
-    PROGRAM = os.path.abspath(asked.program)
-    if not os.access(PROGRAM, os.X_OK):
-        print(f"{PROGRAM} is not there: rt ci or ./am_tool builds it")
-        print("fuzz: 0 passed, 1 failed")
-        return 1
-    has_replay = run(["replay", "--help"], b"")[0] == 0
+    members.choose("fuzz", [asked.program])
+    has_replay = run(["replay", "--help"])[0] == 0
     if not has_replay:
         print("am_tool has no replay, so no schedules are tried")
     seeds = lambda kind: [f"{kind} {asked.seed} {number}" for number in range(COUNTS[kind] * asked.rounds)]
     with tempfile.TemporaryDirectory() as folder, concurrent.futures.ThreadPoolExecutor(LANES) as pool:
-        members = []
+        played = []
         for kind, make in (("requests", some_request), ("frames", some_frames)):
             os.mkdir(f"{folder}/{kind}")
-            members.append(pool.submit(test_member, seeds(kind), make, f"{folder}/{kind}"))
+            played.append(pool.submit(test_member, seeds(kind), make, f"{folder}/{kind}"))
         jobs = [("rows", test_row), ("words", test_words)] + ([("schedules", test_schedule)] if has_replay else [])
         for kind, test in jobs:
             for seed, (fault, data) in zip(seeds(kind), pool.map(test, seeds(kind))):
                 settle(seed, fault, data)
-        for member in members:
+        for member in played:
             member.result()
-    print(f"fuzz: {passed} passed, {failed} failed")
-    return 1 if failed else 0
+    tally.finish("fuzz")
 
 
 if __name__ == "__main__":
-    sys.exit(main())
+    main()

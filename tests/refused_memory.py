@@ -18,114 +18,22 @@ import mmap
 import os
 import re
 import shutil
-import socket
 import struct
 import subprocess
 import sys
 import tempfile
-import threading
 
-TOP = os.path.dirname(os.path.dirname(os.path.abspath(__file__)))
-PROGRAM = f"{TOP}/crates/am_tool/out/am_tool"
+import members
+from members import LANES, TOP, Member, free_ports, outcome, parted, run, silent_peer
+from samples import ENTRY, FIRST, ORDERS, ORDERS_OUTPUT, RESTARTED, RESTARTED_OUTPUT, SECOND, SETTLED, SETTLED_OUTPUT, silence_of_job
+from tally import count, finish, give_up
+from wire import EMPTY_PUSH, TICK, delta, field, greeting, timestamp
+
 ROWS = f"{TOP}/crates/am_refusals/out/am_refusals"
 WANTED = f"{TOP}/crates/am_refusals/stdout"
 
-# How long a run may take, in seconds: long, for a machine that has much else to do.
-PATIENCE = 60
-
-# How many runs are made at once.
-LANES = 4
-
-# Id `a`, EQUAL job `x`, start 10 s, end 100 s, update 10 s, expiry 200 s; and the same with update 20 s.
-FIRST = bytes.fromhex("200a190a0161120812036a6f621a01781a02080a220208642a02080a120308c801")
-SECOND = FIRST.replace(bytes.fromhex("2a02080a"), bytes.fromhex("2a020814"))
-# Group key `g`, receiver `r`, `w`, 0, timestamp 10 s, firing 1 and 2, expiry 200 s.
-ENTRY = bytes.fromhex("1a0a130a016712060a01721201772a02080a32020102120308c801")
-
 # What is on standard error where memory ran out.
 MEMORY = "am_tool: Memory\n"
-
-SETTLE = b"""cluster 100 15 a b c d
-sil m k 6 5 8 10 job x
-sil v k 3 5 90 100 job x
-sil w z 7 5 60 90 job y
-at 7 a from b m
-at 7 b from c v
-at 8 c from d w
-at 20 settle
-at 21 a show
-at 21 d show
-"""
-
-SETTLED = b"""settled
-a shows 2 0
-a sil k active
-a sil z active
-d shows 2 0
-d sil k active
-d sil z active
-uncalm a line 8
-calm b
-calm c
-calm d
-"""
-
-AGREE = b"""cluster 100 15 a b c
-sil s1 x 10 10 50 200 job m
-sil s2 x 20 10 60 210 job m
-sil s3 y 15 40 90 300 job n
-nfl n1 g r 10 200 1,2 -
-nfl n2 g r 30 220 1 2
-at 31 a from b s1 s2 s3
-at 31 a from b n1 n2
-at 31 b from c s3 s2
-at 32 b from c s1 s2
-at 32 b from c n2 n1 n2
-at 31 c from a n2
-at 32 c from a s2 s1 s3 s1
-at 33 c from a n1
-at 45 a show
-at 45 b show
-at 45 c show
-at 46 a decide g r 1,3 - 3600 yes
-at 46 c decide g r 1,3 - 3600 yes
-"""
-
-AGREED = b"".join(
-    b"%s shows 2 1\n%s sil x active\n%s sil y active\n%s nfl g r - 0 1 2\n" % (name, name, name, name)
-    for name in (b"a", b"b", b"c")
-) + b"a decide NewFiring\nc decide NewFiring\ncalm a\ncalm b\ncalm c\n"
-
-RESTART = b"""cluster 100 15 a b
-sil s1 x 10 10 50 200 job m
-sil s2 x 20 10 60 210 job m
-sil s3 y 20 10 90 300 job n
-at 21 a from b s1
-save a
-at 22 a from b s2
-at 23 a from b s3
-stop a
-at 24 a start
-at 25 a show
-at 25 b from a s2 s3
-at 26 a pull b
-at 27 deliver 1
-at 28 deliver 2
-at 29 a show
-at 29 b show
-"""
-
-RESTARTED = b"""a shows 1 0
-a sil x active
-a shows 2 0
-a sil x active
-a sil y active
-b shows 2 0
-b sil x active
-b sil y active
-calm a
-calm b
-"""
 
 # Words, standard input, and standard output. Where am_tool has no such command a row says so, and is not tried.
 JOBS = [
@@ -134,25 +42,18 @@ JOBS = [
     (["fold", "--state", "nfl", "--now", "0"], ENTRY, ENTRY),
     (["show", "--state", "sil", "--now", "50000000000"], SECOND, b"sil a active\n"),
     (["show", "--state", "nfl", "--now", "50000000000"], ENTRY, b"nfl g r w 0 1,2 -\n"),
-    (["replay"], AGREE, AGREED),
-    (["replay"], RESTART, RESTARTED),
-    (["replay"], SETTLE, SETTLED),
+    (["replay"], ORDERS, ORDERS_OUTPUT),
+    (["replay"], RESTARTED, RESTARTED_OUTPUT),
+    (["replay"], SETTLED, SETTLED_OUTPUT),
 ]
-
-passed, failed = 0, 0
 
 
 def settle(name, faults, said=""):
     """Counts a row, and prints what was wrong in it."""
-    global passed, failed
-    if faults:
-        failed += 1
-        print(f"{name}: {len(faults)} runs ended otherwise; the first of them:", flush=True)
-        for fault in faults[:3]:
-            print(f"  {fault}", flush=True)
-    else:
-        passed += 1
+    if count(not faults):
         print(f"{name}: {said}", flush=True)
+    else:
+        print(f"{name}: {len(faults)} runs ended otherwise; the first of them:", *faults[:3], sep="\n  ", flush=True)
 
 
 class Counts:
@@ -192,7 +93,7 @@ def compiled(folder):
     library = f"{folder}/memory.so"
     words = ["cc", "-O1", "-Wall", "-Werror", "-shared", "-fPIC", "-o", library, f"{TOP}/tests/memory.c"]
     if shutil.which("cc") is None:
-        raise SystemExit("cc is not there, so no memory can be refused\nrefused memory: 0 passed, 1 failed")
+        give_up("refused memory", "cc is not there, so no memory can be refused")
     subprocess.run(words, check=True)
     return library
 
@@ -212,11 +113,8 @@ class Lanes:
         counts = self.free.pop()
         try:
             counts.begin(refuse)
-            env = counts.environment(self.library)
-            ran = subprocess.run(words, input=given, capture_output=True, timeout=PATIENCE, env=env, check=False)
-            return Ran(ran.returncode, ran.stdout, ran.stderr.decode(), counts.asked(), counts.refused())
-        except subprocess.TimeoutExpired:
-            return Ran("no end", b"", "", counts.asked(), counts.refused())
+            ran = outcome(words, input=given, env=counts.environment(self.library))
+            return Ran(*ran, counts.asked(), counts.refused())
         finally:
             self.free.append(counts)
 
@@ -298,10 +196,6 @@ def test_rows(lanes):
 # ---- the program
 
 
-def has_command(lanes, name):
-    return lanes.run([PROGRAM, name, "--help"], b"", 0).status == 0
-
-
 def tells_memory(words, given, error):
     """Whether the line says that memory ran out, for replay with one of the schedule's lines, or 0 where it was at none."""
     if words[0] != "replay":
@@ -313,10 +207,10 @@ def tells_memory(words, given, error):
 def test_jobs(lanes):
     for place, (words, given, wanted) in enumerate(JOBS):
         name = f"am_tool {' '.join(words)}, {place}"
-        if not has_command(lanes, words[0]):
+        if run([words[0], "--help"])[0] != 0:
             print(f"{name}: am_tool has no {words[0]}, so this is not tried")
             continue
-        whole, runs = lanes.all_of([PROGRAM, *words], given)
+        whole, runs = lanes.all_of([members.program, *words], given)
         faults = []
         if (whole.status, whole.output, whole.error, whole.refused) != (0, wanted, "", 0) or whole.asked == 0:
             faults.append(f"nothing refused: {whole}")
@@ -338,82 +232,12 @@ def test_jobs(lanes):
 # ---- a member
 
 
-def free_port():
-    with socket.socket() as holder:
-        holder.bind(("127.0.0.1", 0))
-        return holder.getsockname()[1]
-
-
-class Member:
-    """A process that runs the member `m`, whose peer `p` takes what it is sent and says nothing."""
-
-    def __init__(self, folder, library, port, peer):
-        self.port = port
-        self.files = [f"{folder}/m.sil", f"{folder}/m.nfl"]
-        self.words = [PROGRAM, "instance", "--name", "m", "--listen", str(port), "--peer", f"p={peer}"]
-        self.words += ["--sil", self.files[0], "--nfl", self.files[1]]
-        self.counts = Counts(folder)
-        self.library = library
-
-    def start(self, refuse):
-        """Starts it with a request refused, and waits until it listens or has ended; whether it listens."""
-        self.counts.begin(refuse)
-        env = self.counts.environment(self.library)
-        self.process = subprocess.Popen(self.words, stdin=subprocess.DEVNULL, stdout=subprocess.PIPE, stderr=subprocess.PIPE, env=env)
-        late = threading.Timer(PATIENCE, self.process.kill)
-        late.start()
-        first = self.process.stderr.readline().decode()
-        self.lines = [first.rstrip("\n")]
-        if " listens on " not in first:
-            self.lines += [line.decode() for line in self.process.stderr]
-            self.process.wait()
-        late.cancel()
-        return " listens on " in first
-
-    def gather(self):
-        """From now on what it prints is read beside."""
-        self.reader = threading.Thread(target=self.read, daemon=True)
-        self.reader.start()
-
-    def read(self):
-        for line in self.process.stderr:
-            self.lines.append(line.decode().rstrip("\n"))
-
-    def kill(self):
-        self.process.kill()
-        self.process.wait(PATIENCE)
-
-    def send(self, data):
-        """What comes back for these bytes, until the connection ends."""
-        with socket.create_connection(("127.0.0.1", self.port), timeout=PATIENCE) as stream:
-            reply = b""
-            try:
-                stream.sendall(data)
-                stream.shutdown(socket.SHUT_WR)
-                while piece := stream.recv(65536):
-                    reply += piece
-            except OSError:
-                pass
-            return reply
-
-    def listed(self):
-        reply = self.send(request("GET", "/api/v2/silences"))
-        return json.loads(reply.partition(b"\r\n\r\n")[2]) if reply.startswith(b"HTTP/1.1 200 ") else None
-
-
 def request(method, path, body=b""):
     return f"{method} {path} HTTP/1.1\r\ncontent-length: {len(body)}\r\n\r\n".encode() + body
 
 
 def post(value):
-    body = {
-        "matchers": [{"name": "job", "value": value, "isRegex": False}],
-        "startsAt": "2000-01-01T00:00:00Z",
-        "endsAt": "2200-01-01T00:00:00Z",
-        "createdBy": "ops",
-        "comment": "hi",
-    }
-    return request("POST", "/api/v2/silences", json.dumps(body).encode())
+    return request("POST", "/api/v2/silences", json.dumps(silence_of_job(value)).encode())
 
 
 def bytes_of(path):
@@ -424,20 +248,25 @@ def bytes_of(path):
         return None
 
 
+def member_under(library, folder, peer):
+    """The member `m` of a peer `p`, and the counts of its requests."""
+    counts = Counts(folder)
+    return Member("m", *free_ports(1), [("p", peer)], folder, env=counts.environment(library)), counts
+
+
 def test_starts(folder, library):
     """A start that finds no memory says so, and leaves both files as they were."""
-    member = Member(folder, library, free_port(), free_port())
-    with open(member.files[0], "wb") as file:
-        file.write(SECOND)
-    with open(member.files[1], "wb") as file:
-        file.write(ENTRY)
+    member, counts = member_under(library, folder, free_ports(1)[0])
+    for path, data in ((member.sil, SECOND), (member.nfl, ENTRY)):
+        with open(path, "wb") as file:
+            file.write(data)
     faults, number, not_needed = [], 0, 0
     while True:
         number += 1
-        listens = member.start(number)
-        if listens:
-            member.kill()
-        refused = member.counts.refused()
+        counts.begin(number)
+        listens = member.start()
+        status = member.kill() if listens else member.end()
+        refused = counts.refused()
         if listens and refused == 0:
             break
         if listens and refused == 1 and member.lines[0].endswith("loaded 1 silences, 1 entries"):
@@ -445,12 +274,12 @@ def test_starts(folder, library):
             not_needed += 1
             continue
         told = len(member.lines) == 1 and re.fullmatch(r"am_tool: ((Silences|Log) )?Memory", member.lines[0])
-        if listens or refused != 1 or member.process.returncode != 4 or not told:
-            faults.append(f"{number}: status {member.process.returncode}, {member.lines}, {refused} refused")
+        if listens or refused != 1 or status != 4 or not told:
+            faults.append(f"{number}: status {status}, {member.lines}, {refused} refused")
         if number > 100_000:
             faults.append("there is no end of its requests")
             break
-        found = ([bytes_of(path) for path in member.files], sorted(os.listdir(folder)))
+        found = ([bytes_of(path) for path in (member.sil, member.nfl)], sorted(os.listdir(folder)))
         if found[0] != [SECOND, ENTRY] or any(name.endswith(".new") for name in found[1]):
             faults.append(f"{number}: the files are others: {found}")
     if number == 1:
@@ -465,43 +294,21 @@ TOLD = re.compile(
     r"am_tool: (Frame Memory|Step Memory \d+|Unsent Memory \d+|(Silences|Log) Memory|Send Memory \d+|Memory)"
 )
 
-# A greeting of the peer, and a Delta of a version, which is updated at a moment of its own each time; a Push of nothing.
-GREETING = b"\0\1p"
-EMPTY_PUSH = bytes([2, 0])
-TICK = bytes([4, 0])
 
-
-def varint(number):
-    out = bytearray()
-    while number >= 128:
-        out.append(number % 128 + 128)
-        number //= 128
-    return bytes(out) + bytes([number])
-
-
-def field(number, payload):
-    return varint(number * 8 + 2) + varint(len(payload)) + payload
-
-
-def delta(updated):
-    """A Delta of silence `d`, which is live until the year 2255."""
-    moment = lambda seconds: b"\x08" + varint(seconds)
-    silence = field(1, b"d") + field(2, field(2, b"job") + field(3, b"d"))
-    silence += field(3, moment(10)) + field(4, moment(8_000_000_000)) + field(5, moment(updated))
-    version = field(1, silence) + field(2, moment(9_000_000_000))
-    part = field(1, b"sil") + field(2, varint(len(version)) + version)
-    return b"\1" + varint(len(part)) + part
+def version(updated):
+    """A version of silence `d`, which is live until the year 2255."""
+    inner = field(1, b"d") + field(2, field(2, b"job") + field(3, b"d"))
+    inner += field(3, timestamp(10)) + field(4, timestamp(8_000_000_000)) + field(5, timestamp(updated))
+    return field(1, inner) + field(2, timestamp(9_000_000_000))
 
 
 def test_connections(folder, library):
     """A member that finds no memory for a connection says so, and takes the next one."""
-    sink = socket.create_server(("127.0.0.1", 0))
-    threading.Thread(target=swallow, args=(sink,), daemon=True).start()
-    member = Member(folder, library, free_port(), sink.getsockname()[1])
-    if not member.start(0):
+    peer = silent_peer()
+    member, counts = member_under(library, folder, peer.getsockname()[1])
+    if not member.start():
         return settle("am_tool instance", [f"it does not listen: {member.lines}"])
-    member.gather()
-    one = json.loads(member.send(post("one")).partition(b"\r\n\r\n")[2])["silenceID"]
+    one = json.loads(parted(member.send(post("one")))[1])["silenceID"]
     try:
         for name, data, right in [
             ("a list", lambda k: request("GET", "/api/v2/silences"), b"HTTP/1.1 200 "),
@@ -510,44 +317,29 @@ def test_connections(folder, library):
             ("a post", lambda k: post(f"post {k}"), b"HTTP/1.1 200 "),
             ("a path that is none", lambda k: request("GET", "/nowhere"), b"HTTP/1.1 404 "),
             ("an end of none", lambda k: request("DELETE", "/api/v2/silence/none"), b"HTTP/1.1 404 "),
-            ("a Delta", lambda k: GREETING + delta(100 + k), b""),
-            ("a Push", lambda k: GREETING + EMPTY_PUSH, b""),
-            ("a Tick", lambda k: GREETING + TICK, b""),
+            ("a Delta", lambda k: greeting("p") + delta("sil", version(100 + k)), b""),
+            ("a Push", lambda k: greeting("p") + EMPTY_PUSH, b""),
+            ("a Tick", lambda k: greeting("p") + TICK, b""),
         ]:
-            refuse_all(member, name, data, right)
+            refuse_all(member, counts, name, data, right)
     except (OSError, ValueError, TypeError) as error:
         settle("am_tool instance", [f"{error!r}, status {member.process.poll()}, {member.lines[-3:]}"])
     member.kill()
-    sink.close()
+    peer.close()
 
 
-def swallow(sink):
-    """Takes what comes on each connection, one after the other."""
-    while True:
-        try:
-            stream, _ = sink.accept()
-        except OSError:
-            return
-        with stream:
-            try:
-                while stream.recv(65536):
-                    pass
-            except OSError:
-                pass
-
-
-def refuse_all(member, name, data, right):
+def refuse_all(member, counts, name, data, right):
     """Sends one connection after the other, each with a later request refused, until one meets none."""
     faults, number = [], 0
     while not faults:
         number += 1
         before, told = member.listed(), len(member.lines)
-        member.counts.refuse_next(number)
+        counts.refuse_next(number)
         reply = member.send(data(number))
         # what is done behind the reply is done before the next connection is taken
         member.send(b"")
-        refused = member.counts.refused()
-        member.counts.refuse_none()
+        refused = counts.refused()
+        counts.refuse_none()
         after = member.listed()
         lines = member.lines[told:]
         if member.process.poll() is not None or after is None:
@@ -574,14 +366,8 @@ def refused_rightly(reply, right, lines):
 
 
 def main():
-    global PROGRAM
-    if len(sys.argv) > 1:
-        PROGRAM = os.path.abspath(sys.argv[1])
-    for path in (PROGRAM, ROWS):
-        if not os.access(path, os.X_OK):
-            print(f"{path} is not there: rt ci builds it")
-            print("refused memory: 0 passed, 1 failed")
-            return 1
+    members.choose("refused memory", sys.argv[1:])
+    members.must_be_there("refused memory", ROWS)
     with tempfile.TemporaryDirectory() as folder:
         library = compiled(folder)
         lanes = Lanes(folder, library)
@@ -591,9 +377,8 @@ def main():
             place = f"{folder}/{test.__name__}"
             os.mkdir(place)
             test(place, library)
-    print(f"refused memory: {passed} passed, {failed} failed")
-    return 1 if failed else 0
+    finish("refused memory")
 
 
 if __name__ == "__main__":
-    sys.exit(main())
+    main()

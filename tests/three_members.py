@@ -22,36 +22,17 @@ import tempfile
 import threading
 import time
 
-TOP = os.path.dirname(os.path.dirname(os.path.abspath(__file__)))
-PROGRAM = f"{TOP}/crates/am_tool/out/am_tool"
-
-# How long anything is waited for that has to come, in seconds: long, for a machine that has much else to do.
-PATIENCE = 60
+import members
+from members import PATIENCE, free_ports, outcome, parted, received, run
+from samples import FIRST
+from tally import check, compare, finish
+from wire import EMPTY_PUSH, TICK, delta, field, greeting, timestamp, varint
 
 # The names of the members.
 NAMES = ["a", "b", "c"]
 
-# Frames: a Tick, and a Push of nothing, which is answered by a Pull with all that the member holds.
-TICK = bytes([4, 0])
-EMPTY_PUSH = bytes([2, 0])
-
 # What is said where the silences and the log are to stand in one file.
 ONE_FILE = "error: '--sil <FILE>' and '--nfl <FILE>' name one file"
-
-passed, failed = 0, 0
-
-
-def compare(name, found, wanted):
-    global passed, failed
-    if found == wanted:
-        passed += 1
-    else:
-        failed += 1
-        print(f"{name}: found\n  {found!r}\nand not\n  {wanted!r}", flush=True)
-
-
-def check(name, holds, said=""):
-    compare(name, (bool(holds), said if not holds else ""), (True, ""))
 
 
 def eventually(look):
@@ -64,32 +45,6 @@ def eventually(look):
         time.sleep(0.05)
 
 
-def varint(number):
-    out = bytearray()
-    while number >= 128:
-        out.append(number % 128 + 128)
-        number //= 128
-    return bytes(out) + bytes([number])
-
-
-def field(number, payload):
-    """A field of a message whose payload has a length."""
-    return varint(number * 8 + 2) + varint(len(payload)) + payload
-
-
-def timestamp(seconds):
-    return bytes([8]) + varint(int(seconds)) if seconds else b""
-
-
-def greeting(name):
-    return b"\0" + varint(len(name)) + name.encode()
-
-
-def delta(state, version):
-    part = field(1, state.encode()) + field(2, varint(len(version)) + version)
-    return b"\1" + varint(len(part)) + part
-
-
 def entry(group, updated, expires):
     """A version of the log: of a group at the receiver `team`, in which the hashes 1 and 2 fire."""
     inner = field(1, group.encode()) + field(2, field(1, b"team") + field(2, b"email"))
@@ -97,47 +52,15 @@ def entry(group, updated, expires):
     return field(1, inner) + field(2, timestamp(expires))
 
 
-def free_ports(count):
-    """Ports of loopback at which nothing listens now, below those that the system gives to clients."""
-    ports = []
-    while len(ports) < count:
-        port = random.randrange(10_000, 32_000)
-        with socket.socket() as holder:
-            try:
-                holder.bind(("127.0.0.1", port))
-            except OSError:
-                continue
-        if port not in ports:
-            ports.append(port)
-    return ports
+class Member(members.Member):
+    """A member as who operates it meets it."""
 
-
-class Member:
-    """A process of am_tool that runs a member, and the lines that it has printed on standard error."""
-
-    def __init__(self, name, port, peers, folder, options=(), **how):
-        self.name, self.port = name, port
-        self.sil, self.nfl = f"{folder}/{name}.sil", f"{folder}/{name}.nfl"
-        self.words = [PROGRAM, "instance", "--name", name, "--listen", str(port)]
-        for peer, at in peers:
-            self.words += ["--peer", f"{peer}={at}"]
-        self.words += ["--sil", self.sil, "--nfl", self.nfl, *options]
-        self.how = how
+    def __init__(self, *place, **how):
+        super().__init__(*place, **how)
         self.start()
 
     def start(self):
-        """Starts it, and waits until it listens."""
-        self.lines = []
-        self.process = subprocess.Popen(
-            self.words, stdin=subprocess.DEVNULL, stdout=subprocess.PIPE, stderr=subprocess.PIPE, **self.how
-        )
-        self.reader = threading.Thread(target=self.read, daemon=True)
-        self.reader.start()
-        check(f"{self.name} listens", eventually(lambda: self.lines or self.process.poll() is not None))
-
-    def read(self):
-        for line in self.process.stderr:
-            self.lines.append(line.decode().rstrip("\n"))
+        check(f"{self.name} listens", super().start(), self.lines)
 
     def faults(self):
         """What it has printed behind the line of its start, but of peers that are not there."""
@@ -147,68 +70,18 @@ class Member:
         """Whether it prints this line, now or soon."""
         return eventually(lambda: line in self.lines)
 
-    def kill(self):
-        self.process.send_signal(signal.SIGKILL)
-        self.end()
-
-    def end(self):
-        """Its status, once it has ended."""
-        status = self.process.wait(timeout=PATIENCE)
-        self.reader.join(PATIENCE)
-        return status
-
-    def send(self, data, close=True):
-        """Sends bytes on a new connection, and answers what comes back until the connection ends."""
-        with socket.create_connection(("127.0.0.1", self.port), timeout=PATIENCE) as stream:
-            try:
-                stream.sendall(data)
-                if close:
-                    stream.shutdown(socket.SHUT_WR)
-            except OSError:
-                pass
-            return received(stream)
-
     def frames(self, sender, *frames):
         return self.send(greeting(sender) + b"".join(frames))
-
-    def ask(self, method, path, body=None):
-        """The status and the body of a reply."""
-        body = b"" if body is None else body
-        head = f"{method} {path} HTTP/1.1\r\nHost: localhost\r\nContent-Length: {len(body)}\r\n\r\n"
-        return parted(self.send(head.encode() + body, close=False))
 
     def post(self, silence):
         status, body = self.ask("POST", "/api/v2/silences", json.dumps(silence).encode())
         return status, json.loads(body) if body else None
 
-    def listed(self):
-        """The silences that it lists, or None where it answers none."""
-        status, body = self.ask("GET", "/api/v2/silences")
-        return json.loads(body) if status == 200 else None
-
     def saved(self, state):
         """What stands in one of its files, as `show` prints it."""
         with open(self.sil if state == "sil" else self.nfl, "rb") as file:
-            words = [PROGRAM, "show", "--state", state, "--now", str(time.time_ns())]
-            ran = subprocess.run(words, stdin=file, capture_output=True, timeout=PATIENCE, check=False)
-        return (ran.returncode, ran.stdout.decode(), ran.stderr.decode())
-
-
-def received(stream):
-    data = b""
-    try:
-        while piece := stream.recv(65536):
-            data += piece
-    except OSError:
-        pass
-    return data
-
-
-def parted(reply):
-    """The status and the body of a reply's bytes; no status where there is no reply."""
-    head, _, body = reply.partition(b"\r\n\r\n")
-    words = head.split(b" ", 2)
-    return (int(words[1]), body) if len(words) == 3 else (None, body)
+            status, output, error = run(["show", "--state", state, "--now", str(time.time_ns())], stdin=file)
+        return status, output.decode(), error
 
 
 def moment(offset):
@@ -231,12 +104,6 @@ def values(silences):
     return sorted((s["matchers"][0]["value"], s["status"]["state"]) for s in silences or [])
 
 
-def run(words, **how):
-    """What comes of words that don't start a member: the status, and what is printed."""
-    ran = subprocess.run([PROGRAM, *words], capture_output=True, timeout=PATIENCE, check=False, **how)
-    return ran.returncode, ran.stdout.decode(), ran.stderr.decode()
-
-
 def trio(folder, options=()):
     ports = dict(zip(NAMES, free_ports(3)))
     return [
@@ -249,8 +116,8 @@ def trio(folder, options=()):
 
 def test_three_members(folder):
     """What is posted to one is read from all, and a member that was killed comes back."""
-    members = trio(folder)
-    a, b, c = members
+    three = trio(folder)
+    a, b, c = three
     peers = " ".join(f"{m.name}={m.port}" for m in (b, c))
     started = f"am_tool: a listens on 127.0.0.1:{a.port}, peers {peers}; loaded 0 silences, 0 entries"
     compare("the line of the start", a.lines[:1], [started])
@@ -259,15 +126,15 @@ def test_three_members(folder):
         status, answer = a.post(silence(value))
         compare(f"a post of {value}", (status, list(answer or {})), (200, ["silenceID"]))
     shown = [("x", "active"), ("y", "active"), ("z", "active")]
-    for member in members:
+    for member in three:
         check(f"{member.name} lists them", eventually(lambda: values(member.listed()) == shown), member.lines)
-    lists = [member.listed() for member in members]
+    lists = [member.listed() for member in three]
     compare("all list the same", lists[1:], lists[:1] * 2)
 
     first = lists[0][0]["id"]
     compare("one is ended at b", b.ask("DELETE", f"/api/v2/silence/{first}"), (200, b""))
     ended = lambda m: [s["status"]["state"] for s in m.listed() or [] if s["id"] == first] == ["expired"]
-    for member in members:
+    for member in three:
         check(f"{member.name} shows it as ended", eventually(lambda: ended(member)), member.lines)
     again = (500, b'"silence already expired"')
     compare("it is not ended twice", c.ask("DELETE", f"/api/v2/silence/{first}"), again)
@@ -275,7 +142,7 @@ def test_three_members(folder):
     # an entry of the log comes from a peer, and goes on to the other one
     now = int(time.time())
     compare("an entry comes", a.frames("b", delta("nfl", entry("g", now, now + 3600))), b"")
-    for member in members:
+    for member in three:
         line = "nfl g team email 0 1,2 -\n"
         check(f"{member.name} saved the entry", eventually(lambda: tick_saves(member, "nfl", line)), member.lines)
         compare(f"{member.name} saved three silences", member.saved("sil")[1].count("\n"), 3)
@@ -299,7 +166,7 @@ def test_three_members(folder):
     check("b has all that a has", eventually(whole), (b.listed(), b.lines))
     compare("and lists the same", b.listed(), a.listed())
     check("b still has the entry", tick_saves(b, "nfl", "nfl g team email 0 1,2 -\n"), b.lines)
-    for member in members:
+    for member in three:
         compare(f"{member.name} runs", member.process.poll(), None)
         member.kill()
 
@@ -471,7 +338,7 @@ def test_starts(folder):
     (port, taken) = free_ports(2)
     files = ["--sil", f"{folder}/no.sil", "--nfl", f"{folder}/no.nfl"]
     named = ["instance", "--name", "m", "--listen", str(port)]
-    refused = lambda status, line: (status, "", f"am_tool: {line}\n")
+    refused = lambda status, line: (status, b"", f"am_tool: {line}\n")
     for peer in ("b", "b=", "b=0", "b=65536", "b=x", "b=+5", "=", "b=5="):
         compare(f"--peer {peer}", run([*named, *files, "--peer", peer]), refused(2, "Peer"))
     for words, line in [
@@ -497,14 +364,13 @@ def test_starts(folder):
         words = ["instance", "--name", "m", *files, "--peer", "broken"]
         words += [option, value] if option == "--listen" else ["--listen", str(port), option, value]
         status, output, error = run(words)
-        compare(f"{option} {value}", (status, output, error.split("'")[1].split(" ")[0]), (2, "", option))
+        compare(f"{option} {value}", (status, output, error.split("'")[1].split(" ")[0]), (2, b"", option))
 
     status, output, error = run([*named, "--sil", "one", "--nfl", "one", "--peer", "broken"])
-    compare("one file for both", (status, output, error.split("\n")[0]), (2, "", ONE_FILE))
+    compare("one file for both", (status, output, error.split("\n")[0]), (2, b"", ONE_FILE))
 
-    row = bytes.fromhex("200a190a0161120812036a6f621a01781a02080a220208642a02080a120308c801")
     broken, twice, whole = f"{folder}/broken", f"{folder}/twice", f"{folder}/whole"
-    for path, data in ((broken, row[:9]), (twice, row * 2), (whole, row)):
+    for path, data in ((broken, FIRST[:9]), (twice, FIRST * 2), (whole, FIRST)):
         with open(path, "wb") as file:
             file.write(data)
     missing = f"{folder}/no.nfl"
@@ -630,29 +496,22 @@ def test_curl(folder):
     post = ["-H", "Content-Type: application/json", "-H", "Expect: 100-continue", "--data-binary", "@-"]
     body = json.dumps(silence("curl", "c" * 100_000)).encode()
     for options, given, wanted in [
-        ([], b"", "[]"),
-        (post, body, '{"silenceID"'),
-        (["-G", "--data-urlencode", 'filter=job="curl"'], b"", '[{"comment"'),
-        (["-G", "--data-urlencode", 'filter=job="other"'], b"", "[]"),
+        ([], b"", b"[]"),
+        (post, body, b'{"silenceID"'),
+        (["-G", "--data-urlencode", 'filter=job="curl"'], b"", b'[{"comment"'),
+        (["-G", "--data-urlencode", 'filter=job="other"'], b"", b"[]"),
     ]:
         words = ["curl", "-sS", "--max-time", str(PATIENCE), *options, url]
-        ran = subprocess.run(words, input=given, capture_output=True, check=False)
-        found = (ran.returncode, ran.stdout.decode()[: len(wanted)], ran.stderr)
-        compare(f"curl {options[:1]}", found, (0, wanted, b""))
+        status, output, error = outcome(words, input=given)
+        compare(f"curl {options[:1]}", (status, output[: len(wanted)], error), (0, wanted, ""))
     member.kill()
 
 
 def main():
-    global PROGRAM
-    if len(sys.argv) > 1:
-        PROGRAM = os.path.abspath(sys.argv[1])
-    if not os.access(PROGRAM, os.X_OK):
-        print(f"{PROGRAM} is not there: rt ci or ./am_tool builds it")
-        print("three members: 0 passed, 1 failed")
-        return 1
+    members.choose("three members", sys.argv[1:])
     with tempfile.TemporaryDirectory() as top:
         os.chmod(top, 0o755)
-        PROGRAM = shutil.copy(PROGRAM, f"{top}/am_tool")
+        members.program = shutil.copy(members.program, f"{top}/am_tool")
         for test in TESTS:
             folder = f"{top}/{test.__name__}"
             os.mkdir(folder)
@@ -663,8 +522,7 @@ def main():
                 check(test.__name__, False, repr(error))
             if os.environ.get("TIMES"):
                 print(f"{test.__name__}: {time.monotonic() - begun:.1f} s", flush=True)
-    print(f"three members: {passed} passed, {failed} failed")
-    return 1 if failed else 0
+    finish("three members")
 
 
 TESTS = [
@@ -682,4 +540,4 @@ TESTS = [
 
 
 if __name__ == "__main__":
-    sys.exit(main())
+    main()

@@ -1,0 +1,160 @@
+"""The built am_tool: what comes of its words, and processes of it that run members on loopback."""
+
+import contextlib
+import json
+import os
+import random
+import socket
+import subprocess
+import threading
+
+from tally import give_up
+
+TOP = os.path.dirname(os.path.dirname(os.path.abspath(__file__)))
+
+# How long anything is waited for that has to come, in seconds: long, for a machine that has much else to do.
+PATIENCE = 60
+
+# How many processes are run at once.
+LANES = 4
+
+# The program that is run.
+program = f"{TOP}/crates/am_tool/out/am_tool"
+
+
+def choose(title, words):
+    """Takes the program that the first of a script's words names, if there are words; it has to be there."""
+    global program
+    program = os.path.abspath([*words, program][0])
+    must_be_there(title, program)
+
+
+def must_be_there(title, path):
+    if not os.access(path, os.X_OK):
+        give_up(title, f"{path} is not there: rt ci builds it")
+
+
+def outcome(command, **how):
+    """A command's status, output and error: the status is 'no end' where it does not end in time, and the others are None
+    where they do not go to a pipe."""
+    if "input" not in how:
+        how.setdefault("stdin", subprocess.DEVNULL)
+    how = {"stdout": subprocess.PIPE, "stderr": subprocess.PIPE, **how}
+    try:
+        ran = subprocess.run(command, check=False, timeout=PATIENCE, **how)
+    except subprocess.TimeoutExpired:
+        return "no end", b"", ""
+    return ran.returncode, ran.stdout, None if ran.stderr is None else ran.stderr.decode("utf-8", "backslashreplace")
+
+
+def run(words, **how):
+    return outcome([program, *words], **how)
+
+
+def free_ports(count):
+    """Ports of loopback at which nothing listens now, below those that the system gives to clients."""
+    ports = []
+    while len(ports) < count:
+        port = random.randrange(10_000, 32_000)
+        with socket.socket() as holder:
+            try:
+                holder.bind(("127.0.0.1", port))
+            except OSError:
+                continue
+        if port not in ports:
+            ports.append(port)
+    return ports
+
+
+def silent_peer():
+    """A listener that takes what comes on each connection, one after the other, and says nothing."""
+    listener = socket.create_server(("127.0.0.1", 0))
+    threading.Thread(target=swallow, args=(listener,), daemon=True).start()
+    return listener
+
+
+def swallow(listener):
+    while listener.fileno() >= 0:
+        with contextlib.suppress(OSError):
+            stream, _ = listener.accept()
+            with stream:
+                while stream.recv(65536):
+                    pass
+
+
+def received(stream):
+    """What comes until a connection ends; it is an error where it doesn't in time."""
+    data = b""
+    with contextlib.suppress(ConnectionError):
+        while piece := stream.recv(65536):
+            data += piece
+    return data
+
+
+def parted(reply):
+    """The status and the body of a reply's bytes; no status where there is no reply."""
+    head, _, body = reply.partition(b"\r\n\r\n")
+    words = head.split(b" ", 2)
+    return (int(words[1]), body) if len(words) == 3 else (None, body)
+
+
+class Member:
+    """A process that runs a member, and the lines that it has printed on standard error."""
+
+    def __init__(self, name, port, peers, folder, options=(), **how):
+        self.name, self.port, self.how = name, port, how
+        self.sil, self.nfl = f"{folder}/{name}.sil", f"{folder}/{name}.nfl"
+        self.words = ["instance", "--name", name, "--listen", str(port)]
+        for peer, at in peers:
+            self.words += ["--peer", f"{peer}={at}"]
+        self.words += ["--sil", self.sil, "--nfl", self.nfl, *options]
+
+    def start(self):
+        """Starts it, and waits until it has printed a line or has ended; whether it listens."""
+        self.lines, self.has_begun = [], threading.Event()
+        streams = {"stdin": subprocess.DEVNULL, "stdout": subprocess.PIPE, "stderr": subprocess.PIPE}
+        self.process = subprocess.Popen([program, *self.words], **streams, **self.how)
+        self.reader = threading.Thread(target=self.read, daemon=True)
+        self.reader.start()
+        self.has_begun.wait(PATIENCE)
+        return bool(self.lines) and " listens on " in self.lines[0]
+
+    def read(self):
+        for line in self.process.stderr:
+            self.lines.append(line.decode("utf-8", "backslashreplace").rstrip("\n"))
+            self.has_begun.set()
+        self.has_begun.set()
+
+    def kill(self):
+        self.process.kill()
+        return self.end()
+
+    def end(self):
+        """Its status, once it has ended; it is killed where it does not end in time."""
+        with contextlib.suppress(subprocess.TimeoutExpired):
+            self.process.wait(PATIENCE)
+        self.process.kill()
+        status = self.process.wait(PATIENCE)
+        self.reader.join(PATIENCE)
+        return status
+
+    def send(self, *pieces, close=True):
+        """What comes back for bytes that are sent on a new connection, piece by piece, until the connection ends."""
+        with socket.create_connection(("127.0.0.1", self.port), timeout=PATIENCE) as stream:
+            stream.setsockopt(socket.IPPROTO_TCP, socket.TCP_NODELAY, 1)
+            with contextlib.suppress(OSError):
+                for piece in pieces:
+                    stream.sendall(piece)
+                if close:
+                    stream.shutdown(socket.SHUT_WR)
+            return received(stream)
+
+    def ask(self, method, path, body=b""):
+        """The status and the body of a reply."""
+        head = f"{method} {path} HTTP/1.1\r\nHost: localhost\r\nContent-Length: {len(body)}\r\n\r\n"
+        return parted(self.send(head.encode() + body, close=False))
+
+    def listed(self):
+        """The silences that it lists, or None where it answers none."""
+        status, body = self.ask("GET", "/api/v2/silences")
+        return json.loads(body) if status == 200 else None
