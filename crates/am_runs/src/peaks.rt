@@ -123,7 +123,7 @@ pub fn make_rows(peaks: &mut Peaks, count: usize) -> Result<(), AllocError>
 }
 
 /// The row of a key and a member, or where in the order it would go.
-fn find<V: Version>(
+pub fn find<V: Version>(
     peaks: &Peaks,
     steps: &[Step<V>],
     key: &V::Key,

@@ -6,9 +6,9 @@ use Rattle.am_runs.proofs.spread.come_soon.Goals as goal
 
 pub loop-version-preserved : goal.loop-version-preserved
 loop-version-preserved g c =
-    all_more (λ v. comes g.V.Version.seen g.V.Key.Ord.cmp c.args.spread c.args.member v (record { runs = true; has = false; saved = false }) (map step_of c.args.steps.now) ≡ true) c.args.versions.now c.loop-version.version-index c.version-item.result c.loop-version-test.true c.version-item.is c.loop-version.invariant
+    all_more (λ v. comes g.V.Version.seen g.V.Key.Ord.cmp c.args.spread c.args.last.now.member v (record { runs = true; has = false; saved = false }) (map step_of c.args.steps.now) ≡ true) c.args.versions.now c.loop-version.version-index c.version-item.result c.loop-version-test.true c.version-item.is c.loop-version.invariant
     (sym c.comes_soon.ensures ∙ c.if-not-comes_soon.false)
 
 pub returns : goal.returns
 returns g c =
-    (λ t. all_done (λ v. comes g.V.Version.seen g.V.Key.Ord.cmp c.args.spread c.args.member v (record { runs = true; has = false; saved = false }) (map step_of c.args.steps.now) ≡ true) c.args.versions.now c.loop-version.version-index c.loop-version-test.false c.loop-version.invariant, λ all. refl)
+    (λ t. all_done (λ v. comes g.V.Version.seen g.V.Key.Ord.cmp c.args.spread c.args.last.now.member v (record { runs = true; has = false; saved = false }) (map step_of c.args.steps.now) ≡ true) c.args.versions.now c.loop-version.version-index c.loop-version-test.false c.loop-version.invariant, λ all. refl)
