@@ -267,6 +267,66 @@ fn is_taken_in<V: Version>(
     )
 }
 
+/// How far from where a version was delivered it is looked for, before it is looked for along its cells.
+const NEAR: usize = 8;
+
+/// Whether one of the steps so far from a place tells that a version comes to the member of a spell.
+fn is_taken_beside<V: Version>(
+    spread: Interval,
+    version: &V,
+    steps: &[Step<V>],
+    spell: &Spell,
+    place: Place,
+    distance: usize,
+) -> bool
+    requires onward { are_onward 0 (map step_of steps.now) ≡ true }
+    requires spell { IsSpell V.seen V.Key.cmp spell.now.member spell.now (map step_of steps.now) }
+    requires past { ComesFrom V.seen V.Key.cmp spread spell.now.member version.now (map step_of steps.now) (spell.now.until + 1) }
+    ensures { IsTrue result → comes V.seen V.Key.cmp spread spell.now.member version.now
+        (record { runs = true; has = false; saved = false }) (map step_of steps.now) ≡ true }
+{
+    let Spell {
+        member,
+        from,
+        until,
+        ..
+    } = *spell;
+    let later = Place {
+        step: place.step.saturating_add(distance),
+        number: place.number,
+    };
+    if tells(spread, member, version, steps, from, until, Some(later)) {
+        return true;
+    }
+    let sooner = Place {
+        step: place.step.saturating_sub(distance),
+        number: place.number,
+    };
+    tells(spread, member, version, steps, from, until, Some(sooner))
+}
+
+/// Whether one of those near a place does. Mostly one does, and that is found sooner than the cells.
+fn is_taken_near<V: Version>(
+    spread: Interval,
+    version: &V,
+    steps: &[Step<V>],
+    spell: &Spell,
+    place: Place,
+) -> bool
+    requires onward { are_onward 0 (map step_of steps.now) ≡ true }
+    requires spell { IsSpell V.seen V.Key.cmp spell.now.member spell.now (map step_of steps.now) }
+    requires past { ComesFrom V.seen V.Key.cmp spread spell.now.member version.now (map step_of steps.now) (spell.now.until + 1) }
+    ensures { IsTrue result → comes V.seen V.Key.cmp spread spell.now.member version.now
+        (record { runs = true; has = false; saved = false }) (map step_of steps.now) ≡ true }
+{
+    for distance in 0..NEAR {
+        if is_taken_beside(spread, version, steps, spell, place, distance) {
+            return true;
+        }
+    }
+    false
+}
+
 /// Whether a member saved a version in a spell, which it took before that should have come.
 fn is_saved_in<V: Version>(
     spread: Interval,
@@ -325,7 +385,7 @@ fn is_saved_before<V: Version>(
     false
 }
 
-/// Whether it is found that a version comes to the member of a spell, its last one.
+/// Whether it is found that a version that was delivered at a place comes to the member of a spell, its last one.
 fn is_found<V: Version>(
     spread: Interval,
     version: &V,
@@ -333,6 +393,7 @@ fn is_found<V: Version>(
     peaks: &Peaks,
     trails: &Trails,
     last: &Spell,
+    place: Place,
 ) -> bool
     requires onward { are_onward 0 (map step_of steps.now) ≡ true }
     requires peaks { ArePeaks V.seen V.Key.cmp (version_at (map step_of steps.now)) peaks.now (tops_in V.seen V.Key.cmp (map step_of steps.now)) }
@@ -345,6 +406,9 @@ fn is_found<V: Version>(
     if is_first_unseen(spread, version, steps, &spell) {
         return true;
     }
+    if is_taken_near(spread, version, steps, &spell, place) {
+        return true;
+    }
     let cell = last_cell(last.member, version, steps, peaks, trails);
     if is_taken_in(spread, version, steps, &trails.cells, cell, &spell) {
         return true;
@@ -352,7 +416,7 @@ fn is_found<V: Version>(
     is_saved_before(spread, version, steps, trails, cell, &spell)
 }
 
-/// Whether a version comes to the member of a spell, its last one.
+/// Whether a version that was delivered at a place comes to the member of a spell, its last one.
 fn comes_soon<V: Version>(
     spread: Interval,
     steps: &[Step<V>],
@@ -360,6 +424,7 @@ fn comes_soon<V: Version>(
     trails: &Trails,
     last: &Spell,
     version: &V,
+    place: Place,
 ) -> bool
     requires onward { are_onward 0 (map step_of steps.now) ≡ true }
     requires peaks { ArePeaks V.seen V.Key.cmp (version_at (map step_of steps.now)) peaks.now (tops_in V.seen V.Key.cmp (map step_of steps.now)) }
@@ -368,13 +433,13 @@ fn comes_soon<V: Version>(
     ensures { result ≡ comes V.seen V.Key.cmp spread last.now.member version.now
         (record { runs = true; has = false; saved = false }) (map step_of steps.now) }
 {
-    if is_found(spread, version, steps, peaks, trails, last) {
+    if is_found(spread, version, steps, peaks, trails, last, place) {
         return true;
     }
     comes(spread, last.member, version, steps)
 }
 
-/// Whether each of the versions does.
+/// Whether each of the versions that were delivered with a step does.
 fn come_soon<V: Version>(
     spread: Interval,
     steps: &[Step<V>],
@@ -382,6 +447,7 @@ fn come_soon<V: Version>(
     trails: &Trails,
     last: &Spell,
     versions: &[V],
+    step: usize,
 ) -> bool
     requires onward { are_onward 0 (map step_of steps.now) ≡ true }
     requires peaks { ArePeaks V.seen V.Key.cmp (version_at (map step_of steps.now)) peaks.now (tops_in V.seen V.Key.cmp (map step_of steps.now)) }
@@ -390,8 +456,10 @@ fn come_soon<V: Version>(
     ensures { IsTrue result ↔ All (λ v. comes V.seen V.Key.cmp spread last.now.member v
         (record { runs = true; has = false; saved = false }) (map step_of steps.now) ≡ true) versions.now }
 {
-    for version in versions {
-        if !comes_soon(spread, steps, peaks, trails, last, version) {
+    for number in 0..versions.len() {
+        let place = Place { step, number };
+        let version = &versions[number];
+        if !comes_soon(spread, steps, peaks, trails, last, version, place) {
             return false;
         }
     }
@@ -413,8 +481,9 @@ fn all_come_soon<V: Version>(
     ensures { IsTrue result ↔ All (λ v. comes V.seen V.Key.cmp spread last.now.member v
         (record { runs = true; has = false; saved = false }) (map step_of steps.now) ≡ true) (delivered_in (map step_of steps.now)) }
 {
-    for step in steps {
-        if !come_soon(spread, steps, peaks, trails, last, step.versions()) {
+    for place in 0..steps.len() {
+        let versions = steps[place].versions();
+        if !come_soon(spread, steps, peaks, trails, last, versions, place) {
             return false;
         }
     }

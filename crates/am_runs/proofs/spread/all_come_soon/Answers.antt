@@ -12,16 +12,16 @@ returns-then-not-come_soon g c =
       λ t. absurd (false≢true t),
       λ all.
           absurd (false≢true (sym c.if-not-come_soon.true ∙ c.come_soon.ensures.1
-          (subst (All P) (sym c.versions.ensures) (delivered_one step_of P c.args.steps.now c.loop-step.step-index c.step-item.result c.loop-step-test.true c.step-item.is all)))),
+          (subst (All P) (sym c.versions-versions.ensures) (delivered_one step_of P c.args.steps.now c.loop-place.place c.index-steps-place.result c.loop-place-test.true c.index-steps-place.is all)))),
     )
 
-pub loop-step-preserved : goal.loop-step-preserved
-loop-step-preserved g c =
+pub loop-place-preserved : goal.loop-place-preserved
+loop-place-preserved g c =
     let P = λ (v : g.row.V.Denot). comes g.V.Version.seen g.V.Key.Ord.cmp c.args.spread c.args.last.now.member v (record { runs = true; has = false; saved = false }) (map step_of c.args.steps.now) ≡ true in
-    delivered_more step_of P c.args.steps.now c.loop-step.step-index c.step-item.result c.loop-step-test.true c.step-item.is c.loop-step.invariant
-    (subst (All P) c.versions.ensures (c.come_soon.ensures.0 c.if-not-come_soon.false))
+    delivered_more step_of P c.args.steps.now c.loop-place.place c.index-steps-place.result c.loop-place-test.true c.index-steps-place.is c.loop-place.invariant
+    (subst (All P) c.versions-versions.ensures (c.come_soon.ensures.0 c.if-not-come_soon.false))
 
 pub returns : goal.returns
 returns g c =
     let P = λ (v : g.row.V.Denot). comes g.V.Version.seen g.V.Key.Ord.cmp c.args.spread c.args.last.now.member v (record { runs = true; has = false; saved = false }) (map step_of c.args.steps.now) ≡ true in
-    (λ t. delivered_done step_of P c.args.steps.now c.loop-step.step-index c.loop-step-test.false c.loop-step.invariant, λ all. refl)
+    (λ t. delivered_done step_of P c.args.steps.now c.loop-place.place c.loop-place-test.false c.loop-place.invariant, λ all. refl)
