@@ -16,7 +16,7 @@ use crate::spans::is_some_time;
 use crate::spread::is_timely;
 use crate::standing::{Standing, fill_first};
 use crate::step::Step;
-use crate::trails::{Trails, make_trails, no_trails, trace};
+use crate::trails::{Trails, make_trails, no_trails};
 use am_version_order::{Interval, Moment, Version};
 use std::alloc::{AllocError, Global};
 use std::marker::Model;
@@ -120,8 +120,13 @@ impl<V: Version> Run<V> {
         let number = self.steps.len();
         self.spare -= step.versions().len();
         self.steps.push_reserved(step);
-        write_down(&mut self.peaks, &mut self.standings, &self.steps, number);
-        trace(&mut self.trails, &self.peaks, &self.steps, number);
+        write_down(
+            &mut self.peaks,
+            &mut self.standings,
+            &mut self.trails,
+            &self.steps,
+            number,
+        );
     }
 
     /// Whether a member runs. It takes no memory.

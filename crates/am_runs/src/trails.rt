@@ -3,12 +3,7 @@
 //! Nothing rests on it: a step that it leads to is looked at, spells are gone over before they are used, and where it
 //! leads to nothing all steps are gone over. So what finds no room is left out, and the answer only takes longer.
 
-ghost use Rattle.std.specs.Prelude.{◌≡◌, map};
-ghost use Rattle.am_runs.specs.Records.{step_of};
-ghost use Rattle.am_runs.specs.Peaks.{version_at, ArePeaks, tops_in};
-
 use crate::calm::is_below;
-use crate::peaks::{Peaks, find};
 use crate::place::{Place, version_at};
 use crate::step::Step;
 use am_version_order::{Moment, Version};
@@ -166,14 +161,23 @@ fn cell_behind<V: Version>(
     }
 }
 
-/// Puts a cell of what stands at a place behind those of its row. It takes no memory.
-fn add_cell<V: Version>(
+/// The number of the step at which the spell of a member began.
+fn began(stays: &[Spell], member: usize) -> usize {
+    match stays.get(member) {
+        Some(stay) => stay.from,
+        None => 0,
+    }
+}
+
+/// Notes that a member took what stands at a place, of the key of a row. It takes no memory.
+pub fn add_cell<V: Version>(
     trails: &mut Trails,
     steps: &[Step<V>],
-    from: usize,
+    member: usize,
     row: usize,
     place: Place,
 ) {
+    let from = began(&trails.stays, member);
     let last = trails.lasts.get(row).copied();
     let number = trails.cells.len();
     let cell = cell_behind(steps, &trails.cells, from, last, place);
@@ -183,32 +187,6 @@ fn add_cell<V: Version>(
             trails.lasts[row] = number;
         } else if row == trails.lasts.len() && row < trails.lasts.capacity() {
             trails.lasts.push_reserved(number);
-        }
-    }
-}
-
-/// Notes the versions that a member took with the step of this number. It takes no memory.
-fn add_cells<V: Version>(
-    trails: &mut Trails,
-    peaks: &Peaks,
-    steps: &[Step<V>],
-    member: usize,
-    number: usize,
-    versions: &[V],
-)
-    requires { ArePeaks V.seen V.Key.cmp (version_at (map step_of steps.now)) peaks.now (tops_in V.seen V.Key.cmp (map step_of steps.now)) }
-{
-    let from = match trails.stays.get(member) {
-        Some(stay) => stay.from,
-        None => 0,
-    };
-    for place in 0..versions.len() {
-        if let Ok(row) = find(peaks, steps, versions[place].key(), member) {
-            let place = Place {
-                step: number,
-                number: place,
-            };
-            add_cell(trails, steps, from, row, place);
         }
     }
 }
@@ -240,7 +218,7 @@ fn begin_spell(trails: &mut Trails, member: usize, number: usize) {
 }
 
 /// Notes the step of this number in the spell of its member. It takes no memory.
-fn note_spell<V>(trails: &mut Trails, number: usize, step: &Step<V>) {
+pub fn note_spell<V>(trails: &mut Trails, number: usize, step: &Step<V>) {
     match step {
         Step::Saved { place } => {
             if *place < trails.stays.len() {
@@ -258,22 +236,5 @@ fn note_spell<V>(trails: &mut Trails, number: usize, step: &Step<V>) {
     }
     if let Some(now) = step.moment() {
         trails.tick = Some(Tick { step: number, now });
-    }
-}
-
-/// Notes the last step, of this number. It takes no memory.
-pub fn trace<V: Version>(trails: &mut Trails, peaks: &Peaks, steps: &[Step<V>], number: usize)
-    requires { ArePeaks V.seen V.Key.cmp (version_at (map step_of steps.now)) peaks.now (tops_in V.seen V.Key.cmp (map step_of steps.now)) }
-{
-    if let Some(step) = steps.get(number) {
-        note_spell(trails, number, step);
-        if let Step::Took {
-            place,
-            versions,
-            ..
-        } = step
-        {
-            add_cells(trails, peaks, steps, *place, number, versions);
-        }
     }
 }
