@@ -10,7 +10,7 @@ ghost use Rattle.am_runs.specs.Tests.{StaysCalm};
 use crate::peaks::{Peaks, Timing, bring_back, save, take_all};
 use crate::standing::{Standing, last_collection, note};
 use crate::step::Step;
-use crate::trails::{Trails, note_spell};
+use crate::trails::{Trails, note_step};
 use am_version_order::Version;
 
 /// Whether the member of a step stays calm with it; and where its greatest versions stand is kept. It takes no memory.
@@ -89,5 +89,5 @@ pub fn write_down<V: Version>(
     let step = &steps[number];
     let stays = follow(peaks, trails, standings, steps, before, step);
     note(standings, before, step, stays);
-    note_spell(trails, number, step);
+    note_step(trails, number, step);
 }

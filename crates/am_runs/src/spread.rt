@@ -538,7 +538,7 @@ pub fn is_timely<V: Version>(
     if !all_lasting(steps, spread, flight) {
         return false;
     }
-    if !are_swift(flight, steps) {
+    if !are_swift(flight, steps, &trails.counts) {
         return false;
     }
     all_come_to_all(spread, members, steps, peaks, trails)

@@ -67,7 +67,7 @@ pub fn all_lasting<V: Version>(steps: &[Step<V>], spread: Interval, flight: Inte
 }
 
 /// When the frame of this number was sent.
-fn sent_in<V>(number: usize, steps: &[Step<V>]) -> Option<Moment>
+pub fn sent_in<V>(number: usize, steps: &[Step<V>]) -> Option<Moment>
     ensures { result ≡ sent_in number (map step_of steps.now) }
 {
     let mut left = number;

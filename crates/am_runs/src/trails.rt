@@ -57,6 +57,9 @@ pub struct Trails {
     pub spells: Vec<Spell>,
     /// The spell of each member that isn't, as far as it came.
     pub stays: Vec<Spell>,
+    /// How many frames were sent before each step.
+    pub counts: Vec<usize>,
+    sent: usize,
     tick: Option<Tick>,
 }
 
@@ -67,6 +70,8 @@ pub fn no_trails(alloc: Global) -> Trails {
         lasts: Vec::new(alloc),
         spells: Vec::new(alloc),
         stays: Vec::new(alloc),
+        counts: Vec::new(alloc),
+        sent: 0,
         tick: None,
     }
 }
@@ -85,6 +90,7 @@ pub fn make_trails(
     trails.cells.reserve(versions)?;
     trails.lasts.reserve(versions)?;
     trails.spells.reserve(steps)?;
+    trails.counts.reserve(steps)?;
     for member in trails.stays.len()..members {
         trails.stays.push(Spell {
             member,
@@ -217,8 +223,16 @@ fn begin_spell(trails: &mut Trails, member: usize, number: usize) {
     }
 }
 
+/// Notes how many frames were sent before a step. It takes no memory.
+fn note_count<V>(trails: &mut Trails, step: &Step<V>) {
+    if trails.counts.len() < trails.counts.capacity() {
+        trails.counts.push_reserved(trails.sent);
+    }
+    trails.sent = trails.sent.saturating_add(step.sendings());
+}
+
 /// Notes the step of this number in the spell of its member. It takes no memory.
-pub fn note_spell<V>(trails: &mut Trails, number: usize, step: &Step<V>) {
+fn note_spell<V>(trails: &mut Trails, number: usize, step: &Step<V>) {
     match step {
         Step::Saved { place } => {
             if *place < trails.stays.len() {
@@ -237,4 +251,10 @@ pub fn note_spell<V>(trails: &mut Trails, number: usize, step: &Step<V>) {
     if let Some(now) = step.moment() {
         trails.tick = Some(Tick { step: number, now });
     }
+}
+
+/// Notes the step of this number. It takes no memory.
+pub fn note_step<V>(trails: &mut Trails, number: usize, step: &Step<V>) {
+    note_count(trails, step);
+    note_spell(trails, number, step);
 }
