@@ -87,9 +87,11 @@ pub fn make_trails(
     steps: usize,
     versions: usize,
 ) -> Result<(), AllocError> {
+    // A member is stopped before it is started, so every second step starts one at most, once all that were stopped run.
+    let starts = steps.min((steps / 2).saturating_add(members));
     trails.cells.reserve(versions)?;
     trails.lasts.reserve(versions)?;
-    trails.spells.reserve(steps)?;
+    trails.spells.reserve(starts)?;
     trails.counts.reserve(steps)?;
     for member in trails.stays.len()..members {
         trails.stays.push(Spell {

@@ -308,12 +308,7 @@ fn window(alloc: Global, last: u64, count: u64) -> Result<Vec<Note>, AllocError>
 }
 
 // An act of a run of three members, each of which takes what was made last, with up to four versions from before.
-fn crowd(
-    alloc: Global,
-    run: &mut Run<Note>,
-    seed: u64,
-    number: u64,
-) -> Result<bool, AllocError> {
+fn crowd(alloc: Global, run: &mut Run<Note>, seed: u64, number: u64) -> Result<bool, AllocError> {
     let mixed = mixed_of(seed, number);
     let place = match number % 3 {
         0 => 0usize,
@@ -372,7 +367,13 @@ pub fn play_far(alloc: Global, count: u64, taken_again: bool) -> Result<(bool, b
     stop(&mut run, 1)?;
     start(&mut run, 1, at(22))?;
     if taken_again {
-        take_all(alloc, &mut run, 1, at(23), window(alloc, count.saturating_sub(1), count)?)?;
+        take_all(
+            alloc,
+            &mut run,
+            1,
+            at(23),
+            window(alloc, count.saturating_sub(1), count)?,
+        )?;
     }
     tick(&mut run, 1, at(900))?;
     let told = match (Interval::from_seconds(50), Interval::from_seconds(200)) {
