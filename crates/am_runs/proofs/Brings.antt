@@ -168,8 +168,10 @@ module _ {K X : Type 0} (seen : X → Version K) (cmp : K → K → Ordering) (s
   abbrev Running : List (Step X) → Type 0
   Running steps = (w : Watched) → w.runs ≡ true → comes seen cmp spread q v w steps ≡ true
 
-  held_one : (s : Step X) (steps : List (Step X)) → ((w : Watched) → w.has ≡ true → comes seen cmp spread q v (watch_after seen cmp q v w s) steps ≡ true) → Held (s ∷ steps)
-  held_one s steps later w has = and_from (not (is_wanting due w (moment s))) (comes seen cmp spread q v (watch_after seen cmp q v w s) steps) (unwanted_has due w (moment s) has) (later w has)
+  held_one : (s : Step X) (steps : List (Step X)) → ((w : Watched) → w.has ≡ true
+      → comes seen cmp spread q v (watch_after seen cmp q v w s) steps ≡ true) → Held (s ∷ steps)
+  held_one s steps later w has = and_from (not (is_wanting due w (moment s)))
+      (comes seen cmp spread q v (watch_after seen cmp q v w s) steps) (unwanted_has due w (moment s) has) (later w has)
 
   held_on : (s : Step X) (steps : List (Step X)) → starts q s ≡ false → Held steps → Held (s ∷ steps)
   held_on s steps apart held = held_one s steps (λ w has. held (watch_after seen cmp q v w s) (has_after w s has apart))
@@ -202,32 +204,41 @@ module _ {K X : Type 0} (seen : X → Version K) (cmp : K → K → Ordering) (s
   at_number : (steps : List (Step X)) (n : ℕ) (s : Step X) → slice_get steps n ≡ Some s → drop n steps ≡ s ∷ drop (n + 1) steps
   at_number steps n s is =
       let next : suc n ≡ n + 1 = omega arith in
-      drop-cons steps n s (slice_get_within steps n s is) ∙ ap (λ y. y ∷ drop (suc n) steps) (get_or_from_slice_get steps n s s is) ∙ ap (λ m. s ∷ drop m steps) next
+      drop-cons steps n s (slice_get_within steps n s is) ∙ ap (λ y. y ∷ drop (suc n) steps) (get_or_from_slice_get steps n s s is) ∙ ap
+      (λ m. s ∷ drop m steps) next
 
-  pub saved_held : (steps : List (Step X)) (n : ℕ) (s : Step X) → slice_get steps n ≡ Some s → saves q s ≡ true → HoldsFrom seen cmp spread q v steps n
+  pub saved_held : (steps : List (Step X)) (n : ℕ) (s : Step X) → slice_get steps n ≡ Some s → saves q s ≡ true
+      → HoldsFrom seen cmp spread q v steps n
   saved_held steps n s is save = subst Held (sym (at_number steps n s is)) (held_saved s (drop (n + 1) steps) save)
 
-  pub started_held : (steps : List (Step X)) (n : ℕ) (s : Step X) → slice_get steps n ≡ Some s → starts q s ≡ true → ComesFrom seen cmp spread q v steps (n + 1) → HoldsFrom seen cmp spread q v steps n
+  pub started_held : (steps : List (Step X)) (n : ℕ) (s : Step X) → slice_get steps n ≡ Some s → starts q s ≡ true
+      → ComesFrom seen cmp spread q v steps (n + 1) → HoldsFrom seen cmp spread q v steps n
   started_held steps n s is start running = subst Held (sym (at_number steps n s is)) (held_started s (drop (n + 1) steps) start running)
 
   -- back to an earlier number
-  held_back : (steps : List (Step X)) (from until : ℕ) → ((n : ℕ) (s : Step X) → from ≤ n → n < until → slice_get steps n ≡ Some s → starts q s ≡ false) → until ≤ length steps → (far n : ℕ) → from ≤ n → n + far ≤ until → HoldsFrom seen cmp spread q v steps (n + far) → HoldsFrom seen cmp spread q v steps n
-  held_back steps from until none long zero n low high held = let same : n + 0 ≡ n = omega arith in subst (λ m. HoldsFrom seen cmp spread q v steps m) same held
+  held_back : (steps : List (Step X)) (from until : ℕ) → ((n : ℕ) (s : Step X) → from ≤ n → n < until → slice_get steps n ≡ Some s
+      → starts q s ≡ false) → until ≤ length steps → (far n : ℕ) → from ≤ n → n + far ≤ until → HoldsFrom seen cmp spread q v steps (n + far) → HoldsFrom seen cmp spread q v steps n
+  held_back steps from until none long zero n low high held = let same : n + 0 ≡ n = omega arith in subst
+      (λ m. HoldsFrom seen cmp spread q v steps m) same held
   held_back steps from until none long (suc far) n low high held =
       let next : n + suc far ≡ (n + 1) + far = omega arith in
-      let later = held_back steps from until none long far (n + 1) (omega arith) (omega (arith, next, high)) (subst (λ m. HoldsFrom seen cmp spread q v steps m) next held) in
+      let later = held_back steps from until none long far (n + 1) (omega arith) (omega (arith, next, high))
+      (subst (λ m. HoldsFrom seen cmp spread q v steps m) next held) in
       let within : n < length steps = omega arith in
       by (slice_get steps n) refl within later where
-        by : (o : Option (Step X)) → slice_get steps n ≡ o → n < length steps → HoldsFrom seen cmp spread q v steps (n + 1) → HoldsFrom seen cmp spread q v steps n
+        by : (o : Option (Step X)) → slice_get steps n ≡ o → n < length steps → HoldsFrom seen cmp spread q v steps (n + 1)
+            → HoldsFrom seen cmp spread q v steps n
         by None e within later = absurd (slice_some steps n within e)
-        by (Some s) e within later = subst Held (sym (at_number steps n s e)) (held_on s (drop (n + 1) steps) (none n s low (omega arith) e) later)
+        by (Some s) e within later = subst Held (sym (at_number steps n s e))
+            (held_on s (drop (n + 1) steps) (none n s low (omega arith) e) later)
 
   -- ---- one part after another
   abbrev watch_from : Watched → List (Step X) → Watched
   watch_from w [] = w
   watch_from w (s ∷ steps) = watch_from (watch_after seen cmp q v w s) steps
 
-  comes_append : (w : Watched) (front back : List (Step X)) → comes seen cmp spread q v w front ≡ true → comes seen cmp spread q v (watch_from w front) back ≡ true → comes seen cmp spread q v w (front ++ back) ≡ true
+  comes_append : (w : Watched) (front back : List (Step X)) → comes seen cmp spread q v w front ≡ true
+      → comes seen cmp spread q v (watch_from w front) back ≡ true → comes seen cmp spread q v w (front ++ back) ≡ true
   comes_append w [] back first later = later
   comes_append w (s ∷ front) back first later =
       let both = and_parts (not (is_wanting due w (moment s))) (comes seen cmp spread q v (watch_after seen cmp q v w s) front) first in
@@ -239,14 +250,16 @@ module _ {K X : Type 0} (seen : X → Version K) (cmp : K → K → Ordering) (s
   runs_told w (s ∷ steps) = runs_told (watch_after seen cmp q v w s) steps ∙ ap (λ r. runs_from q r steps) (runs_watched w s)
 
   -- steps at which it didn't run since the version should have come, and behind which it runs
-  pub unseen_part : (front back : List (Step X)) → is_due due (ran_from q true None front) ≡ false → runs_from q true front ≡ true → Running back → Running (front ++ back)
+  pub unseen_part : (front back : List (Step X)) → is_due due (ran_from q true None front) ≡ false → runs_from q true front ≡ true
+      → Running back → Running (front ++ back)
   unseen_part front back early runs later w running =
       comes_append w front back
       (comes_unseen w None front (ap (λ r. is_due due (ran_from q r None front)) running ∙ early))
       (later (watch_from w front) (runs_told w front ∙ (ap (λ r. runs_from q r front) running ∙ runs)))
 
   pub unseen_rest : (steps : List (Step X)) (ran : Option ℕ) → ran ≡ ran_from q true None steps → is_due due ran ≡ false → Running steps
-  unseen_rest steps ran is early w running = comes_unseen w None steps (ap (λ r. is_due due (ran_from q r None steps)) running ∙ (ap (is_due due) (sym is) ∙ early))
+  unseen_rest steps ran is early w running = comes_unseen w None steps
+      (ap (λ r. is_due due (ran_from q r None steps)) running ∙ (ap (is_due due) (sym is) ∙ early))
 
   -- ---- a step that brings it
   brought_at : (s : Step X) → brings seen cmp spread q v s ≡ true → (now : ℕ) × (moment s ≡ Some now) × (leb due now ≡ false)
@@ -272,7 +285,9 @@ module _ {K X : Type 0} (seen : X → Version K) (cmp : K → K → Ordering) (s
   brought_has w (Stopped place) b = absurd (false≢true b)
   brought_has w (Started place now) b = absurd (false≢true b)
 
-  comes_brought : (clock : ℕ) (w : Watched) (before : List (Step X)) (s : Step X) (rest : List (Step X)) → are_onward clock (before ++ s ∷ rest) ≡ true → brings seen cmp spread q v s ≡ true → Held rest → comes seen cmp spread q v w (before ++ s ∷ rest) ≡ true
+  comes_brought : (clock : ℕ) (w : Watched) (before : List (Step X)) (s : Step X) (rest : List (Step X))
+      → are_onward clock (before ++ s ∷ rest) ≡ true → brings seen cmp spread q v s ≡ true → Held rest
+      → comes seen cmp spread q v w (before ++ s ∷ rest) ≡ true
   comes_brought clock w [] s rest on brought kept =
       let at = brought_at s brought in
       let next : clock_after clock (moment s) ≤ at.0 = subst (λ o. clock_after clock o ≤ at.0) (sym at.1) (omega arith) in
@@ -286,9 +301,11 @@ module _ {K X : Type 0} (seen : X → Version K) (cmp : K → K → Ordering) (s
       (unwanted_early due w (moment b) clock at.0 (reached (clock_after clock (moment b)) before s rest at.0 both.1 at.1) at.2)
       (comes_brought (clock_after clock (moment b)) (watch_after seen cmp q v w b) before s rest both.1 brought kept)
 
-  pub comes_told : (w : Watched) (steps : List (Step X)) (n : ℕ) (s : Step X) → slice_get steps n ≡ Some s → are_onward 0 steps ≡ true → brings seen cmp spread q v s ≡ true → HoldsFrom seen cmp spread q v steps (n + 1) → comes seen cmp spread q v w steps ≡ true
+  pub comes_told : (w : Watched) (steps : List (Step X)) (n : ℕ) (s : Step X) → slice_get steps n ≡ Some s → are_onward 0 steps ≡ true
+      → brings seen cmp spread q v s ≡ true → HoldsFrom seen cmp spread q v steps (n + 1) → comes seen cmp spread q v w steps ≡ true
   comes_told w steps n s is on brought held =
-      let cut : take n steps ++ s ∷ drop (n + 1) steps ≡ steps = ap (λ ss. take n steps ++ ss) (sym (at_number steps n s is)) ∙ take-append-drop n steps in
+      let cut : take n steps ++ s ∷ drop (n + 1) steps ≡ steps = ap (λ ss. take n steps ++ ss) (sym (at_number steps n s is))
+      ∙ take-append-drop n steps in
       subst (λ ss. comes seen cmp spread q v w ss ≡ true) cut
       (comes_brought 0 w (take n steps) s (drop (n + 1) steps) (subst (λ ss. are_onward 0 ss ≡ true) (sym cut) on) brought held)
 
@@ -309,25 +326,34 @@ module _ {X : Type 0} (q : ℕ) (steps : List (Step X)) where
   NoneStarts from until = (n : ℕ) (s : Step X) → from ≤ n → n < until → slice_get steps n ≡ Some s → starts q s ≡ false
 
 module _ {K X : Type 0} (seen : X → Version K) (cmp : K → K → Ordering) (q : ℕ) (steps : List (Step X)) where
-  held_between : (spread : ℕ) (v : X) (from until : ℕ) → NoneStarts q steps from until → until ≤ length steps → (one other : ℕ) → from ≤ one → one ≤ other → other ≤ until → HoldsFrom seen cmp spread q v steps other → HoldsFrom seen cmp spread q v steps one
+  held_between : (spread : ℕ) (v : X) (from until : ℕ) → NoneStarts q steps from until → until ≤ length steps → (one other : ℕ)
+      → from ≤ one → one ≤ other → other ≤ until → HoldsFrom seen cmp spread q v steps other → HoldsFrom seen cmp spread q v steps one
   held_between spread v from until none long one other low on high held =
       let far : one + (other - one) ≡ other = omega arith in
-      held_back seen cmp spread q v steps from until none long (other - one) one low (omega (arith, far, high)) (subst (λ m. HoldsFrom seen cmp spread q v steps m) (sym far) held)
+      held_back seen cmp spread q v steps from until none long (other - one) one low (omega (arith, far, high))
+      (subst (λ m. HoldsFrom seen cmp spread q v steps m) (sym far) held)
 
   -- one that a start ends
-  pub past_spell : (spell : Spell) (s : Step X) → slice_get steps spell.until ≡ Some s → starts q s ≡ true → NoneStarts q steps spell.from spell.until → spell.from ≤ spell.until → ((due : ℕ) → is_due due spell.ran ≡ false → is_due due (ran_from q true None (slice_range steps spell.from (spell.until + 1))) ≡ false) → runs_from q true (slice_range steps spell.from (spell.until + 1)) ≡ true → IsSpell seen cmp q spell steps
+  pub past_spell : (spell : Spell) (s : Step X) → slice_get steps spell.until ≡ Some s → starts q s ≡ true
+      → NoneStarts q steps spell.from spell.until → spell.from ≤ spell.until
+      → ((due : ℕ) → is_due due spell.ran ≡ false → is_due due (ran_from q true None
+      (slice_range steps spell.from (spell.until + 1))) ≡ false) → runs_from q true (slice_range steps spell.from (spell.until + 1)) ≡ true → IsSpell seen cmp q spell steps
   past_spell spell s is start none order ran runs =
       let within = slice_get_within steps spell.until s is in
       let long : spell.until ≤ length steps = omega arith in
       record {
-        unseen = λ spread v early later. subst (λ ss. (w : Watched) → w.runs ≡ true → comes seen cmp spread q v w ss ≡ true) (sym (drop_split steps spell.from (spell.until + 1) (omega arith)))
-            (unseen_part seen cmp spread q v (slice_range steps spell.from (spell.until + 1)) (drop (spell.until + 1) steps) (ran ((seen v).updated + spread) early) runs later);
+        unseen = λ spread v early later. subst (λ ss. (w : Watched) → w.runs ≡ true → comes seen cmp spread q v w ss ≡ true)
+            (sym (drop_split steps spell.from (spell.until + 1) (omega arith)))
+            (unseen_part seen cmp spread q v (slice_range steps spell.from (spell.until + 1)) (drop (spell.until + 1) steps)
+            (ran ((seen v).updated + spread) early) runs later);
         holds = λ spread v one other low on high held. held_between spread v spell.from spell.until none long one other low on high held;
         ends = λ spread v later. started_held seen cmp spread q v steps spell.until s is start later;
       }
 
 -- the last one
-pub last_spell : {K X : Type 0} (seen : X → Version K) (cmp : K → K → Ordering) (steps : List (Step X)) (spell : Spell) → spell.until ≡ length steps → NoneStarts spell.member steps spell.from spell.until → spell.ran ≡ ran_from spell.member true None (drop spell.from steps) → IsLast seen cmp steps spell
+pub last_spell : {K X : Type 0} (seen : X → Version K) (cmp : K → K → Ordering) (steps : List (Step X)) (spell : Spell)
+    → spell.until ≡ length steps → NoneStarts spell.member steps spell.from spell.until
+    → spell.ran ≡ ran_from spell.member true None (drop spell.from steps) → IsLast seen cmp steps spell
 last_spell seen cmp steps spell long none ran =
     let all : spell.until ≤ length steps = omega arith in
     record {

@@ -121,5 +121,6 @@ first_same P Q xs n same first =
     }
 
 -- the image of an element that is read
-pub image_at : {A B : Type 0} (f : A → B) (xs : List A) (n : ℕ) (x : A) → n < length xs → x ≡ get_or xs n x → slice_get (map f xs) n ≡ Some (f x)
+pub image_at : {A B : Type 0} (f : A → B) (xs : List A) (n : ℕ) (x : A) → n < length xs → x ≡ get_or xs n x
+    → slice_get (map f xs) n ≡ Some (f x)
 image_at f xs n x within is = slice_get-map f xs n ∙ ap (option_map f) (slice_get_read xs (length xs) n x refl within is)

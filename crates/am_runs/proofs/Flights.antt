@@ -18,7 +18,9 @@ module _ {X : Type 0} where
       ∙ sent_found before s rest (number - length (flights_by b)) (omega (arith, long, low)) (omega (arith, long, low, high))
 
   -- by the number of frames before a step
-  pub sent_behind : (steps : List (Step X)) (n : ℕ) (s : Step X) (number : ℕ) → slice_get steps n ≡ Some s → length (flights_of (take n steps)) ≤ number → number < length (flights_of (take n steps)) + length (flights_by s) → sent_in number steps ≡ moment s
+  pub sent_behind : (steps : List (Step X)) (n : ℕ) (s : Step X) (number : ℕ) → slice_get steps n ≡ Some s
+      → length (flights_of (take n steps)) ≤ number → number < length (flights_of (take n steps)) + length (flights_by s)
+      → sent_in number steps ≡ moment s
   sent_behind steps n s number is low high =
       let cut = cut_at steps n s (slice_get_within steps n s is) (sym (get_or_from_slice_get steps n s s is)) in
       subst (λ ss. sent_in number ss ≡ moment s) cut (sent_found (take n steps) s (drop (n + 1) steps) number low high)

@@ -40,9 +40,11 @@ module _ {K X : Type 0} (seen : X → Version K) (cmp : K → K → Ordering) wh
   -- what is told of a spell of a member
   pub record IsSpell (q : ℕ) (spell : Spell) (steps : List (Step X)) : Type 0 where
     -- where it didn't run since the version should have come, only what follows matters
-    pub unseen : (spread : ℕ) (v : X) → is_due ((seen v).updated + spread) spell.ran ≡ false → ComesFrom spread q v steps (spell.until + 1) → ComesFrom spread q v steps spell.from
+    pub unseen : (spread : ℕ) (v : X) → is_due ((seen v).updated + spread) spell.ran ≡ false
+        → ComesFrom spread q v steps (spell.until + 1) → ComesFrom spread q v steps spell.from
     -- what it has in the spell it has later in it
-    pub holds : (spread : ℕ) (v : X) (one other : ℕ) → spell.from ≤ one → one ≤ other → other ≤ spell.until → HoldsFrom spread q v steps other → HoldsFrom spread q v steps one
+    pub holds : (spread : ℕ) (v : X) (one other : ℕ) → spell.from ≤ one → one ≤ other → other ≤ spell.until
+        → HoldsFrom spread q v steps other → HoldsFrom spread q v steps one
     -- and up to its end
     pub ends : (spread : ℕ) (v : X) → ComesFrom spread q v steps (spell.until + 1) → HoldsFrom spread q v steps spell.until
 

@@ -109,7 +109,8 @@ fn last_cell<V: Version>(
     peaks: &Peaks,
     trails: &Trails,
 ) -> Option<usize>
-    requires { ArePeaks V.seen V.Key.cmp (version_at (map step_of steps.now)) peaks.now (tops_in V.seen V.Key.cmp (map step_of steps.now)) }
+    requires { ArePeaks V.seen V.Key.cmp (version_at (map step_of steps.now)) peaks.now
+        (tops_in V.seen V.Key.cmp (map step_of steps.now)) }
 {
     match find(peaks, steps, version.key(), member) {
         Ok(row) => trails.lasts.get(row).copied(),
@@ -165,7 +166,8 @@ fn tells<V: Version>(
     place: Option<Place>,
 ) -> bool
     requires onward { are_onward 0 (map step_of steps.now) ≡ true }
-    requires holds { (number : ℕ) → from ≤ number → number ≤ until → HoldsFrom V.seen V.Key.cmp spread member version.now (map step_of steps.now) number }
+    requires holds { (number : ℕ) → from ≤ number → number ≤ until
+        → HoldsFrom V.seen V.Key.cmp spread member version.now (map step_of steps.now) number }
     ensures { IsTrue result → comes V.seen V.Key.cmp spread member version.now
         (record { runs = true; has = false; saved = false }) (map step_of steps.now) ≡ true }
 {
@@ -396,7 +398,8 @@ fn is_found<V: Version>(
     place: Place,
 ) -> bool
     requires onward { are_onward 0 (map step_of steps.now) ≡ true }
-    requires peaks { ArePeaks V.seen V.Key.cmp (version_at (map step_of steps.now)) peaks.now (tops_in V.seen V.Key.cmp (map step_of steps.now)) }
+    requires peaks { ArePeaks V.seen V.Key.cmp (version_at (map step_of steps.now)) peaks.now
+        (tops_in V.seen V.Key.cmp (map step_of steps.now)) }
     requires spells { AreSpells V.seen V.Key.cmp trails.now.spells.items (map step_of steps.now) }
     requires last { IsLast V.seen V.Key.cmp (map step_of steps.now) last.now }
     ensures { IsTrue result → comes V.seen V.Key.cmp spread last.now.member version.now
@@ -427,7 +430,8 @@ fn comes_soon<V: Version>(
     place: Place,
 ) -> bool
     requires onward { are_onward 0 (map step_of steps.now) ≡ true }
-    requires peaks { ArePeaks V.seen V.Key.cmp (version_at (map step_of steps.now)) peaks.now (tops_in V.seen V.Key.cmp (map step_of steps.now)) }
+    requires peaks { ArePeaks V.seen V.Key.cmp (version_at (map step_of steps.now)) peaks.now
+        (tops_in V.seen V.Key.cmp (map step_of steps.now)) }
     requires spells { AreSpells V.seen V.Key.cmp trails.now.spells.items (map step_of steps.now) }
     requires last { IsLast V.seen V.Key.cmp (map step_of steps.now) last.now }
     ensures { result ≡ comes V.seen V.Key.cmp spread last.now.member version.now
@@ -450,7 +454,8 @@ fn come_soon<V: Version>(
     step: usize,
 ) -> bool
     requires onward { are_onward 0 (map step_of steps.now) ≡ true }
-    requires peaks { ArePeaks V.seen V.Key.cmp (version_at (map step_of steps.now)) peaks.now (tops_in V.seen V.Key.cmp (map step_of steps.now)) }
+    requires peaks { ArePeaks V.seen V.Key.cmp (version_at (map step_of steps.now)) peaks.now
+        (tops_in V.seen V.Key.cmp (map step_of steps.now)) }
     requires spells { AreSpells V.seen V.Key.cmp trails.now.spells.items (map step_of steps.now) }
     requires last { IsLast V.seen V.Key.cmp (map step_of steps.now) last.now }
     ensures { IsTrue result ↔ All (λ v. comes V.seen V.Key.cmp spread last.now.member v
@@ -475,7 +480,8 @@ fn all_come_soon<V: Version>(
     last: &Spell,
 ) -> bool
     requires onward { are_onward 0 (map step_of steps.now) ≡ true }
-    requires peaks { ArePeaks V.seen V.Key.cmp (version_at (map step_of steps.now)) peaks.now (tops_in V.seen V.Key.cmp (map step_of steps.now)) }
+    requires peaks { ArePeaks V.seen V.Key.cmp (version_at (map step_of steps.now)) peaks.now
+        (tops_in V.seen V.Key.cmp (map step_of steps.now)) }
     requires spells { AreSpells V.seen V.Key.cmp trails.now.spells.items (map step_of steps.now) }
     requires last { IsLast V.seen V.Key.cmp (map step_of steps.now) last.now }
     ensures { IsTrue result ↔ All (λ v. comes V.seen V.Key.cmp spread last.now.member v
@@ -499,7 +505,8 @@ fn all_come_to_all<V: Version>(
     trails: &Trails,
 ) -> bool
     requires onward { are_onward 0 (map step_of steps.now) ≡ true }
-    requires peaks { ArePeaks V.seen V.Key.cmp (version_at (map step_of steps.now)) peaks.now (tops_in V.seen V.Key.cmp (map step_of steps.now)) }
+    requires peaks { ArePeaks V.seen V.Key.cmp (version_at (map step_of steps.now)) peaks.now
+        (tops_in V.seen V.Key.cmp (map step_of steps.now)) }
     ensures { IsTrue result ↔ All (ComesToAll V.seen V.Key.cmp spread members (map step_of steps.now))
         (delivered_in (map step_of steps.now)) }
 {
@@ -529,7 +536,8 @@ pub fn is_timely<V: Version>(
     trails: &Trails,
 ) -> bool
     requires run { IsRun V.seen V.Key.cmp members (map step_of steps.now) }
-    requires peaks { ArePeaks V.seen V.Key.cmp (version_at (map step_of steps.now)) peaks.now (tops_in V.seen V.Key.cmp (map step_of steps.now)) }
+    requires peaks { ArePeaks V.seen V.Key.cmp (version_at (map step_of steps.now)) peaks.now
+        (tops_in V.seen V.Key.cmp (map step_of steps.now)) }
     ensures { IsTrue result ↔ IsTimely V.seen spread flight members (map step_of steps.now) }
 {
     if !are_onward(steps) {

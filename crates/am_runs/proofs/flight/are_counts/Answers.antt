@@ -26,7 +26,8 @@ loop-place-preserved g c =
         | inr past ↦
             let same : n ≡ place = omega (arith, past, high) in
             sym (get_or_from_slice_get c.args.counts.now n count 0 is) ∙ (ap (λ m. get_or c.args.counts.now m 0) same ∙ (here ∙ (sent
-            ∙ (ap (λ ss. length (flights_of ss)) (sym (take-map step_of place steps)) ∙ ap (λ m. length (flights_of (take m (map step_of steps)))) (sym same)))))
+            ∙ (ap (λ ss. length (flights_of ss)) (sym (take-map step_of place steps)) ∙ ap
+            (λ m. length (flights_of (take m (map step_of steps)))) (sym same)))))
       ];
     }
 

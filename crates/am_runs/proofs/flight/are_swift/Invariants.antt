@@ -5,4 +5,5 @@ use Rattle.am_runs.specs.Tests.{is_swift}
 use Rattle.am_runs.proofs.flight.are_swift.Given as goal
 
 abbrev pub invariant-loop-step : goal.invariant-loop-step
-invariant-loop-step g l = list_all (is_swift l.flight (map step_of l.steps)) (map step_of (drop l.step-index l.steps)) ≡ list_all (is_swift l.flight (map step_of l.steps)) (map step_of l.steps)
+invariant-loop-step g l = list_all (is_swift l.flight (map step_of l.steps)) (map step_of (drop l.step-index l.steps)) ≡ list_all
+    (is_swift l.flight (map step_of l.steps)) (map step_of l.steps)

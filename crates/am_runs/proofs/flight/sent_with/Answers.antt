@@ -10,7 +10,8 @@ returns-in-Some-Some g c =
     let place = c.saturating_sub-place.result in
     let one = c.in-Some-Some.ensures.lookup in
     let two = c.in-Some-Some.ensures'.lookup in
-    let count = c.requires place c.in-Some-Some.count.now (slice_get_read c.args.counts.now (length c.args.counts.now) place c.in-Some-Some.count.now refl one.3.0 one.1) in
+    let count = c.requires place c.in-Some-Some.count.now (slice_get_read c.args.counts.now
+    (length c.args.counts.now) place c.in-Some-Some.count.now refl one.3.0 one.1) in
     let low = c.if-count-number.true in
     let high = c.if-number-count.true in
     let sendings = c.sendings.ensures in

@@ -42,7 +42,8 @@ loop-number-preserved g c =
       some = record { tops_of = raised seen cmp before.some.tops_of member c.index-versions-number.result; are = c.take-taken.ensures.peaks before.some.tops_of before.some.are };
       are = λ tops_of peaks. peaks_push seen cmp at_place c.take-taken.new.peaks tops_of member versions number c.index-versions-number.result c.loop-number-test.true c.index-versions-number.is (c.take-taken.ensures.peaks (raised_all seen cmp tops_of member (take number versions)) (before.are tops_of peaks));
       calm = λ tops_of peaks. calm_more seen cmp tops_of member versions number c.index-versions-number.result c.args.timing.now.last c.args.timing.now.moment c.loop-number.calm c.take-taken.result.calm c.loop-number-test.true c.index-versions-number.is (c.take-taken.ensures.calm (raised_all seen cmp tops_of member (take number versions)) (before.are tops_of peaks)) (before.calm tops_of peaks);
-      room = λ n had. c.take-taken.ensures.room n (before.room (n + 1) (less_rows c.args.peaks.now ((n + 1) + number) (n + (number + 1)) (omega arith) had));
+      room = λ n had. c.take-taken.ensures.room n (before.room (n + 1)
+          (less_rows c.args.peaks.now ((n + 1) + number) (n + (number + 1)) (omega arith) had));
     }
 
 pub returns : goal.returns

@@ -12,9 +12,11 @@ loop-spell-preserved g c n spell high is = elim (cases_lt n c.loop-spell.spell-i
   | inl before ↦ c.loop-spell.invariant n spell before is
   | inr past ↦
       let here : n ≡ c.loop-spell.spell-index = omega (arith, past, high) in
-      let there = slice_get_read c.args.spells.now (length c.args.spells.now) c.loop-spell.spell-index c.spell-item.result refl c.loop-spell-test.true c.spell-item.is in
+      let there = slice_get_read c.args.spells.now
+      (length c.args.spells.now) c.loop-spell.spell-index c.spell-item.result refl c.loop-spell-test.true c.spell-item.is in
       let same = some_is (sym there ∙ (ap (slice_get c.args.spells.now) (sym here) ∙ is)) in
-      subst (λ (s : Spell). IsSpell g.V.Version.seen g.V.Key.Ord.cmp s.member s (map step_of c.args.steps.now)) same (c.is_spell.ensures c.if-not-is_spell.false)
+      subst (λ (s : Spell). IsSpell g.V.Version.seen g.V.Key.Ord.cmp s.member s (map step_of c.args.steps.now)) same
+      (c.is_spell.ensures c.if-not-is_spell.false)
 ]
 
 pub returns : goal.returns

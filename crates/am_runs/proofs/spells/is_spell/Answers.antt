@@ -14,5 +14,6 @@ returns-then-runs_from g c t =
     past_spell g.V.Version.seen g.V.Key.Ord.cmp spell.member (map step_of steps) spell (step_of c.in-Some.step.now)
     (image_at step_of steps spell.until c.in-Some.step.now l.3.0 l.1) (sym c.starts.ensures ∙ c.if-starts.true)
     (c.none_starts.ensures c.if-not-none_starts.false) c.if-until-from.false
-    (λ due early. ap (λ ss. is_due due (ran_from spell.member true None ss)) part ∙ (ap (is_due due) (sym c.ran_in.ensures) ∙ c.is_none_after.ensures t due early))
+    (λ due early. ap (λ ss. is_due due (ran_from spell.member true None ss)) part ∙
+    (ap (is_due due) (sym c.ran_in.ensures) ∙ c.is_none_after.ensures t due early))
     (ap (runs_from spell.member true) part ∙ (sym c.runs_from.ensures ∙ c.if-runs_from.true))

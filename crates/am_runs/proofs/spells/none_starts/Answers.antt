@@ -11,8 +11,10 @@ loop-place-preserved g c n s low high is = elim (cases_lt n c.loop-place.place) 
   | inl before ↦ c.loop-place.invariant n s low before is
   | inr past ↦
       let here : n ≡ c.loop-place.place = omega (arith, past, high) in
-      let there = image_at step_of c.args.steps.now c.loop-place.place c.index-steps-place.result (let end = c.loop-place-test.true in let within = c.requires in omega (arith, end, within)) c.index-steps-place.is in
-      ap (starts c.args.member) (some_is (sym is ∙ (ap (λ m. slice_get (map step_of c.args.steps.now) m) here ∙ there))) ∙ (sym c.starts.ensures ∙ c.if-starts.false)
+      let there = image_at step_of c.args.steps.now c.loop-place.place c.index-steps-place.result
+      (let end = c.loop-place-test.true in let within = c.requires in omega (arith, end, within)) c.index-steps-place.is in
+      ap (starts c.args.member) (some_is (sym is ∙ (ap (λ m. slice_get (map step_of c.args.steps.now) m) here ∙ there))) ∙
+      (sym c.starts.ensures ∙ c.if-starts.false)
 ]
 
 pub returns : goal.returns

@@ -5,4 +5,5 @@ use Rattle.am_runs.specs.Spells.{starts}
 use Rattle.am_runs.proofs.spells.none_starts.Given as goal
 
 abbrev pub invariant-loop-place : goal.invariant-loop-place
-invariant-loop-place g l = (n : ℕ) (s : Step g.row.V.Denot) → l.from ≤ n → n < l.place → slice_get (map step_of l.steps) n ≡ Some s → starts l.member s ≡ false
+invariant-loop-place g l = (n : ℕ) (s : Step g.row.V.Denot) → l.from ≤ n → n < l.place → slice_get (map step_of l.steps) n ≡ Some s
+    → starts l.member s ≡ false

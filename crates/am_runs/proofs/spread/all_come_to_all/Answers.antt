@@ -11,8 +11,10 @@ returns-then-not-all_come_soon g c =
     let steps = map step_of c.args.steps.now in (
       λ t. absurd (false≢true t),
       λ all. absurd (false≢true (sym c.if-not-all_come_soon.true ∙ c.all_come_soon.ensures.1
-          (subst (λ m. ComeTo g.V.Version.seen g.V.Key.Ord.cmp c.args.spread c.args.members steps m (delivered_in steps)) (sym c.in-Some.ensures.own)
-          (to_member g.V.Version.seen g.V.Key.Ord.cmp c.args.spread c.args.members steps (delivered_in steps) c.loop-member.member c.loop-member-test.true all)))),
+          (subst (λ m. ComeTo g.V.Version.seen g.V.Key.Ord.cmp c.args.spread c.args.members steps m (delivered_in steps))
+          (sym c.in-Some.ensures.own)
+          (to_member g.V.Version.seen g.V.Key.Ord.cmp c.args.spread c.args.members steps
+          (delivered_in steps) c.loop-member.member c.loop-member-test.true all)))),
     )
 
 pub loop-member-preserved : goal.loop-member-preserved
@@ -20,7 +22,9 @@ loop-member-preserved g c q within = elim (cases_lt q c.loop-member.member) [
   | inl before ↦ c.loop-member.invariant q before
   | inr past ↦
       let own = c.in-Some.ensures.own in
-      subst (λ m. ComeTo g.V.Version.seen g.V.Key.Ord.cmp c.args.spread c.args.members (map step_of c.args.steps.now) m (delivered_in (map step_of c.args.steps.now))) (omega (arith, past, within, own)) (c.all_come_soon.ensures.0 c.if-not-all_come_soon.false)
+      subst (λ m. ComeTo g.V.Version.seen g.V.Key.Ord.cmp c.args.spread c.args.members (map step_of c.args.steps.now) m
+      (delivered_in (map step_of c.args.steps.now))) (omega
+      (arith, past, within, own)) (c.all_come_soon.ensures.0 c.if-not-all_come_soon.false)
 ]
 
 pub returns : goal.returns
@@ -31,4 +35,5 @@ returns g c = (
 
 pub all_come_soon-requires-clause-spells : goal.all_come_soon-requires-clause-spells
 all_come_soon-requires-clause-spells g c =
-    subst (λ spells. AreSpells g.V.Version.seen g.V.Key.Ord.cmp spells (map step_of c.args.steps.now)) c.deref.ensures.value (c.are_spells.ensures c.if-not-are_spells.false)
+    subst (λ spells. AreSpells g.V.Version.seen g.V.Key.Ord.cmp spells (map step_of c.args.steps.now)) c.deref.ensures.value
+    (c.are_spells.ensures c.if-not-are_spells.false)

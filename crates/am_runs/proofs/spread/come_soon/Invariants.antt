@@ -5,4 +5,5 @@ use Rattle.am_runs.specs.Tests.{comes}
 use Rattle.am_runs.proofs.spread.come_soon.Given as goal
 
 abbrev pub invariant-loop-number : goal.invariant-loop-number
-invariant-loop-number g l = All (λ v. comes g.V.Version.seen g.V.Key.Ord.cmp l.spread l.last.member v (record { runs = true; has = false; saved = false }) (map step_of l.steps) ≡ true) (take l.number l.versions)
+invariant-loop-number g l = All (λ v. comes g.V.Version.seen g.V.Key.Ord.cmp l.spread l.last.member v
+    (record { runs = true; has = false; saved = false }) (map step_of l.steps) ≡ true) (take l.number l.versions)

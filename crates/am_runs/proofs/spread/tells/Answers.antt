@@ -10,6 +10,7 @@ returns-in-Some-get g c t =
     let place = c.in-Some.place in
     let low = c.if-place-from.false in
     let high = c.if-until-place.false in
-    comes_told g.V.Version.seen g.V.Key.Ord.cmp c.args.spread c.args.member c.args.version.now (record { runs = true; has = false; saved = false }) (map step_of c.args.steps.now) place.step (step_of c.in-Some-get.step.now)
+    comes_told g.V.Version.seen g.V.Key.Ord.cmp c.args.spread c.args.member c.args.version.now
+    (record { runs = true; has = false; saved = false }) (map step_of c.args.steps.now) place.step (step_of c.in-Some-get.step.now)
     (image_at step_of c.args.steps.now place.step c.in-Some-get.step.now l.3.0 l.1) c.requires.onward (c.brings_at.ensures t)
     (c.requires.holds (place.step + 1) (omega (arith, low)) (omega (arith, high)))
