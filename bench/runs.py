@@ -5,7 +5,9 @@
 A version comes to each member in turn, one step a second; there are a thousand silences, each of which is made anew again
 and again. `steps` is the mean of all steps in microseconds, with the version made, the room for it and the step written
 down; the others are microseconds for one question at the end: the first fault of each member, and whether the run is
-timely. The least of the rounds counts.
+timely. `far` and `at_once` are that last question of other runs of two members: in one each version comes to the second
+member only after all came to the first, in the other all versions come to each member in one step. The least of the
+rounds counts.
 """
 import tempfile
 
@@ -23,7 +25,7 @@ def main():
     counts = sorted({count for _, count in took})
     print("| | " + " | ".join("{:,}".format(count) for count in counts) + " |")
     print("|---" * (len(counts) + 1) + "|")
-    for kind in ("steps", "first_fault", "timely"):
+    for kind in ("steps", "first_fault", "timely", "far", "at_once"):
         figures = ["{:,.2f}".format(took[kind, count]) if (kind, count) in took else "" for count in counts]
         print("| %s | %s |" % (kind, " | ".join(figures)))
 

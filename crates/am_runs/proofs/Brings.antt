@@ -1,19 +1,27 @@
 -- What tells that a version comes to a member in time: the member didn't run since it should have come, or a step brought it.
-use Rattle.std.proofs.Common.{◌≡◌, ℕ, ◌+◌, ◌<◌, ◌≤◌, Bool, true, false, not, ◌&&◌, ◌||◌, cond, eqb, leb, max, List, [], ◌∷◌, ◌++◌, Option, Some, None, refl, sym, ap, ◌∙◌, subst, arith, map, take, drop, get_or, length, suc, drop-cons}
+use Rattle.std.proofs.Common.{◌≡◌, ℕ, ◌+◌, ◌<◌, ◌≤◌, Bool, true, false, not, ◌&&◌, ◌||◌, cond, eqb, leb, max, List, [], ◌∷◌, ◌++◌, Option, Some, None, refl, sym, ap, ◌∙◌, subst, arith, map, take, drop, length, zero, suc, drop-cons, slice_get, ◌-◌}
 use Rattle.std.specs.Prelude.{All}
-use Rattle.std.specs.List.{list_any}
+use Rattle.std.specs.List.{list_any, slice_range}
 use Rattle.std.specs.declared.cmp.Ordering.{Ordering}
 use Rattle.std.proofs.Math.Nat.{le-max_left, le-max_right}
 use Rattle.std.proofs.lemmas.Bool.{leb-true, leb-false, lt-leb, and_parts, and_from, or_left, or_right, false≢true, not-true}
-use Rattle.std.proofs.lemmas.List.{map-append}
+use Rattle.std.proofs.lemmas.List.{take-append-drop, take-map, drop-map}
+use Rattle.std.proofs.lemmas.List.Folds.{drop_split}
+use Rattle.std.proofs.lemmas.Option.{slice_get_within, get_or_from_slice_get}
 use Rattle.std.proofs.lemmas.List.Elements.{All-contains}
 use Rattle.am_version_order.specs.Versions.{Version}
 use Rattle.am_runs.specs.Steps.{Step, moment, clock_after}
 use Rattle.am_runs.specs.Steps.Step.{Took, Ticked, Back, Refused, Saved, Stopped, Started}
-use Rattle.am_runs.specs.Tests.{Watched, later, runs_after, is_onward, are_onward, is_due, ran_after, ran_from, kept_by, first_kept, is_kept, is_wanting, counts_for, watched, watch_after, comes, brings, ComesToAll}
-use Rattle.am_runs.proofs.Cuts.{cut_at}
+use Rattle.am_runs.specs.declared.trails.Spell.{Spell}
+use Rattle.am_runs.specs.Spells.{starts, saves, ComesFrom, HoldsFrom, IsSpell, IsLast}
+use Rattle.am_runs.specs.Tests.{runs_from, Watched, later, runs_after, is_onward, are_onward, is_due, ran_after, ran_from, is_wanting, counts_for, watched, watch_after, comes, brings, ComesToAll}
 use Rattle.am_runs.proofs.Loops.{all_from}
 use Rattle.am_runs.proofs.Takes.{drop_all}
+
+slice_some : {A : Type 0} (xs : List A) (n : ℕ) → n < length xs → slice_get xs n ≡ None → ⊥
+slice_some [] n within e = absurd (omega arith)
+slice_some (x ∷ xs) zero within e = absurd cc
+slice_some (x ∷ xs) (suc n) within e = slice_some xs n (omega arith) e
 
 -- ---- what isn't due by the latest moment isn't by an earlier one
 
@@ -144,35 +152,114 @@ module _ {K X : Type 0} (seen : X → Version K) (cmp : K → K → Ordering) (s
       and_from (not (is_wanting due w (moment s))) (comes seen cmp spread q v (watch_after seen cmp q v w s) steps)
       (unwanted_has due w (moment s) h.0) (comes_saved (watch_after seen cmp q v w s) steps (both_after w s h))
 
-  saved_turn : (b : Bool) (w : Watched) (steps : List (Step X)) → w.has ≡ true → first_kept (cond b (Some true) None) (is_kept q steps) ≡ true
-      → ((u : Watched) → u.has ≡ true → is_kept q steps ≡ true → comes seen cmp spread q v u steps ≡ true)
-      → comes seen cmp spread q v (cond b (record { runs = w.runs; has = w.has; saved = w.has }) w) steps ≡ true
-  saved_turn true w steps has kept later = comes_saved (record { runs = w.runs; has = w.has; saved = w.has }) steps (has, has)
-  saved_turn false w steps has kept later = later w has kept
+  has_after : (w : Watched) (s : Step X) → w.has ≡ true → starts q s ≡ false → (watch_after seen cmp q v w s).has ≡ true
+  has_after w (Took place now source versions frames) has apart = where_either Has (eqb place q) _ w (has_taken w versions has) has
+  has_after w (Ticked place now) has apart = where_either Has (eqb place q) w w has has
+  has_after w (Back place now) has apart = where_either Has (eqb place q) w w has has
+  has_after w (Refused now) has apart = has
+  has_after w (Saved place) has apart = where_either Has (eqb place q) _ w has has
+  has_after w (Stopped place) has apart = where_either Has (eqb place q) _ w has has
+  has_after w (Started place now) has apart = ap (λ b. (cond b (watched seen cmp v w (Started place now)) w).has) apart ∙ has
 
-  started_turn : (b : Bool) (w : Watched) (steps : List (Step X)) → w.has ≡ true → first_kept (cond b (Some false) None) (is_kept q steps) ≡ true
-      → ((u : Watched) → u.has ≡ true → is_kept q steps ≡ true → comes seen cmp spread q v u steps ≡ true)
-      → comes seen cmp spread q v (cond b (record { runs = true; has = w.saved; saved = w.saved }) w) steps ≡ true
-  started_turn true w steps has kept later = absurd (false≢true kept)
-  started_turn false w steps has kept later = later w has kept
+  -- a step that starts it or doesn't, or saves it, before some that it comes with
+  abbrev Held : List (Step X) → Type 0
+  Held steps = (w : Watched) → w.has ≡ true → comes seen cmp spread q v w steps ≡ true
 
-  kept_turn : (w : Watched) (s : Step X) (steps : List (Step X)) → w.has ≡ true → is_kept q (s ∷ steps) ≡ true
-      → ((u : Watched) → u.has ≡ true → is_kept q steps ≡ true → comes seen cmp spread q v u steps ≡ true)
-      → comes seen cmp spread q v (watch_after seen cmp q v w s) steps ≡ true
-  kept_turn w (Took place now source versions frames) steps has kept later = later _ (where_either Has (eqb place q) _ w (has_taken w versions has) has) kept
-  kept_turn w (Ticked place now) steps has kept later = later _ (where_either Has (eqb place q) w w has has) kept
-  kept_turn w (Back place now) steps has kept later = later _ (where_either Has (eqb place q) w w has has) kept
-  kept_turn w (Refused now) steps has kept later = later w has kept
-  kept_turn w (Saved place) steps has kept later = saved_turn (eqb place q) w steps has kept later
-  kept_turn w (Stopped place) steps has kept later = later _ (where_either Has (eqb place q) _ w has has) kept
-  kept_turn w (Started place now) steps has kept later = started_turn (eqb place q) w steps has kept later
+  abbrev Running : List (Step X) → Type 0
+  Running steps = (w : Watched) → w.runs ≡ true → comes seen cmp spread q v w steps ≡ true
 
-  -- what is kept isn't wanting
-  comes_kept : (w : Watched) (steps : List (Step X)) → w.has ≡ true → is_kept q steps ≡ true → comes seen cmp spread q v w steps ≡ true
-  comes_kept w [] has kept = refl
-  comes_kept w (s ∷ steps) has kept =
-      and_from (not (is_wanting due w (moment s))) (comes seen cmp spread q v (watch_after seen cmp q v w s) steps)
-      (unwanted_has due w (moment s) has) (kept_turn w s steps has kept (λ u h k. comes_kept u steps h k))
+  held_one : (s : Step X) (steps : List (Step X)) → ((w : Watched) → w.has ≡ true
+      → comes seen cmp spread q v (watch_after seen cmp q v w s) steps ≡ true) → Held (s ∷ steps)
+  held_one s steps later w has = and_from (not (is_wanting due w (moment s)))
+      (comes seen cmp spread q v (watch_after seen cmp q v w s) steps) (unwanted_has due w (moment s) has) (later w has)
+
+  held_on : (s : Step X) (steps : List (Step X)) → starts q s ≡ false → Held steps → Held (s ∷ steps)
+  held_on s steps apart held = held_one s steps (λ w has. held (watch_after seen cmp q v w s) (has_after w s has apart))
+
+  started_runs : (w : Watched) (s : Step X) → starts q s ≡ true → (watch_after seen cmp q v w s).runs ≡ true
+  started_runs w (Took place now source versions frames) e = absurd (false≢true e)
+  started_runs w (Ticked place now) e = absurd (false≢true e)
+  started_runs w (Back place now) e = absurd (false≢true e)
+  started_runs w (Refused now) e = absurd (false≢true e)
+  started_runs w (Saved place) e = absurd (false≢true e)
+  started_runs w (Stopped place) e = absurd (false≢true e)
+  started_runs w (Started place now) e = ap (λ b. (cond b (watched seen cmp v w (Started place now)) w).runs) e
+
+  held_started : (s : Step X) (steps : List (Step X)) → starts q s ≡ true → Running steps → Held (s ∷ steps)
+  held_started s steps start running = held_one s steps (λ w has. running (watch_after seen cmp q v w s) (started_runs w s start))
+
+  saved_both : (w : Watched) (s : Step X) → w.has ≡ true → saves q s ≡ true → HasBoth (watch_after seen cmp q v w s)
+  saved_both w (Took place now source versions frames) has e = absurd (false≢true e)
+  saved_both w (Ticked place now) has e = absurd (false≢true e)
+  saved_both w (Back place now) has e = absurd (false≢true e)
+  saved_both w (Refused now) has e = absurd (false≢true e)
+  saved_both w (Saved place) has e = subst (λ b. HasBoth (cond b (watched seen cmp v w (Saved place)) w)) (sym e) (has, has)
+  saved_both w (Stopped place) has e = absurd (false≢true e)
+  saved_both w (Started place now) has e = absurd (false≢true e)
+
+  held_saved : (s : Step X) (steps : List (Step X)) → saves q s ≡ true → Held (s ∷ steps)
+  held_saved s steps save = held_one s steps (λ w has. comes_saved (watch_after seen cmp q v w s) steps (saved_both w s has save))
+
+  -- ---- among steps of a number
+  at_number : (steps : List (Step X)) (n : ℕ) (s : Step X) → slice_get steps n ≡ Some s → drop n steps ≡ s ∷ drop (n + 1) steps
+  at_number steps n s is =
+      let next : suc n ≡ n + 1 = omega arith in
+      drop-cons steps n s (slice_get_within steps n s is) ∙ ap (λ y. y ∷ drop (suc n) steps) (get_or_from_slice_get steps n s s is) ∙ ap
+      (λ m. s ∷ drop m steps) next
+
+  pub saved_held : (steps : List (Step X)) (n : ℕ) (s : Step X) → slice_get steps n ≡ Some s → saves q s ≡ true
+      → HoldsFrom seen cmp spread q v steps n
+  saved_held steps n s is save = subst Held (sym (at_number steps n s is)) (held_saved s (drop (n + 1) steps) save)
+
+  pub started_held : (steps : List (Step X)) (n : ℕ) (s : Step X) → slice_get steps n ≡ Some s → starts q s ≡ true
+      → ComesFrom seen cmp spread q v steps (n + 1) → HoldsFrom seen cmp spread q v steps n
+  started_held steps n s is start running = subst Held (sym (at_number steps n s is)) (held_started s (drop (n + 1) steps) start running)
+
+  -- back to an earlier number
+  held_back : (steps : List (Step X)) (from until : ℕ) → ((n : ℕ) (s : Step X) → from ≤ n → n < until → slice_get steps n ≡ Some s
+      → starts q s ≡ false) → until ≤ length steps → (far n : ℕ) → from ≤ n → n + far ≤ until → HoldsFrom seen cmp spread q v steps (n + far) → HoldsFrom seen cmp spread q v steps n
+  held_back steps from until none long zero n low high held = let same : n + 0 ≡ n = omega arith in subst
+      (λ m. HoldsFrom seen cmp spread q v steps m) same held
+  held_back steps from until none long (suc far) n low high held =
+      let next : n + suc far ≡ (n + 1) + far = omega arith in
+      let later = held_back steps from until none long far (n + 1) (omega arith) (omega (arith, next, high))
+      (subst (λ m. HoldsFrom seen cmp spread q v steps m) next held) in
+      let within : n < length steps = omega arith in
+      by (slice_get steps n) refl within later where
+        by : (o : Option (Step X)) → slice_get steps n ≡ o → n < length steps → HoldsFrom seen cmp spread q v steps (n + 1)
+            → HoldsFrom seen cmp spread q v steps n
+        by None e within later = absurd (slice_some steps n within e)
+        by (Some s) e within later = subst Held (sym (at_number steps n s e))
+            (held_on s (drop (n + 1) steps) (none n s low (omega arith) e) later)
+
+  -- ---- one part after another
+  abbrev watch_from : Watched → List (Step X) → Watched
+  watch_from w [] = w
+  watch_from w (s ∷ steps) = watch_from (watch_after seen cmp q v w s) steps
+
+  comes_append : (w : Watched) (front back : List (Step X)) → comes seen cmp spread q v w front ≡ true
+      → comes seen cmp spread q v (watch_from w front) back ≡ true → comes seen cmp spread q v w (front ++ back) ≡ true
+  comes_append w [] back first later = later
+  comes_append w (s ∷ front) back first later =
+      let both = and_parts (not (is_wanting due w (moment s))) (comes seen cmp spread q v (watch_after seen cmp q v w s) front) first in
+      and_from (not (is_wanting due w (moment s))) (comes seen cmp spread q v (watch_after seen cmp q v w s) (front ++ back)) both.0
+      (comes_append (watch_after seen cmp q v w s) front back both.1 later)
+
+  runs_told : (w : Watched) (steps : List (Step X)) → (watch_from w steps).runs ≡ runs_from q w.runs steps
+  runs_told w [] = refl
+  runs_told w (s ∷ steps) = runs_told (watch_after seen cmp q v w s) steps ∙ ap (λ r. runs_from q r steps) (runs_watched w s)
+
+  -- steps at which it didn't run since the version should have come, and behind which it runs
+  pub unseen_part : (front back : List (Step X)) → is_due due (ran_from q true None front) ≡ false → runs_from q true front ≡ true
+      → Running back → Running (front ++ back)
+  unseen_part front back early runs later w running =
+      comes_append w front back
+      (comes_unseen w None front (ap (λ r. is_due due (ran_from q r None front)) running ∙ early))
+      (later (watch_from w front) (runs_told w front ∙ (ap (λ r. runs_from q r front) running ∙ runs)))
+
+  pub unseen_rest : (steps : List (Step X)) (ran : Option ℕ) → ran ≡ ran_from q true None steps → is_due due ran ≡ false → Running steps
+  unseen_rest steps ran is early w running = comes_unseen w None steps
+      (ap (λ r. is_due due (ran_from q r None steps)) running ∙ (ap (is_due due) (sym is) ∙ early))
 
   -- ---- a step that brings it
   brought_at : (s : Step X) → brings seen cmp spread q v s ≡ true → (now : ℕ) × (moment s ≡ Some now) × (leb due now ≡ false)
@@ -198,13 +285,15 @@ module _ {K X : Type 0} (seen : X → Version K) (cmp : K → K → Ordering) (s
   brought_has w (Stopped place) b = absurd (false≢true b)
   brought_has w (Started place now) b = absurd (false≢true b)
 
-  comes_brought : (clock : ℕ) (w : Watched) (before : List (Step X)) (s : Step X) (rest : List (Step X)) → are_onward clock (before ++ s ∷ rest) ≡ true → brings seen cmp spread q v s ≡ true → is_kept q rest ≡ true → comes seen cmp spread q v w (before ++ s ∷ rest) ≡ true
+  comes_brought : (clock : ℕ) (w : Watched) (before : List (Step X)) (s : Step X) (rest : List (Step X))
+      → are_onward clock (before ++ s ∷ rest) ≡ true → brings seen cmp spread q v s ≡ true → Held rest
+      → comes seen cmp spread q v w (before ++ s ∷ rest) ≡ true
   comes_brought clock w [] s rest on brought kept =
       let at = brought_at s brought in
       let next : clock_after clock (moment s) ≤ at.0 = subst (λ o. clock_after clock o ≤ at.0) (sym at.1) (omega arith) in
       and_from (not (is_wanting due w (moment s))) (comes seen cmp spread q v (watch_after seen cmp q v w s) rest)
       (unwanted_early due w (moment s) clock at.0 next at.2)
-      (comes_kept (watch_after seen cmp q v w s) rest (brought_has w s brought) kept)
+      (kept (watch_after seen cmp q v w s) (brought_has w s brought))
   comes_brought clock w (b ∷ before) s rest on brought kept =
       let at = brought_at s brought in
       let both = and_parts (is_onward clock (moment b)) (are_onward (clock_after clock (moment b)) (before ++ s ∷ rest)) on in
@@ -212,12 +301,13 @@ module _ {K X : Type 0} (seen : X → Version K) (cmp : K → K → Ordering) (s
       (unwanted_early due w (moment b) clock at.0 (reached (clock_after clock (moment b)) before s rest at.0 both.1 at.1) at.2)
       (comes_brought (clock_after clock (moment b)) (watch_after seen cmp q v w b) before s rest both.1 brought kept)
 
-  -- among steps that are images
-  pub comes_told : {A : Type 0} (f : A → Step X) (w : Watched) (steps : List A) (n : ℕ) (s : A) → n < length steps → s ≡ get_or steps n s → are_onward 0 (map f steps) ≡ true → brings seen cmp spread q v (f s) ≡ true → is_kept q (map f (drop (n + 1) steps)) ≡ true → comes seen cmp spread q v w (map f steps) ≡ true
-  comes_told f w steps n s within is on brought kept =
-      let cut : map f (take n steps) ++ f s ∷ map f (drop (n + 1) steps) ≡ map f steps = sym (map-append f (take n steps) (s ∷ drop (n + 1) steps)) ∙ ap (map f) (cut_at steps n s within is) in
+  pub comes_told : (w : Watched) (steps : List (Step X)) (n : ℕ) (s : Step X) → slice_get steps n ≡ Some s → are_onward 0 steps ≡ true
+      → brings seen cmp spread q v s ≡ true → HoldsFrom seen cmp spread q v steps (n + 1) → comes seen cmp spread q v w steps ≡ true
+  comes_told w steps n s is on brought held =
+      let cut : take n steps ++ s ∷ drop (n + 1) steps ≡ steps = ap (λ ss. take n steps ++ ss) (sym (at_number steps n s is))
+      ∙ take-append-drop n steps in
       subst (λ ss. comes seen cmp spread q v w ss ≡ true) cut
-      (comes_brought 0 w (map f (take n steps)) (f s) (map f (drop (n + 1) steps)) (subst (λ ss. are_onward 0 ss ≡ true) (sym cut) on) brought kept)
+      (comes_brought 0 w (take n steps) s (drop (n + 1) steps) (subst (λ ss. are_onward 0 ss ≡ true) (sym cut) on) brought held)
 
 -- ---- one member after the other
 module _ {K X : Type 0} (seen : X → Version K) (cmp : K → K → Ordering) (spread members : ℕ) (steps : List (Step X)) where
@@ -230,13 +320,50 @@ module _ {K X : Type 0} (seen : X → Version K) (cmp : K → K → Ordering) (s
   pub to_member : (vs : List X) (q : ℕ) → q < members → All (ComesToAll seen cmp spread members steps) vs → ComeTo q vs
   to_member vs q within all = all_from (λ v. comes seen cmp spread q v (record { runs = true; has = false; saved = false }) steps ≡ true) vs (λ v has. All-contains (ComesToAll seen cmp spread members steps) vs v all has q within)
 
--- ---- until it is saved or started
-module _ {A X : Type 0} (f : A → Step X) (q : ℕ) (steps : List A) where
-  pub kept_end : (n : ℕ) → length steps ≤ n → is_kept q (map f (drop n steps)) ≡ true
-  kept_end n past = ap (λ ss. is_kept q (map f ss)) (drop_all steps n past)
+-- ---- spells
+module _ {X : Type 0} (q : ℕ) (steps : List (Step X)) where
+  abbrev pub NoneStarts : ℕ → ℕ → Type 0
+  NoneStarts from until = (n : ℕ) (s : Step X) → from ≤ n → n < until → slice_get steps n ≡ Some s → starts q s ≡ false
 
-  pub kept_here : (n : ℕ) (s : A) (kept : Option Bool) → n < length steps → s ≡ get_or steps n s → kept ≡ kept_by q (f s) → is_kept q (map f (drop n steps)) ≡ first_kept kept (is_kept q (map f (drop (n + 1) steps)))
-  kept_here n s kept within is e =
-      let next : suc n ≡ n + 1 = omega arith in
-      ap (λ ss. is_kept q (map f ss)) (drop-cons steps n s within ∙ ap (λ y. y ∷ drop (suc n) steps) (sym is) ∙ ap (λ m. s ∷ drop m steps) next)
-      ∙ ap (λ k. first_kept k (is_kept q (map f (drop (n + 1) steps)))) (sym e)
+module _ {K X : Type 0} (seen : X → Version K) (cmp : K → K → Ordering) (q : ℕ) (steps : List (Step X)) where
+  held_between : (spread : ℕ) (v : X) (from until : ℕ) → NoneStarts q steps from until → until ≤ length steps → (one other : ℕ)
+      → from ≤ one → one ≤ other → other ≤ until → HoldsFrom seen cmp spread q v steps other → HoldsFrom seen cmp spread q v steps one
+  held_between spread v from until none long one other low on high held =
+      let far : one + (other - one) ≡ other = omega arith in
+      held_back seen cmp spread q v steps from until none long (other - one) one low (omega (arith, far, high))
+      (subst (λ m. HoldsFrom seen cmp spread q v steps m) (sym far) held)
+
+  -- one that a start ends
+  pub past_spell : (spell : Spell) (s : Step X) → slice_get steps spell.until ≡ Some s → starts q s ≡ true
+      → NoneStarts q steps spell.from spell.until → spell.from ≤ spell.until
+      → ((due : ℕ) → is_due due spell.ran ≡ false → is_due due (ran_from q true None
+      (slice_range steps spell.from (spell.until + 1))) ≡ false) → runs_from q true (slice_range steps spell.from (spell.until + 1)) ≡ true → IsSpell seen cmp q spell steps
+  past_spell spell s is start none order ran runs =
+      let within = slice_get_within steps spell.until s is in
+      let long : spell.until ≤ length steps = omega arith in
+      record {
+        unseen = λ spread v early later. subst (λ ss. (w : Watched) → w.runs ≡ true → comes seen cmp spread q v w ss ≡ true)
+            (sym (drop_split steps spell.from (spell.until + 1) (omega arith)))
+            (unseen_part seen cmp spread q v (slice_range steps spell.from (spell.until + 1)) (drop (spell.until + 1) steps)
+            (ran ((seen v).updated + spread) early) runs later);
+        holds = λ spread v one other low on high held. held_between spread v spell.from spell.until none long one other low on high held;
+        ends = λ spread v later. started_held seen cmp spread q v steps spell.until s is start later;
+      }
+
+-- the last one
+pub last_spell : {K X : Type 0} (seen : X → Version K) (cmp : K → K → Ordering) (steps : List (Step X)) (spell : Spell)
+    → spell.until ≡ length steps → NoneStarts spell.member steps spell.from spell.until
+    → spell.ran ≡ ran_from spell.member true None (drop spell.from steps) → IsLast seen cmp steps spell
+last_spell seen cmp steps spell long none ran =
+    let all : spell.until ≤ length steps = omega arith in
+    record {
+      is = record {
+        unseen = λ spread v early later. unseen_rest seen cmp spread spell.member v (drop spell.from steps) spell.ran ran early;
+        holds = λ spread v one other low on high held. held_between seen cmp spell.member steps spread v spell.from spell.until none all one other low on high held;
+        ends = λ spread v later w has. ap (comes seen cmp spread spell.member v w) (drop_all steps spell.until (omega arith));
+      };
+      past = λ spread v w runs. ap (comes seen cmp spread spell.member v w) (drop_all steps (spell.until + 1) (omega arith));
+    }
+
+pub range_map : {A B : Type 0} (f : A → B) (xs : List A) (low high : ℕ) → slice_range (map f xs) low high ≡ map f (slice_range xs low high)
+range_map f xs low high = ap (take (high - low)) (drop-map f low xs) ∙ take-map f (high - low) (drop low xs)

@@ -1,8 +1,9 @@
 -- When a frame was sent, looked for from a place back.
-use Rattle.std.proofs.Common.{◌≡◌, ℕ, ◌+◌, ◌-◌, ◌<◌, ◌≤◌, Bool, ◌&&◌, cond, List, [], ◌∷◌, ◌++◌, sym, ap, ◌∙◌, subst, arith, map, take, drop, get_or, length, length-append, suc, drop-cons}
+use Rattle.std.proofs.Common.{◌≡◌, slice_get, Some, ℕ, ◌+◌, ◌-◌, ◌<◌, ◌≤◌, Bool, ◌&&◌, cond, List, [], ◌∷◌, ◌++◌, sym, ap, ◌∙◌, subst, arith, map, take, drop, get_or, length, length-append, suc, drop-cons}
 use Rattle.std.specs.List.{list_all}
 use Rattle.std.proofs.lemmas.Bool.{lt-ltb, le-ltb}
 use Rattle.std.proofs.lemmas.List.{map-append, take_more}
+use Rattle.std.proofs.lemmas.Option.{slice_get_within, get_or_from_slice_get}
 use Rattle.am_runs.specs.Steps.{Step, moment, flights_by, flights_of}
 use Rattle.am_runs.specs.Tests.{sent_in}
 use Rattle.am_runs.proofs.Cuts.{cut_at}
@@ -16,17 +17,20 @@ module _ {X : Type 0} where
       ap (λ t. cond t (moment b) (sent_in (number - length (flights_by b)) (before ++ s ∷ rest))) (le-ltb number (length (flights_by b)) (omega (arith, long, low)))
       ∙ sent_found before s rest (number - length (flights_by b)) (omega (arith, long, low)) (omega (arith, long, low, high))
 
+  -- by the number of frames before a step
+  pub sent_behind : (steps : List (Step X)) (n : ℕ) (s : Step X) (number : ℕ) → slice_get steps n ≡ Some s
+      → length (flights_of (take n steps)) ≤ number → number < length (flights_of (take n steps)) + length (flights_by s)
+      → sent_in number steps ≡ moment s
+  sent_behind steps n s number is low high =
+      let cut = cut_at steps n s (slice_get_within steps n s is) (sym (get_or_from_slice_get steps n s s is)) in
+      subst (λ ss. sent_in number ss ≡ moment s) cut (sent_found (take n steps) s (drop (n + 1) steps) number low high)
+
 module _ {A X : Type 0} (f : A → Step X) (steps : List A) where
   pub count_more : (n : ℕ) (s : A) → n < length steps → s ≡ get_or steps n s → length (flights_of (map f (take (n + 1) steps))) ≡ length (flights_of (map f (take n steps))) + length (flights_by (f s))
   count_more n s within is =
       let more : take (n + 1) steps ≡ take n steps ++ s ∷ [] = take_more steps n s within ∙ ap (λ y. take n steps ++ y ∷ []) (sym is) in
       ap (λ ss. length (flights_of (map f ss))) more ∙ ap (λ ss. length (flights_of ss)) (map-append f (take n steps) (s ∷ []))
       ∙ ap length (flights_of-push (map f (take n steps)) (f s)) ∙ length-append (flights_of (map f (take n steps))) (flights_by (f s))
-
-  pub sent_at_place : (n : ℕ) (s : A) (number : ℕ) → n < length steps → s ≡ get_or steps n s → length (flights_of (map f (take n steps))) ≤ number → number < length (flights_of (map f (take n steps))) + length (flights_by (f s)) → sent_in number (map f steps) ≡ moment (f s)
-  sent_at_place n s number within is low high =
-      let cut : map f (take n steps) ++ f s ∷ map f (drop (n + 1) steps) ≡ map f steps = sym (map-append f (take n steps) (s ∷ drop (n + 1) steps)) ∙ ap (map f) (cut_at steps n s within is) in
-      subst (λ ss. sent_in number ss ≡ moment (f s)) cut (sent_found (map f (take n steps)) (f s) (map f (drop (n + 1) steps)) number low high)
 
   -- a test of each step from a place on
   pub all_on : (p : Step X → Bool) (n : ℕ) (s : A) → n < length steps → s ≡ get_or steps n s → list_all p (map f (drop n steps)) ≡ (p (f s) && list_all p (map f (drop (n + 1) steps)))

@@ -9,3 +9,4 @@ pub mod Settles
 pub mod Peaks
 pub mod Standings
 pub mod Accounts
+pub mod Spells

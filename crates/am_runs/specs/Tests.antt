@@ -194,25 +194,6 @@ abbrev pub ran_from : {X : Type 0} → ℕ → Bool → Option ℕ → List (Ste
 ran_from q runs ran [] = ran
 ran_from q runs ran (step ∷ steps) = ran_from q (runs_after q runs step) (ran_after runs ran (moment step)) steps
 
--- with this step a member keeps what it has, whatever comes, or loses what wasn't saved, if it does either
-abbrev pub kept_by : {X : Type 0} → ℕ → Step X → Option Bool
-kept_by q (Took place now source versions frames) = None
-kept_by q (Ticked place now) = None
-kept_by q (Back place now) = None
-kept_by q (Refused now) = None
-kept_by q (Saved place) = if place == q then Some true else None
-kept_by q (Stopped place) = None
-kept_by q (Started place now) = if place == q then Some false else None
-
-abbrev pub first_kept : Option Bool → Bool → Bool
-first_kept None later = later
-first_kept (Some kept) later = kept
-
--- a member keeps what it has as steps begin: it isn't started in them before it is saved
-abbrev pub is_kept : {X : Type 0} → ℕ → List (Step X) → Bool
-is_kept q [] = true
-is_kept q (step ∷ steps) = first_kept (kept_by q step) (is_kept q steps)
-
 module _ {K X : Type 0} (seen : X → Version K) (cmp : K → K → Ordering) where
   -- a version that was taken is this one, or a greater one of its key
   abbrev pub counts_for : X → X → Bool

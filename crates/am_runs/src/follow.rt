@@ -10,11 +10,13 @@ ghost use Rattle.am_runs.specs.Tests.{StaysCalm};
 use crate::peaks::{Peaks, Timing, bring_back, save, take_all};
 use crate::standing::{Standing, last_collection, note};
 use crate::step::Step;
+use crate::trails::{Trails, note_step};
 use am_version_order::Version;
 
 /// Whether the member of a step stays calm with it; and where its greatest versions stand is kept. It takes no memory.
 fn follow<V: Version>(
     peaks: &mut Peaks,
+    trails: &mut Trails,
     standings: &[Standing],
     steps: &[Step<V>],
     before: &[Step<V>],
@@ -41,7 +43,15 @@ fn follow<V: Version>(
                 moment: *now,
                 last: last_collection(standings, *place, before),
             };
-            take_all(peaks, steps, before.len(), *place, &timing, versions)
+            take_all(
+                peaks,
+                trails,
+                steps,
+                before.len(),
+                *place,
+                &timing,
+                versions,
+            )
         }
         Step::Back { .. } => false,
         Step::Saved { place } => {
@@ -62,6 +72,7 @@ fn follow<V: Version>(
 pub fn write_down<V: Version>(
     peaks: &mut Peaks,
     standings: &mut Vec<Standing>,
+    trails: &mut Trails,
     steps: &[Step<V>],
     number: usize,
 )
@@ -76,6 +87,7 @@ pub fn write_down<V: Version>(
 {
     let before = &steps[..number];
     let step = &steps[number];
-    let stays = follow(peaks, standings, steps, before, step);
+    let stays = follow(peaks, trails, standings, steps, before, step);
     note(standings, before, step, stays);
+    note_step(trails, number, step);
 }

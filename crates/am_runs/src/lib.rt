@@ -12,10 +12,12 @@ pub mod plain;
 mod run;
 mod running;
 mod spans;
+mod spells;
 mod spread;
 mod standing;
 mod step;
 mod timely;
+mod trails;
 
 pub use run::Run;
 pub use step::{Source, Step};

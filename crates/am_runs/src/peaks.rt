@@ -15,6 +15,7 @@ ghost use Rattle.am_runs.specs.Tests.{Tops, top_among, in_time};
 use crate::calm::{in_time, is_below};
 use crate::place::{Place, placed, version_at};
 use crate::step::Step;
+use crate::trails::{Trails, add_cell};
 use am_blocks::{Blocks, Probe, Spot};
 use am_version_order::{Moment, Version};
 use std::alloc::{AllocError, Global};
@@ -39,6 +40,13 @@ pub struct Peak {
 pub struct Timing {
     pub moment: Moment,
     pub last: Option<Moment>,
+}
+
+/// Whether a version that a member took came in time, and the number of its row.
+#[derive(Clone, Copy)]
+pub struct Taken {
+    pub calm: bool,
+    pub row: usize,
 }
 
 /// Rows, each of a member and a key, and their order by key and member.
@@ -123,7 +131,7 @@ pub fn make_rows(peaks: &mut Peaks, count: usize) -> Result<(), AllocError>
 }
 
 /// The row of a key and a member, or where in the order it would go.
-fn find<V: Version>(
+pub fn find<V: Version>(
     peaks: &Peaks,
     steps: &[Step<V>],
     key: &V::Key,
@@ -207,13 +215,13 @@ pub fn take<V: Version>(
     head: Head,
     timing: &Timing,
     version: &V,
-) -> bool
+) -> Taken
     requires at { version_at (map step_of steps.now) head.first ≡ Some version.now }
     requires peaks { HasPeaks V.seen V.Key.cmp (version_at (map step_of steps.now)) peaks.old }
     requires room { HasRowRoom peaks.old 1 }
     ensures calm { (tops_of : ℕ → V.Key → Tops V) →
         ArePeaks V.seen V.Key.cmp (version_at (map step_of steps.now)) peaks.old tops_of →
-        result ≡ in_time V.seen (tops_of head.member (V.seen version.now).key).top timing.now.last timing.now.moment version.now }
+        result.calm ≡ in_time V.seen (tops_of head.member (V.seen version.now).key).top timing.now.last timing.now.moment version.now }
     ensures peaks { (tops_of : ℕ → V.Key → Tops V) →
         ArePeaks V.seen V.Key.cmp (version_at (map step_of steps.now)) peaks.old tops_of →
         ArePeaks V.seen V.Key.cmp (version_at (map step_of steps.now)) peaks.new (raised V.seen V.Key.cmp tops_of head.member version.now) }
@@ -223,11 +231,13 @@ pub fn take<V: Version>(
         Ok(row) => {
             let peak = peaks.peaks[row];
             peaks.peaks[row] = risen(peak, steps, head.first, version);
-            is_calm(peak, steps, timing, version)
+            let calm = is_calm(peak, steps, timing, version);
+            Taken { calm, row }
         }
         Err(spot) => {
+            let row = peaks.heads.len();
             add(peaks, steps, spot, head, version);
-            true
+            Taken { calm: true, row }
         }
     }
 }
@@ -235,6 +245,7 @@ pub fn take<V: Version>(
 /// Whether each version that a member takes in an event comes in time; and all of them are taken. It takes no memory.
 pub fn take_all<V: Version>(
     peaks: &mut Peaks,
+    trails: &mut Trails,
     steps: &[Step<V>],
     step: usize,
     member: usize,
@@ -259,8 +270,9 @@ pub fn take_all<V: Version>(
             member,
             first: Place { step, number },
         };
-        let came = take(peaks, steps, head, timing, &versions[number]);
-        calm &= came;
+        let taken = take(peaks, steps, head, timing, &versions[number]);
+        add_cell(trails, steps, member, taken.row, head.first);
+        calm &= taken.calm;
     }
     calm
 }

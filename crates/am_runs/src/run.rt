@@ -16,6 +16,7 @@ use crate::spans::is_some_time;
 use crate::spread::is_timely;
 use crate::standing::{Standing, fill_first};
 use crate::step::Step;
+use crate::trails::{Trails, make_trails, no_trails};
 use am_version_order::{Interval, Moment, Version};
 use std::alloc::{AllocError, Global};
 use std::marker::Model;
@@ -29,6 +30,7 @@ pub struct Run<V: Version> {
     steps: Vec<Step<V>>,
     peaks: Peaks,
     standings: Vec<Standing>,
+    trails: Trails,
     // For how many more versions there is room.
     spare: usize,
 }
@@ -61,6 +63,7 @@ impl<V: Version> Run<V> {
             steps: Vec::new(alloc),
             peaks: no_peaks(alloc),
             standings: Vec::new(alloc),
+            trails: no_trails(alloc),
             spare: 0,
         }
     }
@@ -94,6 +97,7 @@ impl<V: Version> Run<V> {
         ensures kept_spare { self.old.spare ≤ self.new.spare }
     {
         fill_first(&mut self.standings, self.members, &self.steps)?;
+        make_trails(&mut self.trails, self.members, steps, versions)?;
         self.steps.reserve(steps)?;
         make_rows(&mut self.peaks, versions)?;
         if self.spare < versions {
@@ -116,7 +120,13 @@ impl<V: Version> Run<V> {
         let number = self.steps.len();
         self.spare -= step.versions().len();
         self.steps.push_reserved(step);
-        write_down(&mut self.peaks, &mut self.standings, &self.steps, number);
+        write_down(
+            &mut self.peaks,
+            &mut self.standings,
+            &mut self.trails,
+            &self.steps,
+            number,
+        );
     }
 
     /// Whether a member runs. It takes no memory.
@@ -158,6 +168,13 @@ impl<V: Version> Run<V> {
     {
         timely_runs_are_calm::<V>();
         is_some_time(spread);
-        is_timely(spread, flight, self.members, &self.steps)
+        is_timely(
+            spread,
+            flight,
+            self.members,
+            &self.steps,
+            &self.peaks,
+            &self.trails,
+        )
     }
 }

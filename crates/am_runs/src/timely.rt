@@ -67,7 +67,7 @@ pub fn all_lasting<V: Version>(steps: &[Step<V>], spread: Interval, flight: Inte
 }
 
 /// When the frame of this number was sent.
-fn sent_in<V>(number: usize, steps: &[Step<V>]) -> Option<Moment>
+pub fn sent_in<V>(number: usize, steps: &[Step<V>]) -> Option<Moment>
     ensures { result ≡ sent_in number (map step_of steps.now) }
 {
     let mut left = number;
@@ -141,13 +141,13 @@ fn is_wanting<V: Version>(spread: Interval, version: &V, watch: Watch, now: Opti
 }
 
 /// Whether a version that was taken is this one, or a greater one of its key.
-fn counts_for<V: Version>(version: &V, taken: &V) -> bool
+pub fn counts_for<V: Version>(version: &V, taken: &V) -> bool
     ensures { result ≡ counts_for V.seen V.Key.cmp version.now taken.now }
 {
     has_key(version.key(), taken) && !is_below(taken, version)
 }
 
-pub fn any_counts<V: Version>(version: &V, taken: &[V]) -> bool
+fn any_counts<V: Version>(version: &V, taken: &[V]) -> bool
     ensures { result ≡ list_any (counts_for V.seen V.Key.cmp version.now) taken.now }
 {
     for one in taken {
@@ -245,7 +245,7 @@ fn come_to_all<V: Version>(
 }
 
 /// Whether each version delivered in some of the steps does.
-fn all_come_to_all<V: Version>(spread: Interval, members: usize, steps: &[Step<V>]) -> bool
+pub fn all_come_to_all<V: Version>(spread: Interval, members: usize, steps: &[Step<V>]) -> bool
     ensures { IsTrue result ↔ All (ComesToAll V.seen V.Key.cmp spread members (map step_of steps.now))
         (delivered_in (map step_of steps.now)) }
 {

@@ -55,7 +55,17 @@ fn take(
 ) -> Result<bool, AllocError> {
     let mut versions = Vec::new(alloc);
     versions.push(version)?;
-    run.make_room(1, 1)?;
+    take_all(alloc, run, place, now, versions)
+}
+
+fn take_all(
+    alloc: Global,
+    run: &mut Run<Note>,
+    place: usize,
+    now: Moment,
+    versions: Vec<Note>,
+) -> Result<bool, AllocError> {
+    run.make_room(1, versions.len())?;
     if !run.runs(place) {
         return Ok(false);
     }
@@ -249,12 +259,12 @@ fn drawn_spreading(seed: u64, number: u64) -> Act {
 
 // How many spreads were asked for, for how many a run told whether it is timely as the plain loops do, and for how
 // many it is.
-fn compare(run: &Run<Note>) -> (usize, usize, usize) {
+fn compare(run: &Run<Note>, spreads: &[u64], flight: u64) -> (usize, usize, usize) {
     let mut agreed = 0usize;
     let mut timely = 0usize;
-    let flight = Interval::from_seconds(60);
-    for seconds in [2u64, 4, 6, 9] {
-        if let (Some(spread), Some(flight)) = (Interval::from_seconds(seconds), flight) {
+    let flight = Interval::from_seconds(flight);
+    for seconds in spreads {
+        if let (Some(spread), Some(flight)) = (Interval::from_seconds(*seconds), flight) {
             let told = run.timely(spread, flight);
             if told == plain::is_timely(spread, flight, run.members(), run.steps()) {
                 agreed = agreed.wrapping_add(1);
@@ -264,7 +274,7 @@ fn compare(run: &Run<Note>) -> (usize, usize, usize) {
             }
         }
     }
-    (4, agreed, timely)
+    (spreads.len(), agreed, timely)
 }
 
 /// Plays acts that follow from a number, where they are possible. How often it was asked then whether the run is
@@ -274,7 +284,7 @@ pub fn play_spreading(alloc: Global, seed: u64) -> Result<(usize, usize, usize),
     let mut all = (0usize, 0usize, 0usize);
     for number in 0..60u64 {
         if write_down(alloc, &mut run, drawn_spreading(seed, number))? {
-            let (asked, agreed, timely) = compare(&run);
+            let (asked, agreed, timely) = compare(&run, &[2, 4, 6, 9], 60);
             all = (
                 all.0.wrapping_add(asked),
                 all.1.wrapping_add(agreed),
@@ -283,4 +293,95 @@ pub fn play_spreading(alloc: Global, seed: u64) -> Result<(usize, usize, usize),
         }
     }
     Ok(all)
+}
+
+// Versions made one after another, the last of them now, of one key and of another in turn.
+fn window(alloc: Global, last: u64, count: u64) -> Result<Vec<Note>, AllocError> {
+    let mut versions = Vec::new(alloc);
+    for back in 0..count {
+        let made = last.saturating_sub(back);
+        let updated = 20u64.wrapping_add(made.wrapping_mul(3));
+        let expires = updated.wrapping_add(400).wrapping_add(made % 2);
+        versions.push(note((updated, expires)))?;
+    }
+    Ok(versions)
+}
+
+// An act of a run of three members, each of which takes what was made last, with up to four versions from before.
+fn crowd(alloc: Global, run: &mut Run<Note>, seed: u64, number: u64) -> Result<bool, AllocError> {
+    let mixed = mixed_of(seed, number);
+    let place = match number % 3 {
+        0 => 0usize,
+        1 => 1,
+        _ => 2,
+    };
+    let now = at(20u64.wrapping_add(number));
+    match mixed % 32 {
+        0 => tick(run, place, now),
+        1 | 2 | 3 => save(run, place),
+        4 | 5 => stop(run, place),
+        6 | 7 | 8 | 9 => start(run, place, now),
+        _ => {
+            if !run.runs(place) {
+                return start(run, place, now);
+            }
+            let count = if mixed / 32 % 4 == 0 { 5 } else { 2 };
+            let versions = window(alloc, number / 3, count)?;
+            take_all(alloc, run, place, now, versions)
+        }
+    }
+}
+
+/// Plays acts of three members that follow from a number. How often it was asked then whether the run is timely, how
+/// often it told what the plain loops tell, and how often it was.
+pub fn play_crowded(alloc: Global, seed: u64) -> Result<(usize, usize, usize), AllocError> {
+    let mut run = Run::new(alloc, 3);
+    let mut all = (0usize, 0usize, 0usize);
+    for number in 0..48u64 {
+        if crowd(alloc, &mut run, seed, number)? && number % 4 == 3 {
+            let (asked, agreed, timely) = compare(&run, &[3, 6, 9, 15, 24], 200);
+            all = (
+                all.0.wrapping_add(asked),
+                all.1.wrapping_add(agreed),
+                all.2.wrapping_add(timely),
+            );
+        }
+    }
+    Ok(all)
+}
+
+/// Plays a run in which the first member takes so many versions, and the second one takes them after that; it is saved,
+/// stopped and started between, so that it has what it took before the save and lost what it took after. Whether the run
+/// is timely, and whether the plain loops tell the same.
+pub fn play_far(alloc: Global, count: u64, taken_again: bool) -> Result<(bool, bool), AllocError> {
+    let mut run = Run::new(alloc, 2);
+    for made in 0..count {
+        take_all(alloc, &mut run, 0, at(20), window(alloc, made, 1)?)?;
+    }
+    for made in 0..count {
+        if made == count / 2 {
+            save(&mut run, 1)?;
+        }
+        take_all(alloc, &mut run, 1, at(21), window(alloc, made, 1)?)?;
+    }
+    stop(&mut run, 1)?;
+    start(&mut run, 1, at(22))?;
+    if taken_again {
+        take_all(
+            alloc,
+            &mut run,
+            1,
+            at(23),
+            window(alloc, count.saturating_sub(1), count)?,
+        )?;
+    }
+    tick(&mut run, 1, at(900))?;
+    let told = match (Interval::from_seconds(50), Interval::from_seconds(200)) {
+        (Some(spread), Some(flight)) => (
+            run.timely(spread, flight),
+            plain::is_timely(spread, flight, run.members(), run.steps()),
+        ),
+        _ => (false, true),
+    };
+    Ok((told.0, told.0 == told.1))
 }

@@ -1,6 +1,6 @@
 //! Small runs that are timely or not by when a version comes to two members, worked by hand.
 
-use crate::acts::{Act, Verb, play, play_spreading};
+use crate::acts::{Act, Verb, play, play_crowded, play_far, play_spreading};
 use std::alloc::Global;
 
 // It is made at 10, and should have come to both at 15.
@@ -156,4 +156,28 @@ fn a_run_is_timely_where_plain_loops_tell_so(rt: HostRuntime) {
         untimely = untimely.wrapping_add(asked.wrapping_sub(told));
     }
     assert!(rt; timely > 100 && untimely > 100);
+}
+
+#[test]
+fn one_of_many_versions_and_members_is_too(rt: HostRuntime) {
+    let mut timely = 0usize;
+    let mut untimely = 0usize;
+    for seed in 0..20u64 {
+        let found = play_crowded(rt.alloc(), seed);
+        let (asked, agreed, told) = found.unwrap_or((1, 0, 0));
+        assert!(rt; agreed == asked);
+        timely = timely.wrapping_add(told);
+        untimely = untimely.wrapping_add(asked.wrapping_sub(told));
+    }
+    assert!(rt; timely > 50 && untimely > 50);
+}
+
+#[test]
+fn what_was_lost_far_from_where_it_came_is_missed(rt: HostRuntime) {
+    assert!(rt; play_far(rt.alloc(), 40, false) == Ok((false, true)));
+}
+
+#[test]
+fn what_was_taken_again_far_from_where_it_came_counts(rt: HostRuntime) {
+    assert!(rt; play_far(rt.alloc(), 40, true) == Ok((true, true)));
 }

@@ -15,7 +15,7 @@ returns-in-Ok-clause-calm g c tops_of peaks =
     let at_place = version_at (map step_of c.args.steps.now) in
     let key = (g.V.Version.seen c.args.version.now).key in
     let row = subst (λ k. IsRowOf g.V.Version.seen at_place c.args.peaks.now.heads.items k c.args.head.member c.in-Ok.row) c.key.ensures c.in-Ok.ensures.found in
-    c.is_calm.ensures (tops_of c.args.head.member key)
+    c.is_calm-calm.ensures (tops_of c.args.head.member key)
     (subst (λ p. IsPeak at_place p (tops_of c.args.head.member key)) (sym c.index-peak.ensures)
     (peak_there g.V.Version.seen g.V.Key.Ord.cmp (key_order g.met.V.Key.Ord.total g.met.V.Version.exact_keys) at_place c.args.peaks.now tops_of key c.args.head.member c.in-Ok.row c.index-peak.result.now peaks row))
 

@@ -22,8 +22,8 @@ loop-number-init g c =
       room = λ n had. less_rows c.args.peaks.now n (n + 0) (omega arith) had;
     }
 
-pub take-came-requires : goal.take-came-requires
-take-came-requires g c = record {
+pub take-taken-requires : goal.take-taken-requires
+take-taken-requires g c = record {
   at = c.requires.at c.loop-number.number ∙ slice_get_read c.args.versions.now (length c.args.versions.now) c.loop-number.number c.index-versions-number.result refl c.loop-number-test.true c.index-versions-number.is;
   peaks = c.loop-number.invariant.some;
   room = c.loop-number.invariant.room 1 (let within = c.loop-number-test.true in less_rows c.args.peaks.now (1 + c.loop-number.number) (length c.args.versions.now) (omega (arith, within)) c.requires.room);
@@ -39,10 +39,11 @@ loop-number-preserved g c =
     let versions = c.args.versions.now in
     let number = c.loop-number.number in
     record {
-      some = record { tops_of = raised seen cmp before.some.tops_of member c.index-versions-number.result; are = c.take-came.ensures.peaks before.some.tops_of before.some.are };
-      are = λ tops_of peaks. peaks_push seen cmp at_place c.take-came.new.peaks tops_of member versions number c.index-versions-number.result c.loop-number-test.true c.index-versions-number.is (c.take-came.ensures.peaks (raised_all seen cmp tops_of member (take number versions)) (before.are tops_of peaks));
-      calm = λ tops_of peaks. calm_more seen cmp tops_of member versions number c.index-versions-number.result c.args.timing.now.last c.args.timing.now.moment c.loop-number.calm c.take-came.result c.loop-number-test.true c.index-versions-number.is (c.take-came.ensures.calm (raised_all seen cmp tops_of member (take number versions)) (before.are tops_of peaks)) (before.calm tops_of peaks);
-      room = λ n had. c.take-came.ensures.room n (before.room (n + 1) (less_rows c.args.peaks.now ((n + 1) + number) (n + (number + 1)) (omega arith) had));
+      some = record { tops_of = raised seen cmp before.some.tops_of member c.index-versions-number.result; are = c.take-taken.ensures.peaks before.some.tops_of before.some.are };
+      are = λ tops_of peaks. peaks_push seen cmp at_place c.take-taken.new.peaks tops_of member versions number c.index-versions-number.result c.loop-number-test.true c.index-versions-number.is (c.take-taken.ensures.peaks (raised_all seen cmp tops_of member (take number versions)) (before.are tops_of peaks));
+      calm = λ tops_of peaks. calm_more seen cmp tops_of member versions number c.index-versions-number.result c.args.timing.now.last c.args.timing.now.moment c.loop-number.calm c.take-taken.result.calm c.loop-number-test.true c.index-versions-number.is (c.take-taken.ensures.calm (raised_all seen cmp tops_of member (take number versions)) (before.are tops_of peaks)) (before.calm tops_of peaks);
+      room = λ n had. c.take-taken.ensures.room n (before.room (n + 1)
+          (less_rows c.args.peaks.now ((n + 1) + number) (n + (number + 1)) (omega arith) had));
     }
 
 pub returns : goal.returns

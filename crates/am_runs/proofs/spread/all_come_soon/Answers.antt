@@ -8,7 +8,8 @@ use Rattle.am_runs.proofs.spread.all_come_soon.Goals as goal
 
 pub returns-then-not-come_soon : goal.returns-then-not-come_soon
 returns-then-not-come_soon g c =
-    let P = λ (v : g.row.V.Denot). comes g.V.Version.seen g.V.Key.Ord.cmp c.args.spread c.args.member v (record { runs = true; has = false; saved = false }) (map step_of c.args.steps.now) ≡ true in (
+    let P = λ (v : g.row.V.Denot). comes g.V.Version.seen g.V.Key.Ord.cmp c.args.spread c.args.last.now.member v
+    (record { runs = true; has = false; saved = false }) (map step_of c.args.steps.now) ≡ true in (
       λ t. absurd (false≢true t),
       λ all.
           absurd (false≢true (sym c.if-not-come_soon.true ∙ c.come_soon.ensures.1
@@ -17,14 +18,13 @@ returns-then-not-come_soon g c =
 
 pub loop-place-preserved : goal.loop-place-preserved
 loop-place-preserved g c =
-    let P = λ (v : g.row.V.Denot). comes g.V.Version.seen g.V.Key.Ord.cmp c.args.spread c.args.member v (record { runs = true; has = false; saved = false }) (map step_of c.args.steps.now) ≡ true in
-    record {
-      stretch = c.stretch_at-stretch.ensures;
-      come = delivered_more step_of P c.args.steps.now c.loop-place.place c.index-steps-place.result c.loop-place-test.true c.index-steps-place.is c.loop-place.invariant.come
-          (subst (All P) c.versions-versions.ensures (c.come_soon.ensures.0 c.if-not-come_soon.false));
-    }
+    let P = λ (v : g.row.V.Denot). comes g.V.Version.seen g.V.Key.Ord.cmp c.args.spread c.args.last.now.member v
+    (record { runs = true; has = false; saved = false }) (map step_of c.args.steps.now) ≡ true in
+    delivered_more step_of P c.args.steps.now c.loop-place.place c.index-steps-place.result c.loop-place-test.true c.index-steps-place.is c.loop-place.invariant
+    (subst (All P) c.versions-versions.ensures (c.come_soon.ensures.0 c.if-not-come_soon.false))
 
 pub returns : goal.returns
 returns g c =
-    let P = λ (v : g.row.V.Denot). comes g.V.Version.seen g.V.Key.Ord.cmp c.args.spread c.args.member v (record { runs = true; has = false; saved = false }) (map step_of c.args.steps.now) ≡ true in
-    (λ t. delivered_done step_of P c.args.steps.now c.loop-place.place c.loop-place-test.false c.loop-place.invariant.come, λ all. refl)
+    let P = λ (v : g.row.V.Denot). comes g.V.Version.seen g.V.Key.Ord.cmp c.args.spread c.args.last.now.member v
+    (record { runs = true; has = false; saved = false }) (map step_of c.args.steps.now) ≡ true in
+    (λ t. delivered_done step_of P c.args.steps.now c.loop-place.place c.loop-place-test.false c.loop-place.invariant, λ all. refl)

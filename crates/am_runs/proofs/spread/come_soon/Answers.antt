@@ -4,11 +4,17 @@ use Rattle.am_runs.specs.Tests.{comes}
 use Rattle.am_runs.proofs.Loops.{all_more, all_done}
 use Rattle.am_runs.proofs.spread.come_soon.Goals as goal
 
-pub loop-version-preserved : goal.loop-version-preserved
-loop-version-preserved g c =
-    all_more (λ v. comes g.V.Version.seen g.V.Key.Ord.cmp c.args.spread c.args.member v (record { runs = true; has = false; saved = false }) (map step_of c.args.steps.now) ≡ true) c.args.versions.now c.loop-version.version-index c.version-item.result c.loop-version-test.true c.version-item.is c.loop-version.invariant
+pub loop-number-preserved : goal.loop-number-preserved
+loop-number-preserved g c =
+    all_more (λ v. comes g.V.Version.seen g.V.Key.Ord.cmp c.args.spread c.args.last.now.member v
+    (record { runs = true; has = false; saved = false })
+    (map step_of c.args.steps.now) ≡ true) c.args.versions.now c.loop-number.number c.index-versions-number.result c.loop-number-test.true c.index-versions-number.is c.loop-number.invariant
     (sym c.comes_soon.ensures ∙ c.if-not-comes_soon.false)
 
 pub returns : goal.returns
-returns g c =
-    (λ t. all_done (λ v. comes g.V.Version.seen g.V.Key.Ord.cmp c.args.spread c.args.member v (record { runs = true; has = false; saved = false }) (map step_of c.args.steps.now) ≡ true) c.args.versions.now c.loop-version.version-index c.loop-version-test.false c.loop-version.invariant, λ all. refl)
+returns g c = (
+  λ t. all_done (λ v. comes g.V.Version.seen g.V.Key.Ord.cmp c.args.spread c.args.last.now.member v
+      (record { runs = true; has = false; saved = false })
+      (map step_of c.args.steps.now) ≡ true) c.args.versions.now c.loop-number.number c.loop-number-test.false c.loop-number.invariant,
+  λ all. refl,
+)

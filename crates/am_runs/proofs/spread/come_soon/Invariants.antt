@@ -4,5 +4,6 @@ use Rattle.am_runs.specs.Records.{step_of}
 use Rattle.am_runs.specs.Tests.{comes}
 use Rattle.am_runs.proofs.spread.come_soon.Given as goal
 
-abbrev pub invariant-loop-version : goal.invariant-loop-version
-invariant-loop-version g l = All (λ v. comes g.V.Version.seen g.V.Key.Ord.cmp l.spread l.member v (record { runs = true; has = false; saved = false }) (map step_of l.steps) ≡ true) (take l.version-index l.versions)
+abbrev pub invariant-loop-number : goal.invariant-loop-number
+invariant-loop-number g l = All (λ v. comes g.V.Version.seen g.V.Key.Ord.cmp l.spread l.last.member v
+    (record { runs = true; has = false; saved = false }) (map step_of l.steps) ≡ true) (take l.number l.versions)
