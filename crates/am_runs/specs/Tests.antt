@@ -13,6 +13,7 @@ use Rattle.am_runs.specs.Steps.Step.{Took, Ticked, Back, Refused, Saved, Stopped
 
 -- ---- whether a member runs
 
+-- after a step, where it ran before it or not
 abbrev pub runs_after : {X : Type 0} → ℕ → Bool → Step X → Bool
 runs_after q runs (Took place now source versions frames) = runs
 runs_after q runs (Ticked place now) = runs
@@ -22,12 +23,14 @@ runs_after q runs (Saved place) = runs
 runs_after q runs (Stopped place) = if place == q then false else runs
 runs_after q runs (Started place now) = if place == q then true else runs
 
+-- and after steps
 abbrev pub runs_from : {X : Type 0} → ℕ → Bool → List (Step X) → Bool
 runs_from q runs [] = runs
 runs_from q runs (step ∷ steps) = runs_from q (runs_after q runs step) steps
 
 -- ---- the moment of its last event or start
 
+-- with a step of the member itself
 abbrev pub acted : {X : Type 0} → ℕ → Step X → ℕ
 acted last (Took place now source versions frames) = now
 acted last (Ticked place now) = now
@@ -37,9 +40,11 @@ acted last (Saved place) = last
 acted last (Stopped place) = last
 acted last (Started place now) = now
 
+-- with any step
 abbrev pub last_after : {X : Type 0} → ℕ → ℕ → Step X → ℕ
 last_after q last step = if is_at q step then acted last step else last
 
+-- after steps
 abbrev pub last_from : {X : Type 0} → ℕ → ℕ → List (Step X) → ℕ
 last_from q last [] = last
 last_from q last (step ∷ steps) = last_from q (last_after q last step) steps
@@ -56,10 +61,12 @@ pub record Lasts : Type 0 where
   pub last : Option ℕ
   pub saved : Option ℕ
 
+-- the greater one of the last collection, if there was one, and a moment
 abbrev pub later : Option ℕ → ℕ → Option ℕ
 later None now = Some now
 later (Some last) now = Some (max last now)
 
+-- both with a step of the member itself
 abbrev pub lasted : {X : Type 0} → Lasts → Step X → Lasts
 lasted l (Took place now source versions frames) = l
 lasted l (Ticked place now) = record { last = later l.last now; saved = l.saved }
@@ -69,9 +76,11 @@ lasted l (Saved place) = record { last = l.last; saved = l.last }
 lasted l (Stopped place) = l
 lasted l (Started place now) = record { last = l.saved; saved = l.saved }
 
+-- with any step
 abbrev pub lasts_after : {X : Type 0} → ℕ → Lasts → Step X → Lasts
 lasts_after q l step = if is_at q step then lasted l step else l
 
+-- after steps
 abbrev pub lasts_from : {X : Type 0} → ℕ → Lasts → List (Step X) → Lasts
 lasts_from q l [] = l
 lasts_from q l (step ∷ steps) = lasts_from q (lasts_after q l step) steps
@@ -92,10 +101,12 @@ module _ {K X : Type 0} (seen : X → Version K) where
   in_time (Some g) last now v = not (is_live now (seen v) && (is_below (seen v) (seen g) && has_reached last (seen g).expires))
 
 module _ {K X : Type 0} (seen : X → Version K) (cmp : K → K → Ordering) where
+  -- the greatest of a key, once versions are taken
   abbrev pub top_among : K → Option X → List X → Option X
   top_among key top [] = top
   top_among key top (v ∷ vs) = top_among key (greater_of seen top (at seen cmp (v ∷ []) key)) vs
 
+  -- both with a step of the member itself
   abbrev pub topped : K → Tops X → Step X → Tops X
   topped key t (Took place now source versions frames) = record { top = top_among key t.top versions; saved = t.saved }
   topped key t (Ticked place now) = t
@@ -105,9 +116,11 @@ module _ {K X : Type 0} (seen : X → Version K) (cmp : K → K → Ordering) wh
   topped key t (Stopped place) = t
   topped key t (Started place now) = record { top = t.saved; saved = t.saved }
 
+  -- with any step
   abbrev pub tops_after : ℕ → K → Tops X → Step X → Tops X
   tops_after q key t step = if is_at q step then topped key t step else t
 
+  -- after steps
   abbrev pub tops_from : ℕ → K → Tops X → List (Step X) → Tops X
   tops_from q key t [] = t
   tops_from q key t (step ∷ steps) = tops_from q key (tops_after q key t step) steps
@@ -137,6 +150,7 @@ abbrev pub is_onward : ℕ → Option ℕ → Bool
 is_onward clock None = true
 is_onward clock (Some now) = nat_le clock now
 
+-- the moments of steps never fall
 abbrev pub are_onward : {X : Type 0} → ℕ → List (Step X) → Bool
 are_onward clock [] = true
 are_onward clock (step ∷ steps) = is_onward clock (moment step) && are_onward (clock_after clock (moment step)) steps
@@ -190,6 +204,7 @@ ran_after false ran now = ran
 ran_after true ran None = ran
 ran_after true ran (Some now) = later ran now
 
+-- and after steps
 abbrev pub ran_from : {X : Type 0} → ℕ → Bool → Option ℕ → List (Step X) → Option ℕ
 ran_from q runs ran [] = ran
 ran_from q runs ran (step ∷ steps) = ran_from q (runs_after q runs step) (ran_after runs ran (moment step)) steps
@@ -199,6 +214,7 @@ module _ {K X : Type 0} (seen : X → Version K) (cmp : K → K → Ordering) wh
   abbrev pub counts_for : X → X → Bool
   counts_for v taken = eq_by_cmp cmp (seen taken).key (seen v).key && not (is_below (seen taken) (seen v))
 
+  -- all three with a step of the member itself
   abbrev pub watched : X → Watched → Step X → Watched
   watched v w (Took place now source versions frames) = record { runs = w.runs; has = w.has || list_any (counts_for v) versions; saved = w.saved }
   watched v w (Ticked place now) = w
@@ -208,6 +224,7 @@ module _ {K X : Type 0} (seen : X → Version K) (cmp : K → K → Ordering) wh
   watched v w (Stopped place) = record { runs = false; has = w.has; saved = w.saved }
   watched v w (Started place now) = record { runs = true; has = w.saved; saved = w.saved }
 
+  -- with any step
   abbrev pub watch_after : ℕ → X → Watched → Step X → Watched
   watch_after q v w step = if is_at q step then watched v w step else w
 
