@@ -1,12 +1,15 @@
--- Parts of a text that are kept as their places in it.
-use Rattle.std.specs.Prelude.{◌≡◌, ℕ, ◌+◌, ◌≤◌, List, length, slice_range}
+-- Parts of a text that are kept as the place of their length in it (protobuf: delimited parts).
+use Rattle.std.specs.Prelude.{◌≡◌, ℕ, ◌<◌, ◌≤◌, ◌^◌, ◌⊎◌, List, [], ◌++◌, length, drop}
+use Rattle.am_wire.specs.Varint.{shortest}
 use Rattle.am_silence.specs.declared.bucket.Place.{Place}
 
--- what stands at a place
-abbrev pub part_at : Place → List ℕ → List ℕ
-part_at place text = slice_range text place.start (place.start + place.len)
+-- behind so many bytes of a text a part follows, behind its length
+pub record Follows (start : ℕ) (part text : List ℕ) : Type 0 where
+  pub rest : List ℕ
+  pub within : start ≤ length text
+  pub short : length part < 2 ^ 64
+  pub is : drop start text ≡ shortest (length part) ++ (part ++ rest)
 
--- a part of a text stands at a place
-pub record StandsAt (part : List ℕ) (place : Place) (text : List ℕ) : Type 0 where
-  pub within : place.start + place.len ≤ length text
-  pub is : part_at place text ≡ part
+-- a part of a text stands at a place; a version's text begins with a tag, so 0 is left to be the place of the empty part
+abbrev pub StandsAt : List ℕ → Place → List ℕ → Type 0
+StandsAt part place text = ((place.start ≡ 0) × (part ≡ [])) ⊎ ((0 < place.start) × Follows place.start part text)

@@ -1,33 +1,49 @@
 //! Where the bucket of a silence stands in its canonical text.
 
-ghost use Rattle.std.specs.Prelude.{◌≡◌, ◌+◌, ◌<◌, ◌≤◌, ◌^◌, length, slice_get, MatchOption};
+ghost use Rattle.std.specs.Prelude.{◌≡◌, ℕ, List, ◌<◌, ◌^◌, length, slice_get, MatchOption};
 ghost use Rattle.std.specs.List.{list_any, find};
 ghost use Rattle.am_wire.specs.Writing.{writes_delimited};
 ghost use Rattle.am_silence.specs.Kinds.{is_regexp};
 ghost use Rattle.am_silence.specs.Matchers.{wants_label};
 ghost use Rattle.am_silence.specs.Silences.{writes_silence};
 ghost use Rattle.am_silence.specs.Mesh.{Mesh, writes_mesh_silence, bucket_matcher_of, bucket_of};
-ghost use Rattle.am_silence.specs.Places.{part_at, StandsAt};
+ghost use Rattle.am_silence.specs.Places.{Follows, StandsAt};
 
 use crate::matchers::Matchers;
 use crate::silence::Silence;
 use crate::sizes::matchers_size;
-use am_wire::writing::{delimited_size, text_size};
+use am_wire::read_varint;
+use am_wire::writing::{delimited_size, text_size, varint_size};
 
-/// Where a part of a text stands that has fewer than 2^32 bytes.
+/// Where a part of a text stands behind its length: how many bytes, fewer than 2^32, come before that length.
+///
+/// 0 is the place of an empty part.
 #[derive(Clone, Copy)]
 pub struct Place {
     start: u32,
-    len: u32,
 }
 
 impl Place {
     /// The part that stands here.
     pub fn part_of(self, text: &[u8]) -> &[u8]
-        requires { self.start + self.len ≤ length text.now }
-        ensures { result.now ≡ part_at self text.now }
+        requires { (part : List ℕ) × StandsAt part self text.now }
+        ensures { (part : List ℕ) → StandsAt part self text.now → result.now ≡ part }
     {
-        &text[self.start as usize..][..self.len as usize]
+        if self.start == 0 {
+            return &[];
+        }
+        part_behind(&text[self.start as usize..])
+    }
+}
+
+// The part that stands behind its length at the front of the bytes.
+fn part_behind(bytes: &[u8]) -> &[u8]
+    requires { (part : List ℕ) × Follows 0 part bytes.now }
+    ensures { (part : List ℕ) → Follows 0 part bytes.now → result.now ≡ part }
+{
+    match read_varint(bytes) {
+        Ok((size, len)) => &bytes[len..][..size as usize],
+        Err(_) => &[],
     }
 }
 
@@ -40,16 +56,16 @@ pub fn bucket_place(silence: &Silence, size: u64) -> Place
 {
     let matchers = &silence.matchers;
     let Some(index) = bucket_index(matchers) else {
-        return Place { start: 0, len: 0 };
+        return Place { start: 0 };
     };
     let len = matchers.at(index).size();
     let end = delimited_size(1, size)
         .saturating_sub(size)
         .saturating_add(text_size(1, silence.id.as_str()))
         .saturating_add(matchers_size(matchers, index + 1));
+    let start = end.saturating_sub(len).saturating_sub(varint_size(len));
     Place {
-        start: end.saturating_sub(len) as u32,
-        len: len as u32,
+        start: start as u32,
     }
 }
 

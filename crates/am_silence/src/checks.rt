@@ -1,6 +1,6 @@
 //! The tests that a post and an end have to pass, which take no memory.
 
-ghost use Rattle.std.specs.Prelude.{◌≡◌, ◌≢◌, ◌==◌, ◌&&◌, length, is_some, is_none, IfOk, IfErr};
+ghost use Rattle.std.specs.Prelude.{◌≡◌, ◌==◌, ◌&&◌, length, is_some, is_none, IfOk};
 ghost use Rattle.std.specs.List.{list_any};
 ghost use Rattle.std.specs.Option.{option_copied};
 ghost use Rattle.am_silence.specs.declared.error.SilenceError.TheVariants as errors;
@@ -25,7 +25,6 @@ pub fn check_posted<'a>(
 ) -> Result<Option<&'a Silence>, SilenceError>
     ensures held { IfOk result (λ silence. option_copied silence ≡ held_silence (option_copied held.entry) posted.now) }
     ensures tests { Refuses result (posted_refusal (option_copied held.entry) posted.now verdict now) }
-    ensures no_memory { IfErr result (λ e. e ≢ errors.Memory) }
 {
     let held = held_silence(held, posted)?;
     check_matchers(&posted.matchers, verdict)?;
@@ -41,7 +40,6 @@ fn held_silence<'a>(
 ) -> Result<Option<&'a Silence>, SilenceError>
     ensures held { IfOk result (λ silence. option_copied silence ≡ held_silence (option_copied held.entry) posted.now) }
     ensures found { Refuses result (errors.NotFound when (is_some posted.now.id && is_none (option_copied held.entry))) }
-    ensures no_memory { IfErr result (λ e. e ≢ errors.Memory) }
 {
     if posted.id.is_none() {
         return Ok(None);
@@ -56,7 +54,6 @@ fn held_silence<'a>(
 #[tactic(auto, unfolding(crate::specs::Refusals::matchers_refusal))]
 fn check_matchers(matchers: &Matchers, verdict: Verdict) -> Result<(), SilenceError>
     ensures tests { Refuses result (matchers_refusal matchers.now verdict) }
-    ensures no_memory { IfErr result (λ e. e ≢ errors.Memory) }
 {
     if matchers.is_empty() {
         return Err(SilenceError::NoMatcher);
@@ -87,7 +84,6 @@ fn has_empty_name(matchers: &Matchers) -> bool
 #[tactic(auto, unfolding(crate::specs::Refusals::times_refusal))]
 fn check_times(posted: &Posted, now: Moment) -> Result<(), SilenceError>
     ensures tests { Refuses result (times_refusal posted.now now) }
-    ensures no_memory { IfErr result (λ e. e ≢ errors.Memory) }
 {
     if posted.ends_at <= posted.starts_at {
         return Err(SilenceError::EndNotAfterStart);
@@ -102,7 +98,6 @@ fn check_times(posted: &Posted, now: Moment) -> Result<(), SilenceError>
 #[tactic(auto, unfolding(crate::specs::Refusals::newer_refusal))]
 pub fn check_older(held: &Silence, now: Moment) -> Result<(), SilenceError>
     ensures tests { Refuses result (newer_refusal held.now now) }
-    ensures no_memory { IfErr result (λ e. e ≢ errors.Memory) }
 {
     if held.updated_at >= now {
         return Err(SilenceError::Newer {
@@ -116,7 +111,6 @@ pub fn check_older(held: &Silence, now: Moment) -> Result<(), SilenceError>
 #[tactic(auto, unfolding(crate::specs::Refusals::held_refusal))]
 fn check_held(held: Option<&Silence>, now: Moment) -> Result<(), SilenceError>
     ensures tests { Refuses result (held_refusal (option_copied held.entry) now) }
-    ensures no_memory { IfErr result (λ e. e ≢ errors.Memory) }
 {
     match held {
         Some(held) if state_at(held, now) != State::Expired => check_older(held, now),

@@ -1,17 +1,16 @@
-use Rattle.std.proofs.Common.{◌≡◌, ℕ, ◌-◌, ◌<◌, ◌≤◌, List, [], length, Option, Some, refl, sym, ap, subst, ◌∙◌, arith}
+use Rattle.std.proofs.Common.{◌≡◌, ◌-◌, ◌+◌, ◌<◌, ◌^◌, [], length, length-append, Option, Some, refl, inr, sym, ap, ◌∙◌, arith}
 use Rattle.std.specs.Prelude.{slice_get}
 use Rattle.std.specs.Option.{option_map_or}
 use Rattle.std.proofs.lemmas.Option.{slice_get_read}
-use Rattle.am_silence.specs.declared.bucket.Place.{Place}
+use Rattle.am_wire.specs.Varint.{shortest}
 use Rattle.am_silence.specs.declared.matcher.Matcher.{Matcher}
 use Rattle.am_silence.specs.Matchers.{writes_matcher}
 use Rattle.am_silence.specs.Silences.{writes_silence}
-use Rattle.am_silence.specs.Mesh.{bucket_matcher_of, bucket_of, writes_mesh_silence}
-use Rattle.am_silence.specs.Places.{StandsAt}
-use Rattle.am_silence.proofs.Buckets.{version_end, matcher_end, matcher_end-within, matcher-within_end, end_counted, ends_stands, small_inside}
+use Rattle.am_silence.specs.Mesh.{bucket_matcher_of, bucket_of}
+use Rattle.am_silence.proofs.Buckets.{delimited, version_end, matcher_end, matcher_end-within, matcher_inside, end_counted, ends_follows, small_inside}
 use Rattle.am_silence.proofs.bucket.bucket_place.Goals as goal
 
-module _ (c : goal.After-saturating_sub-2) where
+module _ (c : goal.After-saturating_sub-start) where
   lt : c.in-Some.index < length c.args.silence.now.matchers
   lt = c.in-Some.ensures.0
 
@@ -29,24 +28,27 @@ module _ (c : goal.After-saturating_sub-2) where
   low : c.saturating_add-end.result < 4294967296
   low = omega (arith, end, c.requires.small, matcher_end-within c.args.silence.now c.in-Some.index c.at.result lt is)
 
-  len : c.size-len.result ≡ length (writes_matcher c.at.result)
-  len = omega (arith, c.size-len.ensures, end, low, matcher-within_end c.args.silence.now c.in-Some.index c.at.result lt is)
+  inside : length (shortest (length (writes_matcher c.at.result))) + length (writes_matcher c.at.result) < matcher_end c.args.silence.now c.in-Some.index c.at.result lt is
+  inside = matcher_inside c.args.silence.now c.in-Some.index c.at.result lt is
 
-  below : c.size-len.result ≤ c.saturating_add-end.result
-  below = omega (arith, len, end, matcher-within_end c.args.silence.now c.in-Some.index c.at.result lt is)
+  len : c.size-len.result ≡ length (writes_matcher c.at.result)
+  len = omega (arith, c.size-len.ensures, end, low, inside)
+
+  front : c.varint_size.result ≡ length (shortest (length (writes_matcher c.at.result)))
+  front = rw (sym len) c.varint_size.ensures.size
+
+  place : c.saturating_sub-start.result ≡ matcher_end c.args.silence.now c.in-Some.index c.at.result lt is - length (delimited (writes_matcher c.at.result))
+  place = omega (arith, c.saturating_sub-2.ensures, c.saturating_sub-start.ensures, end, len, front, length-append (shortest (length (writes_matcher c.at.result))) (writes_matcher c.at.result))
+
+  some : 0 < c.saturating_sub-start.result
+  some = omega (arith, place, inside, length-append (shortest (length (writes_matcher c.at.result))) (writes_matcher c.at.result))
 
 pub overflow_cast-result : goal.overflow_cast-result
-overflow_cast-result c = omega (arith, c.saturating_sub-2.ensures, low c)
-
-pub overflow_cast-result-2 : goal.overflow_cast-result-2
-overflow_cast-result-2 c = omega (arith, below c, low c)
+overflow_cast-result c = omega (arith, place c, end c, low c)
 
 pub returns : goal.returns
 returns c = λ m same.
     let found : bucket_matcher_of c.args.silence.now.matchers ≡ Some c.at.result = c.in-Some.ensures.1 ∙ is c in
     let bucket : bucket_of c.args.silence.now.matchers ≡ writes_matcher c.at.result = ap (λ (o : Option Matcher). option_map_or writes_matcher o []) found in
-    let start : c.saturating_sub-2.result ≡ matcher_end c.args.silence.now c.in-Some.index c.at.result (lt c) (is c) - length (writes_matcher c.at.result) =
-    omega (arith, c.saturating_sub-2.ensures, end c, len c) in
-    let place : Place = record { start = c.saturating_sub-2.result; len = c.size-len.result } in
-    subst (λ (part : List ℕ). StandsAt part place (writes_mesh_silence m)) (sym bucket)
-    (ends_stands place (version_end c.args.silence.now c.in-Some.index c.at.result (lt c) (is c) m same) start (len c))
+    let short : length (writes_matcher c.at.result) < 2 ^ 64 = omega (arith, inside c, end c, low c) in
+    inr (some c, rw bucket (ends_follows (version_end c.args.silence.now c.in-Some.index c.at.result (lt c) (is c) m same) short (place c)))

@@ -1,0 +1,9 @@
+use Rattle.am_silence.specs.Mesh.{bucket_of}
+use Rattle.am_silence.specs.Places.{StandsAt}
+use Rattle.am_silence.proofs.mesh.MeshSilenceVersion.bucket.Goals as goal
+
+pub returns : goal.returns
+returns c =
+    let part = bucket_of c.self.inside.silence.matchers in
+    let whole : StandsAt part c.self.inside.bucket c.as_slice.result.now = rw c.as_slice.ensures.value c.self.invariant.bucket in
+    rw (← c.self.view_is) (c.part_of.ensures part whole)
