@@ -253,8 +253,14 @@ CASES = [
     (["fold", "--state", b"sil\xc3", "--now", "0"], FIRST, 2, b"", NOT_UTF8),
     # faults of the input, of which nothing is written
     (FOLD, SECOND + FIRST[:-1], 1, b"", "am_tool: Wire Truncated 33\n"),
+    (FOLD, FIRST[:2], 1, b"", "am_tool: Wire Truncated 0\n"),
+    (FOLD, FIRST[:2] + b"\x1a" + FIRST[3:], 1, b"", "am_tool: Wire Truncated 28\n"),
     (FOLD, bytes.fromhex("020000"), 1, b"", "am_tool: Wire FieldNumber 1\n"),
+    (FOLD, bytes.fromhex("020b00"), 1, b"", "am_tool: Wire WireType 1\n"),
+    (FOLD, bytes.fromhex("020800"), 1, b"", "am_tool: Wire WrongType 1\n"),
     (FOLD, bytes.fromhex("00"), 1, b"", "am_tool: Wire MissingMessage 1\n"),
+    (FOLD, bytes.fromhex("0b0a001207088083d1ffaf07"), 1, b"", "am_tool: Wire Timestamp 3\n"),
+    (FOLD, bytes.fromhex("8080802000000000"), 1, b"", "am_tool: Wire Truncated 0\n"),
     (FOLD, bytes.fromhex("81808020"), 1, b"", "am_tool: Wire TooLarge\n"),
 ]
 

@@ -42,4 +42,5 @@ ComesOf (Err refusal) old now answered new = IsTurnedAway refusal old answered n
 
 -- What a request is answered, and what it leaves of the instance.
 abbrev pub IsAnswered : Stand → Request → ℕ → ℕ → Answered → Stand → Type 0
-IsAnswered old request bits now answered new = (meant : Result Event Refusal) × IsEventOf request bits meant × ComesOf meant old now answered new
+IsAnswered old request bits now answered new =
+    (meant : Result Event Refusal) × IsEventOf request bits meant × ComesOf meant old now answered new

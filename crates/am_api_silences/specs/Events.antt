@@ -58,7 +58,8 @@ IsCall request call = IsCallOf (string_bytes request.method) (string_bytes reque
 
 -- why a request is refused: its path names nothing, or has no such method; or something is at fault with its call
 abbrev pub IsRefusedFor : Request → Cause → Type 0
-IsRefusedFor request cause = IsCall request (Err cause) ⊎ ((call : Call) × IsCall request (Ok call) × HasFault call request.body.items cause)
+IsRefusedFor request cause = IsCall request (Err cause)
+    ⊎ ((call : Call) × IsCall request (Ok call) × HasFault call request.body.items cause)
 
 -- what a request asks for, by its call
 abbrev pub IsMeant : Request → ℕ → Asked → Type 0

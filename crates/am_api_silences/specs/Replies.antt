@@ -24,7 +24,8 @@ line_bytes line = reply_bytes line.status line.allow (compact_text (string line.
 
 -- The bytes of a reply to a request. Only requests on silences have a body.
 abbrev pub IsReplyBytes : Reply → List ℕ → Type 0
-IsReplyBytes (replies.Silences rows) bytes = (ds : List Data) × AreGettable rows.items ds × (bytes ≡ good_bytes (compact_text (array (items_of ds))))
+IsReplyBytes (replies.Silences rows) bytes =
+    (ds : List Data) × AreGettable rows.items ds × (bytes ≡ good_bytes (compact_text (array (items_of ds))))
 IsReplyBytes (replies.Silence version state) bytes = (d : Data) × IsGettable version.silence state d × (bytes ≡ good_bytes (compact_text d))
 IsReplyBytes (replies.Posted id) bytes = bytes ≡ good_bytes (compact_text (posted_data id))
 IsReplyBytes (replies.Refused error) bytes = bytes ≡ line_bytes (refused_line error)

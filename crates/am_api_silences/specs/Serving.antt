@@ -60,4 +60,5 @@ IsServed (Ok read) bits now old new before after served =
 
 -- What is served of an input: what the reader gave, and what came of it.
 abbrev pub Serves : ℕ → ℕ → Option (List ℕ) → Option (List ℕ) → Stand → Stand → Option (List ℕ) → Option (List ℕ) → Served → Type 0
-Serves bits now input left old new before after served = (read : Result Read ReadFault) × IsReadBy input left read × IsServed read bits now old new before after served
+Serves bits now input left old new before after served =
+    (read : Result Read ReadFault) × IsReadBy input left read × IsServed read bits now old new before after served

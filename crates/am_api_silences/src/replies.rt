@@ -6,7 +6,8 @@ ghost use Rattle.serde_json.specs.View.{items_of};
 ghost use Rattle.serde_json.specs.Written.{compact_text};
 ghost use Rattle.am_silence_json.specs.Gettables.{AreGettable, IsGettable, posted_data};
 ghost use Rattle.am_http.specs.Lines.{line_seen};
-ghost use Rattle.am_api_silences.specs.Replies.{HasStatus, IsReplyBytes, IsSaid, Says, bytes_of, good_bytes, line_bytes, memory_bytes, said_status};
+ghost use Rattle.am_api_silences.specs.Replies.{HasStatus, IsReplyBytes, IsSaid, Says, bytes_of, good_bytes};
+ghost use Rattle.am_api_silences.specs.Replies.{line_bytes, memory_bytes, said_status};
 
 use crate::table;
 use am_http::{Refusal, out_of_memory, reply};

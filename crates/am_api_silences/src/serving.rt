@@ -112,7 +112,8 @@ pub fn serve<R: io::Read, W: io::Write>(
     bits: u128,
     now: Moment,
 ) -> Served
-    ensures { Serves bits now (R.remaining reader.old) (R.remaining reader.new) instance.old instance.new (W.contents writer.old) (W.contents writer.new) result }
+    ensures { Serves bits now (R.remaining reader.old) (R.remaining reader.new) instance.old instance.new (W.contents writer.old)
+        (W.contents writer.new) result }
 {
     match receive(alloc, reader) {
         Ok(read) => reply_to(alloc, instance, writer, read, bits, now),
@@ -131,7 +132,8 @@ pub fn serve_behind<R: io::Read, W: io::Write>(
     now: Moment,
 ) -> Served
     requires { length first.now ≤ most_bytes }
-    ensures { Serves bits now (behind first.now (R.remaining reader.old)) (R.remaining reader.new) instance.old instance.new (W.contents writer.old) (W.contents writer.new) result }
+    ensures { Serves bits now (behind first.now (R.remaining reader.old)) (R.remaining reader.new) instance.old instance.new
+        (W.contents writer.old) (W.contents writer.new) result }
 {
     match receive_behind(alloc, first, reader) {
         Ok(read) => reply_to(alloc, instance, writer, read, bits, now),

@@ -20,22 +20,28 @@ pub fn deltas_carry_their_version()
 
 /// A Push or a Pull of both maps carries all their versions, and nothing in it is at fault.
 pub fn whole_states_carry_both_maps()
-    ensures sound { (silences : List Mesh) (log : List LogMesh) → All IsReadable (map OfSilence silences) → All IsReadable (map OfEntry log) →
+    ensures sound { (silences : List Mesh) (log : List LogMesh) → All IsReadable (map OfSilence silences) →
+        All IsReadable (map OfEntry log) →
         first_fault (rows_in (whole_state silences log)) ≡ None }
-    ensures push { (silences : List Mesh) (log : List LogMesh) → All IsReadable (map OfSilence silences) → All IsReadable (map OfEntry log) →
+    ensures push { (silences : List Mesh) (log : List LogMesh) → All IsReadable (map OfSilence silences) →
+        All IsReadable (map OfEntry log) →
         carries (Push (whole_state silences log)) ≡ held_in silences log }
-    ensures pull { (silences : List Mesh) (log : List LogMesh) → All IsReadable (map OfSilence silences) → All IsReadable (map OfEntry log) →
+    ensures pull { (silences : List Mesh) (log : List LogMesh) → All IsReadable (map OfSilence silences) →
+        All IsReadable (map OfEntry log) →
         carries (Pull (whole_state silences log)) ≡ held_in silences log }
 {}
 
 /// Values are read again where a frame of them keeps its limit, or the row of their map is no longer than a row may be.
 pub fn what_keeps_its_limit_is_readable()
     ensures delta { (d : Delivery) → IsValue d → fits (delta_of d) ≡ true → IsReadable d }
-    ensures push { (silences : List Mesh) (log : List LogMesh) → All IsMesh silences → All IsLogMesh log → fits (Push (whole_state silences log)) ≡ true →
+    ensures push { (silences : List Mesh) (log : List LogMesh) → All IsMesh silences → All IsLogMesh log →
+        fits (Push (whole_state silences log)) ≡ true →
         All IsReadable (map OfSilence silences) × All IsReadable (map OfEntry log) }
-    ensures pull { (silences : List Mesh) (log : List LogMesh) → All IsMesh silences → All IsLogMesh log → fits (Pull (whole_state silences log)) ≡ true →
+    ensures pull { (silences : List Mesh) (log : List LogMesh) → All IsMesh silences → All IsLogMesh log →
+        fits (Pull (whole_state silences log)) ≡ true →
         All IsReadable (map OfSilence silences) × All IsReadable (map OfEntry log) }
-    ensures silences { (silences : List Mesh) → All IsMesh silences → length (row_text mesh_version silences) ≤ most → All IsReadable (map OfSilence silences) }
+    ensures silences { (silences : List Mesh) → All IsMesh silences → length (row_text mesh_version silences) ≤ most →
+        All IsReadable (map OfSilence silences) }
     ensures log { (log : List LogMesh) → All IsLogMesh log → length (row_text entry_version log) ≤ most → All IsReadable (map OfEntry log) }
 {}
 

@@ -47,7 +47,8 @@ fn append_parts(
     parts: &[Part],
     versions: &mut Vec<Carried>,
 ) -> Result<(), AllocError>
-    ensures added { OnOk result (map delivery_of versions.new.items ≡ map delivery_of versions.old.items ++ before_fault (rows_in parts.now)) }
+    ensures added { OnOk result (map delivery_of versions.new.items
+        ≡ map delivery_of versions.old.items ++ before_fault (rows_in parts.now)) }
     ensures values { OnOk result (All IsValue (map delivery_of versions.old.items) → All IsValue (map delivery_of versions.new.items)) }
 {
     for part in parts {
@@ -61,7 +62,8 @@ fn append_parts(
 /// Adds the versions in the row of a part up to the first fault, and answers whether there is none.
 #[tactic(auto, unfolding(am_instance::specs::Deliveries::rows_of))]
 fn append_part(alloc: Global, part: &Part, versions: &mut Vec<Carried>) -> Result<bool, AllocError>
-    ensures added { OnOk result (map delivery_of versions.new.items ≡ map delivery_of versions.old.items ++ before_fault (rows_of part.now)) }
+    ensures added { OnOk result (map delivery_of versions.new.items
+        ≡ map delivery_of versions.old.items ++ before_fault (rows_of part.now)) }
     ensures sound { IfOk result (λ sound. sound ≡ is_none (first_fault (rows_of part.now))) }
     ensures values { OnOk result (All IsValue (map delivery_of versions.old.items) → All IsValue (map delivery_of versions.new.items)) }
 {

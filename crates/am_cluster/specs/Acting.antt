@@ -27,16 +27,19 @@ use Rattle.am_cluster.specs.Ties.{CanFly}
 pub record CanAct (account : Account) (entry : Entry) (event : Event) (stand : Stand) : Type 0 where
   pub runs : (member_of account.members entry.place account.silences).runs ≡ true
   pub runs_too : (member_of account.members entry.place account.log).runs ≡ true
-  pub silences : HasGoneThrough mesh_version (slice_cmp nat_cmp) (member_of account.members entry.place account.silences).past (kept_silences stand)
+  pub silences : HasGoneThrough mesh_version (slice_cmp nat_cmp) (member_of account.members entry.place account.silences).past
+      (kept_silences stand)
   pub log : HasGoneThrough entry_version key_cmp (member_of account.members entry.place account.log).past (kept_log stand)
-  pub from_silences : HasSource silences_in mesh_version (slice_cmp nat_cmp) account.members account.silences entry.moment event entry.source
+  pub from_silences : HasSource silences_in mesh_version
+      (slice_cmp nat_cmp) account.members account.silences entry.moment event entry.source
   pub from_log : HasSource entries_in entry_version key_cmp account.members account.log entry.moment event entry.source
   pub sound : (settings : Settings) → fault_of settings entry.moment event ≡ None
   pub own_place : stand.config.place ≡ entry.place
   pub all_members : length stand.config.members ≡ account.members
 
 -- the instance made its step, which is written down, and its frames fly to other members
-pub record HasActed (old : Account) (flights : List Flight) (entry : Entry) (event : Event) (before : Stand) (result : Result Reply ClusterError) (new : Account) (after : List Flight) (stand : Stand) : Type 0 where
+pub record HasActed (old : Account) (flights : List Flight) (entry : Entry) (event : Event) (before : Stand)
+    (result : Result Reply ClusterError) (new : Account) (after : List Flight) (stand : Stand) : Type 0 where
   pub answer : Result Outcome StepError
   pub step : IsStep before event entry.moment answer stand
   pub recorded : IsRecorded old flights entry event answer result new after

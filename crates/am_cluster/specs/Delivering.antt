@@ -26,7 +26,8 @@ pub record IsArrival (world : World) (number : ℕ) (arrival : Arrival) : Type 0
   pub index_is : arrival.index ≡ flying.index
 
 -- nothing happens to any member, and the moment is written down
-pub record IsRefused {A : Type 0} (error : ClusterError) (old : World) (now line : ℕ) (result : Result A ClusterError) (new : World) : Type 0 where
+pub record IsRefused {A : Type 0} (error : ClusterError) (old : World) (now line : ℕ) (result : Result A ClusterError)
+    (new : World) : Type 0 where
   pub told : result ≡ Err error
   pub world : new ≡ written old (Refused now) (Refused now) line
 
@@ -37,7 +38,8 @@ pub record IsDelivered (old : World) (number now line : ℕ) (result : Result Re
   pub bears : flight.number ≡ number
   pub index : ℕ
   pub index_is : flight.number ≡ index + 1
-  pub event : OfMember old flight.addressee (λ replica. IsEvent old flight.addressee replica (events.Frame flight.sender flight.frame) (Arrived index) now line result new)
+  pub event : OfMember old flight.addressee
+      (λ replica. IsEvent old flight.addressee replica (events.Frame flight.sender flight.frame) (Arrived index) now line result new)
 
 -- what came of delivering the frame of a number
 abbrev pub IsDelivery : World → ℕ → ℕ → ℕ → Result Reply ClusterError → World → Type 0

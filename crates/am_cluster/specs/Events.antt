@@ -42,7 +42,8 @@ abbrev pub with_stand : Replica → Stand → Replica
 with_stand replica stand = record replica { stand = stand }
 
 -- the instance of a member that runs makes its step, which is written down, and its frames fly
-pub record HasHappened (old : World) (place : ℕ) (replica : Replica) (event : Event) (source : Source) (now line : ℕ) (result : Result Reply ClusterError) (new : World) : Type 0 where
+pub record HasHappened (old : World) (place : ℕ) (replica : Replica) (event : Event) (source : Source) (now line : ℕ)
+    (result : Result Reply ClusterError) (new : World) : Type 0 where
   pub runs : replica.runs ≡ true
   pub answer : Result Outcome StepError
   pub stand : Stand

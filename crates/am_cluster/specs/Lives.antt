@@ -20,14 +20,16 @@ started replica now =
 
 -- what came of saving a member
 abbrev pub IsSave : World → ℕ → Replica → ℕ → Result Unit ClusterError → World → Type 0
-IsSave old place replica line (Ok _) new = (replica.runs ≡ true) × (new ≡ written (with_replica old place (saved replica)) (Saved place) (Saved place) line)
+IsSave old place replica line (Ok _) new =
+    (replica.runs ≡ true) × (new ≡ written (with_replica old place (saved replica)) (Saved place) (Saved place) line)
 IsSave old place replica line (Err errors.Stopped) new = (replica.runs ≡ false) × (new ≡ old)
 IsSave old place replica line (Err errors.Memory) new = new ≡ old
 IsSave old place replica line (Err _) new = ⊥
 
 -- what came of stopping it
 abbrev pub IsStop : World → ℕ → Replica → ℕ → Result Unit ClusterError → World → Type 0
-IsStop old place replica line (Ok _) new = (replica.runs ≡ true) × (new ≡ written (with_replica old place (stopped replica)) (Stopped place) (Stopped place) line)
+IsStop old place replica line (Ok _) new =
+    (replica.runs ≡ true) × (new ≡ written (with_replica old place (stopped replica)) (Stopped place) (Stopped place) line)
 IsStop old place replica line (Err errors.Stopped) new = (replica.runs ≡ false) × (new ≡ old)
 IsStop old place replica line (Err errors.Memory) new = new ≡ old
 IsStop old place replica line (Err _) new = ⊥
@@ -35,7 +37,8 @@ IsStop old place replica line (Err _) new = ⊥
 -- what came of starting it: a moment before its last one counts against it
 abbrev pub IsStart : World → ℕ → Replica → ℕ → ℕ → Result Unit ClusterError → World → Type 0
 IsStart old place replica now line (Ok _) new =
-    (replica.runs ≡ false) × (replica.stand.last ≤ now) × (new ≡ written (with_replica old place (started replica now)) (Started place now) (Started place now) line)
+    (replica.runs ≡ false) × (replica.stand.last ≤ now)
+    × (new ≡ written (with_replica old place (started replica now)) (Started place now) (Started place now) line)
 IsStart old place replica now line (Err errors.Running) new = (replica.runs ≡ true) × (new ≡ written old (Refused now) (Refused now) line)
 IsStart old place replica now line (Err (errors.MomentBack last)) new =
     (replica.runs ≡ false) × (last ≡ replica.stand.last) × (now < last) × (new ≡ written old (Back place now) (Back place now) line)

@@ -59,19 +59,24 @@ pub record AreDelivered (event : Event) (made : Made) (versions : Delivered) : T
   pub log : versions.log.items ≡ entries_in (delivers event made)
 
 -- What an instance answered to an event, and what is known of it.
-pub record CanRecord (account : Account) (entry : Entry) (event : Event) (versions : List Carried) (answer : Result Outcome StepError) : Type 0 where
+pub record CanRecord (account : Account) (entry : Entry) (event : Event) (versions : List Carried)
+    (answer : Result Outcome StepError) : Type 0 where
   pub room_for_it : 0 < account.room
   pub spare_for_it : length versions ≤ account.spare
   pub spare_for_made : 3 ≤ account.spare
-  pub silences : (frames : List (ℕ × Frame)) → AreInFlight answer frames → IsPossibleForSilences account.members account.silences (event_step silences_in entry.place entry.moment entry.source event answer frames)
-  pub log : (frames : List (ℕ × Frame)) → AreInFlight answer frames → IsPossibleForLog account.members account.log (event_step entries_in entry.place entry.moment entry.source event answer frames)
+  pub silences : (frames : List (ℕ × Frame)) → AreInFlight answer frames
+      → IsPossibleForSilences account.members account.silences
+      (event_step silences_in entry.place entry.moment entry.source event answer frames)
+  pub log : (frames : List (ℕ × Frame)) → AreInFlight answer frames
+      → IsPossibleForLog account.members account.log (event_step entries_in entry.place entry.moment entry.source event answer frames)
   pub sound : IsNoFault answer
   pub few : IfOk answer (λ outcome. length outcome.made.silences.items ≤ 2)
   pub idle : IfOk answer (λ outcome. collects event ≡ true → (outcome.frames.items ≡ []) × (outcome.unsent.memory ≡ 0))
   pub brings : IfOk answer (λ outcome. brings_or_makes event ≡ kinds.Brings → IsNothing outcome.made)
 
 -- the step stands at the end of both runs, with its line, and its frames fly
-pub record IsRecorded (old : Account) (flights : List Flight) (entry : Entry) (event : Event) (answer : Result Outcome StepError) (result : Result Reply ClusterError) (new : Account) (after : List Flight) : Type 0 where
+pub record IsRecorded (old : Account) (flights : List Flight) (entry : Entry) (event : Event) (answer : Result Outcome StepError)
+    (result : Result Reply ClusterError) (new : Account) (after : List Flight) : Type 0 where
   pub frames : List (ℕ × Frame)
   pub told : IsTold entry.source answer frames result
   pub members : new.members ≡ old.members

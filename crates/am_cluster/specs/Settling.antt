@@ -1,5 +1,6 @@
 -- How the members of a cluster settle: each collects, and then the first takes the maps of all others, and they take its.
-use Rattle.std.specs.Prelude.{◌≡◌, ◌⊎◌, ℕ, ◌-◌, ◌<◌, ◌≤◌, Bool, true, false, List, [], ◌∷◌, ◌++◌, map, filter, length, nat_lt, slice_get, All, Any, Option, Some, None, Result, Ok, Err}
+use Rattle.std.specs.Prelude.{◌≡◌, ◌⊎◌, ℕ, ◌-◌, ◌<◌, ◌≤◌, Bool, true, false, List, [], ◌∷◌, ◌++◌, map, filter, length}
+use Rattle.std.specs.Prelude.{nat_lt, slice_get, All, Any, Option, Some, None, Result, Ok, Err}
 use Rattle.std.specs.List.{range_with_len}
 use Rattle.am_gossip.specs.declared.frame.Frame.TheVariants as frames
 use Rattle.am_instance.specs.declared.event.Event.{Event}
@@ -181,6 +182,8 @@ held_log (Some replica) = replica.stand.log
 pub record HasSettled (old : World) (now : ℕ) (new : World) : Type 0 where
   pub members : length new.replicas ≡ length old.replicas
   pub silences : (place : ℕ) (replica : Replica) → replica_at new place ≡ Some replica → (id : List ℕ) →
-      silence_at replica.stand.silences id ≡ join_of mesh_version (length old.replicas) (λ other. silence_at (silences_in_view now (held_silences (replica_at old other)))) id
+      silence_at replica.stand.silences id ≡ join_of mesh_version (length old.replicas)
+      (λ other. silence_at (silences_in_view now (held_silences (replica_at old other)))) id
   pub log : (place : ℕ) (replica : Replica) → replica_at new place ≡ Some replica → (key : LogKey) →
-      entry_at replica.stand.log key ≡ join_of entry_version (length old.replicas) (λ other. entry_at (log_in_view now (held_log (replica_at old other)))) key
+      entry_at replica.stand.log key ≡ join_of entry_version (length old.replicas)
+      (λ other. entry_at (log_in_view now (held_log (replica_at old other)))) key

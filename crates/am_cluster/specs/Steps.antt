@@ -57,11 +57,13 @@ Fits _ = Unit {0}
 abbrev pub IsAsked : World → ℕ → Replica → Asked → ℕ → ℕ → Result Reply ClusterError → World → Type 0
 IsAsked old place replica (asked.Event event source) now line result new = IsEvent old place replica event source now line result new
 IsAsked old place replica asked.Start now line result new = Quietly (λ done. IsStart old place replica now line done new) result
-IsAsked old place replica asked.NoMember now line result new = IsEvent old place replica (events.PullFrom (length old.replicas)) Made now line result new
+IsAsked old place replica asked.NoMember now line result new =
+    IsEvent old place replica (events.PullFrom (length old.replicas)) Made now line result new
 
 -- a member does what a line says, or there is no room for that
 abbrev pub IsDone : World → ℕ → Replica → Event → ℕ → ℕ → Result Reply ClusterError → World → Type 0
-IsDone old place replica event now line result new = IsUnmade old result new ⊎ IsAsked old place replica (asked_by replica.stand.config event) now line result new
+IsDone old place replica event now line result new =
+    IsUnmade old result new ⊎ IsAsked old place replica (asked_by replica.stand.config event) now line result new
 
 -- at the member of a name; where there is none, the step is refused as that of an unknown peer
 abbrev pub AtNamed : World → Option ℕ → ℕ → ℕ → (ℕ → Replica → Type 0) → Result Reply ClusterError → World → Type 0
@@ -77,7 +79,9 @@ OfNamed old (Some place) P result new = OfMember old place (P place)
 abbrev pub IsStepped : World → Action → ℕ → Result Reply ClusterError → World → Type 0
 IsStepped old (actions.Event at name event) line result new =
     AtNamed old (place_in old name) at line (λ place replica. IsDone old place replica event at line result new) result new
-IsStepped old (actions.Stop name) line result new = OfNamed old (place_in old name) (λ place replica. Quietly (λ done. IsStop old place replica line done new) result) result new
-IsStepped old (actions.Save name) line result new = OfNamed old (place_in old name) (λ place replica. Quietly (λ done. IsSave old place replica line done new) result) result new
+IsStepped old (actions.Stop name) line result new =
+    OfNamed old (place_in old name) (λ place replica. Quietly (λ done. IsStop old place replica line done new) result) result new
+IsStepped old (actions.Save name) line result new =
+    OfNamed old (place_in old name) (λ place replica. Quietly (λ done. IsSave old place replica line done new) result) result new
 IsStepped old (actions.Deliver at frame) line result new = IsDelivery old frame at line result new
 IsStepped old (actions.Lose frame) line result new = Quietly (λ done. IsLoss old frame done new) result

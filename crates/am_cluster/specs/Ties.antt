@@ -30,8 +30,10 @@ module _ {K X : Type 0} (seen : X → Version K) (cmp : K → K → Ordering) wh
 
 -- a member is as both runs tell, and knows its place
 pub record IsMember (world : World) (q : ℕ) (replica : Replica) : Type 0 where
-  pub silences : IsTied mesh_version (slice_cmp nat_cmp) (member_of (length world.replicas) q world.silences) replica.runs (kept_silences replica.stand) replica.saved_silences
-  pub log : IsTied entry_version key_cmp (member_of (length world.replicas) q world.log) replica.runs (kept_log replica.stand) replica.saved_log
+  pub silences : IsTied mesh_version (slice_cmp nat_cmp) (member_of (length world.replicas) q world.silences) replica.runs
+      (kept_silences replica.stand) replica.saved_silences
+  pub log : IsTied entry_version key_cmp (member_of (length world.replicas) q world.log) replica.runs
+      (kept_log replica.stand) replica.saved_log
   pub place : replica.stand.config.place ≡ q
   pub members : length replica.stand.config.members ≡ length world.replicas
 

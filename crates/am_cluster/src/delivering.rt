@@ -47,7 +47,8 @@ impl Cluster {
 
     /// Writes down a step that is refused to no member.
     pub(crate) fn refuse(&mut self, error: ClusterError, now: Moment, line: u64) -> ClusterError
-        ensures { ((result ≡ errors.Memory) × (self.new ≡ self.old)) ⊎ ((result ≡ error) × (self.new ≡ written self.old (Refused now) (Refused now) line)) }
+        ensures { ((result ≡ errors.Memory) × (self.new ≡ self.old))
+            ⊎ ((result ≡ error) × (self.new ≡ written self.old (Refused now) (Refused now) line)) }
     {
         if self.journal.make_room(1, 0).is_err() {
             return ClusterError::Memory;

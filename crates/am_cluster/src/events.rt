@@ -128,7 +128,8 @@ impl Cluster {
     ) -> Result<Reply, ClusterError>
         requires within { place < length self.old.replicas }
         requires sound { (settings : Settings) → fault_of settings now event ≡ None }
-        requires silences { HasSource silences_in mesh_version (slice_cmp nat_cmp) (length self.old.replicas) self.old.silences now event source }
+        requires silences { HasSource silences_in mesh_version (slice_cmp nat_cmp)
+            (length self.old.replicas) self.old.silences now event source }
         requires log { HasSource entries_in entry_version key_cmp (length self.old.replicas) self.old.log now event source }
         ensures { OfMember self.old place (λ replica. IsEvent self.old place replica event source now line result self.new) }
     {

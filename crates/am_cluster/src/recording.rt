@@ -124,7 +124,8 @@ pub(crate) struct Coming {
 /// All versions that an event delivered, by state: those that it brought, or those that were made.
 fn all_delivered(coming: Coming, made: Made) -> Delivered
     requires { IsRoomFor coming.parted (length coming.versions.items) }
-    ensures { (event : Happening) → ComesWith coming event → (brings_or_makes event ≡ kinds.Brings → IsNothing made) → collects event ≡ false → AreDelivered event made result }
+    ensures { (event : Happening) → ComesWith coming event → (brings_or_makes event ≡ kinds.Brings → IsNothing made) →
+        collects event ≡ false → AreDelivered event made result }
 {
     let Coming {
         kind,
@@ -194,7 +195,8 @@ fn write_refusal(
 ) -> ClusterError
     requires { IsRoomFor coming.parted (length coming.versions.items)
         × (event : Happening) × ComesWith coming event × CanRecord journal.old entry.now event coming.versions.items (Err error) }
-    ensures { (flights : List Flight) (event : Happening) → ComesWith coming event → CanRecord journal.old entry.now event coming.versions.items (Err error) →
+    ensures { (flights : List Flight) (event : Happening) → ComesWith coming event →
+        CanRecord journal.old entry.now event coming.versions.items (Err error) →
         IsRecorded journal.old flights entry.now event (Err error) (Err result) journal.new flights }
 {
     let (place, now) = (entry.place, entry.moment);

@@ -19,7 +19,9 @@ ghost use Rattle.am_runs.specs.declared.step.Source.TheVariants.{Lent};
 ghost use Rattle.am_runs.specs.Members.{last_of, member_of};
 ghost use Rattle.am_record.specs.Recorded.{HasSource};
 ghost use Rattle.am_cluster.specs.Lives.{OfMember};
-ghost use Rattle.am_cluster.specs.Settling.{AreTurns, CanLend, CanSettle, HasBacks, HasLate, HasSettled, HasStopped, IsAdmitted, IsSettle, IsTakingOf, all_turns, collections, gatherings, late_places, loan, spreadings};
+ghost use Rattle.am_cluster.specs.Settling.{AreTurns, CanLend, CanSettle, HasBacks, HasLate, HasSettled, HasStopped};
+ghost use Rattle.am_cluster.specs.Settling.{IsAdmitted, IsSettle, IsTakingOf, all_turns, collections, gatherings};
+ghost use Rattle.am_cluster.specs.Settling.{late_places, loan, spreadings};
 ghost use Rattle.am_cluster.specs.Settling.Turn.{Collects, Takes};
 ghost use Rattle.am_cluster.specs.Worlds.{Replica};
 
@@ -82,8 +84,10 @@ impl Cluster {
         ensures event { IfOk result (λ event. OfMember self.now lender (λ lent. event ≡ loan lender lent.stand)) }
         ensures lendable { OnOk result (OfMember self.now lender (λ lent. CanLend lent.stand)) }
         ensures sound { IfOk result (λ event. (settings : Settings) (now : ℕ) → fault_of settings now event ≡ None) }
-        ensures silences { IfOk result (λ event. (now : ℕ) → HasSource silences_in mesh_version (slice_cmp nat_cmp) (length self.now.replicas) self.now.silences now event (Lent lender)) }
-        ensures log { IfOk result (λ event. (now : ℕ) → HasSource entries_in entry_version key_cmp (length self.now.replicas) self.now.log now event (Lent lender)) }
+        ensures silences { IfOk result (λ event. (now : ℕ) →
+            HasSource silences_in mesh_version (slice_cmp nat_cmp) (length self.now.replicas) self.now.silences now event (Lent lender)) }
+        ensures log { IfOk result (λ event. (now : ℕ) →
+            HasSource entries_in entry_version key_cmp (length self.now.replicas) self.now.log now event (Lent lender)) }
     {
         lent_maps_come_from_their_lender();
         let frame = frame_of(self.alloc, &self.members[lender].instance)?;

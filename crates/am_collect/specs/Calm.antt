@@ -15,7 +15,8 @@ module _ {K X : Type 0} (seen : X → Version K) where
 
   -- where a live version comes after a greater one, each collection so far came before the greatest one's expiry
   abbrev pub IsInTime : List X → List ℕ → Event X → ℕ → Type 0
-  IsInTime set collections (Delivered v) now = IsLive now (seen v) → (greatest : X) → IsOvertaken set v greatest → All (λ moment. moment < (seen greatest).expires) collections
+  IsInTime set collections (Delivered v) now =
+      IsLive now (seen v) → (greatest : X) → IsOvertaken set v greatest → All (λ moment. moment < (seen greatest).expires) collections
   IsInTime set collections Collected now = Unit {0}
   IsInTime set collections Passed now = Unit {0}
 
@@ -26,4 +27,5 @@ module _ {K X : Type 0} (seen : X → Version K) where
 
   -- each event is calm after those before it
   abbrev pub IsCalm : List X → ℕ → Events X → Type 0
-  IsCalm start from events = (before : Events X) (e : Event X × ℕ) (rest : Events X) → before ++ e ∷ rest ≡ events → IsCalmAt start from before e.0 e.1
+  IsCalm start from events = (before : Events X) (e : Event X × ℕ) (rest : Events X) → before ++ e ∷ rest ≡ events
+      → IsCalmAt start from before e.0 e.1

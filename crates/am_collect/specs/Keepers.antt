@@ -68,8 +68,10 @@ module _ {K X : Type 0} (seen : X → Version K) (cmp : K → K → Ordering) wh
     pub calm : IsCalm seen start.held start.last events
     pub left : IsLeftBy start events new
 
-  -- wherever the keeper started, if all events since then, these last ones too, were calm, it shows what the bare set of all that it took shows
+  -- wherever the keeper started, if all events since then, these last ones too, were calm, it shows what the bare set
+  -- of all that it took shows
   abbrev pub ShowsBareSet : Kept X → Events X → Kept X → Type 0
   ShowsBareSet old events new =
-      (start : Kept X) (past : Events X) → IsMap seen cmp start.held → IsLeftBy start past old → IsCalm seen start.held start.last (past ++ events) →
+      (start : Kept X) (past : Events X) → IsMap seen cmp start.held → IsLeftBy start past old
+      → IsCalm seen start.held start.last (past ++ events) →
       (now : ℕ) (key : K) → new.last ≤ now → IsViewAt seen (taken start.held (past ++ events)) now key (view_at new now key)

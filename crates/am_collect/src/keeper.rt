@@ -1,6 +1,7 @@
 //! A map of versions with the moment of its last event.
 
-ghost use Rattle.std.specs.Prelude.{◌≡◌, ◌≢◌, ◌+◌, ◌<◌, ◌≤◌, ◌↔◌, ℕ, [], ◌∷◌, length, IfOk, IfErr, IsOk, OnOk, OnErr, IsOkUnless, IsPermutation};
+ghost use Rattle.std.specs.Prelude.{◌≡◌, ◌≢◌, ◌+◌, ◌<◌, ◌≤◌, ◌↔◌, ℕ, [], ◌∷◌, length, IfOk, IfErr, IsOk, OnOk, OnErr};
+ghost use Rattle.std.specs.Prelude.{IsOkUnless, IsPermutation};
 ghost use Rattle.std.specs.Option.{option_copied};
 ghost use Rattle.am_merge.specs.Maps.{IsMap, HasTwice, swept};
 ghost use Rattle.am_merge.specs.Takings.{IsTaking, AreTakings};
@@ -84,7 +85,8 @@ impl<V: Version> Model for Keeper<V> {
 }
 
 impl<V: Version> Keeper<V> {
-    ghost use Rattle.am_collect.specs.Keepers.{IsLeftBy, IsRefusal, IsStepping, IsStop, ShowsBareSet, accepted, event_of, events_of, view_at};
+    ghost use Rattle.am_collect.specs.Keepers.{IsLeftBy, IsRefusal, IsStepping, IsStop, ShowsBareSet, accepted};
+    ghost use Rattle.am_collect.specs.Keepers.{event_of, events_of, view_at};
 
     /// A keeper of these versions, of which no two have one key.
     ///

@@ -23,7 +23,8 @@ pub fn events_follow_events<V: Version>()
 pub fn calm_events_show_the_bare_set<V: Version>()
     ensures { (start : List V) (from : ℕ) (events : Events V) (now : ℕ) (key : V.Key) →
         IsMap V.seen V.Key.cmp start → IsCalm V.seen start from events → last_moment from events ≤ now →
-        IsViewAt V.seen (taken start events) now key (if_live V.seen now (after_all V.seen V.Key.cmp (at V.seen V.Key.cmp start) events key)) }
+        IsViewAt V.seen (taken start events) now key
+        (if_live V.seen now (after_all V.seen V.Key.cmp (at V.seen V.Key.cmp start) events key)) }
 {}
 
 /// Two keepers that took the same versions in calm events, in any order and however often, show

@@ -25,26 +25,30 @@ abbrev pub TakesPiece : ℕ → ℕ → Stream → Option (List ℕ) → Stand �
 TakesPiece sender now stream waiting old before new after (Ok _) =
     MakesAll sender now stream.frames old before new after × ForSome waiting (λ rest. stream.ending ≡ Ok rest) × IsSome waiting
 TakesPiece sender now stream waiting old before new after (Err (InFrame error)) =
-    ((error ≡ Memory) × (new ≡ old) × (after ≡ before)) ⊎ (MakesAll sender now stream.frames old before new after × (stream.ending ≡ Err error))
+    ((error ≡ Memory) × (new ≡ old) × (after ≡ before))
+    ⊎ (MakesAll sender now stream.frames old before new after × (stream.ending ≡ Err error))
 TakesPiece sender now stream waiting old before new after (Err (Step error)) = StopsAt sender now stream.frames old before new after error
 TakesPiece sender now stream waiting old before new after (Err _) = ⊥
 
 -- The frames in the bytes so far were answered, and the rest of those bytes waits.
-pub record HasHeard (sender now : ℕ) (fed : List ℕ) (waiting : Option (List ℕ)) (start : Stand) (nothing : Effects) (stand : Stand) (effects : Effects) : Type 0 where
+pub record HasHeard (sender now : ℕ) (fed : List ℕ) (waiting : Option (List ℕ)) (start : Stand) (nothing : Effects)
+    (stand : Stand) (effects : Effects) : Type 0 where
   pub rest : List ℕ
   pub waits : waiting ≡ Some rest
   pub ending : (stream_of fed).ending ≡ Ok rest
   pub made : MakesAll sender now (stream_of fed).frames start nothing stand effects
 
 -- So it is of bytes that had come, of which there were `first`, and those that the reader gave since, up to `count`.
-pub record HearsOn (sender now first count : ℕ) (fed : List ℕ) (waiting : Option (List ℕ)) (input left : Option (List ℕ)) (start : Stand) (nothing : Effects) (stand : Stand) (effects : Effects) : Type 0 where
+pub record HearsOn (sender now first count : ℕ) (fed : List ℕ) (waiting : Option (List ℕ)) (input left : Option (List ℕ))
+    (start : Stand) (nothing : Effects) (stand : Stand) (effects : Effects) : Type 0 where
   pub took : List ℕ
   pub consumed : Consumes input left took
   pub counted : count ≡ first + length took
   pub heard : HasHeard sender now (fed ++ took) waiting start nothing stand effects
 
 -- All that came of the frames in bytes that had come, of which there were `first`, and those that the reader gave since.
-pub record Hears (sender now first : ℕ) (fed : List ℕ) (input left : Option (List ℕ)) (start : Stand) (nothing : Effects) (new : Stand) (after : Effects) (result : Result Unit Fault) : Type 0 where
+pub record Hears (sender now first : ℕ) (fed : List ℕ) (input left : Option (List ℕ)) (start : Stand) (nothing : Effects)
+    (new : Stand) (after : Effects) (result : Result Unit Fault) : Type 0 where
   pub took : List ℕ
   pub lost : List ℕ
   pub consumed : Consumes input left (took ++ lost)
@@ -64,12 +68,14 @@ IsNamed config name len _ = ⊥
 -- What was read of a greeting: the place of the peer that it names and its length, or why no frame is read.
 abbrev pub Greets : Settings → Option (List ℕ) → Option (List ℕ) → List ℕ → Result (Option (ℕ × ℕ)) Fault → Type 0
 Greets config input left bytes (Ok (Some greeted)) =
-    Consumes input left bytes × (length bytes ≤ most_bytes) × (name : List ℕ) × (hello_of bytes ≡ Ok (Some (name, greeted.1))) × IsPeerOf config name greeted.0
+    Consumes input left bytes × (length bytes ≤ most_bytes) × (name : List ℕ) × (hello_of bytes ≡ Ok (Some (name, greeted.1)))
+    × IsPeerOf config name greeted.0
 Greets config input left bytes (Ok None) = Consumes input left bytes × IsUngreeted config bytes left None
 Greets config input left bytes (Err fault) = (came : List ℕ) × Consumes input left came × IsUngreeted config came left (Some fault)
 
 -- What came behind a greeting of `len` bytes: what was taken as frames, and what was not.
-pub record HearsPeer (sender now len : ℕ) (piece : List ℕ) (input left : Option (List ℕ)) (old new : Stand) (effects : Effects) (fault : Option Fault) : Type 0 where
+pub record HearsPeer (sender now len : ℕ) (piece : List ℕ) (input left : Option (List ℕ)) (old new : Stand) (effects : Effects)
+    (fault : Option Fault) : Type 0 where
   pub gave : List ℕ
   pub consumed : Consumes input left gave
   pub took : List ℕ

@@ -1,5 +1,6 @@
 -- What comes of a peer's connection: the steps of the frames behind its greeting, and why it ended.
-use Rattle.std.specs.Prelude.{◌≡◌, ◌⊎◌, ℕ, ◌+◌, ◌^◌, ◌-◌, min, Bool, true, false, ◌||◌, List, [], ◌∷◌, ◌++◌, length, drop, Option, Some, None, Result, Ok, Err, slice_get, IsOk}
+use Rattle.std.specs.Prelude.{◌≡◌, ◌⊎◌, ℕ, ◌+◌, ◌^◌, ◌-◌, min, Bool, true, false, ◌||◌, List, [], ◌∷◌, ◌++◌, length}
+use Rattle.std.specs.Prelude.{drop, Option, Some, None, Result, Ok, Err, slice_get, IsOk}
 use Rattle.std.specs.Io.KnownBytes.{Consumes, IsAtEnd}
 use Rattle.am_gossip.specs.declared.error.FrameError.{FrameError}
 use Rattle.am_gossip.specs.declared.error.FrameError.TheVariants.{Memory}
@@ -33,11 +34,21 @@ capped n = min n (2 ^ 64 - 1)
 
 -- the frames of one more step are kept
 abbrev pub with_more : Sent → Sent → Sent
-with_more before more = record { frames = before.frames ++ more.frames; memory = capped (before.memory + more.memory); limit = capped (before.limit + more.limit) }
+with_more before more = record {
+  frames = before.frames
+      ++ more.frames;
+  memory = capped (before.memory + more.memory);
+  limit = capped (before.limit + more.limit);
+}
 
 -- there is no memory for the frames of one more step, and they are counted
 abbrev pub without_more : Sent → Sent → Sent
-without_more before more = record { frames = before.frames; memory = capped (capped (before.memory + more.memory) + length more.frames); limit = capped (before.limit + more.limit) }
+without_more before more = record {
+  frames = before.frames;
+  memory = capped
+      (capped (before.memory + more.memory) + length more.frames);
+  limit = capped (before.limit + more.limit);
+}
 
 -- what one more step adds
 pub record Adds (more : Sent) (ticks : Bool) (before after : Effects) : Type 0 where
@@ -54,10 +65,12 @@ pub record MakesStep (sender now : ℕ) (frame : Frame) (old : Stand) (before : 
 abbrev pub MakesAll : ℕ → ℕ → List Frame → Stand → Effects → Stand → Effects → Type 0
 MakesAll sender now [] old before new after = (new ≡ old) × (after ≡ before)
 MakesAll sender now (frame ∷ frames) old before new after =
-    (mid : Stand) × (between : Effects) × MakesStep sender now frame old before mid between × MakesAll sender now frames mid between new after
+    (mid : Stand) × (between : Effects) × MakesStep sender now frame old before mid between
+    × MakesAll sender now frames mid between new after
 
 -- the steps up to the first one that is refused
-pub record StopsAt (sender now : ℕ) (frames : List Frame) (old : Stand) (before : Effects) (new : Stand) (after : Effects) (error : StepError) : Type 0 where
+pub record StopsAt (sender now : ℕ) (frames : List Frame) (old : Stand) (before : Effects) (new : Stand) (after : Effects)
+    (error : StepError) : Type 0 where
   pub made : List Frame
   pub frame : Frame
   pub others : List Frame
@@ -116,7 +129,8 @@ IsUngreeted config came left (Some UnknownName) = NamesNobody config (hello_of c
 IsUngreeted config came left (Some _) = ⊥
 
 -- A peer spoke: the bytes begin with its greeting, behind which the steps of its frames were made.
-pub record Speaks (config : Settings) (now : ℕ) (came : List ℕ) (left : Option (List ℕ)) (old new : Stand) (effects : Effects) (fault : Option Fault) : Type 0 where
+pub record Speaks (config : Settings) (now : ℕ) (came : List ℕ) (left : Option (List ℕ)) (old new : Stand) (effects : Effects)
+    (fault : Option Fault) : Type 0 where
   pub name : List ℕ
   pub len : ℕ
   pub greeting : hello_of came ≡ Ok (Some (name, len))
@@ -128,7 +142,8 @@ pub record Speaks (config : Settings) (now : ℕ) (came : List ℕ) (left : Opti
   pub ending : EndsHearing place now (len + length took) (stream_of took) lost left old no_effects new effects (result_of fault)
 
 -- nobody spoke, and no step was made
-pub record Silence (config : Settings) (came : List ℕ) (left : Option (List ℕ)) (old new : Stand) (effects : Effects) (fault : Option Fault) : Type 0 where
+pub record Silence (config : Settings) (came : List ℕ) (left : Option (List ℕ)) (old new : Stand) (effects : Effects)
+    (fault : Option Fault) : Type 0 where
   pub same : new ≡ old
   pub nothing : effects ≡ no_effects
   pub ungreeted : IsUngreeted config came left fault
@@ -141,4 +156,7 @@ pub record IsHeard (now : ℕ) (input left : Option (List ℕ)) (old new : Stand
 
 -- the effects of a connection that has ended
 abbrev pub effects_of : Ended → Effects
-effects_of ended = record { sent = record { frames = ended.frames.items; memory = ended.unsent.memory; limit = ended.unsent.limit }; ticked = ended.ticked }
+effects_of ended = record {
+  sent = record { frames = ended.frames.items; memory = ended.unsent.memory; limit = ended.unsent.limit };
+  ticked = ended.ticked;
+}

@@ -23,7 +23,8 @@ pub record EndsAs (served : Served) (ended : Ended) : Type 0 where
   pub fault : ended.fault ≡ option_map fault_told served.fault
 
 -- What comes of a connection by its first byte: a peer is heard, and nothing is written; or a request is served.
-pub record IsBegun (first bits now : ℕ) (input left : Option (List ℕ)) (old new : Stand) (before after : Option (List ℕ)) (ended : Ended) : Type 0 where
+pub record IsBegun (first bits now : ℕ) (input left : Option (List ℕ)) (old new : Stand) (before after : Option (List ℕ))
+    (ended : Ended) : Type 0 where
   pub peer : first < 32 → IsHeard now input left old new (effects_of ended) ended.fault × (after ≡ before)
   pub request : 32 ≤ first → (served : Served) × Serves bits now input left old new before after served × EndsAs served ended
 

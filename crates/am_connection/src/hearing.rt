@@ -39,7 +39,8 @@ fn take_piece(
     now: Moment,
 ) -> Result<(), Fault>
     ensures taken { (rest : List ℕ) → incoming.old.feeder ≡ Some rest →
-        TakesPiece incoming.old.sender now (stream_of (rest ++ piece.now)) incoming.new.feeder instance.old incoming.old.gathered instance.new incoming.new.gathered result }
+        TakesPiece incoming.old.sender now (stream_of
+        (rest ++ piece.now)) incoming.new.feeder instance.old incoming.old.gathered instance.new incoming.new.gathered result }
     ensures same { incoming.new.sender ≡ incoming.old.sender }
 {
     let fed = incoming.feeder.feed(piece)?;
@@ -71,7 +72,8 @@ fn listen<R: io::Read>(
     requires { first ≤ most_bytes }
     ensures { (fed : List ℕ) (start : Stand) (nothing : Effects) →
         HasHeard incoming.old.sender now fed incoming.old.feeder start nothing instance.old incoming.old.gathered →
-        Hears incoming.old.sender now first fed (R.remaining reader.old) (R.remaining reader.new) start nothing instance.new incoming.new.gathered result }
+        Hears incoming.old.sender now first fed (R.remaining reader.old)
+        (R.remaining reader.new) start nothing instance.new incoming.new.gathered result }
 {
     let mut piece = [0u8; PIECE];
     let mut count = first;
@@ -98,7 +100,8 @@ fn converse<R: io::Read>(
     requires fresh { incoming.old.feeder ≡ Some [] }
     requires nothing { incoming.old.gathered ≡ no_effects }
     ensures { (len : ℕ) → first ≡ len + length piece.now →
-        HearsPeer incoming.old.sender now len piece.now (R.remaining reader.old) (R.remaining reader.new) instance.old instance.new incoming.new.gathered (fault_in result) }
+        HearsPeer incoming.old.sender now len piece.now (R.remaining reader.old)
+        (R.remaining reader.new) instance.old instance.new incoming.new.gathered (fault_in result) }
 {
     take_piece(instance, incoming, piece, now)?;
     listen(instance, incoming, reader, first, now)
@@ -126,7 +129,8 @@ fn hear_peer<R: io::Read>(
 ) -> Ended
     requires whole { len ≤ length bytes.now }
     requires within { length bytes.now ≤ most_bytes }
-    ensures { HearsPeer sender now len (drop len bytes.now) (R.remaining reader.old) (R.remaining reader.new) instance.old instance.new (effects_of result) result.fault }
+    ensures { HearsPeer sender now len (drop len bytes.now) (R.remaining reader.old)
+        (R.remaining reader.new) instance.old instance.new (effects_of result) result.fault }
 {
     let mut incoming = Incoming {
         sender,
@@ -149,7 +153,8 @@ fn hear_behind<R: io::Read>(
     now: Moment,
 ) -> Ended
     requires { length first.items ≤ most_bytes }
-    ensures { IsHeard now (behind first.items (R.remaining reader.old)) (R.remaining reader.new) instance.old instance.new (effects_of result) result.fault }
+    ensures { IsHeard now (behind first.items (R.remaining reader.old)) (R.remaining reader.new) instance.old instance.new
+        (effects_of result) result.fault }
 {
     let mut bytes = first;
     match greet(instance.config(), reader, &mut bytes) {
@@ -169,7 +174,8 @@ pub fn hear<R: io::Read>(
     reader: &mut R,
     now: Moment,
 ) -> Ended
-    ensures { IsHeard now (behind (first ∷ []) (R.remaining reader.old)) (R.remaining reader.new) instance.old instance.new (effects_of result) result.fault }
+    ensures { IsHeard now (behind (first ∷ []) (R.remaining reader.old)) (R.remaining reader.new) instance.old instance.new
+        (effects_of result) result.fault }
 {
     match [first].to_vec(alloc) {
         Ok(bytes) => hear_behind(alloc, instance, bytes, reader, now),

@@ -52,7 +52,8 @@ fn begun<R: io::Read, W: io::Write>(
     bits: u128,
     now: Moment,
 ) -> Ended
-    ensures { IsBegun first bits now (behind (first ∷ []) (R.remaining reader.old)) (R.remaining reader.new) instance.old instance.new (W.contents writer.old) (W.contents writer.new) result }
+    ensures { IsBegun first bits now (behind (first ∷ []) (R.remaining reader.old))
+        (R.remaining reader.new) instance.old instance.new (W.contents writer.old) (W.contents writer.new) result }
 {
     if first < LEAST_OF_REQUESTS {
         return hear(alloc, instance, first, reader, now);
@@ -73,7 +74,8 @@ pub fn connection<R: io::Read, W: io::Write>(
     bits: u128,
     now: Moment,
 ) -> Ended
-    ensures { IsServed bits now (R.remaining reader.old) (R.remaining reader.new) instance.old instance.new (W.contents writer.old) (W.contents writer.new) result }
+    ensures { IsServed bits now (R.remaining reader.old) (R.remaining reader.new) instance.old instance.new
+        (W.contents writer.old) (W.contents writer.new) result }
 {
     let mut first = [0u8; 1];
     match reader.read(&mut first) {

@@ -1,6 +1,7 @@
 //! Whether a group of alerts is notified.
 
-ghost use Rattle.std.specs.Prelude.{◌≡◌, ◌+◌, ◌-◌, ◌%◌, IsTrue, ◌<◌, ◌≤◌, length, option_map, nat_eq, ℕ, Some, get_or, nat_lt, true, false, IfSome, IfNone};
+ghost use Rattle.std.specs.Prelude.{◌≡◌, ◌+◌, ◌-◌, ◌%◌, IsTrue, ◌<◌, ◌≤◌, length, option_map, nat_eq, ℕ, Some, get_or};
+ghost use Rattle.std.specs.Prelude.{nat_lt, true, false, IfSome, IfNone};
 ghost use Rattle.std.specs.FinSet.{is_subset};
 ghost use Rattle.std.specs.List.{list_any, position};
 ghost use Rattle.std.specs.List.Sorted.{IsNonDecreasing};
@@ -53,7 +54,8 @@ pub fn decide(
     send_resolved: bool,
     now: Moment,
 ) -> Decision
-    ensures { result ≡ decision (option_map logged (option_copied entry.entry)) (set_of firing.now) (set_of resolved.now) repeat send_resolved now }
+    ensures { result ≡ decision (option_map logged (option_copied entry.entry)) (set_of firing.now)
+        (set_of resolved.now) repeat send_resolved now }
 {
     match entry {
         Some(entry) => decide_after(entry, firing, resolved, repeat, send_resolved, now),

@@ -1,5 +1,6 @@
 -- What a stream of frames is read as.
-use Rattle.std.specs.Prelude.{ℕ, zero, suc, ◌+◌, ◌-◌, List, [], ◌∷◌, ◌++◌, length, take, drop, Option, Some, None, Result, Ok, Err, nat_lt, if◌then◌else◌}
+use Rattle.std.specs.Prelude.{ℕ, zero, suc, ◌+◌, ◌-◌, List, [], ◌∷◌, ◌++◌, length, take, drop, Option, Some, None}
+use Rattle.std.specs.Prelude.{Result, Ok, Err, nat_lt, if◌then◌else◌}
 use Rattle.am_gossip.specs.declared.error.FrameError.{FrameError}
 use Rattle.am_gossip.specs.declared.frame.Frame.{Frame}
 use Rattle.am_gossip.specs.Frames.{reads_payload}
@@ -18,7 +19,8 @@ payload_front len (Err e) = fault e
 
 -- a payload is read when it is whole
 abbrev pub front_with : Header → List ℕ → Front
-front_with (head kind size len) bytes = if nat_lt (length bytes) (len + size) then wants else payload_front (len + size) (reads_payload kind (take size (drop len bytes)))
+front_with (head kind size len) bytes = if nat_lt (length bytes) (len + size) then wants
+    else payload_front (len + size) (reads_payload kind (take size (drop len bytes)))
 front_with (bad e) bytes = fault e
 front_with more bytes = wants
 

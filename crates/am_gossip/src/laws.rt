@@ -35,7 +35,8 @@ pub fn frames_are_read_again()
 /// A greeting is read where one stands at the front, and is one where it is read; more bytes change only that bytes
 /// were wanting.
 pub fn greetings_are_the_grammar()
-    ensures found { (bytes name : List ℕ) (len : ℕ) → hello_of bytes ≡ Ok (Some (name, len)) → (len ≤ length bytes) × IsHello name (take len bytes) }
+    ensures found { (bytes name : List ℕ) (len : ℕ) → hello_of bytes ≡ Ok (Some (name, len)) → (len ≤ length bytes)
+        × IsHello name (take len bytes) }
     ensures read { (name text later : List ℕ) → IsHello name text → hello_of (text ++ later) ≡ Ok (Some (name, length text)) }
     ensures stays { (bytes later : List ℕ) → (hello_of (bytes ++ later) ≡ hello_of bytes) ⊎ (hello_of bytes ≡ Ok None) }
 {}

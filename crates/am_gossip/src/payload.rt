@@ -102,7 +102,8 @@ fn read_part(alloc: Global, bytes: &[u8], at: usize) -> Result<Part, FrameError>
 /// Reads the part in a field, where it is one, and puts it behind those before it.
 #[tactic(auto, unfolding(crate::specs::Parts::parts_in))]
 fn take_part(alloc: Global, parts: &mut Vec<Part>, field: Field<'_>) -> Result<(), FrameError>
-    ensures held { OnOk result ((read : List Part) × (parts_in (field_of field.entry) ≡ Ok read) × (parts.new.items ≡ parts.old.items ++ read)) }
+    ensures held { OnOk result ((read : List Part) × (parts_in (field_of field.entry) ≡ Ok read)
+        × (parts.new.items ≡ parts.old.items ++ read)) }
     ensures fault { IfErr result (λ e. e ≢ Memory → parts_in (field_of field.entry) ≡ Err e) }
 {
     if let (1, Value::Bytes(bytes)) = (field.number, field.value) {

@@ -2,7 +2,9 @@
 use Rattle.std.specs.Prelude.{ℕ, List, Option, Some, None, codes}
 use Rattle.std.specs.Option.{option_copied}
 use Rattle.am_http.specs.declared.cause.Cause.{Cause}
-use Rattle.am_http.specs.declared.cause.Cause.TheVariants.{HeadTooLarge, BadHead, TransferEncoding, BadContentLength, BodyTooLarge, EndedEarly, NoSuchPath, MethodNotAllowed, BadFilter, BadJson, BadSilence, Memory}
+use Rattle.am_http.specs.declared.cause.Cause.TheVariants.{HeadTooLarge, BadHead, TransferEncoding, BadContentLength}
+use Rattle.am_http.specs.declared.cause.Cause.TheVariants.{BodyTooLarge, EndedEarly, NoSuchPath, MethodNotAllowed}
+use Rattle.am_http.specs.declared.cause.Cause.TheVariants.{BadFilter, BadJson, BadSilence, Memory}
 use Rattle.am_http.specs.declared.cause.PostedKey.{PostedKey}
 use Rattle.am_http.specs.declared.cause.PostedKey.TheVariants.{Id, Matchers, StartsAt, EndsAt, CreatedBy, Comment}
 use Rattle.am_http.specs.declared.refusal.Refusal.{Refusal}

@@ -32,7 +32,8 @@ IsCallOf method target (Ok Post) = (path_of target ≡ silences_path) × (method
 IsCallOf method target (Ok (Get id)) = IsPathOf (path_of target) id.now × (method ≡ codes "GET")
 IsCallOf method target (Ok (Delete id)) = IsPathOf (path_of target) id.now × (method ≡ codes "DELETE")
 IsCallOf method target (Err NoSuchPath) = (path_of target ≢ silences_path) × ((id : List ℕ) → ¬ (IsPathOf (path_of target) id))
-IsCallOf method target (Err (MethodNotAllowed Silences)) = (path_of target ≡ silences_path) × (method ≢ codes "GET") × (method ≢ codes "POST")
+IsCallOf method target (Err (MethodNotAllowed Silences)) =
+    (path_of target ≡ silences_path) × (method ≢ codes "GET") × (method ≢ codes "POST")
 IsCallOf method target (Err (MethodNotAllowed Silence)) =
     ((id : List ℕ) × IsPathOf (path_of target) id) × (method ≢ codes "GET") × (method ≢ codes "DELETE")
 IsCallOf method target (Err _) = ⊥

@@ -5,7 +5,8 @@ use Rattle.am_http.specs.Lines.{line_seen, line_of}
 use Rattle.am_http.specs.Heads.{HasHead, IsOpenHead, HasLargeHead, HasBadHead, fields_of}
 use Rattle.am_http.specs.Bodies.{NamesLength, IsBodyLength}
 use Rattle.am_http.specs.declared.cause.Cause.{Cause}
-use Rattle.am_http.specs.declared.cause.Cause.TheVariants.{HeadTooLarge, BadHead, TransferEncoding, BadContentLength, BodyTooLarge, EndedEarly, Memory}
+use Rattle.am_http.specs.declared.cause.Cause.TheVariants.{HeadTooLarge, BadHead, TransferEncoding, BadContentLength}
+use Rattle.am_http.specs.declared.cause.Cause.TheVariants.{BodyTooLarge, EndedEarly, Memory}
 use Rattle.am_http.specs.declared.standing.Standing.{Standing}
 use Rattle.am_http.specs.declared.standing.Standing.TheVariants as at
 use Rattle.am_http.specs.declared.request.Request.{Request}

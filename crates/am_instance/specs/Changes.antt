@@ -51,7 +51,8 @@ abbrev pub takings : {X : Type 0} → ℕ → List X → Events X
 takings now vs = map (λ v. (Delivered v, now)) vs
 
 -- Of a row only the first versions were taken, and not all of them; so many more are counted.
-pub record IsStoppedRow {K X : Type 0} (seen : X → Version K) (cmp : K → K → Ordering) (now : ℕ) (old vs new : List X) (before count : ℕ) : Type 0 where
+pub record IsStoppedRow {K X : Type 0} (seen : X → Version K) (cmp : K → K
+    → Ordering) (now : ℕ) (old vs new : List X) (before count : ℕ) : Type 0 where
   pub number : ℕ
   pub within : number < length vs
   pub counted : count ≡ before + number

@@ -122,7 +122,8 @@ IsDeleted now retention silences id reply made =
 -- a notification's entry is made where it expires after now, and the answer is whether it changed the log
 abbrev pub IsLogged : ℕ → List LogMesh → Bool → LogMesh → Reply → Made → Type 0
 IsLogged now log false entry reply made = (reply ≡ replies.Logged false) × IsNothing made
-IsLogged now log true entry reply made = (reply ≡ replies.Logged (changes entry_version now (entry_at log) entry)) × (made.silences.items ≡ []) × (made.log ≡ Some entry)
+IsLogged now log true entry reply made = (reply ≡ replies.Logged (changes entry_version now (entry_at log) entry))
+    × (made.silences.items ≡ []) × (made.log ≡ Some entry)
 
 -- ---- the reply to each event, and what it made here
 
@@ -143,7 +144,8 @@ HoldsMutes Muted _ = ⊥
 
 -- the reply to a request, and the versions that are made for it
 abbrev pub IsRequestReply : Stand → Request → ℕ → Reply → Made → Type 0
-IsRequestReply stand (requests.List filters) now reply made = HoldsSilences (silences_shown now filters.items stand.silences) reply × IsNothing made
+IsRequestReply stand (requests.List filters) now reply made =
+    HoldsSilences (silences_shown now filters.items stand.silences) reply × IsNothing made
 IsRequestReply stand (requests.Get id) now reply made = found_reply now (silence_in_view now stand.silences id) reply × IsNothing made
 IsRequestReply stand (requests.Post posted bits) now reply made = IsPosted now stand.config.retention stand.silences posted bits reply made
 IsRequestReply stand (requests.Delete id) now reply made = IsDeleted now stand.config.retention stand.silences id reply made
@@ -156,9 +158,12 @@ IsReply stand (events.Notified group_key receiver firing resolved repeat) now re
     IsLogged now stand.log (nat_lt now (expiry repeat stand.config.retention now))
     (made_entry group_key receiver firing resolved repeat stand.config.retention now) reply made
 IsReply stand (events.Decide group_key receiver firing resolved repeat send_resolved) now reply made =
-    (reply ≡ replies.Decided (decision (option_map (λ m. logged m.entry) (entry_in_view now stand.log (record { group_key = group_key; receiver = receiver }))) (set_of firing) (set_of resolved) repeat send_resolved now))
+    (reply ≡ replies.Decided (decision (option_map (λ m. logged m.entry)
+    (entry_in_view now stand.log (record { group_key = group_key; receiver = receiver }))) (set_of firing)
+    (set_of resolved) repeat send_resolved now))
     × IsNothing made
 IsReply stand (events.Mutes labels) now reply made = HoldsMutes (AreMuted labels now stand.silences) reply × IsNothing made
-IsReply stand events.Show now reply made = HoldsViews (silences_shown now [] stand.silences) (log_in_view now stand.log) reply × IsNothing made
+IsReply stand events.Show now reply made =
+    HoldsViews (silences_shown now [] stand.silences) (log_in_view now stand.log) reply × IsNothing made
 IsReply stand events.Tick now reply made = (reply ≡ replies.Nothing) × IsNothing made
 IsReply stand (events.PullFrom place) now reply made = (reply ≡ replies.Nothing) × IsNothing made

@@ -1,5 +1,7 @@
 -- One step of an instance: when it is refused, what it delivers, and what it sends.
-use Rattle.std.specs.Prelude.{◌≡◌, ◌≢◌, ◌⊎◌, ◌≤◌, ◌<◌, ◌+◌, ℕ, Bool, true, false, ◌&&◌, List, [], ◌∷◌, ◌++◌, map, length, take, nat_lt, ⊤, is_some, Option, Some, None, option_map, Result, Ok, Err, if◌then◌else◌}
+use Rattle.std.specs.Prelude.{◌≡◌, ◌≢◌, ◌⊎◌, ◌≤◌, ◌<◌, ◌+◌, ℕ, Bool, true, false, ◌&&◌, List, [], ◌∷◌, ◌++◌, map}
+use Rattle.std.specs.Prelude.{length, take, nat_lt, ⊤, is_some, Option, Some, None, option_map, Result, Ok, Err}
+use Rattle.std.specs.Prelude.{if◌then◌else◌}
 use Rattle.am_wire.specs.Limits.{most}
 use Rattle.std.specs.Ordering.{nat_cmp}
 use Rattle.std.specs.Cmp.Lexicographic.{slice_cmp}
@@ -82,8 +84,10 @@ pub record IsAccepted (old : Stand) (event : Event) (now : ℕ) : Type 0 where
 abbrev pub IsRefusal : Stand → Event → ℕ → StepError → Type 0
 IsRefusal old event now (MomentBack last) = (last ≡ old.last) × (now < old.last)
 IsRefusal old event now UnknownPeer = (old.last ≤ now) × (knows_peer old.config (peer_of event) ≡ false)
-IsRefusal old event now (Frame fault) = (old.last ≤ now) × (knows_peer old.config (peer_of event) ≡ true) × (fault_of old.config now event ≡ Some fault)
-IsRefusal old event now (Memory taken) = (old.last ≤ now) × (knows_peer old.config (peer_of event) ≡ true) × ((taken ≡ 0) ⊎ (taken < length (brought event)))
+IsRefusal old event now (Frame fault) = (old.last ≤ now) × (knows_peer old.config (peer_of event) ≡ true)
+    × (fault_of old.config now event ≡ Some fault)
+IsRefusal old event now (Memory taken) = (old.last ≤ now) × (knows_peer old.config (peer_of event) ≡ true)
+    × ((taken ≡ 0) ⊎ (taken < length (brought event)))
 
 -- ---- what a step delivers
 
@@ -216,7 +220,8 @@ IsAnswered old event now (Err _) new = ⊥
 pub record IsWork (old : Stand) (event : Event) (now : ℕ) (result : Result Outcome StepError) (new : Stand) : Type 0 where
   pub config : new.config ≡ old.config
   pub last : new.last ≡ old.last
-  pub silences : silence_at new.silences ≡ after_all mesh_version (slice_cmp nat_cmp) (silence_at old.silences) (step_events to_silences event now result)
+  pub silences : silence_at new.silences ≡ after_all mesh_version (slice_cmp nat_cmp) (silence_at old.silences)
+      (step_events to_silences event now result)
   pub log : entry_at new.log ≡ after_all entry_version key_cmp (entry_at old.log) (step_events to_log event now result)
   pub answer : IsAnswered old event now result new
 
@@ -250,7 +255,8 @@ pub record IsLoggedHere (old : Stand) (entry : LogMesh) (now : ℕ) (outcome : O
 -- what is known of a post: the silence in view of its id, and whether its fresh id is held
 abbrev pub post_refusal : Stand → Posted → ℕ → ℕ → Verdict → Option SilenceError
 post_refusal stand posted bits now verdict =
-    refusal (posted_over now stand.silences posted.id) verdict (is_some (silence_at stand.silences (id_text bits))) (post_of posted now bits stand.config.retention)
+    refusal (posted_over now stand.silences posted.id) verdict (is_some (silence_at stand.silences (id_text bits)))
+    (post_of posted now bits stand.config.retention)
 
 -- the plan of a post, or why it is refused
 abbrev pub IsPlanned : Stand → Posted → ℕ → ℕ → Result Plan SilenceError → Type 0

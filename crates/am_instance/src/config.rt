@@ -1,6 +1,7 @@
 //! Who is in the cluster, and how long things are kept and waited for.
 
-ghost use Rattle.std.specs.Prelude.{◌≡◌, ◌≢◌, ◌+◌, ◌*◌, ◌<◌, ◌≤◌, ◌↔◌, ◌⊎◌, ◌∷◌, Any, Contains, Some, None, length, insert, slice_get, false, IsTrue, IfOk, OnOk, OnErr, IfSome, IsPermutation};
+ghost use Rattle.std.specs.Prelude.{◌≡◌, ◌≢◌, ◌+◌, ◌*◌, ◌<◌, ◌≤◌, ◌↔◌, ◌⊎◌, ◌∷◌, Any, Contains, Some, None, length};
+ghost use Rattle.std.specs.Prelude.{insert, slice_get, false, IsTrue, IfOk, OnOk, OnErr, IfSome, IsPermutation};
 ghost use Rattle.std.specs.Option.{SomeIff};
 ghost use Rattle.am_version_order.specs.Moments.{greatest};
 ghost use Rattle.am_instance.specs.Configs.{AreInOrder, HasTwice, IsEmptyName, IsLongName, is_peer};

@@ -102,7 +102,8 @@ impl Instance {
         ensures delivered { OnOk result (Delivers now (before_fault (rows_in parts.now)) self.old self.new) }
         ensures count { OnOk result (taken.new ≡ taken.old + length (before_fault (rows_in parts.now))) }
         ensures sent { OnOk result (Sends (deltas_to (peers_but self.old.config sender)
-            (changed_of now (silence_at self.old.silences) (entry_at self.old.log) (before_fault (rows_in parts.now)))) outbox.old outbox.new) }
+            (changed_of now (silence_at self.old.silences) (entry_at self.old.log)
+            (before_fault (rows_in parts.now)))) outbox.old outbox.new) }
         ensures stopped { OnErr result (StopsDelivering now (before_fault (rows_in parts.now)) self.old self.new taken.old taken.new) }
     {
         for part in parts {
@@ -124,7 +125,8 @@ impl Instance {
         ensures delivered { OnOk result (Delivers now (before_fault (rows_of part.now)) self.old self.new) }
         ensures count { OnOk result (taken.new ≡ taken.old + length (before_fault (rows_of part.now))) }
         ensures sent { OnOk result (Sends (deltas_to (peers_but self.old.config sender)
-            (changed_of now (silence_at self.old.silences) (entry_at self.old.log) (before_fault (rows_of part.now)))) outbox.old outbox.new) }
+            (changed_of now (silence_at self.old.silences) (entry_at self.old.log)
+            (before_fault (rows_of part.now)))) outbox.old outbox.new) }
         ensures stopped { OnErr result (StopsDelivering now (before_fault (rows_of part.now)) self.old self.new taken.old taken.new) }
     {
         let taking = Taking {

@@ -7,7 +7,8 @@ ghost use Rattle.am_instance.specs.Deliveries.{to_silences, to_log};
 ghost use Rattle.am_instance.specs.Stands.{AreSilencesLeftBy, IsLogLeftBy, kept_silences, kept_log};
 ghost use Rattle.am_instance.specs.Sendings.{Sends, nothing_sent, sent_by};
 ghost use Rattle.am_instance.specs.Replies.{IsReply};
-ghost use Rattle.am_instance.specs.Steps.{AreSwept, IsAccepted, IsAdmitted, IsRefusal, IsRefused, IsUnadmitted, IsWork, collects, counts, peer_of, step_events, wanted};
+ghost use Rattle.am_instance.specs.Steps.{AreSwept, IsAccepted, IsAdmitted, IsRefusal, IsRefused, IsUnadmitted, IsWork};
+ghost use Rattle.am_instance.specs.Steps.{collects, counts, peer_of, step_events, wanted};
 
 use crate::config::Config;
 use crate::error::StepError;

@@ -21,7 +21,8 @@ ghost use Rattle.am_instance.specs.declared.event.Event.{Event};
 ghost use Rattle.am_instance.specs.declared.reply.Made.{Made};
 ghost use Rattle.am_instance.specs.declared.reply.Reply.{Reply};
 ghost use Rattle.am_instance.specs.Replies.{IsReply, silence_in_view, entry_in_view};
-ghost use Rattle.am_instance.specs.Laws.{AreCalmSteps, AreMade, Happened, HasMaps, ShowSame, all_entries, all_silences, asks_views, events_of_stream, run_events};
+ghost use Rattle.am_instance.specs.Laws.{AreCalmSteps, AreMade, Happened, HasMaps, ShowSame, all_entries, all_silences};
+ghost use Rattle.am_instance.specs.Laws.{asks_views, events_of_stream, run_events};
 
 use am_collect::laws::{calm_events_show_the_bare_set, calm_keepers_agree};
 use am_gossip::laws::cuts_change_nothing;
@@ -67,7 +68,8 @@ fn equal_views_are_one<V: Version>()
 
 /// Two instances that show the same have the same replies to what is answered from the views alone.
 pub fn equal_views_reply_alike()
-    ensures { (one other : Stand) (event : Event) (now : ℕ) (reply : Reply) (made : Made) → HasMaps one → HasMaps other → ShowSame now one other →
+    ensures { (one other : Stand) (event : Event) (now : ℕ) (reply : Reply) (made : Made) → HasMaps one → HasMaps other →
+        ShowSame now one other →
         asks_views event ≡ true → IsReply one event now reply made → IsReply other event now reply made }
 {
     equal_views_are_one::<MeshSilence>();

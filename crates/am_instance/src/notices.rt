@@ -66,7 +66,8 @@ impl Instance {
 
     /// Sends an entry that was made here to all peers, where its taking changed the log.
     fn send_entry_on(&self, taken: Taken, entry: &MeshEntry, outbox: &mut Outbox)
-        ensures { Sends (deltas_to (peers_but self.now.config self.now.config.place) (only_if (is_changed taken) (OfEntry entry.now))) outbox.old outbox.new }
+        ensures { Sends (deltas_to (peers_but self.now.config self.now.config.place)
+            (only_if (is_changed taken) (OfEntry entry.now))) outbox.old outbox.new }
     {
         if is_changed(taken) {
             outbox.send_version(
@@ -87,7 +88,8 @@ impl Instance {
         send_resolved: bool,
         now: Moment,
     ) -> Outcome
-        ensures { IsWork self.now (events.Decide key.now.group_key key.now.receiver firing.now resolved.now repeat send_resolved) now (Ok result) self.now }
+        ensures { IsWork self.now (events.Decide key.now.group_key key.now.receiver firing.now resolved.now repeat send_resolved) now
+            (Ok result) self.now }
     {
         let decision = decide(
             logged_entry(&self.log, key, now),

@@ -6,7 +6,8 @@ ghost use Rattle.am_wire.specs.Writing.{delimited};
 ghost use Rattle.am_gossip.specs.Frames.{fits};
 ghost use Rattle.am_gossip.specs.declared.frame.Frame.TheVariants as frames;
 ghost use Rattle.am_instance.specs.Configs.{is_other, places_but};
-ghost use Rattle.am_instance.specs.Sendings.{IsSent, Sends, IsMissing, addressed, delta, handed_out, no_memory, nothing_sent, over_limit, whole_state};
+ghost use Rattle.am_instance.specs.Sendings.{IsSent, Sends, IsMissing, addressed, delta, handed_out, no_memory};
+ghost use Rattle.am_instance.specs.Sendings.{nothing_sent, over_limit, whole_state};
 
 use crate::event::Place;
 use crate::reply::Unsent;

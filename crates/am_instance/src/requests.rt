@@ -183,7 +183,8 @@ impl Instance {
 
     /// Sends a version that was made here to all peers, where its taking changed the map.
     fn send_on(&self, taken: Taken, version: &MeshSilence, outbox: &mut Outbox)
-        ensures { Sends (deltas_to (peers_but self.now.config self.now.config.place) (only_if (is_changed taken) (OfSilence version.now))) outbox.old outbox.new }
+        ensures { Sends (deltas_to (peers_but self.now.config self.now.config.place)
+            (only_if (is_changed taken) (OfSilence version.now))) outbox.old outbox.new }
     {
         if is_changed(taken) {
             outbox.send_version(

@@ -69,9 +69,11 @@ fn take_one<V: Version>(
     taken: &mut usize,
 ) -> Result<(), AllocError>
     ensures map { OnOk result ((key : V.Key) →
-        at V.seen V.Key.cmp held.new key ≡ after V.seen V.Key.cmp (at V.seen V.Key.cmp held.old) (Delivered version) taking.now.moment key) }
+        at V.seen V.Key.cmp held.new key ≡ after V.seen V.Key.cmp (at V.seen V.Key.cmp held.old)
+        (Delivered version) taking.now.moment key) }
     ensures count { OnOk result (taken.new ≡ taken.old + 1) }
-    ensures sent { OnOk result (Sends (deltas_of V.seen taking.now.key (places_but taking.now.route.members taking.now.route.own taking.now.route.origin)
+    ensures sent { OnOk result (Sends (deltas_of V.seen taking.now.key
+        (places_but taking.now.route.members taking.now.route.own taking.now.route.origin)
         (only_if (changes V.seen taking.now.moment (at V.seen V.Key.cmp held.old) version) version)) outbox.old outbox.new) }
     ensures held { OnErr result (held.new ≡ held.old) }
     ensures not_counted { OnErr result (taken.new ≡ taken.old) }
@@ -102,11 +104,15 @@ pub fn take_row<V: Record>(
 ) -> Result<(), AllocError>
     requires { first_fault (messages_of V.reads row.now) ≡ None }
     ensures map { OnOk result ((key : V.Key) → at V.seen V.Key.cmp held.new key
-        ≡ after_all V.seen V.Key.cmp (at V.seen V.Key.cmp held.old) (takings taking.now.moment (before_fault (messages_of V.reads row.now))) key) }
+        ≡ after_all V.seen V.Key.cmp (at V.seen V.Key.cmp held.old)
+        (takings taking.now.moment (before_fault (messages_of V.reads row.now))) key) }
     ensures count { OnOk result (taken.new ≡ taken.old + length (before_fault (messages_of V.reads row.now))) }
-    ensures sent { OnOk result (Sends (deltas_of V.seen taking.now.key (places_but taking.now.route.members taking.now.route.own taking.now.route.origin)
-        (changed V.seen V.Key.cmp taking.now.moment (at V.seen V.Key.cmp held.old) (before_fault (messages_of V.reads row.now)))) outbox.old outbox.new) }
-    ensures stopped { OnErr result (IsStoppedRow V.seen V.Key.cmp taking.now.moment held.old (before_fault (messages_of V.reads row.now)) held.new taken.old taken.new) }
+    ensures sent { OnOk result (Sends (deltas_of V.seen taking.now.key
+        (places_but taking.now.route.members taking.now.route.own taking.now.route.origin)
+        (changed V.seen V.Key.cmp taking.now.moment (at V.seen V.Key.cmp held.old)
+        (before_fault (messages_of V.reads row.now)))) outbox.old outbox.new) }
+    ensures stopped { OnErr result (IsStoppedRow V.seen V.Key.cmp taking.now.moment held.old
+        (before_fault (messages_of V.reads row.now)) held.new taken.old taken.new) }
 {
     for message in Messages::<V>::new(alloc, row) {
         let Ok(version) = message else {

@@ -29,8 +29,10 @@ pub record IsFirstUncalm (members place : ℕ) (silences : List (Step Mesh)) (lo
 
 -- and this is the line of that step
 abbrev pub IsLineOfFault : ℕ → ℕ → List (Step Mesh) → List (Step LogMesh) → List ℕ → ℕ → Type 0
-IsLineOfFault members place silences log lines line = (number : ℕ) × IsFirstUncalm members place silences log number × (slice_get lines number ≡ Some line)
+IsLineOfFault members place silences log lines line =
+    (number : ℕ) × IsFirstUncalm members place silences log number × (slice_get lines number ≡ Some line)
 
 -- both runs keep the spread and the flight time
 abbrev pub AreTimely : ℕ → ℕ → ℕ → List (Step Mesh) → List (Step LogMesh) → Type 0
-AreTimely spread flight members silences log = IsTimely mesh_version spread flight members silences × IsTimely entry_version spread flight members log
+AreTimely spread flight members silences log =
+    IsTimely mesh_version spread flight members silences × IsTimely entry_version spread flight members log

@@ -5,7 +5,8 @@ use Rattle.am_runs.specs.Steps.Step.{Took, Ticked, Back, Refused, Saved, Stopped
 
 -- the steps are the same but for the versions; an event sent as many frames in both
 abbrev pub IsTwin : {X Y : Type 0} → Step X → Step Y → Type 0
-IsTwin (Took place now source versions frames) (Took other then origin others sent) = (place ≡ other) × (now ≡ then) × (source ≡ origin) × (length frames ≡ length sent)
+IsTwin (Took place now source versions frames) (Took other then origin others sent) =
+    (place ≡ other) × (now ≡ then) × (source ≡ origin) × (length frames ≡ length sent)
 IsTwin (Ticked place now) (Ticked other then) = (place ≡ other) × (now ≡ then)
 IsTwin (Back place now) (Back other then) = (place ≡ other) × (now ≡ then)
 IsTwin (Refused now) (Refused then) = now ≡ then

@@ -9,7 +9,8 @@ use Rattle.am_line_events.specs.Versions.{updated, sent_at}
 -- in a cluster, whose members are in order, a member stands at the place of its name
 abbrev pub NamesAreFound : Type 0
 NamesAreFound =
-    (config : Settings) (place : ℕ) (name : List ℕ) → AreInOrder config.members → slice_get config.members place ≡ Some name → place_named config name ≡ Some place
+    (config : Settings) (place : ℕ) (name : List ℕ) → AreInOrder config.members → slice_get config.members place ≡ Some name
+    → place_named config name ≡ Some place
 
 -- no version was updated before its frame counts as sent
 abbrev pub SentByThen : Type 0
@@ -22,4 +23,5 @@ pub record IsUpdatedAt (versions : List Delivery) (at : ℕ) : Type 0 where
   pub then : updated version ≡ at
 
 abbrev pub SentNoEarlier : Type 0
-SentNoEarlier = (versions : List Delivery) → 0 < length versions → All (λ v. updated v ≤ greatest) versions → IsUpdatedAt versions (sent_at versions)
+SentNoEarlier = (versions : List Delivery) → 0 < length versions → All (λ v. updated v ≤ greatest) versions
+    → IsUpdatedAt versions (sent_at versions)

@@ -1,6 +1,7 @@
 -- The filters of a query (Alertmanager's matchers, as `job=~"x|y"`): a name, a sign and a value. All texts here are lists of
 -- characters; they are read as a whole, and in one way only.
-use Rattle.std.specs.Prelude.{◌≡◌, ◌⊎◌, ℕ, ◌==◌, Bool, true, false, not, ◌&&◌, ◌||◌, List, [], ◌∷◌, ◌++◌, reverse, map, nat_eq, codes, chars, encode_utf8_all, Option, Some, None, if◌then◌else◌}
+use Rattle.std.specs.Prelude.{◌≡◌, ◌⊎◌, ℕ, ◌==◌, Bool, true, false, not, ◌&&◌, ◌||◌, List, [], ◌∷◌, ◌++◌, reverse, map}
+use Rattle.std.specs.Prelude.{nat_eq, codes, chars, encode_utf8_all, Option, Some, None, if◌then◌else◌}
 use Rattle.std.specs.Char.{is_ascii_whitespace, is_ascii_alphanumeric, is_ascii_digit}
 use Rattle.std.specs.List.{list_any, list_all, starts_with}
 use Rattle.am_silence.specs.declared.matcher.Matcher.{Matcher}

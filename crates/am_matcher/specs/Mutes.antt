@@ -14,8 +14,10 @@ is_active now m = (is_live now (mesh_version m) && nat_le m.silence.starts_at no
 -- What a silence does to an alert: where it is active and no pattern is broken, its matchers say.
 abbrev pub IsEffect : List Label → ℕ → Mesh → Effect → Type 0
 IsEffect labels now m Idle = is_active now m ≡ false
-IsEffect labels now m Mutes = (is_active now m ≡ true) × All IsSoundMatcher m.silence.matchers × (match_all m.silence.matchers labels ≡ true)
-IsEffect labels now m Passes = (is_active now m ≡ true) × All IsSoundMatcher m.silence.matchers × (match_all m.silence.matchers labels ≡ false)
+IsEffect labels now m Mutes = (is_active now m ≡ true) × All IsSoundMatcher m.silence.matchers
+    × (match_all m.silence.matchers labels ≡ true)
+IsEffect labels now m Passes = (is_active now m ≡ true) × All IsSoundMatcher m.silence.matchers
+    × (match_all m.silence.matchers labels ≡ false)
 IsEffect labels now m Broken = (is_active now m ≡ true) × Any IsBrokenMatcher m.silence.matchers
 
 -- the id alone where the effect is that, else none

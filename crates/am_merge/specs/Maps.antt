@@ -1,6 +1,7 @@
 -- Maps from keys to versions, as the list of their versions in the order of the keys.
 -- X is the type of versions, and `seen` is what the merge sees of one.
-use Rattle.std.specs.Prelude.{◌≡◌, ℕ, List, [], ◌∷◌, Bool, true, Option, Some, None, if◌then◌else◌, find, filter, All, Contains, IsPermutation, ◌≤◌, bytes_eq}
+use Rattle.std.specs.Prelude.{◌≡◌, ℕ, List, [], ◌∷◌, Bool, true, Option, Some, None, if◌then◌else◌, find, filter, All}
+use Rattle.std.specs.Prelude.{Contains, IsPermutation, ◌≤◌, bytes_eq}
 use Rattle.std.specs.List.{AllByRecursion}
 use Rattle.std.specs.declared.cmp.Ordering.{Ordering}
 use Rattle.std.specs.declared.cmp.Ordering.TheVariants.{Less}
@@ -67,4 +68,5 @@ module _ {K X : Type 0} (seen : X → Version K) where
 
     -- no key has a live version in the map and a greater one in the other that isn't live
     abbrev pub HidesNone : ℕ → List X → List X → Type 0
-    HidesNone now map other = (key : K) (v w : X) → at map key ≡ Some v → at other key ≡ Some w → is_below (seen v) (seen w) ≡ true → IsLive now (seen v) → IsLive now (seen w)
+    HidesNone now map other = (key : K) (v w : X) → at map key ≡ Some v → at other key ≡ Some w
+        → is_below (seen v) (seen w) ≡ true → IsLive now (seen v) → IsLive now (seen w)

@@ -16,4 +16,5 @@ module _ {K X : Type 0} (seen : X → Version K) where
 
   -- the version of the key that is in view, or none where no version of the key is
   abbrev pub IsViewAt : List X → ℕ → K → Option X → Type 0
-  IsViewAt set now key found = MatchOption found ((v : X) → IsInView set now v → (seen v).key ≢ key) (λ v. ((seen v).key ≡ key) × IsInView set now v)
+  IsViewAt set now key found = MatchOption found ((v : X) → IsInView set now v → (seen v).key ≢ key) (λ v. ((seen v).key ≡ key)
+      × IsInView set now v)

@@ -1,6 +1,8 @@
 //! What taking, merging and sweeping do to a shelf.
 
-ghost use Rattle.std.specs.Prelude.{◌≡◌, ℕ, List, ◌+◌, ◌<◌, ◌≤◌, ◌++◌, [], ◌∷◌, length, take, count_by, IfErr, IfOk, IfSome, IfNone, IsOk, OnOk, OnErr, IsTrue, IsPermutation, true, false, ◌↔◌, insert, slice_set};
+ghost use Rattle.std.specs.Prelude.{◌≡◌, ℕ, List, ◌+◌, ◌<◌, ◌≤◌, ◌++◌, [], ◌∷◌, length, take, count_by, IfErr, IfOk};
+ghost use Rattle.std.specs.Prelude.{IfSome, IfNone, IsOk, OnOk, OnErr, IsTrue, IsPermutation, true, false, ◌↔◌, insert};
+ghost use Rattle.std.specs.Prelude.{slice_set};
 ghost use Rattle.am_merge.specs.Maps.{IsMap, IsJoin, HasTwice, replaces, swept};
 ghost use Rattle.am_merge.specs.Shelves.{versions, HasRooms, IsShelf, IsKeySpot, IsGapSpot, IsExpiredAt};
 ghost use Rattle.am_blocks.specs.Spots.{place};

@@ -1,6 +1,7 @@
 //! A map from keys to the greatest version of each.
 
-ghost use Rattle.std.specs.Prelude.{◌≡◌, ◌==◌, ◌+◌, ◌<◌, ◌↔◌, [], true, false, length, take, count_by, is_none, MatchOption, IfOk, IfErr, OnOk, OnErr, Ok, IsPermutation};
+ghost use Rattle.std.specs.Prelude.{◌≡◌, ◌==◌, ◌+◌, ◌<◌, ◌↔◌, [], true, false, length, take, count_by, is_none};
+ghost use Rattle.std.specs.Prelude.{MatchOption, IfOk, IfErr, OnOk, OnErr, Ok, IsPermutation};
 ghost use Rattle.std.specs.Option.{option_copied};
 ghost use Rattle.am_merge.specs.Maps.{IsMap, IsJoin, IsLeastExpiry, HasTwice, at, if_live, in_bucket, replaces, swept};
 

@@ -10,7 +10,8 @@ ghost use Rattle.am_merge.specs.Entries.{key_slot, expiry_slot, by_time, time_cm
 ghost use Rattle.am_merge.specs.Buckets.{bucket_slot, bucket_entry, bucket_order, bucket_cmp, by_bucket, number_of};
 ghost use Rattle.am_merge.specs.Indexes.{filed};
 ghost use Rattle.am_merge.specs.Places.{IsGapFor};
-ghost use Rattle.am_merge.specs.Shelves.{versions, HasRooms, HasRoomOver, IsSame, IsShelf, IsAbsent, IsBucketIndex, IsExpiryIndex, IsKeySpot, IsGapSpot, IsSlotAt, IsWithout, HasSlot};
+ghost use Rattle.am_merge.specs.Shelves.{versions, HasRooms, HasRoomOver, IsSame, IsShelf, IsAbsent, IsBucketIndex};
+ghost use Rattle.am_merge.specs.Shelves.{IsExpiryIndex, IsKeySpot, IsGapSpot, IsSlotAt, IsWithout, HasSlot};
 
 use crate::entry::{
     BucketEntry, BucketProbe, ExpiryEntry, ExpiryProbe, FrontHint, FrontProbe, KeyEntry, KeyProbe,

@@ -1,13 +1,17 @@
 -- What is written is read again. These are lemmas: they stand here, and not in proofs, since the laws of the messages are
 -- proved by them.
-use Rattle.std.proofs.Common.{◌≡◌, ℕ, ◌^◌, ◌<◌, Bool, true, false, not, cond, eqb, List, [], ◌∷◌, length, Option, Some, Result, Ok, refl, ap, ◌∙◌, arith}
+use Rattle.std.proofs.Common.{◌≡◌, ℕ, ◌^◌, ◌<◌, Bool, true, false, not, cond, eqb, List, [], ◌∷◌, length, Option, Some}
+use Rattle.std.proofs.Common.{Result, Ok, refl, ap, ◌∙◌, arith}
 use Rattle.am_version_order.specs.Versions.{Version}
 use Rattle.am_wire.specs.declared.error.WireError.{WireError}
 use Rattle.am_wire.specs.declared.error.WireError.TheVariants as errors
 use Rattle.am_wire.specs.Fields.{FieldAt}
-use Rattle.am_wire.specs.Reading.{Row, varint_row, text_row, blob_row, part_row, numbers_row, last_number, last_text, last_place, all_numbers, merged, is_given, ◌then◌}
+use Rattle.am_wire.specs.Reading.{Row, varint_row, text_row, blob_row, part_row, numbers_row, last_number, last_text}
+use Rattle.am_wire.specs.Reading.{last_place, all_numbers, merged, is_given, ◌then◌}
 use Rattle.am_wire.specs.Timestamps.{timestamp, low_half, moment_test}
-use Rattle.am_wire.specs.Again.Written.{Means, ReadsAs, read_by-reads, written_nothing, written_number, written_text, written_blob, written_numbers, written_part, number_again, text_again, numbers_again, given_again, part_again, reads_whole}
+use Rattle.am_wire.specs.Again.Written.{Means, ReadsAs, read_by-reads, written_nothing, written_number, written_text}
+use Rattle.am_wire.specs.Again.Written.{written_blob, written_numbers, written_part, number_again, text_again}
+use Rattle.am_wire.specs.Again.Written.{numbers_again, given_again, part_again, reads_whole}
 use Rattle.am_wire.specs.Again.Moments.{MeansMoment, moment_reads, moment_part_again}
 use Rattle.am_nflog.specs.declared.receiver.Receiver.{Receiver}
 use Rattle.am_nflog.specs.declared.entry.Entry.{Entry}
@@ -18,7 +22,8 @@ use Rattle.am_nflog.specs.Mesh.{Mesh, IsMesh, mesh_version, writes_mesh_entry}
 use Rattle.am_nflog.specs.MeshTable.{mesh_entry, mesh_entry_tests, mesh_entry_value, reads_mesh_entry}
 
 -- ---- receivers
-receiver_reads : (r : Receiver) → IsReceiver r → length (writes_receiver r) < 2 ^ 64 → ReadsAs receiver receiver_tests receiver_value (writes_receiver r) r
+receiver_reads : (r : Receiver) → IsReceiver r → length (writes_receiver r) < 2 ^ 64
+    → ReadsAs receiver receiver_tests receiver_value (writes_receiver r) r
 unfolding writes_receiver
 receiver_reads r is small =
     let low = is.idx in
@@ -28,7 +33,8 @@ receiver_reads r is small =
     let all = written_number two 3 r.idx (omega arith) refl refl in
     reads_whole all small (λ at. whole low (text_again all at 1 refl) (text_again all at 2 refl) (number_again all at 3 refl))
   where
-    whole : {es : List FieldAt} → r.idx < 2 ^ 32 → last_text 1 es ≡ r.group_name → last_text 2 es ≡ r.integration → last_number 3 es ≡ r.idx → Means receiver_tests receiver_value es r
+    whole : {es : List FieldAt} → r.idx < 2 ^ 32 → last_text 1 es ≡ r.group_name → last_text 2 es ≡ r.integration
+        → last_number 3 es ≡ r.idx → Means receiver_tests receiver_value es r
     whole {es} low name integration number =
         let idx : low_half (last_number 3 es) ≡ r.idx = ap low_half number ∙ (omega arith) in
         record {
@@ -36,7 +42,8 @@ receiver_reads r is small =
           value_is = λ i. record { group_name = name i; integration = integration i; idx = idx i };
         }
 
-pub receiver_again : (r : Receiver) (at : ℕ) → IsReceiver r → length (writes_receiver r) < 2 ^ 64 → reads_receiver at (writes_receiver r) ≡ Ok r
+pub receiver_again : (r : Receiver) (at : ℕ) → IsReceiver r → length (writes_receiver r) < 2 ^ 64
+    → reads_receiver at (writes_receiver r) ≡ Ok r
 unfolding reads_receiver
 receiver_again r at is small = read_by-reads (receiver_reads r is small) at at
 
@@ -64,11 +71,13 @@ entry_reads e is small =
     let six = written_numbers five 6 e.firing_alerts is.firing_alerts refl refl in
     let all = written_numbers six 7 e.resolved_alerts is.resolved_alerts refl refl in
     reads_whole all small (λ at.
-    whole (text_again all at 1 refl) (given_again all at 2 refl) (part_again all at 2 small (receiver_reads e.key.receiver is.receiver) refl)
+    whole (text_again all at 1 refl) (given_again all at 2 refl)
+    (part_again all at 2 small (receiver_reads e.key.receiver is.receiver) refl)
     (text_again all at 3 refl) (number_again all at 4 refl) (moment_part_again all at 5 small is.timestamp refl)
     (numbers_again all at 6 e.firing_alerts is.firing_alerts refl) (numbers_again all at 7 e.resolved_alerts is.resolved_alerts refl))
   where
-    whole : {es : List FieldAt} → last_text 1 es ≡ e.key.group_key → is_given 2 es ≡ true → Means receiver_tests receiver_value (merged receiver 2 es) e.key.receiver
+    whole : {es : List FieldAt} → last_text 1 es ≡ e.key.group_key → is_given 2 es ≡ true
+        → Means receiver_tests receiver_value (merged receiver 2 es) e.key.receiver
         → last_text 3 es ≡ e.group_hash → last_number 4 es ≡ cond e.resolved 1 0 → MeansMoment 5 es e.timestamp
         → all_numbers 6 es ≡ e.firing_alerts → all_numbers 7 es ≡ e.resolved_alerts → Means entry_tests entry_value es e
     whole {es} group_key given inner hash flag made firing resolved_alerts =
@@ -90,18 +99,22 @@ unfolding reads_entry
 entry_again e at is small = read_by-reads (entry_reads e is small) at at
 
 -- ---- entries that are passed on
-mesh_reads : (m : Mesh) → IsMesh m → length (writes_mesh_entry m) < 2 ^ 64 → ReadsAs mesh_entry mesh_entry_tests mesh_entry_value (writes_mesh_entry m) m
+mesh_reads : (m : Mesh) → IsMesh m → length (writes_mesh_entry m) < 2 ^ 64
+    → ReadsAs mesh_entry mesh_entry_tests mesh_entry_value (writes_mesh_entry m) m
 unfolding writes_mesh_entry
 mesh_reads m is small =
     let start = written_nothing (part_row 1 entry ∷ part_row 2 timestamp ∷ []) in
     let one = written_part start 1 (entry_reads m.entry is.entry) refl refl in
     let all = written_part one 2 (moment_reads m.expires_at is.expires_at) refl refl in
-    reads_whole all small (λ at. whole (given_again all at 1 refl) (part_again all at 1 small (entry_reads m.entry is.entry) refl) (moment_part_again all at 2 small is.expires_at refl))
+    reads_whole all small (λ at. whole (given_again all at 1 refl) (part_again all at 1 small (entry_reads m.entry is.entry) refl)
+    (moment_part_again all at 2 small is.expires_at refl))
   where
-    whole : {es : List FieldAt} → is_given 1 es ≡ true → Means entry_tests entry_value (merged entry 1 es) m.entry → MeansMoment 2 es m.expires_at → Means mesh_entry_tests mesh_entry_value es m
+    whole : {es : List FieldAt} → is_given 1 es ≡ true → Means entry_tests entry_value (merged entry 1 es) m.entry
+        → MeansMoment 2 es m.expires_at → Means mesh_entry_tests mesh_entry_value es m
     whole {es} given inner expires = record {
       passes = λ place.
-          ap (λ (b : Bool). cond b (entry_tests (last_place 1 es) (merged entry 1 es) then moment_test 2 es) (Some (errors.MissingMessage 1))) given
+          ap (λ (b : Bool). cond b (entry_tests (last_place 1 es) (merged entry 1 es) then moment_test 2 es)
+          (Some (errors.MissingMessage 1))) given
           ∙ ap (λ (f : Option WireError). f then moment_test 2 es) (inner.passes (last_place 1 es)) ∙ expires.passes;
       value_is = λ i. record { entry = inner.value_is i; expires_at = expires.value_is i };
     }

@@ -44,7 +44,8 @@ reads_entry at bytes = read_by entry entry_tests entry_value at at bytes
 unfoldable pub writes_entry : Entry → List ℕ
 writes_entry e =
     writes_text 1 e.key.group_key ++ writes_delimited 2 (writes_receiver e.key.receiver) ++ writes_text 3 e.group_hash
-    ++ writes_number 4 (if e.resolved then 1 else 0) ++ writes_delimited 5 (writes_moment e.timestamp) ++ writes_numbers 6 e.firing_alerts ++ writes_numbers 7 e.resolved_alerts
+    ++ writes_number 4 (if e.resolved then 1 else 0) ++ writes_delimited 5 (writes_moment e.timestamp)
+    ++ writes_numbers 6 e.firing_alerts ++ writes_numbers 7 e.resolved_alerts
 
 -- the values of an entry
 pub record IsEntry (e : Entry) : Type 0 where

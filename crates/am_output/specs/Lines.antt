@@ -62,7 +62,8 @@ line_text (lines.Posted name id) = word_of name.now ++ codes " posted " ++ word_
 line_text (lines.Expired name id) = word_of name.now ++ codes " expired " ++ word_of id.now
 line_text (lines.Logged name changed) = word_of name.now ++ codes " logged " ++ yes_or_no changed
 line_text (lines.Decided name decision) = word_of name.now ++ codes " decide " ++ decision_word decision
-line_text (lines.Muted name ids broken) = word_of name.now ++ codes " mutes " ++ texts_word ids.now ++ codes " broken " ++ texts_word broken.now
+line_text (lines.Muted name ids broken) = word_of name.now ++ codes " mutes " ++ texts_word ids.now ++ codes " broken "
+    ++ texts_word broken.now
 line_text lines.Settled = codes "settled"
 line_text (lines.Timely is_timely) = codes "timely " ++ yes_or_no is_timely
 line_text (lines.Frame number sender addressee kind) =

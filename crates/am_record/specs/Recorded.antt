@@ -51,7 +51,8 @@ module _ {X : Type 0} (pick : List Delivery → List X) where
 
   -- what a frame brings comes from where the source says, and all else is made by the step
   abbrev pub HasSource : {K : Type 0} → (X → Version K) → (K → K → Ordering) → ℕ → List (Step X) → ℕ → Event → Source → Type 0
-  HasSource seen cmp members before now (events.Frame sender frame) source = AreFrom seen cmp members before now source (pick (carries frame))
+  HasSource seen cmp members before now (events.Frame sender frame) source =
+      AreFrom seen cmp members before now source (pick (carries frame))
   HasSource seen cmp members before now _ source = source ≡ Made
 
 -- all frames that a step sent are in flight after it, or none

@@ -15,7 +15,8 @@ ghost use Rattle.am_record.specs.Recorded.{AreValues};
 
 /// No row of a frame that a step sent is at fault, and each frame goes to a peer.
 pub fn sent_frames_are_sound()
-    ensures sound { (old new : Stand) (event : Event) (now : ℕ) (outcome : Outcome) → IsStep old event now (Ok outcome) new → AreValues event outcome new →
+    ensures sound { (old new : Stand) (event : Event) (now : ℕ) (outcome : Outcome) → IsStep old event now (Ok outcome) new →
+        AreValues event outcome new →
         All (λ frame. first_fault (rows_in (parts_of frame.1)) ≡ None) outcome.frames.items }
     ensures addressed { (old new : Stand) (event : Event) (now : ℕ) (outcome : Outcome) → IsStep old event now (Ok outcome) new →
         All (λ frame. is_peer old.config frame.0 ≡ true) outcome.frames.items }
@@ -23,13 +24,18 @@ pub fn sent_frames_are_sound()
 
 /// An event that collects sends no frame, and leaves none out.
 pub fn collecting_leaves_nothing_out()
-    ensures frames { (old new : Stand) (event : Event) (now : ℕ) (outcome : Outcome) → collects event ≡ true → IsStep old event now (Ok outcome) new → outcome.frames.items ≡ [] }
-    ensures memory { (old new : Stand) (event : Event) (now : ℕ) (outcome : Outcome) → collects event ≡ true → IsStep old event now (Ok outcome) new → outcome.unsent.memory ≡ 0 }
-    ensures limit { (old new : Stand) (event : Event) (now : ℕ) (outcome : Outcome) → collects event ≡ true → IsStep old event now (Ok outcome) new → outcome.unsent.limit ≡ 0 }
+    ensures frames { (old new : Stand) (event : Event) (now : ℕ) (outcome : Outcome) → collects event ≡ true →
+        IsStep old event now (Ok outcome) new → outcome.frames.items ≡ [] }
+    ensures memory { (old new : Stand) (event : Event) (now : ℕ) (outcome : Outcome) → collects event ≡ true →
+        IsStep old event now (Ok outcome) new → outcome.unsent.memory ≡ 0 }
+    ensures limit { (old new : Stand) (event : Event) (now : ℕ) (outcome : Outcome) → collects event ≡ true →
+        IsStep old event now (Ok outcome) new → outcome.unsent.limit ≡ 0 }
 {}
 
 /// A step makes two silences at most, and one that takes a frame makes nothing.
 pub fn few_are_made()
-    ensures silences { (old new : Stand) (event : Event) (now : ℕ) (outcome : Outcome) → IsStep old event now (Ok outcome) new → length outcome.made.silences.items ≤ 2 }
-    ensures arrivals { (old new : Stand) (sender : ℕ) (frame : Frame) (now : ℕ) (outcome : Outcome) → IsStep old (events.Frame sender frame) now (Ok outcome) new → IsNothing outcome.made }
+    ensures silences { (old new : Stand) (event : Event) (now : ℕ) (outcome : Outcome) → IsStep old event now (Ok outcome) new →
+        length outcome.made.silences.items ≤ 2 }
+    ensures arrivals { (old new : Stand) (sender : ℕ) (frame : Frame) (now : ℕ) (outcome : Outcome) →
+        IsStep old (events.Frame sender frame) now (Ok outcome) new → IsNothing outcome.made }
 {}

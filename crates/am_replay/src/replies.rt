@@ -3,7 +3,8 @@
 ghost use Rattle.std.specs.Prelude.{◌≡◌, ◌++◌, OnOk, string_bytes};
 ghost use Rattle.std.specs.Option.{option_copied};
 ghost use Rattle.am_replay.specs.Members.{stand_named};
-ghost use Rattle.am_replay.specs.Texts.{Prints, answer_text, ended_text, muted_text, owner_of, refused_text, reply_text, shown_text, step_refusal};
+ghost use Rattle.am_replay.specs.Texts.{Prints, answer_text, ended_text, muted_text, owner_of, refused_text};
+ghost use Rattle.am_replay.specs.Texts.{reply_text, shown_text, step_refusal};
 
 use crate::members::member_named;
 use crate::output::{tell, tell_refusal};

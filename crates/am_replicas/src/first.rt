@@ -29,7 +29,8 @@ use am_version_order::Version;
 /// A calm member, asked at a moment from its last one on, says that a group is notified for the first time exactly where
 /// something fires, and of all entries of the group that were delivered to it none is best and live.
 pub fn first_is_told_exactly(cluster: &Cluster)
-    ensures { (place now : ℕ) (asked : Asked) (reply : Reply) (made : Made) → OfMember cluster.now place (λ replica. IsCalmBy cluster.now place replica now →
+    ensures { (place now : ℕ) (asked : Asked) (reply : Reply) (made : Made) →
+        OfMember cluster.now place (λ replica. IsCalmBy cluster.now place replica now →
         IsReply replica.stand (asks asked) now reply made →
         (reply ≡ is_first) ↔ ((something_fires asked ≡ true)
         × ((v : LogMesh) → IsInView entry_version (entries_taken cluster.now place) now v → (entry_version v).key ≢ key_of asked))) }

@@ -91,7 +91,8 @@ pub fn members_with_equal_sets_mute_alike(
     other: &Cluster,
     peer: Place,
 )
-    ensures { (now : ℕ) (labels : List Label) (ids broken others broken_too : List (List ℕ)) → OfMember cluster.now place (λ one. OfMember other.now peer (λ two.
+    ensures { (now : ℕ) (labels : List Label) (ids broken others broken_too : List (List ℕ)) →
+        OfMember cluster.now place (λ one. OfMember other.now peer (λ two.
         IsCalmBy cluster.now place one now → IsCalmBy other.now peer two now →
         HaveSame (silences_taken cluster.now place) (silences_taken other.now peer) → All IsMesh (silences_taken cluster.now place) →
         HaveSame (entries_taken cluster.now place) (entries_taken other.now peer) → All IsLogMesh (entries_taken cluster.now place) →

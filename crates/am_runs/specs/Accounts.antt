@@ -12,7 +12,8 @@ use Rattle.am_runs.specs.Steps.{Step}
 
 -- the steps are a run, the greatest versions taken in them stand where the rows say, what stands of each member is so
 -- after them, and for so many more versions there is room
-pub record IsAccount {K X : Type 0} (seen : X → Version K) (cmp : K → K → Ordering) (members : ℕ) (steps : List (Step X)) (peaks : Peaks) (standings : List Standing) (spare : ℕ) : Type 0 where
+pub record IsAccount {K X : Type 0} (seen : X → Version K) (cmp : K → K
+    → Ordering) (members : ℕ) (steps : List (Step X)) (peaks : Peaks) (standings : List Standing) (spare : ℕ) : Type 0 where
   pub run : IsRun seen cmp members steps
   pub rows : ArePeaks seen cmp (version_at steps) peaks (tops_in seen cmp steps)
   pub stands : AreStandings seen cmp standings steps

@@ -1,6 +1,7 @@
 -- Where the greatest versions stand that members took: a row for each member and each key of which it took one.
 -- X is the type of versions, and `seen` is what the merge sees of one.
-use Rattle.std.specs.Prelude.{◌≡◌, ℕ, ◌+◌, ◌<◌, ◌≤◌, List, [], ◌∷◌, ◌==◌, Option, Some, None, IsSome, length, slice_get, if◌then◌else◌, vec_capacity}
+use Rattle.std.specs.Prelude.{◌≡◌, ℕ, ◌+◌, ◌<◌, ◌≤◌, List, [], ◌∷◌, ◌==◌, Option, Some, None, IsSome, length, slice_get}
+use Rattle.std.specs.Prelude.{if◌then◌else◌, vec_capacity}
 use Rattle.std.specs.Option.{option_map}
 use Rattle.std.specs.declared.cmp.Ordering.{Ordering}
 use Rattle.std.specs.declared.cmp.Ordering.TheVariants.{Less}
@@ -50,7 +51,8 @@ started_peak peak = record { top = peak.saved; saved = peak.saved }
 -- the peaks of one member are made anew, and no others
 pub record IsRemade (made : Peak → Peak) (heads : List Head) (member : ℕ) (old new : List Peak) : Type 0 where
   pub long : length new ≡ length old
-  pub own : (row : ℕ) (head : Head) (peak : Peak) → slice_get heads row ≡ Some head → slice_get old row ≡ Some peak → slice_get new row ≡ Some (if head.member == member then made peak else peak)
+  pub own : (row : ℕ) (head : Head) (peak : Peak) → slice_get heads row ≡ Some head → slice_get old row ≡ Some peak
+      → slice_get new row ≡ Some (if head.member == member then made peak else peak)
 
 module _ {X : Type 0} (at_place : Place → Option X) where
   -- the version at a place, if there is a place
@@ -108,8 +110,10 @@ module _ {K X : Type 0} (seen : X → Version K) where
       pub order : IsOrder at_place peaks.heads.items (entries peaks.order)
       pub long : length peaks.peaks.items ≡ length peaks.heads.items
       pub there : (row : ℕ) → row < length peaks.heads.items → IsSome (owner_at at_place peaks.heads.items row)
-      pub own : (row member : ℕ) (v : X) (peak : Peak) → owner_at at_place peaks.heads.items row ≡ Some (member, v) → slice_get peaks.peaks.items row ≡ Some peak → IsPeak at_place peak (tops_of member (seen v).key)
-      pub others : (member : ℕ) (key : K) → ((row : ℕ) → ¬ IsRowOf at_place peaks.heads.items key member row) → tops_of member key ≡ record { top = None; saved = None }
+      pub own : (row member : ℕ) (v : X) (peak : Peak) → owner_at at_place peaks.heads.items row ≡ Some (member, v)
+          → slice_get peaks.peaks.items row ≡ Some peak → IsPeak at_place peak (tops_of member (seen v).key)
+      pub others : (member : ℕ) (key : K) → ((row : ℕ) → ¬ IsRowOf at_place peaks.heads.items key member row)
+          → tops_of member key ≡ record { top = None; saved = None }
 
     -- they are those of some greatest versions
     pub record HasPeaks (at_place : Place → Option X) (peaks : Peaks) : Type 0 where
@@ -123,9 +127,12 @@ module _ {K X : Type 0} (seen : X → Version K) where
     -- what the greatest versions taken are once a member took more
     abbrev pub raised_all : (ℕ → K → Tops X) → ℕ → List X → ℕ → K → Tops X
     raised_all tops_of member versions q key =
-        if member == q then record { top = top_among seen cmp key (tops_of q key).top versions; saved = (tops_of q key).saved } else tops_of q key
+        if member == q then record { top = top_among seen cmp key (tops_of q key).top versions; saved = (tops_of q key).saved }
+        else tops_of q key
 
     -- what the greatest versions taken are once a member took one more
     abbrev pub raised : (ℕ → K → Tops X) → ℕ → X → ℕ → K → Tops X
     raised tops_of member v q key =
-        if member == q then record { top = greater_of seen (tops_of q key).top (at seen cmp (v ∷ []) key); saved = (tops_of q key).saved } else tops_of q key
+        if member == q
+        then record { top = greater_of seen (tops_of q key).top (at seen cmp (v ∷ []) key); saved = (tops_of q key).saved }
+        else tops_of q key

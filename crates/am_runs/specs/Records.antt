@@ -1,7 +1,9 @@
 -- A run as contracts see it.
 use Rattle.std.specs.Prelude.{ℕ, List, map}
 use Rattle.am_runs.specs.declared.step.Step.{Step as Kept}
-use Rattle.am_runs.specs.declared.step.Step.TheVariants.{Took as KeptTook, Ticked as KeptTicked, Back as KeptBack, Refused as KeptRefused, Saved as KeptSaved, Stopped as KeptStopped, Started as KeptStarted}
+use Rattle.am_runs.specs.declared.step.Step.TheVariants.{Took as KeptTook, Ticked as KeptTicked, Back as KeptBack}
+use Rattle.am_runs.specs.declared.step.Step.TheVariants.{Refused as KeptRefused, Saved as KeptSaved}
+use Rattle.am_runs.specs.declared.step.Step.TheVariants.{Stopped as KeptStopped, Started as KeptStarted}
 use Rattle.std.specs.Option.{option_copied}
 use Rattle.am_runs.specs.declared.calm.Lasts.{Lasts as KeptLasts}
 use Rattle.am_runs.specs.declared.calm.Tops.{Tops as KeptTops}

@@ -1,6 +1,7 @@
 -- Which lists of steps are runs of a cluster, and where such a run is calm.
 -- X is the type of versions, and `seen` is what the merge sees of one.
-use Rattle.std.specs.Prelude.{◌≡◌, ◌⊎◌, ◌++◌, ℕ, ◌<◌, ◌≤◌, List, [], ◌∷◌, true, false, ◌&&◌, Option, Some, if◌then◌else◌, slice_get, IsSomeAnd, All, Contains}
+use Rattle.std.specs.Prelude.{◌≡◌, ◌⊎◌, ◌++◌, ℕ, ◌<◌, ◌≤◌, List, [], ◌∷◌, true, false, ◌&&◌, Option, Some}
+use Rattle.std.specs.Prelude.{if◌then◌else◌, slice_get, IsSomeAnd, All, Contains}
 use Rattle.std.specs.declared.cmp.Ordering.{Ordering}
 use Rattle.am_version_order.specs.Versions.{Version, is_live}
 use Rattle.am_merge.specs.Maps.{is_above}
@@ -14,17 +15,20 @@ use Rattle.am_runs.specs.Steps.Step.{Took, Ticked, Back, Refused, Saved, Stopped
 use Rattle.am_runs.specs.Members.{passes, member_of, last_of, map_of}
 
 module _ {K X : Type 0} (seen : X → Version K) (cmp : K → K → Ordering) where
-  -- of versions taken one after the other, those whose taking is answered Changed: live, and greater than what is held or the first of their key
+  -- of versions taken one after the other, those whose taking is answered Changed: live, and greater than what is
+  -- held or the first of their key
   abbrev pub changed : ℕ → (K → Option X) → List X → List X
   changed now held [] = []
-  changed now held (v ∷ vs) = (if is_live now (seen v) && is_above seen (held (seen v).key) v then v ∷ [] else []) ++ changed now (after seen cmp held (Delivered v) now) vs
+  changed now held (v ∷ vs) = (if is_live now (seen v) && is_above seen (held (seen v).key) v then v ∷ [] else [])
+      ++ changed now (after seen cmp held (Delivered v) now) vs
 
   -- the versions come from where the source says: they were made now; or they were written in a frame that counts as sent no later
   -- than any of them was made; or they stand in the frame of that number; or a member that runs lent them from its map
   abbrev pub AreFrom : ℕ → List (Step X) → ℕ → Source → List X → Type 0
   AreFrom members before now Made versions = All (λ v. (seen v).updated ≡ now) versions
   AreFrom members before now (Written sent) versions = All (λ v. sent ≤ (seen v).updated) versions
-  AreFrom members before now (Arrived number) versions = IsSomeAnd (slice_get (flights_of before) number) (λ flight. All (Contains flight.versions) versions)
+  AreFrom members before now (Arrived number) versions =
+      IsSomeAnd (slice_get (flights_of before) number) (λ flight. All (Contains flight.versions) versions)
   AreFrom members before now (Lent place) versions =
       ((member_of members place before).runs ≡ true)
       × All (λ v. map_of seen cmp (member_of members place before).past (seen v).key ≡ Some v) versions
@@ -33,7 +37,8 @@ module _ {K X : Type 0} (seen : X → Version K) (cmp : K → K → Ordering) wh
   abbrev pub IsSent : ℕ → List (Step X) → ℕ → ℕ → List X → List X → Type 0
   IsSent members before place now versions frame =
       let past = (member_of members place before).past in
-      All (λ v. (Contains (changed now (map_of seen cmp past) versions) v) ⊎ (map_of seen cmp (past ++ passes now versions) (seen v).key ≡ Some v)) frame
+      All (λ v. (Contains (changed now (map_of seen cmp past) versions) v)
+      ⊎ (map_of seen cmp (past ++ passes now versions) (seen v).key ≡ Some v)) frame
 
   -- a member runs, and the moment isn't before its last one
   pub record CanAct (members : ℕ) (before : List (Step X)) (place now : ℕ) : Type 0 where
@@ -41,7 +46,8 @@ module _ {K X : Type 0} (seen : X → Version K) (cmp : K → K → Ordering) wh
     pub forward : last_of (member_of members place before) ≤ now
 
   -- an event can have delivered and sent this
-  pub record CanTake (members : ℕ) (before : List (Step X)) (place now : ℕ) (source : Source) (versions : List X) (frames : List (List X)) : Type 0 where
+  pub record CanTake (members : ℕ) (before : List (Step X)) (place now : ℕ) (source : Source) (versions : List X)
+      (frames : List (List X)) : Type 0 where
     pub acts : CanAct members before place now
     pub from : AreFrom members before now source versions
     pub sent : All (IsSent members before place now versions) frames

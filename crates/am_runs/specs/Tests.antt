@@ -1,6 +1,7 @@
 -- The questions about a run, as tests that go over its steps.
 -- X is the type of versions, and `seen` is what the merge sees of one.
-use Rattle.std.specs.Prelude.{◌≡◌, ℕ, ◌+◌, ◌-◌, ◌<◌, ◌≤◌, All, length, List, [], ◌∷◌, Bool, true, false, not, ◌&&◌, ◌||◌, ◌==◌, max, Option, Some, None, if◌then◌else◌, nat_lt, nat_le}
+use Rattle.std.specs.Prelude.{◌≡◌, ℕ, ◌+◌, ◌-◌, ◌<◌, ◌≤◌, All, length, List, [], ◌∷◌, Bool, true, false, not, ◌&&◌}
+use Rattle.std.specs.Prelude.{◌||◌, ◌==◌, max, Option, Some, None, if◌then◌else◌, nat_lt, nat_le}
 use Rattle.std.specs.List.{list_all, list_any}
 use Rattle.std.specs.declared.cmp.Ordering.{Ordering}
 use Rattle.std.specs.Ordering.{eq_by_cmp}
@@ -135,7 +136,8 @@ module _ {K X : Type 0} (seen : X → Version K) (cmp : K → K → Ordering) wh
 
   -- with this step a member that was calm stays so
   abbrev pub StaysCalm : ℕ → List (Step X) → Step X → Type 0
-  StaysCalm q before (Took place now source versions frames) = (place == q) ≡ true → EachStep versions (λ done v. comes_in_time q before now done v ≡ true)
+  StaysCalm q before (Took place now source versions frames) =
+      (place == q) ≡ true → EachStep versions (λ done v. comes_in_time q before now done v ≡ true)
   StaysCalm q before (Ticked place now) = Unit {0}
   StaysCalm q before (Back place now) = (place == q) ≡ false
   StaysCalm q before (Refused now) = Unit {0}
@@ -158,7 +160,8 @@ are_onward clock (step ∷ steps) = is_onward clock (moment step) && are_onward 
 -- when the frame of this number was sent
 abbrev pub sent_in : {X : Type 0} → ℕ → List (Step X) → Option ℕ
 sent_in number [] = None
-sent_in number (step ∷ steps) = if nat_lt number (length (flights_by step)) then moment step else sent_in (number - length (flights_by step)) steps
+sent_in number (step ∷ steps) = if nat_lt number (length (flights_by step)) then moment step
+    else sent_in (number - length (flights_by step)) steps
 
 -- a delivery at now of what was sent then
 abbrev pub flies_short : ℕ → ℕ → Option ℕ → Bool
@@ -216,7 +219,8 @@ module _ {K X : Type 0} (seen : X → Version K) (cmp : K → K → Ordering) wh
 
   -- all three with a step of the member itself
   abbrev pub watched : X → Watched → Step X → Watched
-  watched v w (Took place now source versions frames) = record { runs = w.runs; has = w.has || list_any (counts_for v) versions; saved = w.saved }
+  watched v w (Took place now source versions frames) =
+      record { runs = w.runs; has = w.has || list_any (counts_for v) versions; saved = w.saved }
   watched v w (Ticked place now) = w
   watched v w (Back place now) = w
   watched v w (Refused now) = w
@@ -231,11 +235,13 @@ module _ {K X : Type 0} (seen : X → Version K) (cmp : K → K → Ordering) wh
   -- at no step that begins when a version should have come does the member run without it
   abbrev pub comes : ℕ → ℕ → X → Watched → List (Step X) → Bool
   comes spread q v w [] = true
-  comes spread q v w (step ∷ steps) = not (is_wanting ((seen v).updated + spread) w (moment step)) && comes spread q v (watch_after q v w step) steps
+  comes spread q v w (step ∷ steps) = not (is_wanting ((seen v).updated + spread) w (moment step))
+      && comes spread q v (watch_after q v w step) steps
 
   -- a step brings a member a version, or a greater one of its key, before that should have come
   abbrev pub brings : ℕ → ℕ → X → Step X → Bool
-  brings spread q v (Took place now source versions frames) = place == q && (not (nat_le ((seen v).updated + spread) now) && list_any (counts_for v) versions)
+  brings spread q v (Took place now source versions frames) = place ==
+      q && (not (nat_le ((seen v).updated + spread) now) && list_any (counts_for v) versions)
   brings spread q v (Ticked place now) = false
   brings spread q v (Back place now) = false
   brings spread q v (Refused now) = false
@@ -245,7 +251,8 @@ module _ {K X : Type 0} (seen : X → Version K) (cmp : K → K → Ordering) wh
 
   -- it comes to each of so many members
   abbrev pub ComesToAll : ℕ → ℕ → List (Step X) → X → Type 0
-  ComesToAll spread members steps v = (q : ℕ) → q < members → comes spread q v (record { runs = true; has = false; saved = false }) steps ≡ true
+  ComesToAll spread members steps v = (q : ℕ) → q < members
+      → comes spread q v (record { runs = true; has = false; saved = false }) steps ≡ true
 
   -- each test of a timely run answers yes
   pub record PassesAll (spread flight members : ℕ) (steps : List (Step X)) : Type 0 where

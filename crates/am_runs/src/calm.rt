@@ -7,7 +7,8 @@ ghost use Rattle.am_version_order.specs.Versions.{is_below};
 ghost use Rattle.am_merge.specs.Maps.{greater_of, at};
 ghost use Rattle.am_runs.specs.Records.{step_of, lasts_seen, tops_seen};
 ghost use Rattle.am_runs.specs.Steps.{EachStep, IsFirstWithout};
-ghost use Rattle.am_runs.specs.Tests.{has_reached, in_time, later, lasts_after, lasts_from, top_among, top_in, tops_after, tops_from, last_in, comes_in_time, StaysCalm};
+ghost use Rattle.am_runs.specs.Tests.{has_reached, in_time, later, lasts_after, lasts_from, top_among, top_in};
+ghost use Rattle.am_runs.specs.Tests.{tops_after, tops_from, last_in, comes_in_time, StaysCalm};
 
 use crate::step::Step;
 use am_version_order::{Moment, Version};

@@ -23,7 +23,8 @@ fn follow<V: Version>(
     step: &Step<V>,
 ) -> bool
     requires parts { steps.now ≡ before.now ++ step.now ∷ [] }
-    requires peaks { ArePeaks V.seen V.Key.cmp (version_at (map step_of steps.now)) peaks.old (tops_in V.seen V.Key.cmp (map step_of before.now)) }
+    requires peaks { ArePeaks V.seen V.Key.cmp (version_at (map step_of steps.now)) peaks.old
+        (tops_in V.seen V.Key.cmp (map step_of before.now)) }
     requires standings { AreStandings V.seen V.Key.cmp standings.now (map step_of before.now) }
     requires room { HasRowRoom peaks.old (length (delivered_by (step_of step.now))) }
     ensures stays { (q : ℕ) → is_at q (step_of step.now) ≡ true
@@ -77,10 +78,13 @@ pub fn write_down<V: Version>(
     number: usize,
 )
     requires long { length steps.now ≡ number + 1 }
-    requires peaks { ArePeaks V.seen V.Key.cmp (version_at (map step_of steps.now)) peaks.old (tops_in V.seen V.Key.cmp (map step_of (take number steps.now))) }
+    requires peaks { ArePeaks V.seen V.Key.cmp (version_at (map step_of steps.now)) peaks.old
+        (tops_in V.seen V.Key.cmp (map step_of (take number steps.now))) }
     requires standings { AreStandings V.seen V.Key.cmp standings.old.items (map step_of (take number steps.now)) }
-    requires room { (step : Step V) → steps.now ≡ take number steps.now ++ step ∷ [] → HasRowRoom peaks.old (length (delivered_by (step_of step))) }
-    ensures peaks { ArePeaks V.seen V.Key.cmp (version_at (map step_of steps.now)) peaks.new (tops_in V.seen V.Key.cmp (map step_of steps.now)) }
+    requires room { (step : Step V) → steps.now ≡ take number steps.now ++ step ∷ [] →
+        HasRowRoom peaks.old (length (delivered_by (step_of step))) }
+    ensures peaks { ArePeaks V.seen V.Key.cmp (version_at (map step_of steps.now)) peaks.new
+        (tops_in V.seen V.Key.cmp (map step_of steps.now)) }
     ensures standings { AreStandings V.seen V.Key.cmp standings.new.items (map step_of steps.now) }
     ensures room { (n : ℕ) (step : Step V) → steps.now ≡ take number steps.now ++ step ∷ [] →
         HasRowRoom peaks.old (n + length (delivered_by (step_of step))) → HasRowRoom peaks.new n }

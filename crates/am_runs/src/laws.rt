@@ -1,6 +1,7 @@
 //! What holds of runs.
 
-ghost use Rattle.std.specs.Prelude.{◌≡◌, ◌≢◌, ◌↔◌, ◌+◌, ◌<◌, ◌≤◌, ℕ, List, [], ◌∷◌, ◌++◌, true, false, Option, None, Some, All, Contains, IfSome};
+ghost use Rattle.std.specs.Prelude.{◌≡◌, ◌≢◌, ◌↔◌, ◌+◌, ◌<◌, ◌≤◌, ℕ, List, [], ◌∷◌, ◌++◌, true, false, Option, None};
+ghost use Rattle.std.specs.Prelude.{Some, All, Contains, IfSome};
 ghost use Rattle.am_version_order.specs.Versions.{is_below};
 ghost use Rattle.am_merge.specs.Maps.{IsMap, at, greater_of, if_live};
 ghost use Rattle.am_collect.specs.Events.{Events};

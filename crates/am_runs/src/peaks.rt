@@ -8,7 +8,9 @@ ghost use Rattle.am_merge.specs.Indexes.{filed};
 ghost use Rattle.am_merge.specs.Maps.{greater_of};
 ghost use Rattle.am_merge.specs.Places.{IsGapFor};
 ghost use Rattle.am_runs.specs.Records.{step_of};
-ghost use Rattle.am_runs.specs.Peaks.{version_at, row_of, owner_at, owner_cmp, owner_order, by_owner, HasRowRoom, IsPeak, IsRowOf, IsOrder, ArePeaks, HasPeaks, raised, raised_all, saved_peak, started_peak, IsRemade};
+ghost use Rattle.am_runs.specs.Peaks.{version_at, row_of, owner_at, owner_cmp, owner_order, by_owner, HasRowRoom};
+ghost use Rattle.am_runs.specs.Peaks.{IsPeak, IsRowOf, IsOrder, ArePeaks, HasPeaks, raised, raised_all, saved_peak};
+ghost use Rattle.am_runs.specs.Peaks.{started_peak, IsRemade};
 ghost use Rattle.am_runs.specs.Steps.{EachStep};
 ghost use Rattle.am_runs.specs.Tests.{Tops, top_among, in_time};
 
@@ -143,7 +145,8 @@ pub fn find<V: Version>(
     ensures absent { IfErr result (λ spot. IsGapFor (by_owner V.seen) (owner_cmp V.Key.cmp)
         (filed row_of (owner_at (version_at (map step_of steps.now)) peaks.now.heads.items) (entries peaks.now.order))
         (key.now, member) (place peaks.now.order spot)) }
-    ensures none { IfErr result (λ _. (row : ℕ) → ¬ IsRowOf V.seen (version_at (map step_of steps.now)) peaks.now.heads.items key.now member row) }
+    ensures none { IfErr result (λ _. (row : ℕ) →
+        ¬ IsRowOf V.seen (version_at (map step_of steps.now)) peaks.now.heads.items key.now member row) }
 {
     let probe = OwnerProbe {
         steps,
@@ -165,7 +168,8 @@ fn add<V: Version>(peaks: &mut Peaks, steps: &[Step<V>], spot: Spot, head: Head,
     requires absent { IsGapFor (by_owner V.seen) (owner_cmp V.Key.cmp)
         (filed row_of (owner_at (version_at (map step_of steps.now)) peaks.old.heads.items) (entries peaks.old.order))
         ((V.seen version.now).key, head.member) (place peaks.old.order spot) }
-    requires none { (row : ℕ) → ¬ IsRowOf V.seen (version_at (map step_of steps.now)) peaks.old.heads.items (V.seen version.now).key head.member row }
+    requires none { (row : ℕ) → ¬ IsRowOf V.seen (version_at (map step_of steps.now)) peaks.old.heads.items
+        (V.seen version.now).key head.member row }
     ensures peaks { (tops_of : ℕ → V.Key → Tops V) →
         ArePeaks V.seen V.Key.cmp (version_at (map step_of steps.now)) peaks.old tops_of →
         ArePeaks V.seen V.Key.cmp (version_at (map step_of steps.now)) peaks.new (raised V.seen V.Key.cmp tops_of head.member version.now) }
@@ -252,13 +256,15 @@ pub fn take_all<V: Version>(
     timing: &Timing,
     versions: &[V],
 ) -> bool
-    requires at { (number : ℕ) → version_at (map step_of steps.now) (record { step = step; number = number }) ≡ slice_get versions.now number }
+    requires at { (number : ℕ) → version_at (map step_of steps.now) (record { step = step; number = number })
+        ≡ slice_get versions.now number }
     requires peaks { HasPeaks V.seen V.Key.cmp (version_at (map step_of steps.now)) peaks.old }
     requires room { HasRowRoom peaks.old (length versions.now) }
     ensures calm { (tops_of : ℕ → V.Key → Tops V) →
         ArePeaks V.seen V.Key.cmp (version_at (map step_of steps.now)) peaks.old tops_of →
         IsTrue result ↔ EachStep versions.now (λ done v.
-        in_time V.seen (top_among V.seen V.Key.cmp (V.seen v).key (tops_of member (V.seen v).key).top done) timing.now.last timing.now.moment v ≡ true) }
+        in_time V.seen (top_among V.seen V.Key.cmp (V.seen v).key
+        (tops_of member (V.seen v).key).top done) timing.now.last timing.now.moment v ≡ true) }
     ensures peaks { (tops_of : ℕ → V.Key → Tops V) →
         ArePeaks V.seen V.Key.cmp (version_at (map step_of steps.now)) peaks.old tops_of →
         ArePeaks V.seen V.Key.cmp (version_at (map step_of steps.now)) peaks.new (raised_all V.seen V.Key.cmp tops_of member versions.now) }

@@ -49,7 +49,8 @@ impl<V: Version> Model for Run<V> {
       spare = run.spare;
     } };
 
-    ghost invariant = { λ run. IsAccount V.seen V.Key.cmp run.members (map step_of run.steps.items) run.peaks run.standings.items run.spare };
+    ghost invariant = { λ run. IsAccount V.seen V.Key.cmp run.members
+        (map step_of run.steps.items) run.peaks run.standings.items run.spare };
 }
 
 impl<V: Version> Run<V> {

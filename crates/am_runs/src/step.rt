@@ -78,7 +78,8 @@ impl<V> Step<V> {
 
     /// The place of the member that it is a step of.
     pub fn place(&self) -> Option<usize>
-        ensures { MatchOption result ((q : ℕ) → is_at q (step_of self.now) ≡ false) (λ place. (q : ℕ) → is_at q (step_of self.now) ≡ (place == q)) }
+        ensures { MatchOption result ((q : ℕ) → is_at q (step_of self.now) ≡ false) (λ place. (q : ℕ) →
+            is_at q (step_of self.now) ≡ (place == q)) }
     {
         match self {
             Step::Took { place, .. }

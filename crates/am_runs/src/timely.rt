@@ -4,7 +4,8 @@ ghost use Rattle.std.specs.Prelude.{◌≡◌, ◌+◌, ◌<◌, ◌≤◌, ◌�
 ghost use Rattle.std.specs.List.{list_all, list_any};
 ghost use Rattle.am_runs.specs.Records.{step_of, watch_seen};
 ghost use Rattle.am_runs.specs.Steps.{clock_after, delivered_by, delivered_in, moment};
-ghost use Rattle.am_runs.specs.Tests.{is_onward, are_onward, sent_in, sent_at, flies_short, is_swift, is_wanting, counts_for, watched, watch_after, comes, ComesToAll, PassesAll};
+ghost use Rattle.am_runs.specs.Tests.{is_onward, are_onward, sent_in, sent_at, flies_short, is_swift, is_wanting};
+ghost use Rattle.am_runs.specs.Tests.{counts_for, watched, watch_after, comes, ComesToAll, PassesAll};
 
 use crate::calm::{has_key, is_below};
 use crate::spans::{both_end_by, ends_by, is_within};

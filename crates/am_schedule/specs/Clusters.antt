@@ -1,5 +1,6 @@
 -- The cluster line: cluster RETENTION TIMEOUT NAME ..
-use Rattle.std.specs.Prelude.{ℕ, Bool, List, [], length, drop, Option, Some, None, Result, Ok, Err, nat_lt, nat_le, not, ◌&&◌, codes, if◌then◌else◌}
+use Rattle.std.specs.Prelude.{ℕ, Bool, List, [], length, drop, Option, Some, None, Result, Ok, Err, nat_lt, nat_le, not}
+use Rattle.std.specs.Prelude.{◌&&◌, codes, if◌then◌else◌}
 use Rattle.std.specs.List.{list_all}
 use Rattle.std.specs.Str.{bytes_eq}
 use Rattle.am_schedule.specs.declared.error.FaultKind.{FaultKind}
@@ -12,7 +13,8 @@ use Rattle.am_schedule.specs.Places.{read_at, has_word}
 
 -- a member's name has 1 to 255 bytes, and is no word that stands where a name could
 unfoldable pub is_name : List ℕ → Bool
-is_name word = (nat_lt 0 (length word) && nat_le (length word) 255) && (not (bytes_eq word (codes "deliver")) && not (bytes_eq word (codes "settle")))
+is_name word = (nat_lt 0 (length word) && nat_le (length word) 255)
+    && (not (bytes_eq word (codes "deliver")) && not (bytes_eq word (codes "settle")))
 
 -- distinct names
 unfoldable pub names_in : List (List ℕ) → Option (List (List ℕ))
@@ -33,4 +35,5 @@ cluster_parts words = do
 
 -- the cluster of a line
 unfoldable pub cluster_in : List (List ℕ) → Result ClusterLine FaultKind
-cluster_in words = if has_word 0 (codes "cluster") words && (nat_le 4 (length words) && nat_le (length words) 19) then cluster_parts words else Err Cluster
+cluster_in words = if has_word 0 (codes "cluster") words && (nat_le 4 (length words) && nat_le (length words) 19)
+    then cluster_parts words else Err Cluster

@@ -6,7 +6,8 @@ use Rattle.am_schedule.specs.declared.form.LineForm.TheVariants as lines
 use Rattle.am_schedule.specs.declared.form.Form.{Form}
 use Rattle.am_schedule.specs.declared.form.Form.TheVariants.{Cluster, Version, Other}
 use Rattle.am_schedule.specs.Places.{has_word}
-use Rattle.am_schedule.specs.Rows.{has_count, is_line, event_row, verb_word, all_verbs, silence_row, log_row, stop_row, save_row, lose_row, timely_row, frames_row}
+use Rattle.am_schedule.specs.Rows.{has_count, is_line, event_row, verb_word, all_verbs, silence_row, log_row, stop_row}
+use Rattle.am_schedule.specs.Rows.{save_row, lose_row, timely_row, frames_row}
 
 -- whether a line has a verb behind a member's name, and as many words as that wants
 abbrev pub has_verb : Verb → List (List ℕ) → Bool

@@ -1,5 +1,6 @@
 -- Lists as they are written in a schedule.
-use Rattle.std.specs.Prelude.{ℕ, Bool, true, false, not, map, List, [], ◌∷◌, ◌++◌, length, Option, Some, None, Result, Ok, Err, option_map, option_and_then, nat_lt, ◌==◌, ◌&&◌, codes, find, if◌then◌else◌}
+use Rattle.std.specs.Prelude.{ℕ, Bool, true, false, not, map, List, [], ◌∷◌, ◌++◌, length, Option, Some, None, Result}
+use Rattle.std.specs.Prelude.{Ok, Err, option_map, option_and_then, nat_lt, ◌==◌, ◌&&◌, codes, find, if◌then◌else◌}
 use Rattle.std.specs.List.{slice_split, position_or_len, before_first, after_first, list_any}
 use Rattle.std.specs.Str.{bytes_eq}
 use Rattle.am_schedule.specs.declared.error.FaultKind.{FaultKind}

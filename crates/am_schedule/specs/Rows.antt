@@ -20,7 +20,8 @@ use Rattle.am_schedule.specs.Words.{word_at}
 use Rattle.am_schedule.specs.Lists.{pairs_in}
 use Rattle.am_schedule.specs.Labels.{versions_in}
 use Rattle.am_schedule.specs.Places.{has_word}
-use Rattle.am_schedule.specs.Slots.{Slot, whole_moment, interval, number, bits, hashes, yes_or_no, member, text, identifier, ValueOf, value_at}
+use Rattle.am_schedule.specs.Slots.{Slot, whole_moment, interval, number, bits, hashes, yes_or_no, member, text}
+use Rattle.am_schedule.specs.Slots.{identifier, ValueOf, value_at}
 
 -- ---- rows
 
@@ -145,7 +146,8 @@ verb_word verbs.Start = codes "start"
 -- each verb, in the order in which they are looked for
 abbrev pub all_verbs : List Verb
 all_verbs =
-    verbs.From ∷ verbs.Post ∷ verbs.Expire ∷ verbs.Notified ∷ verbs.Decide ∷ verbs.Mutes ∷ verbs.Show ∷ verbs.Tick ∷ verbs.Pull ∷ verbs.Start ∷ []
+    verbs.From ∷ verbs.Post ∷ verbs.Expire ∷ verbs.Notified ∷ verbs.Decide ∷ verbs.Mutes ∷ verbs.Show ∷ verbs.Tick ∷ verbs.Pull
+    ∷ verbs.Start ∷ []
 
 -- stop NAME
 abbrev pub stop_row : Row Line

@@ -1,5 +1,6 @@
 -- What a text says, line by line.
-use Rattle.std.specs.Prelude.{◌≡◌, ℕ, ◌+◌, Bool, true, List, [], ◌∷◌, ◌++◌, length, Option, Some, None, Result, Ok, Err, is_none, ◌&&◌, ◌==◌, if◌then◌else◌}
+use Rattle.std.specs.Prelude.{◌≡◌, ℕ, ◌+◌, Bool, true, List, [], ◌∷◌, ◌++◌, length, Option, Some, None, Result, Ok, Err}
+use Rattle.std.specs.Prelude.{is_none, ◌&&◌, ◌==◌, if◌then◌else◌}
 use Rattle.std.specs.List.{slice_split}
 use Rattle.std.specs.Str.{is_utf8}
 use Rattle.am_schedule.specs.declared.error.FaultKind.{FaultKind}
@@ -137,7 +138,8 @@ numbered number (Err kind ∷ more) = numbered (number + 1) more
 -- lines with no fault; where no cluster line is among them it is missing at the line behind the last
 abbrev pub whole : Option ClusterLine → ℕ → List (Line × ℕ) → Result Schedule ScheduleError
 whole None count lines = Err (record { line = count + 1; kind = faults.Cluster })
-whole (Some cluster) count lines = Ok (record { names = cluster.names; retention = cluster.retention; peer_timeout = cluster.peer_timeout; lines = lines })
+whole (Some cluster) count lines =
+    Ok (record { names = cluster.names; retention = cluster.retention; peer_timeout = cluster.peer_timeout; lines = lines })
 
 -- the first fault, where there is one, and else the schedule
 abbrev pub schedule_by : Option ScheduleError → Result Schedule ScheduleError → Result Schedule ScheduleError
@@ -146,7 +148,8 @@ schedule_by (Some error) schedule = Err error
 
 -- the schedule of lines, or the first line at fault
 unfoldable pub schedule_in : List (List ℕ) → Result Schedule ScheduleError
-schedule_in lines = schedule_by (first_fault 1 (meanings [] lines)) (whole (cluster_of lines) (length lines) (numbered 1 (meanings [] lines)))
+schedule_in lines = schedule_by (first_fault 1 (meanings [] lines))
+    (whole (cluster_of lines) (length lines) (numbered 1 (meanings [] lines)))
 
 -- the schedule of a text, or the first line at fault
 unfoldable pub schedule_of : List ℕ → Result Schedule ScheduleError

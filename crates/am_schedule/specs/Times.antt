@@ -1,5 +1,6 @@
 -- Moments as they are written in a schedule: seconds since 1970.
-use Rattle.std.specs.Prelude.{ℕ, ◌+◌, ◌-◌, ◌*◌, ◌^◌, Bool, List, length, Option, None, option_map, option_and_then, nat_le, nat_lt, ◌==◌, if◌then◌else◌}
+use Rattle.std.specs.Prelude.{ℕ, ◌+◌, ◌-◌, ◌*◌, ◌^◌, Bool, List, length, Option, None, option_map, option_and_then}
+use Rattle.std.specs.Prelude.{nat_le, nat_lt, ◌==◌, if◌then◌else◌}
 use Rattle.std.specs.List.{position_or_len, before_first, after_first}
 use Rattle.am_version_order.specs.Moments.{seconds_before_1970}
 use Rattle.am_schedule.specs.Numbers.{count_in, number_within}

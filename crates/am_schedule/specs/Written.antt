@@ -1,5 +1,7 @@
 -- The written form of lines: one way to write each, word by word.
-use Rattle.std.specs.Prelude.{◌≡◌, ℕ, zero, suc, ◌+◌, ◌-◌, ◌*◌, ◌/◌, ◌%◌, ◌^◌, ◌<◌, ◌≤◌, Bool, true, false, not, List, [], ◌∷◌, ◌++◌, length, map, find, Option, Some, None, nat_lt, nat_le, ◌==◌, ◌&&◌, codes, if◌then◌else◌, Ok}
+use Rattle.std.specs.Prelude.{◌≡◌, ℕ, zero, suc, ◌+◌, ◌-◌, ◌*◌, ◌/◌, ◌%◌, ◌^◌, ◌<◌, ◌≤◌, Bool, true, false, not, List}
+use Rattle.std.specs.Prelude.{[], ◌∷◌, ◌++◌, length, map, find, Option, Some, None, nat_lt, nat_le, ◌==◌, ◌&&◌, codes}
+use Rattle.std.specs.Prelude.{if◌then◌else◌, Ok}
 use Rattle.std.specs.List.{list_all, join_with_byte}
 use Rattle.std.specs.Str.{bytes_eq, is_utf8}
 use Rattle.std.specs.Fmt.{decimal}
@@ -17,7 +19,8 @@ use Rattle.am_schedule.specs.Times.{moment_at}
 use Rattle.am_schedule.specs.Lists.{are_new, names_of}
 use Rattle.am_schedule.specs.Labels.{versions_in}
 use Rattle.am_schedule.specs.Clusters.{is_name}
-use Rattle.am_schedule.specs.Slots.{Slot, moment, whole_moment, interval, number, bits, hashes, yes_or_no, member, text, identifier, ValueOf}
+use Rattle.am_schedule.specs.Slots.{Slot, moment, whole_moment, interval, number, bits, hashes, yes_or_no, member, text}
+use Rattle.am_schedule.specs.Slots.{identifier, ValueOf}
 
 -- ---- words
 
@@ -203,7 +206,8 @@ IsWritableLine names version labels kinds.Frames = Unit {0}
 abbrev pub IsWritableVersion : VersionLine → Type 0
 IsWritableVersion (Silence line) =
     IsWritable [] text line.id × IsWritable [] whole_moment line.updated × IsWritable [] whole_moment line.starts
-    × IsWritable [] whole_moment line.ends × IsWritable [] whole_moment line.expires × IsWritable [] text line.name × IsWritable [] text line.value
+    × IsWritable [] whole_moment line.ends × IsWritable [] whole_moment line.expires × IsWritable [] text line.name
+    × IsWritable [] text line.value
 IsWritableVersion (Log line) =
     IsWritable [] text line.group × IsWritable [] text line.receiver × IsWritable [] whole_moment line.updated
     × IsWritable [] whole_moment line.expires × IsWritable [] hashes line.firing × IsWritable [] hashes line.resolved

@@ -70,8 +70,11 @@ impl<'a> Reader<'a> {
 
     /// Takes the words of a line that isn't passed over.
     fn take_words(&mut self, alloc: Global, number: u64, words: &[&'a str]) -> Result<(), FaultKind>
-        ensures taken { IfOk result (λ _. (said : Option Line) × (said_in self.old.cluster (value_in self.old.versions) (map (λ w. w.now) words.now) ≡ Ok said) × Took number (map (λ w. w.now) words.now) said self.old self.new) }
-        ensures fault { IfErr result (λ kind. kind ≢ Memory → said_in self.old.cluster (value_in self.old.versions) (map (λ w. w.now) words.now) ≡ Err kind) }
+        ensures taken { IfOk result (λ _. (said : Option Line)
+            × (said_in self.old.cluster (value_in self.old.versions) (map (λ w. w.now) words.now) ≡ Ok said)
+            × Took number (map (λ w. w.now) words.now) said self.old self.new) }
+        ensures fault { IfErr result (λ kind. kind ≢ Memory →
+            said_in self.old.cluster (value_in self.old.versions) (map (λ w. w.now) words.now) ≡ Err kind) }
     {
         let Some(cluster) = &self.cluster else {
             self.cluster = Some(cluster_line(alloc, words)?);
@@ -94,8 +97,11 @@ impl<'a> Reader<'a> {
 
     /// Takes a line, or tells what is wrong with it.
     pub fn take(&mut self, alloc: Global, number: u64, line: &'a [u8]) -> Result<(), FaultKind>
-        ensures taken { IfOk result (λ _. (before : List (List ℕ)) → Stands before self.old → (said : Option Line) × (meaning before line.now ≡ Ok said) × Stands (before ++ line.now ∷ []) self.new × (self.new.lines.items ≡ self.old.lines.items ++ numbered number (Ok said ∷ []))) }
-        ensures fault { IfErr result (λ kind. (before : List (List ℕ)) → Stands before self.old → kind ≢ Memory → meaning before line.now ≡ Err kind) }
+        ensures taken { IfOk result (λ _. (before : List (List ℕ)) → Stands before self.old → (said : Option Line)
+            × (meaning before line.now ≡ Ok said) × Stands (before ++ line.now ∷ []) self.new
+            × (self.new.lines.items ≡ self.old.lines.items ++ numbered number (Ok said ∷ []))) }
+        ensures fault { IfErr result (λ kind. (before : List (List ℕ)) → Stands before self.old → kind ≢ Memory →
+            meaning before line.now ≡ Err kind) }
     {
         let Ok(line) = str::from_utf8(line) else {
             return Err(FaultKind::NotUtf8);

@@ -31,7 +31,8 @@ pub(crate) fn set_value<'a, T: Drop>(
     key: &'a str,
     value: T,
 ) -> Result<(), AllocError>
-    ensures { OnOk result ((text : List ℕ) → value_in table.new text ≡ (if bytes_eq key.now text then Some value else value_in table.old text)) }
+    ensures { OnOk result ((text : List ℕ) → value_in table.new text
+        ≡ (if bytes_eq key.now text then Some value else value_in table.old text)) }
 {
     table.insert(key, value)?;
     Ok(())

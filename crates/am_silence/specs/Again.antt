@@ -1,6 +1,7 @@
 -- What is written is read again. These are lemmas: they stand here, and not in proofs, since the laws of the messages are
 -- proved by them.
-use Rattle.std.proofs.Common.{◌≡◌, ℕ, ◌^◌, ◌<◌, Bool, true, cond, ltb, List, [], ◌∷◌, length, map, Option, Some, None, Result, Ok, refl, ap, ◌∙◌, arith}
+use Rattle.std.proofs.Common.{◌≡◌, ℕ, ◌^◌, ◌<◌, Bool, true, cond, ltb, List, [], ◌∷◌, length, map, Option, Some, None}
+use Rattle.std.proofs.Common.{Result, Ok, refl, ap, ◌∙◌, arith}
 use Rattle.std.specs.Prelude.{slice_get}
 use Rattle.std.specs.Option.{option_map_or}
 use Rattle.std.proofs.lemmas.Bool.{lt-ltb}
@@ -8,9 +9,12 @@ use Rattle.am_version_order.specs.Versions.{Version}
 use Rattle.am_wire.specs.declared.error.WireError.{WireError}
 use Rattle.am_wire.specs.declared.error.WireError.TheVariants as errors
 use Rattle.am_wire.specs.Fields.{FieldAt}
-use Rattle.am_wire.specs.Reading.{Row, varint_row, text_row, part_row, item_row, last_number, last_number_place, last_text, last_place, messages, merged, is_given, message_in, ◌then◌}
+use Rattle.am_wire.specs.Reading.{Row, varint_row, text_row, part_row, item_row, last_number, last_number_place}
+use Rattle.am_wire.specs.Reading.{last_text, last_place, messages, merged, is_given, message_in, ◌then◌}
 use Rattle.am_wire.specs.Timestamps.{timestamp, low_half, moment_test}
-use Rattle.am_wire.specs.Again.Written.{Means, ReadsAs, EachReads, read_by-reads, written_nothing, written_number, written_text, written_part, written_items, number_again, text_again, given_again, part_again, items_again, nothing_again, reads_whole}
+use Rattle.am_wire.specs.Again.Written.{Means, ReadsAs, EachReads, read_by-reads, written_nothing, written_number}
+use Rattle.am_wire.specs.Again.Written.{written_text, written_part, written_items, number_again, text_again}
+use Rattle.am_wire.specs.Again.Written.{given_again, part_again, items_again, nothing_again, reads_whole}
 use Rattle.am_wire.specs.Again.Moments.{MeansMoment, moment_reads, moment_part_again}
 use Rattle.am_silence.specs.declared.matcher.Matcher.{Matcher}
 use Rattle.am_silence.specs.declared.matcher.MatcherKind.{MatcherKind}
@@ -36,7 +40,8 @@ kind_again kinds.Regexp = refl
 kind_again kinds.NotEqual = refl
 kind_again kinds.NotRegexp = refl
 
-matcher_reads : (m : Matcher) → IsMatcher m → length (writes_matcher m) < 2 ^ 64 → ReadsAs matcher matcher_tests matcher_value (writes_matcher m) m
+matcher_reads : (m : Matcher) → IsMatcher m → length (writes_matcher m) < 2 ^ 64
+    → ReadsAs matcher matcher_tests matcher_value (writes_matcher m) m
 unfolding writes_matcher
 matcher_reads m is small =
     let low = kind_low m.kind in
@@ -46,7 +51,8 @@ matcher_reads m is small =
     let all = written_text two 3 m.pattern is.pattern refl refl in
     reads_whole all small (λ at. whole low (number_again all at 1 refl) (text_again all at 2 refl) (text_again all at 3 refl))
   where
-    whole : {es : List FieldAt} → kind_code m.kind < 4 → last_number 1 es ≡ kind_code m.kind → last_text 2 es ≡ m.name → last_text 3 es ≡ m.pattern → Means matcher_tests matcher_value es m
+    whole : {es : List FieldAt} → kind_code m.kind < 4 → last_number 1 es ≡ kind_code m.kind → last_text 2 es ≡ m.name
+        → last_text 3 es ≡ m.pattern → Means matcher_tests matcher_value es m
     whole {es} low kind name pattern =
         let code : low_half (last_number 1 es) ≡ kind_code m.kind = ap low_half kind ∙ (omega arith) in
         let known : ltb (low_half (last_number 1 es)) 4 ≡ true = rw code (lt-ltb _ _ low) in
@@ -62,16 +68,20 @@ matcher_again m at is small = read_by-reads (matcher_reads m is small) at at
 
 -- ---- silences
 abbrev silence_rows : List Row
-silence_rows = text_row 1 ∷ item_row 2 matcher matcher_tests ∷ part_row 3 timestamp ∷ part_row 4 timestamp ∷ part_row 5 timestamp ∷ item_row 7 comment comment_tests ∷ text_row 8 ∷ text_row 9 ∷ []
+silence_rows = text_row 1 ∷ item_row 2 matcher matcher_tests ∷ part_row 3 timestamp ∷ part_row 4 timestamp ∷ part_row 5 timestamp
+    ∷ item_row 7 comment comment_tests ∷ text_row 8 ∷ text_row 9 ∷ []
 
 -- without an old comment, author and comment are the silence's own
-own_text : (n m : ℕ) (es : List FieldAt) (own : List ℕ) → messages comment 7 es ≡ [] → last_text n es ≡ own → option_map_or (last_text m) (first_comment es) (last_text n es) ≡ own
+own_text : (n m : ℕ) (es : List FieldAt) (own : List ℕ) → messages comment 7 es ≡ [] → last_text n es ≡ own
+    → option_map_or (last_text m) (first_comment es) (last_text n es) ≡ own
 own_text n m es own none is = ap (λ (fs : List (List FieldAt)). option_map_or (last_text m) (slice_get fs 0) (last_text n es)) none ∙ is
 
-silence_reads : (s : Silence) → IsSilence s → length (writes_silence s) < 2 ^ 64 → ReadsAs silence silence_tests silence_value (writes_silence s) s
+silence_reads : (s : Silence) → IsSilence s → length (writes_silence s) < 2 ^ 64
+    → ReadsAs silence silence_tests silence_value (writes_silence s) s
 unfolding writes_silence
 silence_reads s is small =
-    let each : EachReads matcher matcher_tests matcher_value writes_matcher s.matchers = record { each = λ k d h. matcher_reads _ (is.matchers k d h) } in
+    let each : EachReads matcher matcher_tests matcher_value writes_matcher s.matchers =
+    record { each = λ k d h. matcher_reads _ (is.matchers k d h) } in
     let start = written_nothing silence_rows in
     let one = written_text start 1 s.id is.id refl refl in
     let two = written_items one 2 each refl refl in
@@ -82,7 +92,8 @@ silence_reads s is small =
     let all = written_text eight 9 s.comment is.comment refl refl in
     reads_whole all small (λ at.
     whole (text_again all at 1 refl) (items_again all at 2 small each refl)
-    (moment_part_again all at 3 small is.starts_at refl) (moment_part_again all at 4 small is.ends_at refl) (moment_part_again all at 5 small is.updated_at refl)
+    (moment_part_again all at 3 small is.starts_at refl) (moment_part_again all at 4 small is.ends_at refl)
+    (moment_part_again all at 5 small is.updated_at refl)
     (nothing_again all at 7 (message_in comment) refl) (text_again all at 8 refl) (text_again all at 9 refl))
   where
     whole : {es : List FieldAt} → last_text 1 es ≡ s.id → map matcher_value (messages matcher 2 es) ≡ s.matchers
@@ -111,23 +122,28 @@ unfolding reads_silence
 silence_again s at is small = read_by-reads (silence_reads s is small) at at
 
 -- ---- silences that are passed on
-mesh_reads : (m : Mesh) → IsMesh m → length (writes_mesh_silence m) < 2 ^ 64 → ReadsAs mesh_silence mesh_silence_tests mesh_silence_value (writes_mesh_silence m) m
+mesh_reads : (m : Mesh) → IsMesh m → length (writes_mesh_silence m) < 2 ^ 64
+    → ReadsAs mesh_silence mesh_silence_tests mesh_silence_value (writes_mesh_silence m) m
 unfolding writes_mesh_silence
 mesh_reads m is small =
     let start = written_nothing (part_row 1 silence ∷ part_row 2 timestamp ∷ []) in
     let one = written_part start 1 (silence_reads m.silence is.silence) refl refl in
     let all = written_part one 2 (moment_reads m.expires_at is.expires_at) refl refl in
-    reads_whole all small (λ at. whole (given_again all at 1 refl) (part_again all at 1 small (silence_reads m.silence is.silence) refl) (moment_part_again all at 2 small is.expires_at refl))
+    reads_whole all small (λ at. whole (given_again all at 1 refl)
+    (part_again all at 1 small (silence_reads m.silence is.silence) refl) (moment_part_again all at 2 small is.expires_at refl))
   where
-    whole : {es : List FieldAt} → is_given 1 es ≡ true → Means silence_tests silence_value (merged silence 1 es) m.silence → MeansMoment 2 es m.expires_at → Means mesh_silence_tests mesh_silence_value es m
+    whole : {es : List FieldAt} → is_given 1 es ≡ true → Means silence_tests silence_value (merged silence 1 es) m.silence
+        → MeansMoment 2 es m.expires_at → Means mesh_silence_tests mesh_silence_value es m
     whole {es} given inner expires = record {
       passes = λ place.
-          ap (λ (b : Bool). cond b (silence_tests (last_place 1 es) (merged silence 1 es) then moment_test 2 es) (Some (errors.MissingMessage 1))) given
+          ap (λ (b : Bool). cond b (silence_tests (last_place 1 es) (merged silence 1 es) then moment_test 2 es)
+          (Some (errors.MissingMessage 1))) given
           ∙ ap (λ (f : Option WireError). f then moment_test 2 es) (inner.passes (last_place 1 es)) ∙ expires.passes;
       value_is = λ i. record { silence = inner.value_is i; expires_at = expires.value_is i };
     }
 
-pub mesh_again : (m : Mesh) (at : ℕ) → IsMesh m → length (writes_mesh_silence m) < 2 ^ 64 → reads_mesh_silence at (writes_mesh_silence m) ≡ Ok m
+pub mesh_again : (m : Mesh) (at : ℕ) → IsMesh m → length (writes_mesh_silence m) < 2 ^ 64
+    → reads_mesh_silence at (writes_mesh_silence m) ≡ Ok m
 unfolding reads_mesh_silence
 mesh_again m at is small = read_by-reads (mesh_reads m is small) at at
 

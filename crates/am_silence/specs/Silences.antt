@@ -57,7 +57,8 @@ reads_silence at bytes = read_by silence silence_tests silence_value at at bytes
 unfoldable pub writes_silence : Silence → List ℕ
 writes_silence s =
     writes_text 1 s.id ++ writes_messages writes_matcher 2 s.matchers ++ writes_delimited 3 (writes_moment s.starts_at)
-    ++ writes_delimited 4 (writes_moment s.ends_at) ++ writes_delimited 5 (writes_moment s.updated_at) ++ writes_text 8 s.created_by ++ writes_text 9 s.comment
+    ++ writes_delimited 4 (writes_moment s.ends_at) ++ writes_delimited 5 (writes_moment s.updated_at)
+    ++ writes_text 8 s.created_by ++ writes_text 9 s.comment
 
 -- the values of a silence
 pub record IsSilence (s : Silence) : Type 0 where

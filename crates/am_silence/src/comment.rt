@@ -95,7 +95,8 @@ impl<'a> FirstComment<'a> {
 
     /// Reads a comment, and keeps it where it is the first.
     pub fn take(&mut self, alloc: Global, field: Field<'a>) -> Result<(), WireError>
-        ensures held { OnOk result ((es : List FieldAt) → (field_of field.entry).number ≡ 7 → IsFirstComment es self.old → IsFirstComment (es ++ field_of field.entry ∷ []) self.new) }
+        ensures held { OnOk result ((es : List FieldAt) → (field_of field.entry).number ≡ 7 → IsFirstComment es self.old →
+            IsFirstComment (es ++ field_of field.entry ∷ []) self.new) }
         ensures clean { OnOk result (item_fault comment comment_tests (field_of field.entry) ≡ None) }
         ensures fault { IfErr result (λ e. Fails e (item_fault comment comment_tests (field_of field.entry))) }
     {

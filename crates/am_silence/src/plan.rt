@@ -86,7 +86,8 @@ pub fn plan_post(
 
     // What the plan makes is live, and greater than what it takes the place of.
     ensures live { IfOk result (λ plan. All (λ v. IsLive now (mesh_version v)) (versions plan)) }
-    ensures greater { IfOk result (λ plan. IfSome (successor plan) (λ v. IfSome (option_copied held.entry) (λ version. Succeeds version v))) }
+    ensures greater { IfOk result (λ plan. IfSome (successor plan)
+        (λ v. IfSome (option_copied held.entry) (λ version. Succeeds version v))) }
 {
     let held = check_posted(held, &posted, verdict, now)?;
     plan_over(alloc, held, posted, now, bits, id_held, retention)

@@ -68,8 +68,10 @@ pub struct SilenceDraft<'a> {
 impl<'a> SilenceDraft<'a> {
     // Who made the silence and why; an old comment replaces both.
     fn author_and_comment(&self) -> (&'a str, &'a str)
-        ensures author { result.0.now ≡ (if self.now.first_comment.given then self.now.first_comment.author.now else self.now.created_by.text.now) }
-        ensures comment { result.1.now ≡ (if self.now.first_comment.given then self.now.first_comment.text.now else self.now.comment.text.now) }
+        ensures author { result.0.now ≡ (if self.now.first_comment.given then self.now.first_comment.author.now
+            else self.now.created_by.text.now) }
+        ensures comment { result.1.now ≡ (if self.now.first_comment.given then self.now.first_comment.text.now
+            else self.now.comment.text.now) }
     {
         if self.first_comment.given {
             (self.first_comment.author, self.first_comment.text)

@@ -82,7 +82,8 @@ pub fn fold<V: Version + Message, R: Read, W: Write>(
     ensures size { OnOk result (IfSome (R.remaining reader.old) (λ input. length input ≤ most)) }
     ensures room { IfOk result (λ written. written ≤ most) }
 
-    ensures stopped { IfErr result (StopsFold V.seen V.Key.cmp V.reads (R.remaining reader.old) (R.remaining reader.new) W.contents writer.old writer.new) }
+    ensures stopped { IfErr result (StopsFold V.seen V.Key.cmp V.reads (R.remaining reader.old)
+        (R.remaining reader.new) W.contents writer.old writer.new) }
 {
     let folded: Folded<V> = fold_held(alloc, reader, writer, now)?;
     Ok(folded.written)
@@ -117,7 +118,8 @@ pub fn fold_held<V: Version + Message, R: Read, W: Write>(
     ensures best { IfOk result (λ folded. IfSome (R.remaining reader.old) (λ input.
         (versions : List V) × AreMessages V.reads input versions × HoldsBest V.seen versions folded.held)) }
 
-    ensures stopped { IfErr result (StopsFold V.seen V.Key.cmp V.reads (R.remaining reader.old) (R.remaining reader.new) W.contents writer.old writer.new) }
+    ensures stopped { IfErr result (StopsFold V.seen V.Key.cmp V.reads (R.remaining reader.old)
+        (R.remaining reader.new) W.contents writer.old writer.new) }
 {
     let held: Held<V> = take_row(alloc, reader)?;
     let written = write_row(alloc, &held, writer)?;

@@ -50,9 +50,11 @@ impl Outgoing {
     /// Writes what was gathered.
     pub fn flush<W: Write>(&mut self, writer: &mut W) -> Result<(), Stopped>
         requires { self.old.written + vec_len self.old.gathered < 2 ^ 64 }
-        ensures passed { OnOk result (Passes (W.contents writer.old) (W.contents writer.new) self.old.gathered.items [] [] self.old.written self.new.written) }
+        ensures passed { OnOk result (Passes (W.contents writer.old)
+            (W.contents writer.new) self.old.gathered.items [] [] self.old.written self.new.written) }
         ensures none_left { OnOk result (self.new.gathered.items ≡ []) }
-        ensures stopped { IfErr result (λ e. TakesPart (W.contents writer.old) (W.contents writer.new) self.old.gathered.items self.old.written e.written) }
+        ensures stopped { IfErr result (λ e. TakesPart (W.contents writer.old)
+            (W.contents writer.new) self.old.gathered.items self.old.written e.written) }
     {
         self.written = write_counted(writer, &self.gathered, self.written)?;
         self.gathered.clear();
@@ -63,8 +65,10 @@ impl Outgoing {
     /// larger than the room is written by itself.
     pub fn send<W: Write>(&mut self, writer: &mut W, part: &[u8]) -> Result<(), Stopped>
         requires { self.old.written + vec_len self.old.gathered + length part.now < 2 ^ 64 }
-        ensures passed { OnOk result (Passes (W.contents writer.old) (W.contents writer.new) self.old.gathered.items part.now self.new.gathered.items self.old.written self.new.written) }
-        ensures stopped { IfErr result (λ e. TakesPart (W.contents writer.old) (W.contents writer.new) (self.old.gathered.items ++ part.now) self.old.written e.written) }
+        ensures passed { OnOk result (Passes (W.contents writer.old)
+            (W.contents writer.new) self.old.gathered.items part.now self.new.gathered.items self.old.written self.new.written) }
+        ensures stopped { IfErr result (λ e. TakesPart (W.contents writer.old) (W.contents writer.new)
+            (self.old.gathered.items ++ part.now) self.old.written e.written) }
     {
         if self.gather(part) {
             return Ok(());

@@ -40,8 +40,10 @@ impl From<Stopped> for WriteFault {
 /// Sends bytes behind their length on their way.
 fn send_delimited<W: Write>(out: &mut Outgoing, writer: &mut W, bytes: &[u8]) -> Result<(), Stopped>
     requires { out.old.written + vec_len out.old.gathered + length (delimited bytes.now) < 2 ^ 64 }
-    ensures passed { OnOk result (Passes (W.contents writer.old) (W.contents writer.new) out.old.gathered.items (delimited bytes.now) out.new.gathered.items out.old.written out.new.written) }
-    ensures stopped { IfErr result (λ e. TakesPart (W.contents writer.old) (W.contents writer.new) (out.old.gathered.items ++ delimited bytes.now) out.old.written e.written) }
+    ensures passed { OnOk result (Passes (W.contents writer.old) (W.contents writer.new) out.old.gathered.items
+        (delimited bytes.now) out.new.gathered.items out.old.written out.new.written) }
+    ensures stopped { IfErr result (λ e. TakesPart (W.contents writer.old) (W.contents writer.new)
+        (out.old.gathered.items ++ delimited bytes.now) out.old.written e.written) }
 {
     out.send(writer, write_varint(bytes.len() as u64).as_slice())?;
     out.send(writer, bytes)
@@ -54,8 +56,10 @@ fn send_versions<V: Version, W: Write>(
     held: &Held<V>,
 ) -> Result<(), Stopped>
     requires { out.old.written + vec_len out.old.gathered + length (row_text V.seen held.now) < 2 ^ 64 }
-    ensures passed { OnOk result (Passes (W.contents writer.old) (W.contents writer.new) out.old.gathered.items (row_text V.seen held.now) out.new.gathered.items out.old.written out.new.written) }
-    ensures stopped { IfErr result (λ e. TakesPart (W.contents writer.old) (W.contents writer.new) (out.old.gathered.items ++ row_text V.seen held.now) out.old.written e.written) }
+    ensures passed { OnOk result (Passes (W.contents writer.old) (W.contents writer.new) out.old.gathered.items
+        (row_text V.seen held.now) out.new.gathered.items out.old.written out.new.written) }
+    ensures stopped { IfErr result (λ e. TakesPart (W.contents writer.old) (W.contents writer.new)
+        (out.old.gathered.items ++ row_text V.seen held.now) out.old.written e.written) }
 {
     for version in held.iter() {
         send_delimited(out, writer, version.canonical())?;

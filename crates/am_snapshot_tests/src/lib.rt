@@ -1,6 +1,8 @@
-//! Worked rows that are saved, loaded and folded: of silences, and of short texts. There is nothing here but tests.
+//! Worked rows that are saved, loaded and folded: of silences and log entries, and of short texts. There is nothing here but tests.
 #![tactic(auto)]
 
+#[cfg(test)]
+mod folds;
 #[cfg(test)]
 mod notes;
 #[cfg(test)]

@@ -1,16 +1,10 @@
 //! The program: plays a schedule, folds a row of versions to the ones that count, shows a snapshot, runs a member.
 #![tactic(auto)]
 
-ghost use Rattle.std.specs.Prelude.{ℕ, List, [], None, IfSome, OnOk};
+ghost use Rattle.std.specs.Prelude.{ℕ, List, IfSome, OnOk};
 ghost use Rattle.std.specs.Io.KnownBytes.{Appends};
-ghost use Rattle.am_nflog.specs.Mesh as entries;
-ghost use Rattle.am_nflog.specs.MeshTable.{reads_mesh_entry};
 ghost use Rattle.am_replay.specs.Replays.{IsReplay};
-ghost use Rattle.am_silence.specs.Mesh as silences;
-ghost use Rattle.am_silence.specs.MeshTable.{reads_mesh_silence};
 ghost use Rattle.am_snapshot.specs.Folds.{IsFold};
-ghost use Rattle.am_snapshot.specs.Loads.{IsLoaded};
-ghost use Rattle.am_view.specs.Views.{view_text};
 
 mod fault;
 mod member;
@@ -18,13 +12,12 @@ mod progress;
 mod status;
 mod words;
 
-use am_merge::Held;
 use am_nflog::MeshEntry;
 use am_replay::{Progress, run_shown};
 use am_silence::MeshSilence;
-pub use am_snapshot::{SnapshotError, fold_held, load};
+use am_snapshot::{SnapshotError, fold_held};
 use am_version_order::{Moment, Version};
-pub use am_view::write_view;
+use am_view::{show_log, show_silences};
 use am_wire::Message;
 use fault::Fault;
 use progress::Display;
@@ -85,14 +78,16 @@ fn run_rows(rt: &HostRuntime, job: RowJob) -> Result<u64, Fault> {
         (Task::Fold, StateName::Log) => {
             fold_row::<MeshEntry, _, _>(alloc, &mut input, &mut output, now)
         }
-        (Task::Show, StateName::Silences) => show_silences(alloc, &mut input, &mut output, now),
-        (Task::Show, StateName::Log) => show_log(alloc, &mut input, &mut output, now),
+        (Task::Show, StateName::Silences) => {
+            Ok(show_silences(alloc, &mut input, &mut output, now)?)
+        }
+        (Task::Show, StateName::Log) => Ok(show_log(alloc, &mut input, &mut output, now)?),
     }
 }
 
-// What was read is forgotten in each job: the process ends then, and its memory with it.
-
 /// Writes the fold of the row that stands on the input.
+///
+/// What was read is forgotten: the process ends then, and its memory with it.
 fn fold_row<V: Version + Message, R: Read, W: Write>(
     alloc: Global,
     input: &mut R,
@@ -106,40 +101,6 @@ fn fold_row<V: Version + Message, R: Read, W: Write>(
     let written = folded.written;
     mem::forget(folded);
     Ok(written)
-}
-
-/// Prints the view of the silences whose snapshot stands on the input.
-fn show_silences<R: Read, W: Write>(
-    alloc: Global,
-    input: &mut R,
-    output: &mut W,
-    now: Moment,
-) -> Result<u64, Fault>
-    ensures shown { OnOk result (IfSome (R.remaining input.old) (λ bytes.
-        (held : List silences.Mesh) × IsLoaded silences.mesh_version reads_mesh_silence bytes held ×
-        Appends (W.contents output.old) (W.contents output.new) (view_text None now held []))) }
-{
-    let silences = load::<MeshSilence, _>(alloc, input)?;
-    let written = write_view(alloc, &silences, &Held::new(alloc), None, now, output);
-    mem::forget(silences);
-    Ok(written?)
-}
-
-/// Prints the view of the log whose snapshot stands on the input.
-fn show_log<R: Read, W: Write>(
-    alloc: Global,
-    input: &mut R,
-    output: &mut W,
-    now: Moment,
-) -> Result<u64, Fault>
-    ensures shown { OnOk result (IfSome (R.remaining input.old) (λ bytes.
-        (held : List entries.Mesh) × IsLoaded entries.mesh_version reads_mesh_entry bytes held ×
-        Appends (W.contents output.old) (W.contents output.new) (view_text None now [] held))) }
-{
-    let log = load::<MeshEntry, _>(alloc, input)?;
-    let written = write_view(alloc, &Held::new(alloc), &log, None, now, output);
-    mem::forget(log);
-    Ok(written?)
 }
 
 fn main(rt: HostRuntime) -> ExitCode {
@@ -160,6 +121,3 @@ fn start<'a>(rt: &'a HostRuntime, words: &'a [String]) -> u8 {
         Err(error) => words::report(rt, &error),
     }
 }
-
-#[cfg(test)]
-mod tests;

@@ -13,7 +13,8 @@ pub record Version (K : Type 0) : Type 0 where
 
 -- by update moment, then by expiry, then by content byte by byte
 abbrev pub rank_cmp : {K : Type 0} → Version K → Version K → Ordering
-rank_cmp v w = ordering_then (nat_cmp v.updated w.updated) (ordering_then (nat_cmp v.expires w.expires) (slice_cmp nat_cmp v.content w.content))
+rank_cmp v w = ordering_then (nat_cmp v.updated w.updated)
+    (ordering_then (nat_cmp v.expires w.expires) (slice_cmp nat_cmp v.content w.content))
 
 -- of two versions of one key, w is the greater one
 unfoldable pub is_below : {K : Type 0} → Version K → Version K → Bool

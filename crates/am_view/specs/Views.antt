@@ -33,17 +33,20 @@ shows_line (Some name) silences entries = word_of name ++ codes " shows " ++ dec
 
 -- NAME sil ID STATE: a silence, with its state at the moment
 unfoldable pub silence_line : Option (List ℕ) → ℕ → Mesh → List ℕ
-silence_line name now m = owner_words name ++ codes "sil " ++ word_of m.silence.id ++ codes " " ++ state_word (state_of m.silence now) ++ codes "\n"
+silence_line name now m =
+    owner_words name ++ codes "sil " ++ word_of m.silence.id ++ codes " " ++ state_word (state_of m.silence now) ++ codes "\n"
 
 -- GROUP GROUPNAME INTEGRATION IDX: the key of an entry
 unfoldable pub key_words : LogKey → List ℕ
 key_words key =
-    word_of key.group_key ++ codes " " ++ word_of key.receiver.group_name ++ codes " " ++ word_of key.receiver.integration ++ codes " " ++ decimal key.receiver.idx
+    word_of key.group_key ++ codes " " ++ word_of key.receiver.group_name ++ codes " " ++ word_of key.receiver.integration
+    ++ codes " " ++ decimal key.receiver.idx
 
 -- NAME nfl GROUP GROUPNAME INTEGRATION IDX FIRING RESOLVED: an entry of the log
 unfoldable pub entry_line : Option (List ℕ) → LogMesh → List ℕ
 entry_line name m =
-    owner_words name ++ codes "nfl " ++ key_words m.entry.key ++ codes " " ++ numbers_word m.entry.firing_alerts ++ codes " " ++ numbers_word m.entry.resolved_alerts ++ codes "\n"
+    owner_words name ++ codes "nfl " ++ key_words m.entry.key ++ codes " " ++ numbers_word m.entry.firing_alerts
+    ++ codes " " ++ numbers_word m.entry.resolved_alerts ++ codes "\n"
 
 -- the silences in view by id
 abbrev pub silence_lines : Option (List ℕ) → ℕ → List Mesh → List ℕ

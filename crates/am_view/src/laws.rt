@@ -9,7 +9,8 @@ pub fn a_word_is_read_in_one_way()
     ensures read { (text : List ℕ) → AreBytes text → text_of_word (word_of text) ≡ text }
     ensures listed { (text : List ℕ) → AreBytes text → text_of_word (listed_word_of text) ≡ text }
     ensures own { (text other : List ℕ) → AreBytes text → AreBytes other → word_of text ≡ word_of other → text ≡ other }
-    ensures own_in_list { (text other : List ℕ) → AreBytes text → AreBytes other → listed_word_of text ≡ listed_word_of other → text ≡ other }
+    ensures own_in_list { (text other : List ℕ) → AreBytes text → AreBytes other → listed_word_of text ≡ listed_word_of other →
+        text ≡ other }
 {}
 
 /// A word has no blank and no end of a line, and in a list no comma.

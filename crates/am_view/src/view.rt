@@ -78,7 +78,8 @@ pub fn append_view(
     name: Option<&str>,
     now: Moment,
 ) -> Result<(), AllocError>
-    ensures appended { OnOk result (string_bytes out.new ≡ string_bytes out.old ++ view_text (option_copied name.entry) now silences.now log.now) }
+    ensures appended { OnOk result (string_bytes out.new
+        ≡ string_bytes out.old ++ view_text (option_copied name.entry) now silences.now log.now) }
 {
     let owner = Owner(name);
     append_shows(out, name, live_count(silences, now), live_count(log, now))?;
@@ -100,10 +101,12 @@ pub fn write_view<W: Write>(
     now: Moment,
     writer: &mut W,
 ) -> Result<u64, SnapshotError>
-    ensures lines { OnOk result (Appends (W.contents writer.old) (W.contents writer.new) (view_text (option_copied name.entry) now silences.now log.now)) }
+    ensures lines { OnOk result (Appends (W.contents writer.old) (W.contents writer.new)
+        (view_text (option_copied name.entry) now silences.now log.now)) }
     ensures count { IfOk result (λ written. written ≡ length (view_text (option_copied name.entry) now silences.now log.now)) }
 
-    ensures stopped { IfErr result (StopsWriting W.contents writer.old writer.new (view_text (option_copied name.entry) now silences.now log.now)) }
+    ensures stopped { IfErr result (StopsWriting W.contents writer.old writer.new
+        (view_text (option_copied name.entry) now silences.now log.now)) }
 {
     let mut text = String::new(alloc);
     append_view(&mut text, silences, log, name, now)?;

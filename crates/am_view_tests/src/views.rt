@@ -6,7 +6,8 @@ use am_nflog::MeshEntry;
 use am_silence::MeshSilence;
 use am_snapshot::{SnapshotError, load};
 use am_version_order::Moment;
-use am_view::write_view;
+use am_view::{show_log, show_silences, write_view};
+use am_wire::WireError;
 use std::alloc::Global;
 
 /// Id `x`, EQUAL job `m`, start 10 s, end 60 s, update 20 s, expiry 210 s; then id `y`, EQUAL job `n`, start 40 s,
@@ -195,4 +196,59 @@ fn a_write_that_stops_leaves_the_first_bytes(rt: HostRuntime) {
             assert!(rt; writer.calls == k, "tried again");
         }
     }
+}
+
+/// Which state a snapshot is read as.
+#[derive(Clone, Copy)]
+enum ReadAs {
+    Silences,
+    Log,
+}
+
+/// What is printed of a snapshot, to a writer that takes two bytes a call.
+fn show(
+    alloc: Global,
+    state: ReadAs,
+    snapshot: &[u8],
+    now: Moment,
+    writer: &mut Brittle,
+) -> Result<u64, SnapshotError> {
+    let mut input = snapshot;
+    match state {
+        ReadAs::Silences => show_silences(alloc, &mut input, writer, now),
+        ReadAs::Log => show_log(alloc, &mut input, writer, now),
+    }
+}
+
+#[test]
+fn snapshots_are_shown(rt: HostRuntime) {
+    let rows: [(ReadAs, &[u8], i64, &str); 5] = [
+        (
+            ReadAs::Silences,
+            &SILENCES,
+            39,
+            "sil x active\nsil y pending\n",
+        ),
+        (ReadAs::Silences, &SILENCES, 300, ""),
+        (ReadAs::Silences, &[], 39, ""),
+        (ReadAs::Log, &FIRING, 50, "nfl g r w 0 1,2 -\n"),
+        (ReadAs::Log, &FIRING, 200, ""),
+    ];
+    for (place, (state, snapshot, seconds, text)) in rows.iter().enumerate() {
+        let mut writer = two_by_two(rt.alloc(), 0, Stop::Fails);
+        let now = at_seconds(*seconds, 0);
+        let answer = show(rt.alloc(), *state, snapshot, now, &mut writer);
+        assert!(rt; answer == Ok(text.len() as u64), "{place}");
+        assert!(rt; writer.taken.as_slice() == text.as_bytes(), "{place}");
+    }
+}
+
+#[test]
+fn a_snapshot_of_the_other_state_is_not_shown(rt: HostRuntime) {
+    let fault = SnapshotError::Wire(WireError::WrongType { at: 13 });
+    let mut writer = two_by_two(rt.alloc(), 0, Stop::Fails);
+    let now = at_seconds(39, 0);
+    let answer = show(rt.alloc(), ReadAs::Log, &SILENCES, now, &mut writer);
+    assert!(rt; answer == Err(fault), "answer");
+    assert!(rt; writer.taken.is_empty(), "written");
 }

@@ -62,7 +62,8 @@ pub fn take_fields<'a, D: Draft<'a>>(
     at: usize,
 ) -> Result<(), WireError>
     requires { at + length bytes.now < 2 ^ 64 }
-    ensures held { OnOk result ((es : List FieldAt) → D.holds es draft.old → D.holds (es ++ sound_fields (fields_of D.fitting at bytes.now)) draft.new) }
+    ensures held { OnOk result ((es : List FieldAt) → D.holds es draft.old →
+        D.holds (es ++ sound_fields (fields_of D.fitting at bytes.now)) draft.new) }
     ensures clean { OnOk result (scan D.inside (fields_of D.fitting at bytes.now) ≡ None) }
     ensures fault { IfErr result (λ e. Fails e (scan D.inside (fields_of D.fitting at bytes.now))) }
 {

@@ -3,7 +3,9 @@
 ghost use Rattle.std.specs.Prelude.{◌≡◌, ℕ, List, Bool, Result, Ok, Err, ◌+◌, ◌<◌, ◌≤◌, ◌^◌, ◌/◌, ◌%◌, length, drop, IfOk};
 ghost use Rattle.std.specs.Int.{w32, w64, from_le_bytes};
 ghost use Rattle.am_wire.specs.Length.{payload_len};
-ghost use Rattle.am_wire.specs.Fields.{Payload, varint, eight, four, chunk, field_of, payload_of, payload_seen, field_seen, number_at, fixed_at, chunk_at, payload_at, kind_of, tag_number, field_at, fields_of, any};
+ghost use Rattle.am_wire.specs.Fields.{Payload, varint, eight, four, chunk, field_of, payload_of, payload_seen};
+ghost use Rattle.am_wire.specs.Fields.{field_seen, number_at, fixed_at, chunk_at, payload_at, kind_of, tag_number};
+ghost use Rattle.am_wire.specs.Fields.{field_at, fields_of, any};
 
 use crate::error::WireError;
 use crate::value::{Field, Value, WireType};

@@ -1,7 +1,8 @@
 //! Laws over the definitions that the readers' contracts cite: what is read is what is spelled, and what is spelled is
 //! read in one way only; and a fault is what the bytes behind the last sound thing say.
 
-ghost use Rattle.std.specs.Prelude.{◌≡◌, ℕ, List, [], ◌∷◌, Bool, true, ◌+◌, ◌<◌, ◌≤◌, ◌^◌, ◌↔◌, ◌⊎◌, length, take, map, Option, Some, None, Ok, Err, ◌++◌, All, IsTrue, slice_index};
+ghost use Rattle.std.specs.Prelude.{◌≡◌, ℕ, List, [], ◌∷◌, Bool, true, ◌+◌, ◌<◌, ◌≤◌, ◌^◌, ◌↔◌, ◌⊎◌, length, take, map};
+ghost use Rattle.std.specs.Prelude.{Option, Some, None, Ok, Err, ◌++◌, All, IsTrue, slice_index};
 ghost use Rattle.std.specs.List.{AllPass, flat_map};
 ghost use Rattle.std.specs.Str.{IsUtf8};
 ghost use Rattle.am_wire.specs.Limits.{most};
@@ -11,10 +12,12 @@ ghost use Rattle.am_wire.specs.declared.value.WireType.{WireType};
 ghost use Rattle.am_wire.specs.Varint.{IsVarint, varint_at, shortest};
 ghost use Rattle.am_wire.specs.Fields.{FieldAt, field_at, fields_of, row_at, rows_of, any};
 ghost use Rattle.am_wire.specs.Grammar.{AreFields, AreRows, ArePacked, IsField, IsRow, field_fits};
-ghost use Rattle.am_wire.specs.Faults.{EndsInNumber, EndsInMessage, IsNumberFault, IsFieldFault, IsRowFault, AreFieldsUntil, AreRowsUntil, ArePackedUntil};
+ghost use Rattle.am_wire.specs.Faults.{EndsInNumber, EndsInMessage, IsNumberFault, IsFieldFault, IsRowFault};
+ghost use Rattle.am_wire.specs.Faults.{AreFieldsUntil, AreRowsUntil, ArePackedUntil};
 ghost use Rattle.am_wire.specs.Messages.{AreSound, IsMessage, HasFault, FailsTests, bytes_field};
 ghost use Rattle.am_wire.specs.Reader as reader;
-ghost use Rattle.am_wire.specs.Reading.{Table, fields_in, faults_in, text_fault, part_fault, item_fault, numbers_fault, last_number, read_by, unpacked};
+ghost use Rattle.am_wire.specs.Reading.{Table, fields_in, faults_in, text_fault, part_fault, item_fault, numbers_fault};
+ghost use Rattle.am_wire.specs.Reading.{last_number, read_by, unpacked};
 ghost use Rattle.am_wire.specs.SignedParts.{ArePartsOf, IsTimestampOf};
 ghost use Rattle.am_wire.specs.Timestamps.{is_moment, moment, reads_moment};
 ghost use Rattle.am_wire.specs.Writing.{writes_rows};
@@ -22,11 +25,14 @@ ghost use Rattle.am_wire.specs.Writing.{writes_rows};
 /// What is read is a spelling, and a spelling is read, whatever follows it. Where there is none at the front,
 /// the bytes are too few, or the tenth one is not the last of 64 bits. The shortest spelling is one.
 pub fn varints_are_the_grammar()
-    ensures found { (at n len : ℕ) (bytes : List ℕ) → varint_at at bytes ≡ Ok (n, len) → (len ≤ length bytes) × IsVarint (take len bytes) n }
+    ensures found { (at n len : ℕ) (bytes : List ℕ) → varint_at at bytes ≡ Ok (n, len) → (len ≤ length bytes)
+        × IsVarint (take len bytes) n }
     ensures read { (at n : ℕ) (text rest : List ℕ) → IsVarint text n → varint_at at (text ++ rest) ≡ Ok (n, length text) }
-    ensures one_way { (n m : ℕ) (text other rest more : List ℕ) → IsVarint text n → IsVarint other m → text ++ rest ≡ other ++ more → (n ≡ m) × (text ≡ other) }
+    ensures one_way { (n m : ℕ) (text other rest more : List ℕ) → IsVarint text n → IsVarint other m →
+        text ++ rest ≡ other ++ more → (n ≡ m) × (text ≡ other) }
     ensures cut { (at : ℕ) (bytes : List ℕ) → (varint_at at bytes ≡ Err (Truncated at)) ↔ ((length bytes < 10) × All (λ b. 128 ≤ b) bytes) }
-    ensures long { (at : ℕ) (bytes : List ℕ) → (varint_at at bytes ≡ Err (LongVarint at)) ↔ ((9 < length bytes) × All (λ b. 128 ≤ b) (take 9 bytes) × (2 ≤ slice_index bytes 9)) }
+    ensures long { (at : ℕ) (bytes : List ℕ) → (varint_at at bytes ≡ Err (LongVarint at))
+        ↔ ((9 < length bytes) × All (λ b. 128 ≤ b) (take 9 bytes) × (2 ≤ slice_index bytes 9)) }
     ensures written { (n : ℕ) → n < 2 ^ 64 → IsVarint (shortest n) n }
     ensures shortest { (n : ℕ) (text : List ℕ) → IsVarint text n → length (shortest n) ≤ length text }
 {}
@@ -34,9 +40,12 @@ pub fn varints_are_the_grammar()
 /// Bytes are read without a fault as these fields exactly where they spell them, and each number may have the
 /// wire type that it has there.
 pub fn fields_are_the_grammar()
-    ensures found { (fits : ℕ → WireType → Bool) (at : ℕ) (bytes : List ℕ) (es : List FieldAt) → fields_of fits at bytes ≡ map Ok es → AreFields es at bytes × AllPass (field_fits fits) es }
-    ensures read { (fits : ℕ → WireType → Bool) (at : ℕ) (bytes : List ℕ) (es : List FieldAt) → AreFields es at bytes → AllPass (field_fits fits) es → fields_of fits at bytes ≡ map Ok es }
-    ensures one_way { (at : ℕ) (bytes : List ℕ) (es others : List FieldAt) → AreFields es at bytes → AreFields others at bytes → es ≡ others }
+    ensures found { (fits : ℕ → WireType → Bool) (at : ℕ) (bytes : List ℕ) (es : List FieldAt) →
+        fields_of fits at bytes ≡ map Ok es → AreFields es at bytes × AllPass (field_fits fits) es }
+    ensures read { (fits : ℕ → WireType → Bool) (at : ℕ) (bytes : List ℕ) (es : List FieldAt) → AreFields es at bytes →
+        AllPass (field_fits fits) es → fields_of fits at bytes ≡ map Ok es }
+    ensures one_way { (at : ℕ) (bytes : List ℕ) (es others : List FieldAt) → AreFields es at bytes → AreFields others at bytes →
+        es ≡ others }
     ensures any_read { (at : ℕ) (bytes : List ℕ) (es : List FieldAt) → AreFields es at bytes → fields_of any at bytes ≡ map Ok es }
 {}
 
@@ -44,7 +53,8 @@ pub fn fields_are_the_grammar()
 pub fn rows_are_the_grammar()
     ensures found { (bytes : List ℕ) (messages : List (List ℕ)) → rows_of bytes ≡ map Ok messages → AreRows messages bytes }
     ensures read { (bytes : List ℕ) (messages : List (List ℕ)) → AreRows messages bytes → rows_of bytes ≡ map Ok messages }
-    ensures one_way { (bytes : List ℕ) (messages others : List (List ℕ)) → AreRows messages bytes → AreRows others bytes → messages ≡ others }
+    ensures one_way { (bytes : List ℕ) (messages others : List (List ℕ)) → AreRows messages bytes → AreRows others bytes →
+        messages ≡ others }
     ensures written { (messages : List (List ℕ)) → All (λ m. length m ≤ most) messages → AreRows messages (writes_rows messages) }
 {}
 

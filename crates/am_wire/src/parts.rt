@@ -2,7 +2,9 @@
 
 ghost use Rattle.std.specs.Prelude.{◌≡◌, ℕ, false, List, [], ◌∷◌, ◌++◌, None, Some, ◌+◌, ◌<◌, ◌^◌, length, map, OnOk, IfErr};
 ghost use Rattle.am_wire.specs.Fields.{FieldAt, field_of};
-ghost use Rattle.am_wire.specs.Reading.{Fails, Table, last_or, varint_in, varint_place, chunk_in, chunk_place, chunk_given, text_fault, item_fault, message_in, part_fault, parts_in, table_at};
+ghost use Rattle.am_wire.specs.Reading.{Fails, Table, last_or, varint_in, varint_place, chunk_in, chunk_place};
+ghost use Rattle.am_wire.specs.Reading.{chunk_given, text_fault, item_fault, message_in, part_fault, parts_in};
+ghost use Rattle.am_wire.specs.Reading.{table_at};
 
 use crate::draft::{Draft, read_message, take_fields};
 use crate::error::WireError;
@@ -103,7 +105,8 @@ impl<D> Submessage<D> {
     pub fn take<'a>(&mut self, field: Field<'a>) -> Result<(), WireError>
     where
         D: Draft<'a>,
-        ensures held { OnOk result ((es : List FieldAt) → D.holds es self.old.draft → D.holds (es ++ parts_in (table_at D.fitting D.inside) (field_of field.entry)) self.new.draft) }
+        ensures held { OnOk result ((es : List FieldAt) → D.holds es self.old.draft →
+            D.holds (es ++ parts_in (table_at D.fitting D.inside) (field_of field.entry)) self.new.draft) }
         ensures at { OnOk result (self.new.at ≡ last_or self.old.at (chunk_place (field_of field.entry))) }
         ensures given { OnOk result (self.new.given ≡ last_or self.old.given (chunk_given (field_of field.entry))) }
         ensures clean { OnOk result (part_fault (table_at D.fitting D.inside) (field_of field.entry) ≡ None) }
@@ -129,7 +132,8 @@ pub fn take_item<'a, D: Draft<'a>>(
     items: &mut Vec<D::Done>,
     field: Field<'a>,
 ) -> Result<(), WireError>
-    ensures held { OnOk result (items.new.items ≡ items.old.items ++ map D.value (message_in (table_at D.fitting D.inside) (field_of field.entry))) }
+    ensures held { OnOk result (items.new.items
+        ≡ items.old.items ++ map D.value (message_in (table_at D.fitting D.inside) (field_of field.entry))) }
     ensures clean { OnOk result (item_fault (table_at D.fitting D.inside) D.tests (field_of field.entry) ≡ None) }
     ensures fault { IfErr result (λ e. Fails e (item_fault (table_at D.fitting D.inside) D.tests (field_of field.entry))) }
 {

@@ -81,7 +81,8 @@ impl<'a> Draft<'a> for TimestampDraft {
 ///
 /// [`WireError::Timestamp`] where the seconds or the nanoseconds make no moment, told at the part's tag.
 pub fn moment_in(alloc: Global, part: Submessage<TimestampDraft>) -> Result<Moment, WireError>
-    ensures { (n : ℕ) (es : List FieldAt) → IsPart IsTimestampDraft timestamp n es part → Gives result (judged (moment_test n es) (moment_of n es)) }
+    ensures { (n : ℕ) (es : List FieldAt) → IsPart IsTimestampDraft timestamp n es part →
+        Gives result (judged (moment_test n es) (moment_of n es)) }
 {
     let moment = part.draft.finish(alloc, part.at)?;
     if part.given {

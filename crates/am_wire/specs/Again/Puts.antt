@@ -113,7 +113,8 @@ module _ (fits : ℕ → WireType → Bool) where
     pub Puts-text : (bytes : List ℕ) (at : ℕ) → length bytes < 2 ^ 64 → fits n kinds.Bytes ≡ true
         → Puts fits at (writes_text n bytes) (text_fields n bytes at)
     Puts-text bytes at small fit =
-        elim (eqb (length bytes) 0) as (λ b. Puts fits at (cond b [] (writes_delimited n bytes)) (cond b [] (chunk_field n bytes at ∷ []))) [
+        elim (eqb (length bytes) 0) as (λ b. Puts fits at (cond b [] (writes_delimited n bytes))
+        (cond b [] (chunk_field n bytes at ∷ []))) [
           | true ↦ Puts-nil at
           | false ↦ Puts-chunk bytes at small fit
         ]
@@ -124,7 +125,8 @@ module _ (fits : ℕ → WireType → Bool) where
     Puts-chunks (t ∷ texts) at small fit =
         let whole = length-append (writes_delimited n t) (writes_each_delimited n texts) in
         let inner = length-writes_delimited n t in
-        Puts-then at (writes_delimited n t) (writes_each_delimited n texts) (chunk_field n t at ∷ []) (chunk_fields n texts (at + length (writes_delimited n t)))
+        Puts-then at (writes_delimited n t) (writes_each_delimited n texts) (chunk_field n t at ∷ [])
+        (chunk_fields n texts (at + length (writes_delimited n t)))
         (Puts-chunk t at (omega (arith, whole, inner)) fit)
         (Puts-chunks texts (at + length (writes_delimited n t)) (omega (arith, whole)) fit)
 

@@ -23,7 +23,8 @@ use Rattle.am_wire.specs.Reading.{varint_in, chunk_in, chunk_given, message_in, 
 use Rattle.am_wire.specs.Reading.{is_given, numbers_in, all_numbers, kept, first_fault}
 use Rattle.am_wire.specs.Writing.{tag, writes_text, writes_delimited, writes_messages}
 use Rattle.am_wire.specs.Again.Puts.{Puts, Puts-nil, Puts-then, Puts-number, Puts-text, Puts-chunk, Puts-chunks, Puts-whole}
-use Rattle.am_wire.specs.Again.Puts.{length-writes_delimited, writes_each_delimited, AllClean, AllClean-append, sound_fields-done, scan-done, number_field}
+use Rattle.am_wire.specs.Again.Puts.{length-writes_delimited, writes_each_delimited, AllClean, AllClean-append}
+use Rattle.am_wire.specs.Again.Puts.{sound_fields-done, scan-done, number_field}
 use Rattle.am_wire.specs.Again.Puts.{number_fields, text_fields, chunk_field, chunk_fields}
 use Rattle.am_wire.specs.Again.Pieces.{done, Reads, pieces-reads}
 use Rattle.am_wire.specs.Again.Varints.{varint_again, shortest_filled}
@@ -154,7 +155,8 @@ module _ {rows : List Row} {before : List Slot} (w : IsWritten rows before) (n :
 
     -- messages, each of them a field; a message x is written as `writes x`
     module _ {writes : A → List ℕ} where
-      items_clean : (xs : List A) (at : ℕ) → EachReads table tests value writes xs → length (writes_each_delimited n (map writes xs)) < 2 ^ 64
+      items_clean : (xs : List A) (at : ℕ) → EachReads table tests value writes xs
+          → length (writes_each_delimited n (map writes xs)) < 2 ^ 64
           → AllClean (item_fault table tests) (chunk_fields n (map writes xs) at)
       items_clean [] at inner small = tt
       items_clean (x ∷ xs) at inner small =
@@ -164,7 +166,8 @@ module _ {rows : List Row} {before : List Slot} (w : IsWritten rows before) (n :
           let e : FieldAt = chunk_field n (writes x) at in
           let p : ℕ = at + length (tag n 2) + length (shortest (length (writes x))) in (
             ap (λ (f : Option WireError). f then tests e.at (fields_in table p (writes x))) (one.clean p) ∙ (one.means p).passes e.at,
-            items_clean xs (at + length (writes_delimited n (writes x))) (record { each = All-tail P x xs inner.each }) (omega (arith, len)),
+            items_clean xs (at + length (writes_delimited n (writes x))) (record { each = All-tail P x xs inner.each })
+                (omega (arith, len)),
           )
 
       pub written_items : {xs : List A} → EachReads table tests value writes xs → is_next n before ≡ true
@@ -298,11 +301,13 @@ module _ {rows : List Row} {slots : List Slot} (w : IsWritten rows slots) (at n 
           ∙ ap (λ (ys : List A). x ∷ ys) more
 
       pub items_again : {xs : List A} → EachReads table tests value writes xs
-          → content_at n slots ≡ items (writes_messages writes n xs) (map writes xs) → map value (messages table n (fields_at at slots)) ≡ xs
+          → content_at n slots ≡ items (writes_messages writes n xs) (map writes xs)
+          → map value (messages table n (fields_at at slots)) ≡ xs
       unfolding slot_fields
       items_again {xs} inner is =
           let len = length-content_at n slots in
-          let whole : length (put n (content_at n slots)) ≡ length (writes_messages writes n xs) = ap (λ (c : Content). length (put n c)) is in
+          let whole : length (put n (content_at n slots)) ≡ length (writes_messages writes n xs) =
+          ap (λ (c : Content). length (put n c)) is in
           let same : length (writes_each_delimited n (map writes xs)) ≡ length (writes_messages writes n xs) =
           ap length (flat_map-map (writes_delimited n) writes xs) in
           ap (λ (fs : List (List FieldAt)). map value fs) (seen (message_in table) (items (writes_messages writes n xs) (map writes xs)) is)

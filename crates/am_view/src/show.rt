@@ -1,0 +1,66 @@
+//! Snapshots, shown.
+
+ghost use Rattle.std.specs.Prelude.{List, [], None, IfSome, OnOk};
+ghost use Rattle.std.specs.Io.KnownBytes.{Appends};
+ghost use Rattle.am_nflog.specs.Mesh as entries;
+ghost use Rattle.am_nflog.specs.MeshTable.{reads_mesh_entry};
+ghost use Rattle.am_silence.specs.Mesh as silences;
+ghost use Rattle.am_silence.specs.MeshTable.{reads_mesh_silence};
+ghost use Rattle.am_snapshot.specs.Loads.{IsLoaded};
+ghost use Rattle.am_view.specs.Views.{view_text};
+
+use crate::view::write_view;
+use am_merge::Held;
+use am_nflog::MeshEntry;
+use am_silence::MeshSilence;
+use am_snapshot::{SnapshotError, load};
+use am_version_order::Moment;
+use std::alloc::Global;
+use std::io::{Read, Write};
+use std::mem;
+
+/// Writes the view, without a name, of the silences whose snapshot the whole input is, and answers its bytes.
+///
+/// What was read is forgotten: the process is to end then, and its memory with it.
+///
+/// # Errors
+///
+/// Those of [`load`] and of [`write_view`].
+pub fn show_silences<R: Read, W: Write>(
+    alloc: Global,
+    input: &mut R,
+    output: &mut W,
+    now: Moment,
+) -> Result<u64, SnapshotError>
+    ensures shown { OnOk result (IfSome (R.remaining input.old) (λ bytes.
+        (held : List silences.Mesh) × IsLoaded silences.mesh_version reads_mesh_silence bytes held ×
+        Appends (W.contents output.old) (W.contents output.new) (view_text None now held []))) }
+{
+    let silences = load::<MeshSilence, _>(alloc, input)?;
+    let written = write_view(alloc, &silences, &Held::new(alloc), None, now, output);
+    mem::forget(silences);
+    written
+}
+
+/// Writes the view, without a name, of the log whose snapshot the whole input is, and answers its bytes.
+///
+/// What was read is forgotten: the process is to end then, and its memory with it.
+///
+/// # Errors
+///
+/// Those of [`load`] and of [`write_view`].
+pub fn show_log<R: Read, W: Write>(
+    alloc: Global,
+    input: &mut R,
+    output: &mut W,
+    now: Moment,
+) -> Result<u64, SnapshotError>
+    ensures shown { OnOk result (IfSome (R.remaining input.old) (λ bytes.
+        (held : List entries.Mesh) × IsLoaded entries.mesh_version reads_mesh_entry bytes held ×
+        Appends (W.contents output.old) (W.contents output.new) (view_text None now [] held))) }
+{
+    let log = load::<MeshEntry, _>(alloc, input)?;
+    let written = write_view(alloc, &Held::new(alloc), &log, None, now, output);
+    mem::forget(log);
+    written
+}
