@@ -1,13 +1,17 @@
 //! Snapshots, shown.
 
-ghost use Rattle.std.specs.Prelude.{List, [], None, IfSome, OnOk};
+ghost use Rattle.std.specs.Prelude.{◌≡◌, ◌⊎◌, List, [], length, None, IfSome, IfOk, IfErr, OnOk};
 ghost use Rattle.std.specs.Io.KnownBytes.{Appends};
+ghost use Rattle.std.specs.Ordering.{nat_cmp};
+ghost use Rattle.std.specs.Cmp.Lexicographic.{slice_cmp};
+ghost use Rattle.am_nflog.specs.Keys.{key_cmp};
 ghost use Rattle.am_nflog.specs.Mesh as entries;
 ghost use Rattle.am_nflog.specs.MeshTable.{reads_mesh_entry};
 ghost use Rattle.am_silence.specs.Mesh as silences;
 ghost use Rattle.am_silence.specs.MeshTable.{reads_mesh_silence};
-ghost use Rattle.am_snapshot.specs.Loads.{IsLoaded};
-ghost use Rattle.am_view.specs.Views.{view_text};
+ghost use Rattle.am_snapshot.specs.Loads.{StopsLoad};
+ghost use Rattle.am_view.specs.Shows.{IsLoadedMap};
+ghost use Rattle.am_view.specs.Views.{view_text, StopsWriting};
 
 use crate::view::write_view;
 use am_merge::Held;
@@ -25,16 +29,22 @@ use std::mem;
 ///
 /// # Errors
 ///
-/// Those of [`load`] and of [`write_view`].
+/// Those of [`load`], before a byte goes out, and then those of [`write_view`].
 pub fn show_silences<R: Read, W: Write>(
     alloc: Global,
     input: &mut R,
     output: &mut W,
     now: Moment,
 ) -> Result<u64, SnapshotError>
-    ensures shown { OnOk result (IfSome (R.remaining input.old) (λ bytes.
-        (held : List silences.Mesh) × IsLoaded silences.mesh_version reads_mesh_silence bytes held ×
+    ensures shown { IfOk result (λ written. IfSome (R.remaining input.old) (λ bytes. (held : List silences.Mesh) ×
+        IsLoadedMap silences.mesh_version (slice_cmp nat_cmp) reads_mesh_silence bytes held ×
+        (written ≡ length (view_text None now held [])) ×
         Appends (W.contents output.old) (W.contents output.new) (view_text None now held []))) }
+    ensures end { OnOk result (IsAtEnd (R.remaining input.new)) }
+    ensures stopped { IfErr result (λ e. IfSome (R.remaining input.old) (λ bytes.
+        (StopsLoad silences.mesh_version reads_mesh_silence bytes (R.remaining input.new) e × (output.new ≡ output.old))
+        ⊎ ((held : List silences.Mesh) × IsLoadedMap silences.mesh_version (slice_cmp nat_cmp) reads_mesh_silence bytes held ×
+        StopsWriting W.contents output.old output.new (view_text None now held []) e))) }
 {
     let silences = load::<MeshSilence, _>(alloc, input)?;
     let written = write_view(alloc, &silences, &Held::new(alloc), None, now, output);
@@ -48,16 +58,22 @@ pub fn show_silences<R: Read, W: Write>(
 ///
 /// # Errors
 ///
-/// Those of [`load`] and of [`write_view`].
+/// Those of [`load`], before a byte goes out, and then those of [`write_view`].
 pub fn show_log<R: Read, W: Write>(
     alloc: Global,
     input: &mut R,
     output: &mut W,
     now: Moment,
 ) -> Result<u64, SnapshotError>
-    ensures shown { OnOk result (IfSome (R.remaining input.old) (λ bytes.
-        (held : List entries.Mesh) × IsLoaded entries.mesh_version reads_mesh_entry bytes held ×
+    ensures shown { IfOk result (λ written. IfSome (R.remaining input.old) (λ bytes. (held : List entries.Mesh) ×
+        IsLoadedMap entries.mesh_version key_cmp reads_mesh_entry bytes held ×
+        (written ≡ length (view_text None now [] held)) ×
         Appends (W.contents output.old) (W.contents output.new) (view_text None now [] held))) }
+    ensures end { OnOk result (IsAtEnd (R.remaining input.new)) }
+    ensures stopped { IfErr result (λ e. IfSome (R.remaining input.old) (λ bytes.
+        (StopsLoad entries.mesh_version reads_mesh_entry bytes (R.remaining input.new) e × (output.new ≡ output.old))
+        ⊎ ((held : List entries.Mesh) × IsLoadedMap entries.mesh_version key_cmp reads_mesh_entry bytes held ×
+        StopsWriting W.contents output.old output.new (view_text None now [] held) e))) }
 {
     let log = load::<MeshEntry, _>(alloc, input)?;
     let written = write_view(alloc, &Held::new(alloc), &log, None, now, output);
