@@ -29,8 +29,9 @@ use std::marker::Model;
 pub struct MeshSilence {
     silence: Silence,
     expires_at: Moment,
-    canonical: Vec<u8>,
+    // (here it fills the gap before the words of the text)
     bucket: Place,
+    canonical: Vec<u8>,
 }
 
 impl Model for MeshSilence {
@@ -97,8 +98,8 @@ impl MeshSilence {
         Ok(MeshSilence {
             silence,
             expires_at,
-            canonical,
             bucket,
+            canonical,
         })
     }
 
@@ -265,8 +266,8 @@ impl Version for MeshSilence {
         Ok(MeshSilence {
             silence: self.silence.try_clone(alloc)?,
             expires_at: self.expires_at,
-            canonical: self.canonical.clone()?,
             bucket: self.bucket,
+            canonical: self.canonical.clone()?,
         })
     }
 
