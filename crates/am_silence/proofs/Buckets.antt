@@ -7,7 +7,7 @@ use Rattle.std.proofs.lemmas.Grind.{flat_map-append}
 use Rattle.std.proofs.Math.Seq.{drop-append_seam}
 use Rattle.am_wire.specs.Varint.{shortest}
 use Rattle.am_wire.specs.Again.Varints.{shortest_filled}
-use Rattle.am_wire.specs.Writing.{tag, writes_delimited, writes_text, writes_messages}
+use Rattle.am_wire.specs.Writing.{delimited, tag, writes_delimited, writes_text, writes_messages}
 use Rattle.am_wire.specs.Sizes.{counted}
 use Rattle.am_wire.specs.Timestamps.{writes_moment}
 use Rattle.am_silence.specs.declared.matcher.Matcher.{Matcher}
@@ -49,10 +49,6 @@ ends_as end text h = record { front = h.front; back = h.back; is = sym text ∙ 
 
 whole_length : {end : ℕ} {part text : List ℕ} (h : Ends end part text) → length text ≡ end + length h.back
 whole_length {end} {part} h = omega (arith, ap length h.is, length-append h.front (part ++ h.back), length-append part h.back, h.at)
-
--- a part that is written behind its length
-abbrev pub delimited : List ℕ → List ℕ
-delimited part = shortest (length part) ++ part
 
 pub ends_follows : {end start : ℕ} {part text : List ℕ} → Ends end (delimited part) text → length part < 2 ^ 64 → start ≡ end - length (delimited part) → Follows start part text
 ends_follows {end} {start} {part} {text} h short at =
@@ -129,6 +125,3 @@ small_chunk m h = omega (arith, h, length-append (writes_delimited 1 (writes_sil
 
 pub small_inside : (text : List ℕ) → length (writes_delimited 1 text) < 2 ^ 32 → length text < 2 ^ 32
 small_inside text h = omega (arith, h, length-append (tag 1 2) (shortest (length text) ++ text), length-append (shortest (length text)) text)
-
-pub small_silence : (m : Mesh) → length (writes_mesh_silence m) < 2 ^ 32 → length (writes_silence m.silence) < 2 ^ 32
-small_silence m h = small_inside (writes_silence m.silence) (small_chunk m h)

@@ -3,11 +3,12 @@ use Rattle.std.specs.Prelude.{slice_get}
 use Rattle.std.specs.Option.{option_map_or}
 use Rattle.std.proofs.lemmas.Option.{slice_get_read}
 use Rattle.am_wire.specs.Varint.{shortest}
+use Rattle.am_wire.specs.Writing.{delimited}
 use Rattle.am_silence.specs.declared.matcher.Matcher.{Matcher}
 use Rattle.am_silence.specs.Matchers.{writes_matcher}
 use Rattle.am_silence.specs.Silences.{writes_silence}
 use Rattle.am_silence.specs.Mesh.{bucket_matcher_of, bucket_of}
-use Rattle.am_silence.proofs.Buckets.{delimited, version_end, matcher_end, matcher_end-within, matcher_inside, end_counted, ends_follows, small_inside}
+use Rattle.am_silence.proofs.Buckets.{version_end, matcher_end, matcher_end-within, matcher_inside, end_counted, ends_follows, small_inside}
 use Rattle.am_silence.proofs.bucket.bucket_place.Goals as goal
 
 module _ (c : goal.After-saturating_sub-start) where
