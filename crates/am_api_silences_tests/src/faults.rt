@@ -7,12 +7,12 @@ use am_instance::Instance;
 use std::alloc::Global;
 
 /// A post.
-const POST: &[u8] =
-    b"POST /api/v2/silences HTTP/1.1\r\ncontent-length: 156\r\n\r\n{\"matchers\":[{\"name\":\"job\",\"value\":\"x\",\"isRegex\":false}],\"startsAt\":\"1970-01-01T00:00:10Z\",\"endsAt\":\"1970-01-01T00:01:40Z\",\"createdBy\":\"ops\",\"comment\":\"hi\"}";
+const POST: &str =
+    "POST /api/v2/silences HTTP/1.1\r\ncontent-length: 156\r\n\r\n{\"matchers\":[{\"name\":\"job\",\"value\":\"x\",\"isRegex\":false}],\"startsAt\":\"1970-01-01T00:00:10Z\",\"endsAt\":\"1970-01-01T00:01:40Z\",\"createdBy\":\"ops\",\"comment\":\"hi\"}";
 
 /// What is served of a post whose bytes come one by one, where a read fails, and how many bytes are written.
 fn served_in_part(alloc: Global, instance: &mut Instance, fails_at: usize) -> (Seen, usize) {
-    let mut reader = stepwise(POST, 1, fails_at);
+    let mut reader = stepwise(POST.as_bytes(), 1, fails_at);
     let mut writer = writer(alloc, 0, Stop::Fails);
     let seen = serve_it(
         alloc,
@@ -68,7 +68,7 @@ const WHOLE: Writing = Writing {
 
 /// What is served of a post whose reply is written so, and how many bytes are.
 fn served_to(alloc: Global, instance: &mut Instance, writing: Writing) -> (Seen, usize) {
-    let mut reader = stepwise(POST, 1_000, 0);
+    let mut reader = stepwise(POST.as_bytes(), 1_000, 0);
     let mut writer = writer(alloc, writing.stops_at, writing.stop);
     writer.step = writing.step;
     let seen = serve_it(

@@ -6,81 +6,85 @@ use am_instance::Instance;
 use std::alloc::{AllocError, Global};
 
 /// The bytes of a request, the status, and the bytes of the whole reply.
-type Row = (&'static [u8], Option<u16>, &'static str);
+type Row = (&'static str, Option<u16>, &'static str);
+
+/// The reply to a request that ended early.
+const ENDED_EARLY: &str =
+    "HTTP/1.1 400 Bad Request\r\ncontent-type: application/json\r\ncontent-length: 21\r\nconnection: close\r\n\r\n\"request ended early\"";
 
 const ROWS: [Row; 15] = [
     (
-        b"GET /api/v2/silences HTTP/1.1\r\n\r\n",
+        "GET /api/v2/silences HTTP/1.1\r\n\r\n",
         Some(200),
         "HTTP/1.1 200 OK\r\ncontent-type: application/json\r\ncontent-length: 2\r\nconnection: close\r\n\r\n[]",
     ),
     (
-        b"PUT /api/v2/silences HTTP/1.1\r\n\r\n",
+        "PUT /api/v2/silences HTTP/1.1\r\n\r\n",
         Some(405),
         "HTTP/1.1 405 Method Not Allowed\r\ncontent-type: application/json\r\ncontent-length: 20\r\nallow: GET, POST\r\nconnection: close\r\n\r\n\"method not allowed\"",
     ),
     (
-        b"GET / HTTP/2.0\r\n\r\n",
+        "GET / HTTP/2.0\r\n\r\n",
         Some(400),
         "HTTP/1.1 400 Bad Request\r\ncontent-type: application/json\r\ncontent-length: 18\r\nconnection: close\r\n\r\n\"bad request head\"",
     ),
     (
-        b"POST /api/v2/silences HTTP/1.1\r\ntransfer-encoding: chunked\r\n\r\n",
+        "POST /api/v2/silences HTTP/1.1\r\ntransfer-encoding: chunked\r\n\r\n",
         Some(501),
         "HTTP/1.1 501 Not Implemented\r\ncontent-type: application/json\r\ncontent-length: 33\r\nconnection: close\r\n\r\n\"transfer-encoding not supported\"",
     ),
     (
-        b"POST /api/v2/silences HTTP/1.1\r\ncontent-length: 2\r\ncontent-length: 2\r\n\r\n{}",
+        "POST /api/v2/silences HTTP/1.1\r\ncontent-length: 2\r\ncontent-length: 2\r\n\r\n{}",
         Some(400),
         "HTTP/1.1 400 Bad Request\r\ncontent-type: application/json\r\ncontent-length: 20\r\nconnection: close\r\n\r\n\"bad content-length\"",
     ),
     (
-        b"POST /api/v2/silences HTTP/1.1\r\nContent-Length: \t2 \r\n\r\n{}",
+        "POST /api/v2/silences HTTP/1.1\r\nContent-Length: \t2 \r\n\r\n{}",
         Some(400),
         "HTTP/1.1 400 Bad Request\r\ncontent-type: application/json\r\ncontent-length: 23\r\nconnection: close\r\n\r\n\"bad silence: matchers\"",
     ),
     (
-        b"POST /api/v2/silences HTTP/1.1\r\ncontent-length: 1048577\r\n\r\n",
+        "POST /api/v2/silences HTTP/1.1\r\ncontent-length: 1048577\r\n\r\n",
         Some(413),
         "HTTP/1.1 413 Payload Too Large\r\ncontent-type: application/json\r\ncontent-length: 16\r\nconnection: close\r\n\r\n\"body too large\"",
     ),
     (
-        b"POST /api/v2/silences HTTP/1.1\r\ncontent-length: 2\r\n\r\n{",
+        "POST /api/v2/silences HTTP/1.1\r\ncontent-length: 2\r\n\r\n{",
         Some(400),
-        "HTTP/1.1 400 Bad Request\r\ncontent-type: application/json\r\ncontent-length: 21\r\nconnection: close\r\n\r\n\"request ended early\"",
+        ENDED_EARLY,
     ),
     // Of two faults the one that is tested first.
     (
-        b"POST / HTTP/1.1\r\ncontent-length: x\r\ntransfer-encoding: chunked\r\n\r\n",
+        "POST / HTTP/1.1\r\ncontent-length: x\r\ntransfer-encoding: chunked\r\n\r\n",
         Some(501),
         "HTTP/1.1 501 Not Implemented\r\ncontent-type: application/json\r\ncontent-length: 33\r\nconnection: close\r\n\r\n\"transfer-encoding not supported\"",
     ),
     (
-        b"POST / HTTP/1.1\r\ncontent-length: 1048577\r\ncontent-length: 1048577\r\n\r\n",
+        "POST / HTTP/1.1\r\ncontent-length: 1048577\r\ncontent-length: 1048577\r\n\r\n",
         Some(400),
         "HTTP/1.1 400 Bad Request\r\ncontent-type: application/json\r\ncontent-length: 20\r\nconnection: close\r\n\r\n\"bad content-length\"",
     ),
     (
-        b"PUT / HTTP/1.1\r\ncontent-length: 2\r\n\r\n{",
+        "PUT / HTTP/1.1\r\ncontent-length: 2\r\n\r\n{",
         Some(400),
-        "HTTP/1.1 400 Bad Request\r\ncontent-type: application/json\r\ncontent-length: 21\r\nconnection: close\r\n\r\n\"request ended early\"",
+        ENDED_EARLY,
     ),
     (
-        b"DELETE /api/v2/silences HTTP/1.1\r\n\r\n",
+        "DELETE /api/v2/silences HTTP/1.1\r\n\r\n",
         Some(405),
         "HTTP/1.1 405 Method Not Allowed\r\ncontent-type: application/json\r\ncontent-length: 20\r\nallow: GET, POST\r\nconnection: close\r\n\r\n\"method not allowed\"",
     ),
     (
-        b"POST /api/v2/silence/a HTTP/1.1\r\n\r\n",
+        "POST /api/v2/silence/a HTTP/1.1\r\n\r\n",
         Some(405),
         "HTTP/1.1 405 Method Not Allowed\r\ncontent-type: application/json\r\ncontent-length: 20\r\nallow: GET, DELETE\r\nconnection: close\r\n\r\n\"method not allowed\"",
     ),
     (
-        b"PUT /api/v2/silences?filter=x HTTP/1.1\r\n\r\n",
+        "PUT /api/v2/silences?filter=x HTTP/1.1\r\n\r\n",
         Some(405),
         "HTTP/1.1 405 Method Not Allowed\r\ncontent-type: application/json\r\ncontent-length: 20\r\nallow: GET, POST\r\nconnection: close\r\n\r\n\"method not allowed\"",
     ),
-    (b"", None, ""),
+    ("", None, ""),
 ];
 
 /// What is served of these bytes at 10 s, and whether that is what is written.
@@ -98,17 +102,22 @@ fn answered(alloc: Global, instance: &mut Instance, bytes: &[u8], wanted: &[u8])
     (seen, writer.taken.as_slice() == wanted)
 }
 
-/// Whether there is this status, and no frame and no fault.
-fn is_quiet(seen: Seen, status: Option<u16>) -> bool {
-    seen.status == status && seen.fault.is_none() && seen.frames == 0 && !seen.unsent
+/// This status, no frame and no fault.
+fn quiet(status: Option<u16>) -> Seen {
+    Seen {
+        status,
+        frames: 0,
+        unsent: false,
+        fault: None,
+    }
 }
 
 /// The first row that is answered in another way by a member of three.
 fn first_wrong(alloc: Global) -> Option<Option<usize>> {
     let mut instance = member(alloc, &["b", "c"])?;
     for (place, (bytes, status, wanted)) in ROWS.iter().enumerate() {
-        let (seen, same) = answered(alloc, &mut instance, bytes, wanted.as_bytes());
-        if !same || !is_quiet(seen, *status) {
+        let (seen, same) = answered(alloc, &mut instance, bytes.as_bytes(), wanted.as_bytes());
+        if !same || seen != quiet(*status) {
             return Some(Some(place));
         }
     }
@@ -121,13 +130,18 @@ fn whole_replies(rt: HostRuntime) {
     assert!(rt; wrong == Some(None), "{wrong:?}");
 }
 
-/// A request with 65 fields.
-fn many_fields(alloc: Global) -> Result<String, AllocError> {
-    let mut text = String::from_str(alloc, "GET /api/v2/silences HTTP/1.1\r\n")?;
+/// Puts 65 fields behind a text.
+fn push_fields(text: &mut String) -> Result<(), AllocError> {
     for _ in 0..65 {
         text.push_str("a: b\r\n")?;
     }
-    text.push_str("\r\n")?;
+    text.push_str("\r\n")
+}
+
+/// A request with 65 fields.
+fn many_fields(alloc: Global) -> Result<String, AllocError> {
+    let mut text = String::from_str(alloc, "GET /api/v2/silences HTTP/1.1\r\n")?;
+    push_fields(&mut text)?;
     Ok(text)
 }
 
@@ -153,16 +167,20 @@ fn a_head_has_64_fields_at_most(rt: HostRuntime) {
 }
 
 /// A post.
-const POST: &[u8] =
-    b"POST /api/v2/silences HTTP/1.1\r\ncontent-length: 156\r\n\r\n{\"matchers\":[{\"name\":\"job\",\"value\":\"x\",\"isRegex\":false}],\"startsAt\":\"1970-01-01T00:00:10Z\",\"endsAt\":\"1970-01-01T00:01:40Z\",\"createdBy\":\"ops\",\"comment\":\"hi\"}";
+const POST: &str =
+    "POST /api/v2/silences HTTP/1.1\r\ncontent-length: 156\r\n\r\n{\"matchers\":[{\"name\":\"job\",\"value\":\"x\",\"isRegex\":false}],\"startsAt\":\"1970-01-01T00:00:10Z\",\"endsAt\":\"1970-01-01T00:01:40Z\",\"createdBy\":\"ops\",\"comment\":\"hi\"}";
 
 /// The first front of the post that is answered otherwise than as one that ended early.
 fn first_other(alloc: Global) -> Option<Option<usize>> {
     let mut instance = member(alloc, &[])?;
-    let (_, status, wanted) = ROWS[7];
     for size in 1..POST.len() {
-        let (seen, same) = answered(alloc, &mut instance, &POST[..size], wanted.as_bytes());
-        if !same || !is_quiet(seen, status) {
+        let (seen, same) = answered(
+            alloc,
+            &mut instance,
+            &POST.as_bytes()[..size],
+            ENDED_EARLY.as_bytes(),
+        );
+        if !same || seen != quiet(Some(400)) {
             return Some(Some(size));
         }
     }

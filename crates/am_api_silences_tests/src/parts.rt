@@ -142,14 +142,19 @@ fn counts(alloc: Global, instance: &mut Instance, bytes: &[u8], seconds: i64) ->
     Some(answer_it(alloc, instance, &request, seconds))
 }
 
-/// A post to a member of three, the same again, a request at a moment that is past, and a list.
+/// What comes of a post, the same again, a request at a moment that is past, and a list.
+fn counts_in_turn(alloc: Global, instance: &mut Instance) -> Option<[Counts; 4]> {
+    let posted = counts(alloc, instance, POST, 10)?;
+    let again = counts(alloc, instance, POST, 11)?;
+    let back = counts(alloc, instance, LIST, 10)?;
+    let list = counts(alloc, instance, LIST, 11)?;
+    Some([posted, again, back, list])
+}
+
+/// That of a member of three.
 fn run(alloc: Global) -> Option<[Counts; 4]> {
     let mut instance = member(alloc, &["b", "c"])?;
-    let posted = counts(alloc, &mut instance, POST, 10)?;
-    let again = counts(alloc, &mut instance, POST, 11)?;
-    let back = counts(alloc, &mut instance, LIST, 10)?;
-    let list = counts(alloc, &mut instance, LIST, 11)?;
-    Some([posted, again, back, list])
+    counts_in_turn(alloc, &mut instance)
 }
 
 #[test]
