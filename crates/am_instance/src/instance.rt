@@ -24,7 +24,6 @@ use std::marker::Model;
 
 /// One instance: its configuration, the silences and the notification log that it holds, and the moment of its last
 /// event.
-#[derive(Drop)]
 pub struct Instance {
     pub(crate) alloc: Global,
     pub(crate) config: Config,
@@ -33,6 +32,20 @@ pub struct Instance {
     /// The patterns of silences, compiled.
     pub(crate) patterns: PatternCache,
     last: Moment,
+}
+
+// (so that crates above cite one drop, and don't prove those of all that is inside)
+impl Drop for Instance {
+    fn drop(self) {
+        let Instance {
+            alloc: _,
+            config: _,
+            silences: _,
+            log: _,
+            patterns: _,
+            last: _,
+        } = self;
+    }
 }
 
 impl Model for Instance {

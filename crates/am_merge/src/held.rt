@@ -44,10 +44,16 @@ pub enum FromVersionsError {
 /// A map from keys to versions.
 ///
 /// Contracts see it as the list of its versions in the order of their keys.
-#[derive(Drop)]
 pub struct Held<V: Version> {
     shelf: Shelf<V>,
     alloc: Global,
+}
+
+// (so that crates above cite one drop, and don't prove those of all that is inside)
+impl<V: Version> Drop for Held<V> {
+    fn drop(self) {
+        let Held { shelf: _, alloc: _ } = self;
+    }
 }
 
 impl<V: Version> Model for Held<V> {
