@@ -2,7 +2,7 @@
 
 use crate::notes::Row;
 use crate::twins::Twins;
-use std::alloc::AllocError;
+use std::alloc::{AllocError, Global};
 use std::test::Fail;
 
 // The next of numbers that look random.
@@ -51,6 +51,37 @@ fn merge_rows(twins: &mut Twins, rows: &[Row]) -> Result<(), AllocError> {
     let mut other = Twins::new(twins.held.allocator());
     other.take_all(rows)?;
     twins.merge(&other)?;
+    Ok(())
+}
+
+// A map of so many rows that follow a number.
+fn many(alloc: Global, first: u32, count: u32) -> Result<Twins, AllocError> {
+    let mut twins = Twins::new(alloc);
+    let mut random = first;
+    for _taken in 0..count {
+        random = after(random);
+        twins.take(row(random), 30)?;
+    }
+    Ok(twins)
+}
+
+// Whether two maps of so many rows merge as lists do.
+fn merge_as_lists(alloc: Global, count: u32, others: u32) -> Result<bool, AllocError> {
+    let mut twins = many(alloc, 1, count)?;
+    let other = many(alloc, 2, others)?;
+    let changed = twins.merge(&other)?;
+    Ok(changed.is_some() && twins.agree())
+}
+
+// How many rows a map and another one are made of.
+const SIZES: [(u32, u32); 5] = [(0, 300), (80, 600), (300, 300), (600, 80), (600, 1)];
+
+#[test]
+fn large_maps_merge_as_lists_do(rt: HostRuntime) -> Result<(), Fail> {
+    for (count, others) in SIZES {
+        let agree = merge_as_lists(rt.alloc(), count, others)?;
+        assert!(rt; agree, "{others} rows merged into {count}");
+    }
     Ok(())
 }
 

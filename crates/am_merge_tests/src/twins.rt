@@ -51,12 +51,15 @@ impl Twins {
             .take_pair(make_note(first), make_note(second), at(now))
     }
 
-    /// Takes all notes of another map.
+    /// Takes all notes of another map, and says how many letters have another note then; `None` where map and list
+    /// don't say the same.
     pub fn merge(&mut self, other: &Twins) -> Result<Option<usize>, AllocError> {
+        let mut changed: usize = 0;
         for &note in &other.plain {
-            put(&mut self.plain, note)?;
+            changed = changed.saturating_add(usize::from(put(&mut self.plain, note)?));
         }
-        Ok(self.held.merge(&other.held, Moment::LEAST).ok())
+        let merged = self.held.merge(&other.held, Moment::LEAST);
+        Ok(merged.ok().filter(|merged| *merged == changed))
     }
 
     /// Drops what isn't live at a second, and says how many went.
@@ -111,17 +114,21 @@ impl Twins {
     }
 }
 
-/// Puts a note in where it is greater than the one of its letter.
-fn put(plain: &mut Vec<Note>, note: Note) -> Result<(), AllocError> {
+/// Puts a note in where it is greater than the one of its letter, and says whether it did.
+fn put(plain: &mut Vec<Note>, note: Note) -> Result<bool, AllocError> {
     match plain.binary_search_by(|held| held.id.cmp(&note.id)) {
         Ok(place) => {
-            if is_greater(note, plain[place]) {
+            let greater = is_greater(note, plain[place]);
+            if greater {
                 plain[place] = note;
             }
+            Ok(greater)
         }
-        Err(place) => plain.insert(place, note)?,
+        Err(place) => {
+            plain.insert(place, note)?;
+            Ok(true)
+        }
     }
-    Ok(())
 }
 
 fn is_greater(note: Note, held: Note) -> bool {
