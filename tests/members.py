@@ -7,8 +7,10 @@ import random
 import socket
 import subprocess
 import threading
+import time
 
 from tally import give_up
+from wire import greeting
 
 TOP = os.path.dirname(os.path.dirname(os.path.abspath(__file__)))
 
@@ -17,6 +19,10 @@ PATIENCE = 60
 
 # How many processes are run at once.
 LANES = 4
+
+# A name that no member has as a peer, and what a member prints of its greeting.
+STRANGER = "stranger"
+TOLD_OF_STRANGER = "am_tool: UnknownName"
 
 # The program that is run.
 program = f"{TOP}/crates/am_tool/out/am_tool"
@@ -124,6 +130,19 @@ class Member:
             self.lines.append(line.decode("utf-8", "backslashreplace").rstrip("\n"))
             self.has_begun.set()
         self.has_begun.set()
+
+    def lines_since(self, place):
+        """The lines that it has printed from a place on, before this call.
+
+        What a stream brings may come late, so a stranger's greeting, of which one line is printed, is sent behind them.
+        """
+        self.send(greeting(STRANGER))
+        deadline = time.monotonic() + PATIENCE
+        while TOLD_OF_STRANGER not in self.lines[place:]:
+            if time.monotonic() > deadline or not self.reader.is_alive():
+                return self.lines[place:]
+            time.sleep(0.001)
+        return self.lines[place : self.lines.index(TOLD_OF_STRANGER, place)]
 
     def kill(self):
         self.process.kill()

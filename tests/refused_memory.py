@@ -341,7 +341,7 @@ def refuse_all(member, counts, name, data, right):
         refused = counts.refused()
         counts.refuse_none()
         after = member.listed()
-        lines = member.lines[told:]
+        lines = member.lines_since(told)
         if member.process.poll() is not None or after is None:
             faults.append(f"{number}: status {member.process.poll()}, {lines}")
         if not refused_rightly(reply, right, lines):

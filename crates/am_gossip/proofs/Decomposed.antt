@@ -3,7 +3,7 @@ use Rattle.std.proofs.Common.{◌≡◌, ℕ, zero, suc, ◌≤◌, List, [], �
 use Rattle.std.proofs.lemmas.List.{take-append-drop, drop_at}
 use Rattle.am_gossip.specs.declared.error.FrameError.{FrameError}
 use Rattle.am_gossip.specs.declared.frame.Frame.{Frame}
-use Rattle.am_gossip.specs.Streams.{whole, fault, wants, front_of, Stream, put_before, stream_of}
+use Rattle.am_gossip.specs.Streams.{whole, fault, incomplete, front_of, Stream, put_before, stream_of}
 use Rattle.am_gossip.specs.Grammar.{AreFrames, EndsIn, IsStream}
 use Rattle.am_gossip.proofs.Fronts.{front_within}
 use Rattle.am_gossip.proofs.Streaming.{make, stream_first, stream_fault, stream_waits}
@@ -23,7 +23,7 @@ by_front bytes later =
             ends = others.ends;
           })
       | fault e ↦ λ is. rw (stream_fault bytes e is) (record { front = []; behind = bytes; bytes_are = refl; frames_are = refl; ends = fault_found bytes e is })
-      | wants ↦ λ is. rw (stream_waits bytes is) (record { front = []; behind = bytes; bytes_are = refl; frames_are = refl; ends = (refl, unfinished_found bytes is) })
+      | incomplete ↦ λ is. rw (stream_waits bytes is) (record { front = []; behind = bytes; bytes_are = refl; frames_are = refl; ends = (refl, unfinished_found bytes is) })
     ] refl
 
 stream_at : (n : ℕ) (bytes : List ℕ) → length bytes ≤ n → IsStream (stream_of bytes) bytes

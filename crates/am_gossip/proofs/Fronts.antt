@@ -16,8 +16,8 @@ use Rattle.am_gossip.specs.declared.kind.FrameKind.{FrameKind}
 use Rattle.am_gossip.specs.declared.kind.FrameKind.TheVariants as kinds
 use Rattle.am_gossip.specs.Kinds.{kind_at, code_of, limit}
 use Rattle.am_gossip.specs.Frames.{reads_payload}
-use Rattle.am_gossip.specs.Headers.{Header, head, bad, more, sized, kinded, header_of}
-use Rattle.am_gossip.specs.Streams.{whole, fault, wants, payload_front, front_with, front_of}
+use Rattle.am_gossip.specs.Headers.{Header, head, bad, more, header_with_length, header_with_kind, header_of}
+use Rattle.am_gossip.specs.Streams.{whole, fault, incomplete, payload_front, front_with, front_of}
 
 -- ---- numbers
 -- more bytes change nothing, or the number was cut
@@ -60,7 +60,7 @@ never_bad e kind size len h = cc
 never_more : (kind : FrameKind) (size len : ℕ) → more ≡ head kind size len → ⊥
 never_more kind size len h = cc
 
-sized_found : (k kind : FrameKind) (size len : ℕ) (r : Result (ℕ × ℕ) WireError) → sized k r ≡ head kind size len → (digits : ℕ) × (r ≡ Ok (size, digits)) × (k ≡ kind) × (size ≤ limit kind) × (len ≡ digits + 1)
+sized_found : (k kind : FrameKind) (size len : ℕ) (r : Result (ℕ × ℕ) WireError) → header_with_length k r ≡ head kind size len → (digits : ℕ) × (r ≡ Ok (size, digits)) × (k ≡ kind) × (size ≤ limit kind) × (len ≡ digits + 1)
 sized_found k kind size len (Ok n) h =
     elim (ltb (limit k) n.0) as (λ b. ltb (limit k) n.0 ≡ b → cond b (bad Length) (head k n.0 (n.1 + 1)) ≡ head kind size len → (digits : ℕ) × (Ok n ≡ read size digits) × (k ≡ kind) × (size ≤ limit kind) × (len ≡ digits + 1)) [
       | true ↦ λ t e. absurd (never_bad _ _ _ _ e)
@@ -72,7 +72,7 @@ sized_found k kind size len (Ok n) h =
 sized_found k kind size len (Err (Truncated at)) h = absurd (never_more _ _ _ h)
 sized_found k kind size len (Err e) h = absurd (never_bad _ _ _ _ h)
 
-kinded_found : (o : Option FrameKind) (text : List ℕ) (kind : FrameKind) (size len : ℕ) → kinded o text ≡ head kind size len → (digits : ℕ) × (o ≡ Some kind) × (varint_at 0 text ≡ Ok (size, digits)) × (size ≤ limit kind) × (len ≡ digits + 1)
+kinded_found : (o : Option FrameKind) (text : List ℕ) (kind : FrameKind) (size len : ℕ) → header_with_kind o text ≡ head kind size len → (digits : ℕ) × (o ≡ Some kind) × (varint_at 0 text ≡ Ok (size, digits)) × (size ≤ limit kind) × (len ≡ digits + 1)
 kinded_found None text kind size len h = absurd (never_bad _ _ _ _ h)
 kinded_found (Some k) text kind size len h =
     let f = sized_found k kind size len (varint_at 0 text) h in
@@ -92,15 +92,15 @@ pub header_reads : (bytes : List ℕ) (kind : FrameKind) (size len : ℕ) → Ha
 unfolding header_of
 header_reads bytes kind size len h =
     let t : ltb (limit kind) size ≡ false = le-ltb _ _ h.small in
-    ap header_of h.bytes_is ∙ ap (λ (o : Option FrameKind). kinded o h.text) h.kind_is ∙ ap (sized kind) h.number ∙ rw (t, h.len_is) refl
+    ap header_of h.bytes_is ∙ ap (λ (o : Option FrameKind). header_with_kind o h.text) h.kind_is ∙ ap (header_with_length kind) h.number ∙ rw (t, h.len_is) refl
 
 -- more bytes change nothing, or it was cut
-kinded_more : (o : Option FrameKind) (text later : List ℕ) → (kinded o (text ++ later) ≡ kinded o text) ⊎ (kinded o text ≡ more)
+kinded_more : (o : Option FrameKind) (text later : List ℕ) → (header_with_kind o (text ++ later) ≡ header_with_kind o text) ⊎ (header_with_kind o text ≡ more)
 kinded_more None text later = inl refl
 kinded_more (Some kind) text later =
     elim (varint_more 0 9 text later) [
-      | inl same ↦ inl (ap (sized kind) same)
-      | inr cut ↦ inr (ap (sized kind) cut)
+      | inl same ↦ inl (ap (header_with_length kind) same)
+      | inr cut ↦ inr (ap (header_with_length kind) cut)
     ]
 
 pub header_more : (bytes later : List ℕ) → (header_of (bytes ++ later) ≡ header_of bytes) ⊎ (header_of bytes ≡ more)
@@ -171,18 +171,18 @@ module _ (bytes text : List ℕ) (kind : FrameKind) (byte places : ℕ) (is : by
   unfolding header_of
   length_large size number large =
       let t : ltb (limit kind) size ≡ true = lt-ltb _ _ large in
-      ap header_of behind ∙ ap (λ (o : Option FrameKind). kinded o (text ++ byte ∷ [])) (kind_at-code_of kind) ∙ ap (sized kind) number ∙ rw t refl
+      ap header_of behind ∙ ap (λ (o : Option FrameKind). header_with_kind o (text ++ byte ∷ [])) (kind_at-code_of kind) ∙ ap (header_with_length kind) number ∙ rw t refl
 
   pub length_too_long : varint_at 0 (text ++ byte ∷ []) ≡ Err (LongVarint 0) → header_of (bytes ++ byte ∷ []) ≡ bad Length
   unfolding header_of
   length_too_long number =
-      ap header_of behind ∙ ap (λ (o : Option FrameKind). kinded o (text ++ byte ∷ [])) (kind_at-code_of kind) ∙ ap (sized kind) number
+      ap header_of behind ∙ ap (λ (o : Option FrameKind). header_with_kind o (text ++ byte ∷ [])) (kind_at-code_of kind) ∙ ap (header_with_length kind) number
 
   -- the length goes on
   pub length_goes_on : length text ≤ 9 → All (λ b. 128 ≤ b) text → header_of bytes ≡ more
   unfolding header_of
   length_goes_on few go_on =
-      ap header_of is ∙ ap (λ (o : Option FrameKind). kinded o text) (kind_at-code_of kind) ∙ ap (sized kind) (cut_fails 0 9 text (record { few = few; go_on = go_on }))
+      ap header_of is ∙ ap (λ (o : Option FrameKind). header_with_kind o text) (kind_at-code_of kind) ∙ ap (header_with_length kind) (cut_fails 0 9 text (record { few = few; go_on = go_on }))
 
 -- ---- frames
 -- the parts of a frame at the front
@@ -195,13 +195,13 @@ pub record HasPayload (r : Result Frame FrameError) (len : ℕ) (bytes : List �
   pub reads : reads_payload kind (take size (drop start bytes)) ≡ r
   pub len_is : len ≡ start + size
 
-pub front_short : (bytes : List ℕ) (kind : FrameKind) (size len : ℕ) → header_of bytes ≡ head kind size len → length bytes < len + size → front_of bytes ≡ wants
+pub front_short : (bytes : List ℕ) (kind : FrameKind) (size len : ℕ) → header_of bytes ≡ head kind size len → length bytes < len + size → front_of bytes ≡ incomplete
 unfolding front_of
 front_short bytes kind size len h lt =
     let t : ltb (length bytes) (len + size) ≡ true = lt-ltb _ _ lt in
     ap (λ (x : Header). front_with x bytes) h ∙ rw t refl
 
-pub front_more_wanted : (bytes : List ℕ) → header_of bytes ≡ more → front_of bytes ≡ wants
+pub front_more_wanted : (bytes : List ℕ) → header_of bytes ≡ more → front_of bytes ≡ incomplete
 unfolding front_of
 front_more_wanted bytes h = ap (λ (x : Header). front_with x bytes) h
 
@@ -216,9 +216,9 @@ front_full bytes kind size len h le =
     ap (λ (x : Header). front_with x bytes) h ∙ rw t refl
 
 -- more bytes change nothing, or bytes were wanting
-pub front_more : (bytes later : List ℕ) → (front_of (bytes ++ later) ≡ front_of bytes) ⊎ (front_of bytes ≡ wants)
+pub front_more : (bytes later : List ℕ) → (front_of (bytes ++ later) ≡ front_of bytes) ⊎ (front_of bytes ≡ incomplete)
 front_more bytes later =
-    elim (header_of bytes) as (λ h. header_of bytes ≡ h → (front_of (bytes ++ later) ≡ front_of bytes) ⊎ (front_of bytes ≡ wants)) [
+    elim (header_of bytes) as (λ h. header_of bytes ≡ h → (front_of (bytes ++ later) ≡ front_of bytes) ⊎ (front_of bytes ≡ incomplete)) [
       | head kind size len ↦ λ h.
           elim (cases_lt (length bytes) (len + size)) [
             | inl lt ↦ inr (front_short bytes kind size len h lt)
@@ -242,13 +242,13 @@ payload_fault : (len : ℕ) (e : FrameError) (r : Result Frame FrameError) → p
 payload_fault len e (Ok g) h = absurd cc
 payload_fault len e (Err d) h = cc
 
-never_wants : (f : Frame) (n : ℕ) → wants ≡ whole f n → ⊥
+never_wants : (f : Frame) (n : ℕ) → incomplete ≡ whole f n → ⊥
 never_wants f n h = cc
 
 never_fault : (e : FrameError) (f : Frame) (n : ℕ) → fault e ≡ whole f n → ⊥
 never_fault e f n h = cc
 
-never_wants_fault : (e : FrameError) → wants ≡ fault e → ⊥
+never_wants_fault : (e : FrameError) → incomplete ≡ fault e → ⊥
 never_wants_fault e h = cc
 
 faults_are : (d e : FrameError) → fault d ≡ fault e → d ≡ e
@@ -289,7 +289,7 @@ front_within bytes f n is =
     (omega (arith, p.len_is, h.len_is), omega (arith, p.len_is, p.within))
 
 -- what waits is shorter than its frame
-pub waits_short : (bytes later : List ℕ) (kind : FrameKind) (size len : ℕ) → front_of bytes ≡ wants → header_of (bytes ++ later) ≡ head kind size len → length bytes < len + size
+pub waits_short : (bytes later : List ℕ) (kind : FrameKind) (size len : ℕ) → front_of bytes ≡ incomplete → header_of (bytes ++ later) ≡ head kind size len → length bytes < len + size
 waits_short bytes later kind size len waits h =
     elim (cases_lt (length bytes) (len + size)) [
       | inl lt ↦ lt
@@ -298,6 +298,6 @@ waits_short bytes later kind size len waits h =
           absurd (full_waits (len + size) _ (sym (front_full bytes kind size len here le) ∙ waits))
     ]
   where
-    full_waits : (n : ℕ) (r : Result Frame FrameError) → payload_front n r ≡ wants → ⊥
+    full_waits : (n : ℕ) (r : Result Frame FrameError) → payload_front n r ≡ incomplete → ⊥
     full_waits n (Ok f) h = cc
     full_waits n (Err e) h = cc

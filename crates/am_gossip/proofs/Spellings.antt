@@ -19,10 +19,10 @@ use Rattle.am_gossip.specs.declared.kind.FrameKind.TheVariants as kinds
 use Rattle.am_gossip.specs.Answers.{◌>>=◌}
 use Rattle.am_gossip.specs.Kinds.{kind_at, code_of, limit}
 use Rattle.am_gossip.specs.Parts.{known, reads_part, reads_parts, parts_in, parts_of}
-use Rattle.am_wire.specs.Fields.{FieldAt, Payload, varint, eight, four, chunk}
+use Rattle.am_wire.specs.Fields.{FieldAt, Payload, varint, eight, four, delimited_at}
 use Rattle.am_gossip.specs.Frames.{kind_of, reads_payload}
-use Rattle.am_gossip.specs.Headers.{head, bad, more, sized, kinded, header_of}
-use Rattle.am_gossip.specs.Streams.{whole, fault, wants, payload_front, front_of}
+use Rattle.am_gossip.specs.Headers.{head, bad, more, header_with_length, header_with_kind, header_of}
+use Rattle.am_gossip.specs.Streams.{whole, fault, incomplete, payload_front, front_of}
 use Rattle.am_gossip.specs.Grammar.{IsFrame, HasNoKind, HasLargeNumber, HasLongNumber, HasBadLength, HasBadPayload, IsFaultAt, IsUnfinished}
 use Rattle.am_gossip.proofs.Fronts.{header_found, header_reads, HasPayload, front_found, front_fault_found, front_full, front_bad, kind_at-code_of}
 
@@ -108,11 +108,11 @@ part_fault : (at : ℕ) (bytes : List ℕ) (e : FrameError) → reads_part at by
 unfolding reads_part
 part_fault at bytes e h = known_fault _ e h
 
-chunk_fault : (p : Payload) (e : FrameError) → ◌≡◌ {A = Result (List Part) FrameError} (elim p [ chunk at bytes ↦ reads_part at bytes >>= (λ x. Ok (x ∷ [])) | _ ↦ Ok [] ]) (Err e) → IsInPayload e
-chunk_fault (varint n) e h = absurd (ok_err [] e h)
-chunk_fault (eight n) e h = absurd (ok_err [] e h)
-chunk_fault (four n) e h = absurd (ok_err [] e h)
-chunk_fault (chunk at bytes) e h =
+delimited_fault : (p : Payload) (e : FrameError) → ◌≡◌ {A = Result (List Part) FrameError} (elim p [ delimited_at at bytes ↦ reads_part at bytes >>= (λ x. Ok (x ∷ [])) | _ ↦ Ok [] ]) (Err e) → IsInPayload e
+delimited_fault (varint n) e h = absurd (ok_err [] e h)
+delimited_fault (eight n) e h = absurd (ok_err [] e h)
+delimited_fault (four n) e h = absurd (ok_err [] e h)
+delimited_fault (delimited_at at bytes) e h =
     elim (bind_err (reads_part at bytes) (λ x. Ok (x ∷ [])) e h) [
       | inl here ↦ part_fault at bytes e here
       | inr other ↦ absurd (ok_err _ e other.2)
@@ -121,9 +121,9 @@ chunk_fault (chunk at bytes) e h =
 field_fault : (f : FieldAt) (e : FrameError) → parts_in f ≡ Err e → IsInPayload e
 unfolding parts_in
 field_fault f e h =
-    let r : Result (List Part) FrameError = elim f.payload [ chunk at bytes ↦ reads_part at bytes >>= (λ x. Ok (x ∷ [])) | _ ↦ Ok [] ] in
+    let r : Result (List Part) FrameError = elim f.payload [ delimited_at at bytes ↦ reads_part at bytes >>= (λ x. Ok (x ∷ [])) | _ ↦ Ok [] ] in
     elim (eqb f.number 1) as (λ b. cond b r (Ok []) ≡ Err e → IsInPayload e) [
-      | true ↦ λ k. chunk_fault f.payload e k
+      | true ↦ λ k. delimited_fault f.payload e k
       | false ↦ λ k. absurd (ok_err [] e k)
     ] h
 
@@ -262,9 +262,9 @@ more_bad e h = cc
 head_bad : (kind : FrameKind) (size len : ℕ) (e : FrameError) → head kind size len ≡ bad e → ⊥
 head_bad kind size len e h = cc
 
-number_bad : (kind : FrameKind) (text : List ℕ) (e : FrameError) → sized kind (varint_at 0 text) ≡ bad e → (e ≡ Length) × (HasLargeNumber (limit kind) text ⊎ HasLongNumber text)
+number_bad : (kind : FrameKind) (text : List ℕ) (e : FrameError) → header_with_length kind (varint_at 0 text) ≡ bad e → (e ≡ Length) × (HasLargeNumber (limit kind) text ⊎ HasLongNumber text)
 number_bad kind text e h =
-    elim (varint_at 0 text) as (λ r. varint_at 0 text ≡ r → sized kind r ≡ bad e → (e ≡ Length) × (HasLargeNumber (limit kind) text ⊎ HasLongNumber text)) [
+    elim (varint_at 0 text) as (λ r. varint_at 0 text ≡ r → header_with_length kind r ≡ bad e → (e ≡ Length) × (HasLargeNumber (limit kind) text ⊎ HasLongNumber text)) [
       | Ok n ↦ λ is k.
           elim (ltb (limit kind) n.0) as (λ b. ltb (limit kind) n.0 ≡ b → cond b (bad Length) (head kind n.0 (n.1 + 1)) ≡ bad e → (e ≡ Length) × (HasLargeNumber (limit kind) text ⊎ HasLongNumber text)) [
             | true ↦ λ t l. (
@@ -275,19 +275,19 @@ number_bad kind text e h =
           ] refl k
       | Err d ↦ λ is k.
           elim (varint_faults 0 9 text d is) [
-            | inl cut ↦ absurd (more_bad e (subst (λ (x : WireError). sized kind (Err x) ≡ bad e) cut k))
+            | inl cut ↦ absurd (more_bad e (subst (λ (x : WireError). header_with_length kind (Err x) ≡ bad e) cut k))
             | inr long ↦
                 let l = long_found 0 9 text (is ∙ ap wrong long) in
-                (sym (bads_are _ _ (subst (λ (x : WireError). sized kind (Err x) ≡ bad e) long k)), inr (record { enough = l.enough; go_on = l.go_on; much = l.much }))
+                (sym (bads_are _ _ (subst (λ (x : WireError). header_with_length kind (Err x) ≡ bad e) long k)), inr (record { enough = l.enough; go_on = l.go_on; much = l.much }))
           ]
     ] refl h
   where
     wrong : WireError → Result (ℕ × ℕ) WireError
     wrong x = Err x
 
-kinded_bad : (code : ℕ) (text : List ℕ) (e : FrameError) → kinded (kind_at code) text ≡ bad e → IsFaultAt e (code ∷ text)
+kinded_bad : (code : ℕ) (text : List ℕ) (e : FrameError) → header_with_kind (kind_at code) text ≡ bad e → IsFaultAt e (code ∷ text)
 kinded_bad code text e h =
-    elim (kind_at code) as (λ o. kind_at code ≡ o → kinded o text ≡ bad e → IsFaultAt e (code ∷ text)) [
+    elim (kind_at code) as (λ o. kind_at code ≡ o → header_with_kind o text ≡ bad e → IsFaultAt e (code ∷ text)) [
       | None ↦ λ is k. subst (λ (x : FrameError). IsFaultAt x (code ∷ text)) (bads_are _ _ k) (record { code = code; rest = text; bytes_are = refl; no_kind = no_kind_says code is })
       | Some kind ↦ λ is k.
           let b = number_bad kind text e k in
@@ -332,18 +332,18 @@ payload_reads e bytes p = ap front_of p.bytes_are ∙ payload_at_front p.kind p.
 
 no_kind_reads : (bytes : List ℕ) → HasNoKind bytes → header_of bytes ≡ bad Kind
 unfolding header_of
-no_kind_reads bytes is = ap header_of is.bytes_are ∙ ap (λ (o : Option FrameKind). kinded o is.rest) (no_kind_found is.code is.no_kind)
+no_kind_reads bytes is = ap header_of is.bytes_are ∙ ap (λ (o : Option FrameKind). header_with_kind o is.rest) (no_kind_found is.code is.no_kind)
 
 bad_length_reads : (bytes : List ℕ) → HasBadLength bytes → header_of bytes ≡ bad Length
 unfolding header_of
 bad_length_reads bytes is =
-    ap header_of is.bytes_are ∙ ap (λ (o : Option FrameKind). kinded o is.rest) (kind_at-code_of is.kind)
+    ap header_of is.bytes_are ∙ ap (λ (o : Option FrameKind). header_with_kind o is.rest) (kind_at-code_of is.kind)
     ∙ elim is.bad [
       | inl large ↦
           let t : ltb (limit is.kind) large.number ≡ true = lt-ltb _ _ large.large in
-          ap (λ (x : List ℕ). sized is.kind (varint_at 0 x)) large.bytes_are
-          ∙ ap (sized is.kind) (varint_read 0 large.number large.size large.rest large.size_is) ∙ rw t refl
-      | inr long ↦ ap (sized is.kind) (long_fails 0 9 is.rest (record { enough = long.enough; go_on = long.go_on; much = long.much }))
+          ap (λ (x : List ℕ). header_with_length is.kind (varint_at 0 x)) large.bytes_are
+          ∙ ap (header_with_length is.kind) (varint_read 0 large.number large.size large.rest large.size_is) ∙ rw t refl
+      | inr long ↦ ap (header_with_length is.kind) (long_fails 0 9 is.rest (record { enough = long.enough; go_on = long.go_on; much = long.much }))
     ]
 
 pub fault_reads : (e : FrameError) (bytes : List ℕ) → IsFaultAt e bytes → front_of bytes ≡ fault e
@@ -355,22 +355,22 @@ fault_reads Ended bytes is = absurd is
 fault_reads Memory bytes is = absurd is
 
 -- ---- neither a frame nor a fault
-never_frame : (f : Frame) (n : ℕ) → wants ≡ whole f n → ⊥
+never_frame : (f : Frame) (n : ℕ) → incomplete ≡ whole f n → ⊥
 never_frame f n h = cc
 
-never_fault : (e : FrameError) → wants ≡ fault e → ⊥
+never_fault : (e : FrameError) → incomplete ≡ fault e → ⊥
 never_fault e h = cc
 
-pub unfinished_found : (bytes : List ℕ) → front_of bytes ≡ wants → IsUnfinished bytes
+pub unfinished_found : (bytes : List ℕ) → front_of bytes ≡ incomplete → IsUnfinished bytes
 unfinished_found bytes is = record {
   no_frame = λ f text later one are. never_frame f (length text) (sym is ∙ ap front_of are ∙ frame_reads f text later one);
   no_fault = λ e there. never_fault e (sym is ∙ fault_reads e bytes there);
 }
 
-pub unfinished_reads : (bytes : List ℕ) → IsUnfinished bytes → front_of bytes ≡ wants
+pub unfinished_reads : (bytes : List ℕ) → IsUnfinished bytes → front_of bytes ≡ incomplete
 unfinished_reads bytes is =
-    elim (front_of bytes) as (λ r. front_of bytes ≡ r → r ≡ wants) [
+    elim (front_of bytes) as (λ r. front_of bytes ≡ r → r ≡ incomplete) [
       | whole f n ↦ λ h. absurd (is.no_frame f (take n bytes) (drop n bytes) (frame_found bytes f n h) (sym (take-append-drop n bytes)))
       | fault e ↦ λ h. absurd (is.no_fault e (fault_found bytes e h))
-      | wants ↦ λ h. refl
+      | incomplete ↦ λ h. refl
     ] refl

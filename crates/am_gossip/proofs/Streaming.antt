@@ -9,7 +9,7 @@ use Rattle.am_gossip.specs.declared.frame.Frame.{Frame}
 use Rattle.am_gossip.specs.declared.reading.End.{End}
 use Rattle.am_gossip.specs.Standings.{EndsAs}
 use Rattle.am_gossip.specs.Headers.{header_of}
-use Rattle.am_gossip.specs.Streams.{Front, whole, fault, wants, front_of, Stream, put_before, next_frame, stream_from, stream_of, ends_with, goes_on, fed_in}
+use Rattle.am_gossip.specs.Streams.{Front, whole, fault, incomplete, front_of, Stream, put_before, next_frame, stream_from, stream_of, ends_with, goes_on, fed_in}
 use Rattle.am_gossip.proofs.Fronts.{front_more, front_within, front_found, waits_short}
 
 pub stream-skip : (skip : ℕ) (bytes : List ℕ) → stream_from skip bytes ≡ stream_of (drop skip bytes)
@@ -33,7 +33,7 @@ unfolding stream_from front_of header_of
 stream_fault [] e is = absurd cc
 stream_fault (b ∷ bytes) e is = rw is refl
 
-pub stream_waits : (bytes : List ℕ) → front_of bytes ≡ wants → stream_of bytes ≡ record { frames = []; ending = Ok bytes }
+pub stream_waits : (bytes : List ℕ) → front_of bytes ≡ incomplete → stream_of bytes ≡ record { frames = []; ending = Ok bytes }
 unfolding stream_from
 stream_waits [] is = refl
 stream_waits (b ∷ bytes) is = rw is refl
@@ -64,16 +64,16 @@ stream_cut zero (b ∷ bytes) later le =
           let others = stream_cut (n - 1) bytes later (omega (arith, w)) in
           rw (stays (whole f n) (whole_waits f n) is) (ap (put_before (f ∷ [])) others ∙ sym (goes_on-put_before (f ∷ []) (stream_from (n - 1) bytes) later))
       | fault e ↦ λ is. rw (stays (fault e) (fault_waits e) is) refl
-      | wants ↦ λ is. refl
+      | incomplete ↦ λ is. refl
     ] refl
   where
-    whole_waits : (f : Frame) (n : ℕ) → whole f n ≡ wants → ⊥
+    whole_waits : (f : Frame) (n : ℕ) → whole f n ≡ incomplete → ⊥
     whole_waits f n h = cc
 
-    fault_waits : (e : FrameError) → fault e ≡ wants → ⊥
+    fault_waits : (e : FrameError) → fault e ≡ incomplete → ⊥
     fault_waits e h = cc
 
-    stays : (r : Front) → (r ≡ wants → ⊥) → front_of (b ∷ bytes) ≡ r → front_of (b ∷ (bytes ++ later)) ≡ r
+    stays : (r : Front) → (r ≡ incomplete → ⊥) → front_of (b ∷ bytes) ≡ r → front_of (b ∷ (bytes ++ later)) ≡ r
     stays r other is = elim (front_more (b ∷ bytes) later) [ inl same ↦ same ∙ is | inr waits ↦ absurd (other (sym is ∙ waits)) ]
 
 -- any pieces behind the first bytes
@@ -105,7 +105,7 @@ module _ (start now : List Frame) (bytes rest : List ℕ) (h : HasRead start now
   )
 
 -- ---- a frame that a piece finishes
-module _ (held piece : List ℕ) (f : Frame) (n waiting : ℕ) (waiting_is : waiting ≡ length held) (waits : front_of held ≡ wants) (is : front_of (held ++ piece) ≡ whole f n) where
+module _ (held piece : List ℕ) (f : Frame) (n waiting : ℕ) (waiting_is : waiting ≡ length held) (waits : front_of held ≡ incomplete) (is : front_of (held ++ piece) ≡ whole f n) where
   pub finished_after : waiting ≤ n
   finished_after =
       let p = front_found (held ++ piece) f n is in

@@ -7,14 +7,14 @@ use Rattle.am_gossip.specs.declared.error.FrameError.{FrameError}
 use Rattle.am_gossip.specs.declared.error.FrameError.TheVariants.{Wire}
 use Rattle.am_gossip.specs.declared.frame.Part.{Part}
 use Rattle.am_wire.specs.declared.error.WireError.TheVariants as wire
-use Rattle.am_gossip.specs.Answers.{◌>>=◌, Gives, frame_fault}
+use Rattle.am_gossip.specs.Answers.{◌>>=◌, GivesUnlessMemory, frame_fault}
 use Rattle.am_gossip.specs.Parts.{parts_in, parts_of}
 
 abbrev pub done : {A : Type 0} → A → Result A FrameError
 done x = Ok x
 
 -- a wire fault is answered as such
-pub wire_gives : {A : Type 0} (e : WireError) (read : Result A FrameError) → read ≡ Err (Wire e) → Gives (Err (frame_fault e)) read
+pub wire_gives : {A : Type 0} (e : WireError) (read : Result A FrameError) → read ≡ Err (Wire e) → GivesUnlessMemory (Err (frame_fault e)) read
 wire_gives wire.Memory read is = λ other. absurd (other refl)
 wire_gives e read is = λ other. is
 

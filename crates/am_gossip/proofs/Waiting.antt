@@ -13,7 +13,7 @@ use Rattle.am_gossip.specs.declared.reading.Read.{Read}
 use Rattle.am_gossip.specs.declared.reading.Read.TheVariants.{Frame, Waits, Fault}
 use Rattle.am_gossip.specs.Frames.{reads_payload}
 use Rattle.am_gossip.specs.Headers.{head, bad, header_of}
-use Rattle.am_gossip.specs.Streams.{wants, payload_front, front_of}
+use Rattle.am_gossip.specs.Streams.{incomplete, payload_front, front_of}
 use Rattle.am_gossip.specs.Standings.{IsAt, IsWaiting, IsWhole, IsRead, Holds}
 use Rattle.am_gossip.proofs.Fronts.{header_stays, bad_stays, length_goes_on, front_short, front_more_wanted, front_full}
 
@@ -77,7 +77,7 @@ between h bytes header le = record {
   payload_is = let e : h.len + h.size - h.len ≡ h.size = omega arith in ap (λ (n : ℕ). take n (drop h.len bytes)) e;
 }
 
-full_waits : (n : ℕ) (r : Result frame.Frame FrameError) → payload_front n r ≡ wants → ⊥
+full_waits : (n : ℕ) (r : Result frame.Frame FrameError) → payload_front n r ≡ incomplete → ⊥
 full_waits n (Ok f) h = cc
 full_waits n (Err e) h = cc
 

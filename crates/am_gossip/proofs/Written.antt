@@ -12,7 +12,7 @@ use Rattle.am_wire.specs.Varint.{shortest}
 use Rattle.am_wire.specs.Reading.{text_row, blob_row, last_text}
 use Rattle.am_wire.specs.Writing.{tag, writes_delimited}
 use Rattle.am_wire.specs.Again.Pieces.{done}
-use Rattle.am_wire.specs.Again.Puts.{Puts-chunks, Puts-whole, writes_each_delimited, chunk_fields, length-writes_delimited}
+use Rattle.am_wire.specs.Again.Puts.{Puts-each_delimited, Puts-whole, writes_each_delimited, delimited_fields, length-writes_delimited}
 use Rattle.am_wire.specs.Again.Varints.{shortest_spells}
 use Rattle.am_wire.specs.Again.Written.{Means, ReadsAs, read_by-reads, written_nothing, written_text, written_blob, text_again, reads_whole}
 use Rattle.am_gossip.specs.declared.error.FrameError.{FrameError}
@@ -77,14 +77,14 @@ part_again p at small = ap known (read_by-reads (part_reads p small) at at)
 abbrev good : List Part → Result (List Part) FrameError
 good ps = Ok ps
 
-chunks_again : (ps : List Part) (at : ℕ) → length (writes_each_delimited 1 (map writes_part ps)) < 2 ^ 64 → parts_of (map done (chunk_fields 1 (map writes_part ps) at)) ≡ Ok ps
+each_part_again : (ps : List Part) (at : ℕ) → length (writes_each_delimited 1 (map writes_part ps)) < 2 ^ 64 → parts_of (map done (delimited_fields 1 (map writes_part ps) at)) ≡ Ok ps
 unfolding parts_of parts_in
-chunks_again [] at small = refl
-chunks_again (p ∷ ps) at small =
+each_part_again [] at small = refl
+each_part_again (p ∷ ps) at small =
     let len = length-append (writes_delimited 1 (writes_part p)) (writes_each_delimited 1 (map writes_part ps)) in
     let inner = length-writes_delimited 1 (writes_part p) in
     let one = part_again p (at + length (tag 1 2) + length (shortest (length (writes_part p)))) (omega (arith, len, inner, small)) in
-    let others = chunks_again ps (at + length (writes_delimited 1 (writes_part p))) (omega (arith, len, small)) in
+    let others = each_part_again ps (at + length (writes_delimited 1 (writes_part p))) (omega (arith, len, small)) in
     rw (one, others) refl
 
 pub parts_again : (ps : List Part) → length (writes_parts ps) < 2 ^ 64 → reads_parts (writes_parts ps) ≡ Ok ps
@@ -92,9 +92,9 @@ unfolding reads_parts writes_parts
 parts_again ps small =
     let same = flat_map-map (writes_delimited 1) writes_part ps in
     let len : length (writes_each_delimited 1 (map writes_part ps)) < 2 ^ 64 = rw same small in
-    let fields : fields_of parts_fit 0 (writes_each_delimited 1 (map writes_part ps)) ≡ map done (chunk_fields 1 (map writes_part ps) 0) =
-    Puts-whole parts_fit 0 _ _ (Puts-chunks parts_fit 1 (omega arith) (omega arith) (map writes_part ps) 0 len refl) in
-    ap (λ (x : List ℕ). parts_of (fields_of parts_fit 0 x)) (sym same) ∙ ap parts_of fields ∙ chunks_again ps 0 len
+    let fields : fields_of parts_fit 0 (writes_each_delimited 1 (map writes_part ps)) ≡ map done (delimited_fields 1 (map writes_part ps) 0) =
+    Puts-whole parts_fit 0 _ _ (Puts-each_delimited parts_fit 1 (omega arith) (omega arith) (map writes_part ps) 0 len refl) in
+    ap (λ (x : List ℕ). parts_of (fields_of parts_fit 0 x)) (sym same) ∙ ap parts_of fields ∙ each_part_again ps 0 len
 
 -- ---- a frame
 payload_again : (f : Frame) → length (payload_text f) < 2 ^ 64 → reads_payload (kind_of f) (payload_text f) ≡ Ok f

@@ -11,9 +11,9 @@ frame_fault wire.Memory = Memory
 frame_fault e = Wire e
 
 -- a call answers what reading gives, unless memory ran out
-abbrev pub Gives : {A : Type 0} → Result A FrameError → Result A FrameError → Type 0
-Gives (Ok x) read = read ≡ Ok x
-Gives (Err e) read = e ≢ Memory → read ≡ Err e
+abbrev pub GivesUnlessMemory : {A : Type 0} → Result A FrameError → Result A FrameError → Type 0
+GivesUnlessMemory (Ok x) read = read ≡ Ok x
+GivesUnlessMemory (Err e) read = e ≢ Memory → read ≡ Err e
 
 -- what comes behind a step that may fail
 infixl 10 ◌>>=◌

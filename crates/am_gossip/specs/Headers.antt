@@ -16,17 +16,17 @@ pub data Header : Type 0 where
   more : Header
 
 -- behind the kind's byte: the length, which is tested when it ends
-abbrev pub sized : FrameKind → Result (ℕ × ℕ) WireError → Header
-sized kind (Ok n) = if nat_lt (limit kind) n.0 then bad Length else head kind n.0 (n.1 + 1)
-sized kind (Err (Truncated at)) = more
-sized kind (Err e) = bad Length
+abbrev pub header_with_length : FrameKind → Result (ℕ × ℕ) WireError → Header
+header_with_length kind (Ok n) = if nat_lt (limit kind) n.0 then bad Length else head kind n.0 (n.1 + 1)
+header_with_length kind (Err (Truncated at)) = more
+header_with_length kind (Err e) = bad Length
 
 -- the kind is tested when its byte is there
-abbrev pub kinded : Option FrameKind → List ℕ → Header
-kinded None bytes = bad Kind
-kinded (Some kind) bytes = sized kind (varint_at 0 bytes)
+abbrev pub header_with_kind : Option FrameKind → List ℕ → Header
+header_with_kind None bytes = bad Kind
+header_with_kind (Some kind) bytes = header_with_length kind (varint_at 0 bytes)
 
 -- what stands at the front of the bytes
 unfoldable pub header_of : List ℕ → Header
 header_of [] = more
-header_of (code ∷ bytes) = kinded (kind_at code) bytes
+header_of (code ∷ bytes) = header_with_kind (kind_at code) bytes

@@ -3,7 +3,7 @@ use Rattle.std.specs.Prelude.{ℕ, Bool, true, List, [], ◌∷◌, ◌++◌, Op
 use Rattle.std.specs.Option.{option_map}
 use Rattle.am_wire.specs.declared.error.WireError.{WireError}
 use Rattle.am_wire.specs.declared.value.WireType.{WireType}
-use Rattle.am_wire.specs.Fields.{FieldAt, chunk, fields_of}
+use Rattle.am_wire.specs.Fields.{FieldAt, delimited_at, fields_of}
 use Rattle.am_wire.specs.Reading.{Table, table_of, text_row, blob_row, last_text, read_by, is_bytes}
 use Rattle.am_wire.specs.Writing.{writes_text, writes_messages}
 use Rattle.am_gossip.specs.declared.error.FrameError.{FrameError}
@@ -45,7 +45,10 @@ parts_fit number kind = if number == 1 then is_bytes kind else true
 
 -- the part in a field, where it is one
 unfoldable pub parts_in : FieldAt → Result (List Part) FrameError
-parts_in e = if e.number == 1 then (elim e.payload [ chunk at bytes ↦ reads_part at bytes >>= (λ p. Ok (p ∷ [])) | _ ↦ Ok [] ]) else Ok []
+parts_in e =
+    if e.number == 1
+    then (elim e.payload [ delimited_at at bytes ↦ reads_part at bytes >>= (λ p. Ok (p ∷ [])) | _ ↦ Ok [] ])
+    else Ok []
 
 -- the parts in fields that come one after the other, or the first fault
 unfoldable pub parts_of : List (Result FieldAt WireError) → Result (List Part) FrameError

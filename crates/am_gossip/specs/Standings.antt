@@ -10,7 +10,7 @@ use Rattle.am_gossip.specs.declared.reading.End.TheVariants as ends
 use Rattle.am_gossip.specs.declared.head.Head.{Head}
 use Rattle.am_gossip.specs.Kinds.{code_of}
 use Rattle.am_gossip.specs.Headers.{head, bad, header_of}
-use Rattle.am_gossip.specs.Streams.{whole, fault, wants, front_of}
+use Rattle.am_gossip.specs.Streams.{whole, fault, incomplete, front_of}
 use Rattle.am_gossip.specs.Lengths.{IsGroups}
 
 -- this is how far these bytes go
@@ -27,7 +27,7 @@ Stands (Err e) bytes = header_of bytes ≡ bad e
 -- the bytes are the beginning of a frame, and go so far
 pub record IsWaiting (s : Standing) (bytes : List ℕ) : Type 0 where
   pub at : IsAt s bytes
-  pub unfinished : front_of bytes ≡ wants
+  pub unfinished : front_of bytes ≡ incomplete
 
 -- what was read at the front of the bytes
 abbrev pub IsRead : Read → List ℕ → Type 0

@@ -10,7 +10,7 @@ use Rattle.am_gossip.specs.Headers.{Header, head, bad, more, header_of}
 pub data Front : Type 0 where
   whole : Frame → ℕ → Front
   fault : FrameError → Front
-  wants : Front
+  incomplete : Front
 
 -- a payload that is whole is read as a frame, or is at fault
 abbrev pub payload_front : ℕ → Result Frame FrameError → Front
@@ -19,10 +19,10 @@ payload_front len (Err e) = fault e
 
 -- a payload is read when it is whole
 abbrev pub front_with : Header → List ℕ → Front
-front_with (head kind size len) bytes = if nat_lt (length bytes) (len + size) then wants
+front_with (head kind size len) bytes = if nat_lt (length bytes) (len + size) then incomplete
     else payload_front (len + size) (reads_payload kind (take size (drop len bytes)))
 front_with (bad e) bytes = fault e
-front_with more bytes = wants
+front_with more bytes = incomplete
 
 -- what stands at the front of the bytes
 unfoldable pub front_of : List ℕ → Front
@@ -42,7 +42,7 @@ put_before frames s = record { frames = frames ++ s.frames; ending = s.ending }
 abbrev pub next_frame : (ℕ → Stream) → List ℕ → Front → Stream
 next_frame others bytes (whole f len) = put_before (f ∷ []) (others (len - 1))
 next_frame others bytes (fault e) = record { frames = []; ending = Err e }
-next_frame others bytes wants = record { frames = []; ending = Ok bytes }
+next_frame others bytes incomplete = record { frames = []; ending = Ok bytes }
 
 -- the stream of the bytes, the first `skip` of which are part of the frame before
 unfoldable pub stream_from : ℕ → List ℕ → Stream

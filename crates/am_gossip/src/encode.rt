@@ -28,7 +28,7 @@ fn varint_len(value: u64) -> u64
 }
 
 /// How many bytes a field has whose payload is so many bytes.
-fn chunk_len(number: u32, size: u64) -> u64
+fn delimited_len(number: u32, size: u64) -> u64
     requires number { number < 2 ^ 29 }
     requires size { size + 20 < 2 ^ 64 }
     ensures exact { (bytes : List ℕ) → length bytes ≡ size → result ≡ length (writes_delimited number bytes) }
@@ -47,7 +47,7 @@ fn bytes_len(number: u32, size: u64) -> u64
     if size == 0 {
         0
     } else {
-        chunk_len(number, size)
+        delimited_len(number, size)
     }
 }
 
@@ -75,7 +75,7 @@ fn parts_len(parts: &[Part]) -> u128
 {
     let mut len = 0;
     for part in parts {
-        len += u128::from(chunk_len(1, part_len(part)));
+        len += u128::from(delimited_len(1, part_len(part)));
     }
     len
 }
@@ -246,7 +246,7 @@ pub fn states_fit(silences: u64, log: u64) -> bool
     if silences > limit || log > limit {
         return false;
     }
-    let len = chunk_len(1, part_size(StateKey::Sil, silences))
-        + chunk_len(1, part_size(StateKey::Nfl, log));
+    let len = delimited_len(1, part_size(StateKey::Sil, silences))
+        + delimited_len(1, part_size(StateKey::Nfl, log));
     len <= limit
 }

@@ -4,7 +4,7 @@ ghost use Rattle.std.specs.Prelude.{◌≡◌, ◌≢◌, List, ◌++◌, ◌+�
 ghost use Rattle.am_wire.specs.Fields.{field_of};
 ghost use Rattle.am_gossip.specs.declared.error.FrameError.TheVariants.{Memory};
 ghost use Rattle.am_gossip.specs.declared.frame.Part.{Part};
-ghost use Rattle.am_gossip.specs.Answers.{Gives};
+ghost use Rattle.am_gossip.specs.Answers.{GivesUnlessMemory};
 ghost use Rattle.am_gossip.specs.Parts.{part_table, parts_fit, parts_in, reads_part, reads_parts};
 ghost use Rattle.am_gossip.specs.Frames.{reads_payload};
 
@@ -90,7 +90,7 @@ impl Schema for PartFields {
 #[tactic(auto, unfolding(crate::specs::Parts::reads_part))]
 fn read_part(alloc: Global, bytes: &[u8], at: usize) -> Result<Part, FrameError>
     requires { at + length bytes.now < 2 ^ 64 }
-    ensures { Gives result (reads_part at bytes.now) }
+    ensures { GivesUnlessMemory result (reads_part at bytes.now) }
 {
     match read_message::<PartDraft>(alloc, bytes, at, at) {
         Ok(Some(part)) => Ok(part),
@@ -115,7 +115,7 @@ fn take_part(alloc: Global, parts: &mut Vec<Part>, field: Field<'_>) -> Result<(
 
 /// Reads a full state from the whole of a payload.
 fn read_full_state(alloc: Global, bytes: &[u8]) -> Result<FullState, FrameError>
-    ensures { Gives result (reads_parts bytes.now) }
+    ensures { GivesUnlessMemory result (reads_parts bytes.now) }
 {
     let mut parts = Vec::new(alloc);
     for field in Scan::<PartFields>::new(bytes) {
@@ -127,7 +127,7 @@ fn read_full_state(alloc: Global, bytes: &[u8]) -> Result<FullState, FrameError>
 /// Reads the frame of a kind from its whole payload.
 #[tactic(auto, unfolding(crate::specs::Frames::reads_payload))]
 pub fn read_payload(alloc: Global, kind: FrameKind, bytes: &[u8]) -> Result<Frame, FrameError>
-    ensures { Gives result (reads_payload kind bytes.now) }
+    ensures { GivesUnlessMemory result (reads_payload kind bytes.now) }
 {
     match kind {
         FrameKind::Delta => Ok(Frame::Delta(read_part(alloc, bytes, 0)?)),

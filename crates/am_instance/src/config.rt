@@ -119,13 +119,25 @@ fn in_order(name: Text, peers: Vec<Text>) -> Result<(Vec<Text>, usize), ConfigEr
 
 /// The members of a cluster, which of them this one is, for how long versions are kept after their end, and for how
 /// long members wait for one another.
-#[derive(Drop)]
 pub struct Config {
     alloc: Global,
     members: Vec<Text>,
     place: Place,
     retention: Interval,
     peer_timeout: Interval,
+}
+
+// (so that crates above cite one drop, and don't prove those of all that is inside)
+impl Drop for Config {
+    fn drop(self) {
+        let Config {
+            alloc: _,
+            members: _,
+            place: _,
+            retention: _,
+            peer_timeout: _,
+        } = self;
+    }
 }
 
 impl Model for Config {

@@ -21,13 +21,24 @@ use std::marker::Model;
 /// What happened in a cluster so far: what each step was to the silences and to the log, and the line that it was given.
 ///
 /// Contracts see it as the number of the members, both lists of steps, the lines, and the room for more.
-#[derive(Drop)]
 pub struct Journal {
     silences: Run<MeshSilence>,
     log: Run<MeshEntry>,
     lines: Vec<u64>,
     // How many frames were ever sent.
     sendings: usize,
+}
+
+// (so that crates above cite one drop, and don't prove those of all that is inside)
+impl Drop for Journal {
+    fn drop(self) {
+        let Journal {
+            silences: _,
+            log: _,
+            lines: _,
+            sendings: _,
+        } = self;
+    }
 }
 
 impl Model for Journal {

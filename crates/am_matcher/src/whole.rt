@@ -24,12 +24,23 @@ const SEARCH_BYTES: usize = 64 << 10;
 /// A compiled pattern, and what searches for it have built. Contracts see the text that was compiled.
 ///
 /// It stands on the parts of `regex`, whose own searcher borrows the compiled pattern and can't be kept beside it.
-#[derive(Drop)]
 pub struct Whole {
     text: String,
     dfa: Dfa,
     forward: Forward,
     alloc: Global,
+}
+
+// (so that crates above cite one drop, and don't prove those of all that is inside)
+impl Drop for Whole {
+    fn drop(self) {
+        let Whole {
+            text: _,
+            dfa: _,
+            forward: _,
+            alloc: _,
+        } = self;
+    }
 }
 
 impl Model for Whole {

@@ -1,25 +1,26 @@
 -- What is written is read again. These are lemmas: they stand here, and not in proofs, since the laws of the messages are
 -- proved by them.
-use Rattle.std.proofs.Common.{◌≡◌, ℕ, ◌^◌, ◌<◌, Bool, true, false, not, cond, eqb, List, [], ◌∷◌, length, Option, Some}
-use Rattle.std.proofs.Common.{Result, Ok, refl, ap, ◌∙◌, arith}
+use Rattle.std.proofs.Common.{◌≡◌, ℕ, ◌^◌, ◌<◌, Bool, true, false, not, cond, eqb, List, [], ◌∷◌, length, Some}
+use Rattle.std.proofs.Common.{Ok, refl, ap, ◌∙◌, arith}
 use Rattle.am_version_order.specs.Versions.{Version}
-use Rattle.am_wire.specs.declared.error.WireError.{WireError}
 use Rattle.am_wire.specs.declared.error.WireError.TheVariants as errors
 use Rattle.am_wire.specs.Fields.{FieldAt}
 use Rattle.am_wire.specs.Reading.{Row, varint_row, text_row, blob_row, part_row, numbers_row, last_number, last_text}
-use Rattle.am_wire.specs.Reading.{last_place, all_numbers, merged, is_given, ◌then◌}
+use Rattle.am_wire.specs.Reading.{all_numbers, merged, is_given}
 use Rattle.am_wire.specs.Timestamps.{timestamp, low_half, moment_test}
 use Rattle.am_wire.specs.Again.Written.{Means, ReadsAs, read_by-reads, written_nothing, written_number, written_text}
 use Rattle.am_wire.specs.Again.Written.{written_blob, written_numbers, written_part, number_again, text_again}
 use Rattle.am_wire.specs.Again.Written.{numbers_again, given_again, part_again, reads_whole}
 use Rattle.am_wire.specs.Again.Moments.{MeansMoment, moment_reads, moment_part_again}
+use Rattle.am_wire.specs.Dated.{dated, dated_tests, dated_value}
+use Rattle.am_wire.specs.Again.Dated.{dated_reads, made_reads, read_alike}
 use Rattle.am_nflog.specs.declared.receiver.Receiver.{Receiver}
 use Rattle.am_nflog.specs.declared.entry.Entry.{Entry}
 use Rattle.am_nflog.specs.declared.entry.LogKey.{LogKey}
 use Rattle.am_nflog.specs.Receivers.{receiver, receiver_tests, receiver_value, reads_receiver, writes_receiver, IsReceiver}
 use Rattle.am_nflog.specs.Entries.{entry, entry_tests, entry_value, reads_entry, writes_entry, IsEntry}
 use Rattle.am_nflog.specs.Mesh.{Mesh, IsMesh, mesh_version, writes_mesh_entry}
-use Rattle.am_nflog.specs.MeshTable.{mesh_entry, mesh_entry_tests, mesh_entry_value, reads_mesh_entry}
+use Rattle.am_nflog.specs.MeshTable.{mesh_of, reads_mesh_entry}
 
 -- ---- receivers
 receiver_reads : (r : Receiver) → IsReceiver r → length (writes_receiver r) < 2 ^ 64
@@ -100,38 +101,18 @@ entry_again e at is small = read_by-reads (entry_reads e is small) at at
 
 -- ---- entries that are passed on
 mesh_reads : (m : Mesh) → IsMesh m → length (writes_mesh_entry m) < 2 ^ 64
-    → ReadsAs mesh_entry mesh_entry_tests mesh_entry_value (writes_mesh_entry m) m
+    → ReadsAs (dated entry) (dated_tests entry entry_tests) (λ es. mesh_of (dated_value entry entry_value es)) (writes_mesh_entry m) m
 unfolding writes_mesh_entry
-mesh_reads m is small =
-    let start = written_nothing (part_row 1 entry ∷ part_row 2 timestamp ∷ []) in
-    let one = written_part start 1 (entry_reads m.entry is.entry) refl refl in
-    let all = written_part one 2 (moment_reads m.expires_at is.expires_at) refl refl in
-    reads_whole all small (λ at. whole (given_again all at 1 refl) (part_again all at 1 small (entry_reads m.entry is.entry) refl)
-    (moment_part_again all at 2 small is.expires_at refl))
-  where
-    whole : {es : List FieldAt} → is_given 1 es ≡ true → Means entry_tests entry_value (merged entry 1 es) m.entry
-        → MeansMoment 2 es m.expires_at → Means mesh_entry_tests mesh_entry_value es m
-    whole {es} given inner expires = record {
-      passes = λ place.
-          ap (λ (b : Bool). cond b (entry_tests (last_place 1 es) (merged entry 1 es) then moment_test 2 es)
-          (Some (errors.MissingMessage 1))) given
-          ∙ ap (λ (f : Option WireError). f then moment_test 2 es) (inner.passes (last_place 1 es)) ∙ expires.passes;
-      value_is = λ i. record { entry = inner.value_is i; expires_at = expires.value_is i };
-    }
+mesh_reads m is small = made_reads mesh_of (dated_reads (entry_reads m.entry is.entry) is.expires_at small)
 
 pub mesh_again : (m : Mesh) (at : ℕ) → IsMesh m → length (writes_mesh_entry m) < 2 ^ 64 → reads_mesh_entry at (writes_mesh_entry m) ≡ Ok m
 unfolding reads_mesh_entry
 mesh_again m at is small = read_by-reads (mesh_reads m is small) at at
 
 -- versions that are written alike are one version
-same_ok : {v w : Mesh} {r : Result Mesh WireError} → r ≡ Ok v → r ≡ Ok w → v ≡ w
-same_ok a b = cc
-
 pub mesh_exact : (v w : Mesh) → IsMesh v → IsMesh w → mesh_version v ≡ mesh_version w → v ≡ w
 mesh_exact v w is_v is_w same =
     let text : writes_mesh_entry v ≡ writes_mesh_entry w = ap (λ (x : Version LogKey). x.content) same in
     let small_v = is_v.size in
     let small_w = is_w.size in
-    let first = mesh_again v 0 is_v (omega arith) in
-    let second = mesh_again w 0 is_w (omega arith) in
-    same_ok first (ap (reads_mesh_entry 0) text ∙ second)
+    read_alike (reads_mesh_entry 0) (mesh_again v 0 is_v (omega arith)) (mesh_again w 0 is_w (omega arith)) text

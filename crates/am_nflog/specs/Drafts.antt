@@ -6,10 +6,8 @@ use Rattle.am_wire.specs.Reading.{last_number, last_text, all_numbers}
 use Rattle.am_wire.specs.Timestamps.{timestamp}
 use Rattle.am_wire.specs.TimestampDrafts.{IsTimestampDraft}
 use Rattle.am_nflog.specs.Receivers.{receiver}
-use Rattle.am_nflog.specs.Entries.{entry}
 use Rattle.am_nflog.specs.declared.receiver.ReceiverDraft.{ReceiverDraft}
 use Rattle.am_nflog.specs.declared.entry.EntryDraft.{EntryDraft}
-use Rattle.am_nflog.specs.declared.mesh.MeshEntryDraft.{MeshEntryDraft}
 
 -- a receiver's draft holds what these fields leave
 pub record IsReceiverDraft (es : List FieldAt) (d : ReceiverDraft) : Type 0 where
@@ -26,8 +24,3 @@ pub record IsEntryDraft (es : List FieldAt) (d : EntryDraft) : Type 0 where
   pub timestamp : IsPart IsTimestampDraft timestamp 5 es d.timestamp
   pub firing_alerts : d.firing_alerts.items ≡ all_numbers 6 es
   pub resolved_alerts : d.resolved_alerts.items ≡ all_numbers 7 es
-
--- the draft of an entry that is passed on does
-pub record IsMeshEntryDraft (es : List FieldAt) (d : MeshEntryDraft) : Type 0 where
-  pub entry : IsPart IsEntryDraft entry 1 es d.entry
-  pub expires_at : IsPart IsTimestampDraft timestamp 2 es d.expires_at

@@ -1,26 +1,18 @@
 -- How an entry that is passed on is read.
-use Rattle.std.specs.Prelude.{ℕ, List, [], ◌∷◌, Option, Some, Result, if◌then◌else◌}
+use Rattle.std.specs.Prelude.{ℕ, List, Result}
 use Rattle.am_wire.specs.declared.error.WireError.{WireError}
-use Rattle.am_wire.specs.declared.error.WireError.TheVariants as errors
-use Rattle.am_wire.specs.Fields.{FieldAt}
-use Rattle.am_wire.specs.Reading.{Table, table_of, part_row, ◌then◌, last_place, merged, is_given, read_by}
-use Rattle.am_wire.specs.Timestamps.{timestamp, moment_of, moment_test}
+use Rattle.am_wire.specs.declared.dated.Dated.{Dated}
+use Rattle.am_wire.specs.Reading.{read_by}
+use Rattle.am_wire.specs.Dated.{dated, dated_tests, dated_value}
+use Rattle.am_nflog.specs.declared.entry.Entry.{Entry}
 use Rattle.am_nflog.specs.Entries.{entry, entry_value, entry_tests}
 use Rattle.am_nflog.specs.Mesh.{Mesh}
 
--- which wire types its fields have, and what is at fault inside them
-abbrev pub mesh_entry : Table
-mesh_entry = table_of (part_row 1 entry ∷ part_row 2 timestamp ∷ [])
-
--- the version of these fields
-abbrev pub mesh_entry_value : List FieldAt → Mesh
-mesh_entry_value es = record { entry = entry_value (merged entry 1 es); expires_at = moment_of 2 es }
-
--- an entry that is missing comes before all else that its parts' tests find
-abbrev pub mesh_entry_tests : ℕ → List FieldAt → Option WireError
-mesh_entry_tests place es =
-    if is_given 1 es then (entry_tests (last_place 1 es) (merged entry 1 es) then moment_test 2 es) else Some (errors.MissingMessage 1)
+-- the version of an entry and its moment
+abbrev pub mesh_of : Dated Entry → Mesh
+mesh_of d = record { entry = d.message; expires_at = d.expires_at }
 
 -- the version that bytes spell, or their first fault
 unfoldable pub reads_mesh_entry : ℕ → List ℕ → Result Mesh WireError
-reads_mesh_entry at bytes = read_by mesh_entry mesh_entry_tests mesh_entry_value at at bytes
+reads_mesh_entry at bytes =
+    read_by (dated entry) (dated_tests entry entry_tests) (λ es. mesh_of (dated_value entry entry_value es)) at at bytes

@@ -12,5 +12,5 @@ pub use am_wire::Bytes;
 pub use entry::{Entry, EntryDraft, LogKey};
 pub use hashes::Hashes;
 pub use make::make_entry;
-pub use mesh::{MeshEntry, MeshEntryDraft};
+pub use mesh::MeshEntry;
 pub use receiver::{Receiver, ReceiverDraft};

@@ -6,15 +6,12 @@ ghost use Rattle.am_wire.specs.declared.error.WireError.TheVariants as errors;
 ghost use Rattle.am_wire.specs.Sizes.{counted};
 ghost use Rattle.am_nflog.specs.Entries.{writes_entry};
 ghost use Rattle.am_nflog.specs.Mesh.{Mesh, writes_mesh_entry};
-ghost use Rattle.am_nflog.specs.MeshTable.{mesh_entry};
 
 use crate::entry::{Entry, EntryDraft, LogKey};
 use am_version_order::{Moment, Version, head_of_text};
-use am_wire::reading::{Draft, Schema, Submessage, TimestampDraft, moment_in, read_message};
-use am_wire::writing::{
-    append_text, delimited_size, message_size, write_message, write_sized_message,
-};
-use am_wire::{Field, MOST_MESSAGE_BYTES, Message, WireError, WireType};
+use am_wire::reading::{Dated, DatedDraft, read_message};
+use am_wire::writing::{append_text, dated_size, write_dated};
+use am_wire::{MOST_MESSAGE_BYTES, Message, WireError};
 use std::alloc::{AllocError, Global};
 use std::marker::Model;
 
@@ -59,6 +56,7 @@ impl MeshEntry {
     ///
     /// [`WireError::TooLarge`] exactly where its canonical text has over 67,108,864 bytes, and
     /// [`WireError::Memory`] where memory runs out.
+    #[tactic(auto, unfolding(crate::specs::Mesh::writes_mesh_entry))]
     pub fn new(alloc: Global, entry: Entry, expires_at: Moment) -> Result<MeshEntry, WireError>
         ensures parts { IfOk result (λ m. m ≡ record { entry = entry; expires_at = expires_at }) }
         ensures within { IfOk result (λ m. length (writes_mesh_entry m) ≤ most) }
@@ -67,7 +65,7 @@ impl MeshEntry {
         ensures refused { IfErr result (λ e. (e ≡ errors.Memory) ⊎ (e ≡ errors.TooLarge)) }
     {
         let size = entry.size();
-        if version_size(size, expires_at) > MOST_MESSAGE_BYTES {
+        if dated_size(size, expires_at) > MOST_MESSAGE_BYTES {
             return Err(WireError::TooLarge);
         }
         let version = MeshEntry::of_parts(alloc, entry, size, expires_at)?;
@@ -85,10 +83,9 @@ impl MeshEntry {
         requires { size ≡ counted (length (writes_entry entry)) }
         ensures { IfOk result (λ m. m ≡ record { entry = entry; expires_at = expires_at }) }
     {
-        let room = version_size(size, expires_at) as usize;
+        let room = dated_size(size, expires_at) as usize;
         let mut canonical = Vec::with_capacity(alloc, room)?;
-        write_sized_message(&mut canonical, 1, size, &entry)?;
-        write_message(&mut canonical, 2, &expires_at)?;
+        write_dated(&mut canonical, size, &entry, expires_at)?;
         Ok(MeshEntry {
             entry,
             expires_at,
@@ -106,77 +103,6 @@ impl MeshEntry {
         ensures { result ≡ self.now.expires_at }
     {
         self.expires_at
-    }
-}
-
-// How many bytes a version has whose entry has so many.
-#[tactic(auto, unfolding(crate::specs::Mesh::writes_mesh_entry))]
-fn version_size(entry_size: u64, expires_at: Moment) -> u64
-    ensures { (m : Mesh) → entry_size ≡ counted (length (writes_entry m.entry)) → expires_at ≡ m.expires_at →
-        result ≡ counted (length (writes_mesh_entry m)) }
-{
-    delimited_size(1, entry_size).saturating_add(message_size(2, &expires_at))
-}
-
-/// An entry that is passed on as it is read.
-#[derive(Drop)]
-pub struct MeshEntryDraft<'a> {
-    entry: Submessage<EntryDraft<'a>>,
-    expires_at: Submessage<TimestampDraft>,
-}
-
-impl Schema for MeshEntryDraft<'_> {
-    ghost fitting = { mesh_entry.fits };
-
-    fn fits(number: u32, wire_type: WireType) -> bool
-        ensures { result ≡ mesh_entry.fits number wire_type }
-    {
-        match number {
-            1 | 2 => wire_type == WireType::Bytes,
-            _ => true,
-        }
-    }
-}
-
-impl<'a> Draft<'a> for MeshEntryDraft<'a> {
-    ghost use Rattle.am_nflog.specs.MeshTable.{mesh_entry_value, mesh_entry_tests};
-    ghost use Rattle.am_nflog.specs.Drafts.{IsMeshEntryDraft};
-
-    type Done = MeshEntry;
-
-    ghost inside = { mesh_entry.inside };
-
-    ghost holds = { IsMeshEntryDraft };
-
-    ghost tests = { mesh_entry_tests };
-
-    ghost value = { mesh_entry_value };
-
-    fn start(alloc: Global) -> Self {
-        MeshEntryDraft {
-            entry: Submessage::none(alloc),
-            expires_at: Submessage::none(alloc),
-        }
-    }
-
-    fn take(&mut self, field: Field<'a>) -> Result<(), WireError> {
-        match field.number {
-            1 => self.entry.take(field)?,
-            2 => self.expires_at.take(field)?,
-            _ => {}
-        }
-        Ok(())
-    }
-
-    fn finish(self, alloc: Global, _place: usize) -> Result<MeshEntry, WireError> {
-        if !self.entry.given {
-            return Err(WireError::MissingMessage { field: 1 });
-        }
-        let entry = self.entry.draft.finish(alloc, self.entry.at)?;
-        let expires_at = moment_in(alloc, self.expires_at)?;
-        let size = entry.size();
-        let version = MeshEntry::of_parts(alloc, entry, size, expires_at)?;
-        Ok(version)
     }
 }
 
@@ -207,7 +133,13 @@ impl Message for MeshEntry {
 
     #[tactic(auto, unfolding(crate::specs::MeshTable::reads_mesh_entry))]
     fn decode_at(alloc: Global, bytes: &[u8], at: usize) -> Result<MeshEntry, WireError> {
-        read_message::<MeshEntryDraft>(alloc, bytes, at, at)
+        let Dated {
+            message: entry,
+            expires_at,
+        } = read_message::<DatedDraft<EntryDraft>>(alloc, bytes, at, at)?;
+        let size = entry.size();
+        let version = MeshEntry::of_parts(alloc, entry, size, expires_at)?;
+        Ok(version)
     }
 }
 

@@ -24,7 +24,6 @@ use std::marker::Model;
 /// What happened in a cluster so far, to the versions of one type.
 ///
 /// Contracts see it as the number of the members, the list of the steps, which is a run, and the room for more.
-#[derive(Drop)]
 pub struct Run<V: Version> {
     members: usize,
     steps: Vec<Step<V>>,
@@ -33,6 +32,20 @@ pub struct Run<V: Version> {
     trails: Trails,
     // For how many more versions there is room.
     spare: usize,
+}
+
+// (so that crates above cite one drop, and don't prove those of all that is inside)
+impl<V: Version> Drop for Run<V> {
+    fn drop(self) {
+        let Run {
+            members: _,
+            steps: _,
+            peaks: _,
+            standings: _,
+            trails: _,
+            spare: _,
+        } = self;
+    }
 }
 
 impl<V: Version> Model for Run<V> {

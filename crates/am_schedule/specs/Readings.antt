@@ -20,6 +20,6 @@ or_else (Some x) other = Some x
 or_else None other = other
 
 -- a call's answer is what is read, unless memory ran out
-abbrev pub Gives : {A : Type 0} → Result A FaultKind → Result A FaultKind → Type 0
-Gives (Ok x) read = read ≡ Ok x
-Gives (Err kind) read = kind ≢ Memory → read ≡ Err kind
+abbrev pub GivesUnlessMemory : {A : Type 0} → Result A FaultKind → Result A FaultKind → Type 0
+GivesUnlessMemory (Ok x) read = read ≡ Ok x
+GivesUnlessMemory (Err kind) read = kind ≢ Memory → read ≡ Err kind

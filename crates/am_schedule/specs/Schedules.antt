@@ -85,15 +85,15 @@ definition_in version form words =
     if is_label (word_at 1 words) && is_none (version (word_at 1 words)) then version_in form words else Err faults.Name
 
 -- a line behind the cluster's
-abbrev pub said_by : List (List ℕ) → (List ℕ → Option VersionLine) → Form → List (List ℕ) → Result (Option Line) FaultKind
-said_by names version Cluster words = Err faults.Cluster
-said_by names version (Version form) words = definition_in version form words >>= λ _. Ok None
-said_by names version (Other form) words = line_in names version form words >>= λ line. Ok (Some line)
+abbrev pub line_said : List (List ℕ) → (List ℕ → Option VersionLine) → Form → List (List ℕ) → Result (Option Line) FaultKind
+line_said names version Cluster words = Err faults.Cluster
+line_said names version (Version form) words = definition_in version form words >>= λ _. Ok None
+line_said names version (Other form) words = line_in names version form words >>= λ line. Ok (Some line)
 
 -- a line that isn't passed over; the first one is the cluster's
 abbrev pub said_in : Option ClusterLine → (List ℕ → Option VersionLine) → List (List ℕ) → Result (Option Line) FaultKind
 said_in None version words = cluster_in words >>= λ _. Ok None
-said_in (Some cluster) version words = or_fault faults.Words (form_in words) >>= λ form. said_by cluster.names version form words
+said_in (Some cluster) version words = or_fault faults.Words (form_in words) >>= λ form. line_said cluster.names version form words
 
 -- what a line says, where lines stand before it: a step or another line of the schedule, or nothing of its own
 unfoldable pub meaning : List (List ℕ) → List ℕ → Result (Option Line) FaultKind

@@ -2,7 +2,7 @@
 
 ghost use Rattle.std.specs.Prelude.{◌≡◌, ℕ, ◌≤◌, List, length, map, IsTrue};
 ghost use Rattle.am_schedule.specs.declared.error.FaultKind.TheVariants.{Cluster};
-ghost use Rattle.am_schedule.specs.Readings.{Gives, or_fault};
+ghost use Rattle.am_schedule.specs.Readings.{GivesUnlessMemory, or_fault};
 ghost use Rattle.std.specs.List.{list_any};
 ghost use Rattle.std.specs.Str.{bytes_eq};
 ghost use Rattle.am_schedule.specs.Numbers.{seconds_in};
@@ -42,7 +42,7 @@ fn is_name(word: &str) -> bool
 /// Distinct names, or a wrong cluster line.
 #[tactic(auto, unfolding(crate::specs::Clusters::names_in))]
 fn names(alloc: Global, words: &[&str]) -> Result<Items<Word>, FaultKind>
-    ensures { Gives result (or_fault Cluster (names_in (map (λ w. w.now) words.now))) }
+    ensures { GivesUnlessMemory result (or_fault Cluster (names_in (map (λ w. w.now) words.now))) }
 {
     let mut names = Vec::new(alloc);
     for word in words {
@@ -70,7 +70,7 @@ fn has_name(names: &[Word], word: &str) -> bool
 /// The numbers and the names of a cluster line.
 #[tactic(auto, unfolding(crate::specs::Clusters::cluster_parts))]
 fn cluster_parts(alloc: Global, words: &[&str]) -> Result<ClusterLine, FaultKind>
-    ensures { Gives result (cluster_parts (map (λ w. w.now) words.now)) }
+    ensures { GivesUnlessMemory result (cluster_parts (map (λ w. w.now) words.now)) }
 {
     let retention = cluster_seconds(words, 1)?;
     let peer_timeout = cluster_seconds(words, 2)?;
@@ -95,7 +95,7 @@ fn cluster_seconds(words: &[&str], place: usize) -> Result<Interval, FaultKind>
 /// `cluster RETENTION TIMEOUT NAME ..`
 #[tactic(auto, unfolding(crate::specs::Clusters::cluster_in))]
 pub(crate) fn cluster_line(alloc: Global, words: &[&str]) -> Result<ClusterLine, FaultKind>
-    ensures { Gives result (cluster_in (map (λ w. w.now) words.now)) }
+    ensures { GivesUnlessMemory result (cluster_in (map (λ w. w.now) words.now)) }
 {
     if word_at(words, 0) != "cluster" || words.len() < 4 || words.len() > 19 {
         return Err(FaultKind::Cluster);

@@ -1,7 +1,7 @@
 //! What the words behind a verb are.
 
 ghost use Rattle.std.specs.Prelude.{◌≡◌, ℕ, List, map};
-ghost use Rattle.am_schedule.specs.Readings.{Gives};
+ghost use Rattle.am_schedule.specs.Readings.{GivesUnlessMemory};
 ghost use Rattle.am_schedule.specs.Tables.{value_in};
 ghost use Rattle.am_schedule.specs.Slots.{id_in};
 ghost use Rattle.am_schedule.specs.StepLines.{post_in, group_in, event_in};
@@ -20,7 +20,7 @@ use std::collections::BTreeMap;
 
 /// `-` is no id.
 fn id(alloc: Global, word: &str) -> Result<Option<Word>, FaultKind>
-    ensures { Gives result (id_in word.now) }
+    ensures { GivesUnlessMemory result (id_in word.now) }
 {
     if word == "-" {
         return Ok(None);
@@ -32,7 +32,7 @@ fn id(alloc: Global, word: &str) -> Result<Option<Word>, FaultKind>
 /// `ID BITS STARTS ENDS NAME VALUE`
 #[tactic(auto, unfolding(crate::specs::StepLines::post_in))]
 fn post(alloc: Global, words: &[&str]) -> Result<PostLine, FaultKind>
-    ensures { Gives result (post_in (map (λ w. w.now) words.now)) }
+    ensures { GivesUnlessMemory result (post_in (map (λ w. w.now) words.now)) }
 {
     let id = id(alloc, word_at(words, 4))?;
     let bits = bits_at(words, 5)?;
@@ -53,7 +53,7 @@ fn post(alloc: Global, words: &[&str]) -> Result<PostLine, FaultKind>
 /// `GROUP RECEIVER FIRING RESOLVED REPEAT`
 #[tactic(auto, unfolding(crate::specs::StepLines::group_in))]
 fn group(alloc: Global, words: &[&str]) -> Result<GroupLine, FaultKind>
-    ensures { Gives result (group_in (map (λ w. w.now) words.now)) }
+    ensures { GivesUnlessMemory result (group_in (map (λ w. w.now) words.now)) }
 {
     let group = text_at(alloc, words, 4)?;
     let receiver = text_at(alloc, words, 5)?;
@@ -78,7 +78,7 @@ pub(crate) fn event(
     verb: Verb,
     words: &[&str],
 ) -> Result<Event, FaultKind>
-    ensures { Gives result (event_in names.now (value_in versions.now) verb (map (λ w. w.now) words.now)) }
+    ensures { GivesUnlessMemory result (event_in names.now (value_in versions.now) verb (map (λ w. w.now) words.now)) }
 {
     match verb {
         Verb::From => {

@@ -1,7 +1,7 @@
 //! The lines that are steps, and the other lines behind the cluster's.
 
 ghost use Rattle.std.specs.Prelude.{◌≡◌, ℕ, List, map};
-ghost use Rattle.am_schedule.specs.Readings.{Gives};
+ghost use Rattle.am_schedule.specs.Readings.{GivesUnlessMemory};
 ghost use Rattle.am_schedule.specs.Tables.{value_in};
 ghost use Rattle.am_schedule.specs.StepLines.{deliver_in, settle_in, member_line_in, at_line_in, line_in};
 
@@ -47,7 +47,7 @@ fn member_line(
     versions: &BTreeMap<&str, VersionLine>,
     words: &[&str],
 ) -> Result<Line, FaultKind>
-    ensures { Gives result (member_line_in names.now (value_in versions.now) (map (λ w. w.now) words.now)) }
+    ensures { GivesUnlessMemory result (member_line_in names.now (value_in versions.now) (map (λ w. w.now) words.now)) }
 {
     let verb = verb_of(words).ok_or(FaultKind::Words)?;
     let at = moment_at(words, 1)?;
@@ -64,7 +64,7 @@ fn at_line(
     versions: &BTreeMap<&str, VersionLine>,
     words: &[&str],
 ) -> Result<Line, FaultKind>
-    ensures { Gives result (at_line_in names.now (value_in versions.now) (map (λ w. w.now) words.now)) }
+    ensures { GivesUnlessMemory result (at_line_in names.now (value_in versions.now) (map (λ w. w.now) words.now)) }
 {
     match word_at(words, 2) {
         "deliver" => deliver_line(words),
@@ -82,7 +82,7 @@ pub(crate) fn line(
     form: LineForm,
     words: &[&str],
 ) -> Result<Line, FaultKind>
-    ensures { Gives result (line_in names.now (value_in versions.now) form (map (λ w. w.now) words.now)) }
+    ensures { GivesUnlessMemory result (line_in names.now (value_in versions.now) form (map (λ w. w.now) words.now)) }
 {
     match form {
         LineForm::At => at_line(alloc, names, versions, words),

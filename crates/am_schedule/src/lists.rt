@@ -2,7 +2,7 @@
 
 ghost use Rattle.std.specs.Prelude.{◌≡◌, ℕ, ◌≤◌, List, length, map, option_map, IfOk, IfSome};
 ghost use Rattle.am_schedule.specs.declared.error.FaultKind.TheVariants.{Number, Name};
-ghost use Rattle.am_schedule.specs.Readings.{Gives, or_fault};
+ghost use Rattle.am_schedule.specs.Readings.{GivesUnlessMemory, or_fault};
 ghost use Rattle.am_schedule.specs.Words.{in_place};
 ghost use Rattle.am_schedule.specs.Numbers.{count_in};
 ghost use Rattle.am_schedule.specs.Lists.{values, hashes_in, yes_or_no_in, member_in, pair_in, pairs_in};
@@ -18,7 +18,7 @@ use std::alloc::Global;
 
 /// The numbers of all words, or `Number` where one has none.
 fn counts(alloc: Global, words: &[&str]) -> Result<Items<u64>, FaultKind>
-    ensures { Gives result (or_fault Number (values count_in (map (λ w. w.now) words.now))) }
+    ensures { GivesUnlessMemory result (or_fault Number (values count_in (map (λ w. w.now) words.now))) }
 {
     let mut numbers = Vec::new(alloc);
     for word in words {
@@ -33,7 +33,7 @@ fn counts(alloc: Global, words: &[&str]) -> Result<Items<u64>, FaultKind>
 /// The hashes of a list, however long its word is: `-` for none, or numbers parted by commas.
 #[tactic(auto, unfolding(crate::specs::Lists::hashes_in))]
 fn numbers_of(alloc: Global, word: &str) -> Result<Items<u64>, FaultKind>
-    ensures { Gives result (or_fault Number (hashes_in word.now)) }
+    ensures { GivesUnlessMemory result (or_fault Number (hashes_in word.now)) }
 {
     if word == "-" {
         return Ok(Items::new(Vec::new(alloc)));
@@ -45,7 +45,7 @@ fn numbers_of(alloc: Global, word: &str) -> Result<Items<u64>, FaultKind>
 /// The hashes of a list. `Number` where it is none, then `Name` where it is too long.
 #[tactic(auto, unfolding(crate::specs::Words::in_place), using(crate::proofs::Hashes::few_hashes))]
 pub(crate) fn hashes(alloc: Global, word: &str) -> Result<HashList, FaultKind>
-    ensures { Gives result (in_place (hashes_in word.now) word.now) }
+    ensures { GivesUnlessMemory result (in_place (hashes_in word.now) word.now) }
 {
     let hashes = numbers_of(alloc, word)?;
     if word.len() > MAX_WORD {
@@ -68,7 +68,7 @@ pub(crate) fn yes_or_no(word: &str) -> Option<bool>
 /// The member of that name.
 #[tactic(auto, unfolding(crate::specs::Lists::member_in))]
 pub(crate) fn member(alloc: Global, names: &[Word], word: &str) -> Result<Word, FaultKind>
-    ensures { Gives result (member_in names.now word.now) }
+    ensures { GivesUnlessMemory result (member_in names.now word.now) }
 {
     for name in names {
         if name.as_str() == word {
@@ -93,7 +93,7 @@ fn pair<'a>(word: &'a str) -> Option<(&'a str, &'a str)>
 /// The pairs of words, where no name comes twice.
 #[tactic(auto, unfolding(crate::specs::Lists::pairs_in))]
 pub(crate) fn pairs(alloc: Global, words: &[&str]) -> Result<Items<Pair>, FaultKind>
-    ensures { Gives result (pairs_in (map (λ w. w.now) words.now)) }
+    ensures { GivesUnlessMemory result (pairs_in (map (λ w. w.now) words.now)) }
 {
     let mut seen = empty_table(alloc);
     let mut pairs = Vec::new(alloc);

@@ -1,7 +1,7 @@
 //! What the words of a line are read as, by their places.
 
 ghost use Rattle.std.specs.Prelude.{◌≡◌, ℕ, List, map};
-ghost use Rattle.am_schedule.specs.Readings.{Gives};
+ghost use Rattle.am_schedule.specs.Readings.{GivesUnlessMemory};
 ghost use Rattle.am_schedule.specs.Numbers.{count_in, seconds_in, bits_in};
 ghost use Rattle.am_schedule.specs.Times.{moment_in, whole_moment_in};
 ghost use Rattle.am_schedule.specs.Lists.{hashes_in, yes_or_no_in};
@@ -59,13 +59,13 @@ pub(crate) fn yes_or_no_at(words: &[&str], place: usize) -> Result<bool, FaultKi
 }
 
 pub(crate) fn hashes_at(alloc: Global, words: &[&str], place: usize) -> Result<HashList, FaultKind>
-    ensures { Gives result (read_at hashes_in place (map (λ w. w.now) words.now)) }
+    ensures { GivesUnlessMemory result (read_at hashes_in place (map (λ w. w.now) words.now)) }
 {
     hashes(alloc, word_at(words, place))
 }
 
 pub(crate) fn text_at(alloc: Global, words: &[&str], place: usize) -> Result<Word, FaultKind>
-    ensures { Gives result (text_at place (map (λ w. w.now) words.now)) }
+    ensures { GivesUnlessMemory result (text_at place (map (λ w. w.now) words.now)) }
 {
     Word::read(alloc, word_at(words, place))
 }
@@ -76,7 +76,7 @@ pub(crate) fn member_at(
     words: &[&str],
     place: usize,
 ) -> Result<Word, FaultKind>
-    ensures { Gives result (member_at names.now place (map (λ w. w.now) words.now)) }
+    ensures { GivesUnlessMemory result (member_at names.now place (map (λ w. w.now) words.now)) }
 {
     member(alloc, names, word_at(words, place))
 }

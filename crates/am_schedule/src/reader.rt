@@ -3,7 +3,7 @@
 ghost use Rattle.std.specs.Prelude.{◌≡◌, ◌≢◌, ℕ, List, [], ◌∷◌, ◌++◌, map, Option, Some, None, Ok, Err, IfOk, IfErr};
 ghost use Rattle.am_schedule.specs.declared.error.FaultKind.TheVariants.{Memory};
 ghost use Rattle.am_schedule.specs.declared.step.Line.{Line};
-ghost use Rattle.am_schedule.specs.Readings.{Gives};
+ghost use Rattle.am_schedule.specs.Readings.{GivesUnlessMemory};
 ghost use Rattle.am_schedule.specs.Tables.{value_in};
 ghost use Rattle.am_schedule.specs.Schedules.{definition_in, said_in, meaning, is_passed_over, numbered};
 
@@ -36,7 +36,7 @@ fn definition(
     form: VersionForm,
     words: &[&str],
 ) -> Result<VersionLine, FaultKind>
-    ensures { Gives result (definition_in (value_in versions.now) form (map (λ w. w.now) words.now)) }
+    ensures { GivesUnlessMemory result (definition_in (value_in versions.now) form (map (λ w. w.now) words.now)) }
 {
     let label = word_at(words, 1);
     if label.is_empty() || label.len() > MAX_WORD || look_up(versions, label).is_some() {

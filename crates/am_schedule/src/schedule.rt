@@ -15,7 +15,7 @@ use am_version_order::Interval;
 use std::alloc::Global;
 
 /// A cluster, and what happens in it, line by line.
-#[derive(Debug, Drop)]
+#[derive(Debug)]
 pub struct Schedule {
     /// The members, in the order of the cluster line.
     pub names: Items<Word>,
@@ -23,6 +23,18 @@ pub struct Schedule {
     pub peer_timeout: Interval,
     /// The lines behind the cluster's that give no version a label, each with its number, counted from 1.
     pub lines: Items<(Line, u64)>,
+}
+
+// (so that crates above cite one drop, and don't prove those of all that is inside)
+impl Drop for Schedule {
+    fn drop(self) {
+        let Schedule {
+            names: _,
+            retention: _,
+            peer_timeout: _,
+            lines: _,
+        } = self;
+    }
 }
 
 /// The schedule of a text.

@@ -1,7 +1,7 @@
 //! The lines that give a version a label, and the labels of a `from`.
 
 ghost use Rattle.std.specs.Prelude.{◌≡◌, ℕ, List, map};
-ghost use Rattle.am_schedule.specs.Readings.{Gives};
+ghost use Rattle.am_schedule.specs.Readings.{GivesUnlessMemory};
 ghost use Rattle.am_schedule.specs.Tables.{value_in};
 ghost use Rattle.am_schedule.specs.VersionLines.{silence_in, log_in, version_in};
 ghost use Rattle.am_schedule.specs.Labels.{versions_in};
@@ -19,7 +19,7 @@ use std::collections::BTreeMap;
 /// `sil LABEL ID UPDATED STARTS ENDS EXPIRES NAME VALUE`
 #[tactic(auto, unfolding(crate::specs::VersionLines::silence_in))]
 fn silence_line(alloc: Global, words: &[&str]) -> Result<SilenceLine, FaultKind>
-    ensures { Gives result (silence_in (map (λ w. w.now) words.now)) }
+    ensures { GivesUnlessMemory result (silence_in (map (λ w. w.now) words.now)) }
 {
     let id = text_at(alloc, words, 2)?;
     let updated = whole_moment_at(words, 3)?;
@@ -42,7 +42,7 @@ fn silence_line(alloc: Global, words: &[&str]) -> Result<SilenceLine, FaultKind>
 /// `nfl LABEL GROUP RECEIVER UPDATED EXPIRES FIRING RESOLVED`
 #[tactic(auto, unfolding(crate::specs::VersionLines::log_in))]
 fn log_line(alloc: Global, words: &[&str]) -> Result<LogLine, FaultKind>
-    ensures { Gives result (log_in (map (λ w. w.now) words.now)) }
+    ensures { GivesUnlessMemory result (log_in (map (λ w. w.now) words.now)) }
 {
     let group = text_at(alloc, words, 2)?;
     let receiver = text_at(alloc, words, 3)?;
@@ -67,7 +67,7 @@ pub(crate) fn version_line(
     form: VersionForm,
     words: &[&str],
 ) -> Result<VersionLine, FaultKind>
-    ensures { Gives result (version_in form (map (λ w. w.now) words.now)) }
+    ensures { GivesUnlessMemory result (version_in form (map (λ w. w.now) words.now)) }
 {
     match form {
         VersionForm::Silence => {
@@ -88,7 +88,7 @@ pub(crate) fn versions_of(
     versions: &BTreeMap<&str, VersionLine>,
     labels: &[&str],
 ) -> Result<Versions, FaultKind>
-    ensures { Gives result (versions_in (value_in versions.now) (map (λ w. w.now) labels.now)) }
+    ensures { GivesUnlessMemory result (versions_in (value_in versions.now) (map (λ w. w.now) labels.now)) }
 {
     let mut silences = Vec::new(alloc);
     let mut log = Vec::new(alloc);

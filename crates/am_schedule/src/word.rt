@@ -2,7 +2,7 @@
 
 ghost use Rattle.std.specs.Prelude.{◌≡◌, ℕ, List, ◌≤◌, ◌<◌, ◌==◌, map, drop, length, IfOk, string_bytes, string_len};
 ghost use Rattle.std.specs.List.{slice_split};
-ghost use Rattle.am_schedule.specs.Readings.{Gives};
+ghost use Rattle.am_schedule.specs.Readings.{GivesUnlessMemory};
 ghost use Rattle.am_schedule.specs.Words.{words_of, word_at, text_in, in_place, is_short};
 
 use crate::error::FaultKind;
@@ -48,7 +48,7 @@ impl Word {
     /// The word of a text, or `Name` where it is too long.
     #[tactic(auto, unfolding(crate::specs::Words::text_in))]
     pub(crate) fn read(alloc: Global, text: &str) -> Result<Word, FaultKind>
-        ensures { Gives result (text_in text.now) }
+        ensures { GivesUnlessMemory result (text_in text.now) }
     {
         if text.len() > MAX_WORD {
             return Err(FaultKind::Name);

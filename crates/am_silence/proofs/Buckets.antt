@@ -119,9 +119,9 @@ module _ (s : Silence) (i : ℕ) (m : Matcher) (lt : i < length s.matchers) (is 
   end_counted size chunk front id text before end h1 h2 h3 h4 h5 h6 h7 h8 = omega (arith, h1, h2, h3, h4, h5, h6, h7, h8, matcher_end-within)
 
 -- ---- a version of under 2^32 bytes
-pub small_chunk : (m : Mesh) → length (writes_mesh_silence m) < 2 ^ 32 → length (writes_delimited 1 (writes_silence m.silence)) < 2 ^ 32
+pub small_delimited : (m : Mesh) → length (writes_mesh_silence m) < 2 ^ 32 → length (writes_delimited 1 (writes_silence m.silence)) < 2 ^ 32
 unfolding writes_mesh_silence
-small_chunk m h = omega (arith, h, length-append (writes_delimited 1 (writes_silence m.silence)) (writes_delimited 2 (writes_moment m.expires_at)))
+small_delimited m h = omega (arith, h, length-append (writes_delimited 1 (writes_silence m.silence)) (writes_delimited 2 (writes_moment m.expires_at)))
 
 pub small_inside : (text : List ℕ) → length (writes_delimited 1 text) < 2 ^ 32 → length text < 2 ^ 32
 small_inside text h = omega (arith, h, length-append (tag 1 2) (shortest (length text) ++ text), length-append (shortest (length text)) text)

@@ -1,7 +1,7 @@
 -- What is written is read again. These are lemmas: they stand here, and not in proofs, since the laws of the messages are
 -- proved by them.
 use Rattle.std.proofs.Common.{◌≡◌, ℕ, ◌^◌, ◌<◌, Bool, true, cond, ltb, List, [], ◌∷◌, length, map, Option, Some, None}
-use Rattle.std.proofs.Common.{Result, Ok, refl, ap, ◌∙◌, arith}
+use Rattle.std.proofs.Common.{Ok, refl, ap, ◌∙◌, arith}
 use Rattle.std.specs.Prelude.{slice_get}
 use Rattle.std.specs.Option.{option_map_or}
 use Rattle.std.proofs.lemmas.Bool.{lt-ltb}
@@ -10,12 +10,14 @@ use Rattle.am_wire.specs.declared.error.WireError.{WireError}
 use Rattle.am_wire.specs.declared.error.WireError.TheVariants as errors
 use Rattle.am_wire.specs.Fields.{FieldAt}
 use Rattle.am_wire.specs.Reading.{Row, varint_row, text_row, part_row, item_row, last_number, last_number_place}
-use Rattle.am_wire.specs.Reading.{last_text, last_place, messages, merged, is_given, message_in, ◌then◌}
+use Rattle.am_wire.specs.Reading.{last_text, messages, message_in, ◌then◌}
 use Rattle.am_wire.specs.Timestamps.{timestamp, low_half, moment_test}
 use Rattle.am_wire.specs.Again.Written.{Means, ReadsAs, EachReads, read_by-reads, written_nothing, written_number}
 use Rattle.am_wire.specs.Again.Written.{written_text, written_part, written_items, number_again, text_again}
-use Rattle.am_wire.specs.Again.Written.{given_again, part_again, items_again, nothing_again, reads_whole}
+use Rattle.am_wire.specs.Again.Written.{items_again, nothing_again, reads_whole}
 use Rattle.am_wire.specs.Again.Moments.{MeansMoment, moment_reads, moment_part_again}
+use Rattle.am_wire.specs.Dated.{dated, dated_tests, dated_value}
+use Rattle.am_wire.specs.Again.Dated.{dated_reads, made_reads, read_alike}
 use Rattle.am_silence.specs.declared.matcher.Matcher.{Matcher}
 use Rattle.am_silence.specs.declared.matcher.MatcherKind.{MatcherKind}
 use Rattle.am_silence.specs.declared.matcher.MatcherKind.TheVariants as kinds
@@ -25,7 +27,7 @@ use Rattle.am_silence.specs.Matchers.{matcher, matcher_tests, matcher_value, rea
 use Rattle.am_silence.specs.Comments.{comment, comment_tests}
 use Rattle.am_silence.specs.Silences.{silence, silence_tests, silence_value, first_comment, reads_silence, writes_silence, IsSilence}
 use Rattle.am_silence.specs.Mesh.{Mesh, IsMesh, mesh_version, writes_mesh_silence}
-use Rattle.am_silence.specs.MeshTable.{mesh_silence, mesh_silence_tests, mesh_silence_value, reads_mesh_silence}
+use Rattle.am_silence.specs.MeshTable.{mesh_of, reads_mesh_silence}
 
 -- ---- matchers
 kind_low : (k : MatcherKind) → kind_code k < 4
@@ -123,24 +125,10 @@ silence_again s at is small = read_by-reads (silence_reads s is small) at at
 
 -- ---- silences that are passed on
 mesh_reads : (m : Mesh) → IsMesh m → length (writes_mesh_silence m) < 2 ^ 64
-    → ReadsAs mesh_silence mesh_silence_tests mesh_silence_value (writes_mesh_silence m) m
+    → ReadsAs (dated silence) (dated_tests silence silence_tests) (λ es. mesh_of (dated_value silence silence_value es))
+    (writes_mesh_silence m) m
 unfolding writes_mesh_silence
-mesh_reads m is small =
-    let start = written_nothing (part_row 1 silence ∷ part_row 2 timestamp ∷ []) in
-    let one = written_part start 1 (silence_reads m.silence is.silence) refl refl in
-    let all = written_part one 2 (moment_reads m.expires_at is.expires_at) refl refl in
-    reads_whole all small (λ at. whole (given_again all at 1 refl)
-    (part_again all at 1 small (silence_reads m.silence is.silence) refl) (moment_part_again all at 2 small is.expires_at refl))
-  where
-    whole : {es : List FieldAt} → is_given 1 es ≡ true → Means silence_tests silence_value (merged silence 1 es) m.silence
-        → MeansMoment 2 es m.expires_at → Means mesh_silence_tests mesh_silence_value es m
-    whole {es} given inner expires = record {
-      passes = λ place.
-          ap (λ (b : Bool). cond b (silence_tests (last_place 1 es) (merged silence 1 es) then moment_test 2 es)
-          (Some (errors.MissingMessage 1))) given
-          ∙ ap (λ (f : Option WireError). f then moment_test 2 es) (inner.passes (last_place 1 es)) ∙ expires.passes;
-      value_is = λ i. record { silence = inner.value_is i; expires_at = expires.value_is i };
-    }
+mesh_reads m is small = made_reads mesh_of (dated_reads (silence_reads m.silence is.silence) is.expires_at small)
 
 pub mesh_again : (m : Mesh) (at : ℕ) → IsMesh m → length (writes_mesh_silence m) < 2 ^ 64
     → reads_mesh_silence at (writes_mesh_silence m) ≡ Ok m
@@ -148,14 +136,9 @@ unfolding reads_mesh_silence
 mesh_again m at is small = read_by-reads (mesh_reads m is small) at at
 
 -- versions that are written alike are one version
-same_ok : {v w : Mesh} {r : Result Mesh WireError} → r ≡ Ok v → r ≡ Ok w → v ≡ w
-same_ok a b = cc
-
 pub mesh_exact : (v w : Mesh) → IsMesh v → IsMesh w → mesh_version v ≡ mesh_version w → v ≡ w
 mesh_exact v w is_v is_w same =
     let text : writes_mesh_silence v ≡ writes_mesh_silence w = ap (λ (x : Version (List ℕ)). x.content) same in
     let small_v = is_v.size in
     let small_w = is_w.size in
-    let first = mesh_again v 0 is_v (omega arith) in
-    let second = mesh_again w 0 is_w (omega arith) in
-    same_ok first (ap (reads_mesh_silence 0) text ∙ second)
+    read_alike (reads_mesh_silence 0) (mesh_again v 0 is_v (omega arith)) (mesh_again w 0 is_w (omega arith)) text

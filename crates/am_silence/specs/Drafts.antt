@@ -6,12 +6,11 @@ use Rattle.am_wire.specs.Reading.{last_number, last_text, last_number_place, mes
 use Rattle.am_wire.specs.Timestamps.{timestamp}
 use Rattle.am_wire.specs.TimestampDrafts.{IsTimestampDraft}
 use Rattle.am_silence.specs.Matchers.{matcher, matcher_value}
-use Rattle.am_silence.specs.Silences.{silence, first_comment}
+use Rattle.am_silence.specs.Silences.{first_comment}
 use Rattle.am_silence.specs.declared.matcher.MatcherDraft.{MatcherDraft}
 use Rattle.am_silence.specs.declared.comment.CommentDraft.{CommentDraft}
 use Rattle.am_silence.specs.declared.comment.FirstComment.{FirstComment}
 use Rattle.am_silence.specs.declared.silence.SilenceDraft.{SilenceDraft}
-use Rattle.am_silence.specs.declared.mesh.MeshSilenceDraft.{MeshSilenceDraft}
 
 -- a matcher's draft holds what these fields leave
 pub record IsMatcherDraft (es : List FieldAt) (d : MatcherDraft) : Type 0 where
@@ -46,8 +45,3 @@ pub record IsSilenceDraft (es : List FieldAt) (d : SilenceDraft) : Type 0 where
   pub first_comment : IsFirstComment es d.first_comment
   pub created_by : d.created_by.text.now ≡ last_text 8 es
   pub comment : d.comment.text.now ≡ last_text 9 es
-
--- the draft of a silence that is passed on does
-pub record IsMeshSilenceDraft (es : List FieldAt) (d : MeshSilenceDraft) : Type 0 where
-  pub silence : IsPart IsSilenceDraft silence 1 es d.silence
-  pub expires_at : IsPart IsTimestampDraft timestamp 2 es d.expires_at

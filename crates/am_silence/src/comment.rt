@@ -2,7 +2,7 @@
 
 ghost use Rattle.std.specs.Prelude.{◌≡◌, ℕ, List, [], ◌∷◌, ◌++◌, false, Option, Some, None, OnOk, IfErr};
 ghost use Rattle.am_wire.specs.Fields.{FieldAt, field_of};
-ghost use Rattle.am_wire.specs.Reading.{Fails, item_fault};
+ghost use Rattle.am_wire.specs.Reading.{FailsUnlessMemory, item_fault};
 ghost use Rattle.am_silence.specs.Comments.{comment, comment_tests};
 
 use am_wire::reading::{
@@ -98,7 +98,7 @@ impl<'a> FirstComment<'a> {
         ensures held { OnOk result ((es : List FieldAt) → (field_of field.entry).number ≡ 7 → IsFirstComment es self.old →
             IsFirstComment (es ++ field_of field.entry ∷ []) self.new) }
         ensures clean { OnOk result (item_fault comment comment_tests (field_of field.entry) ≡ None) }
-        ensures fault { IfErr result (λ e. Fails e (item_fault comment comment_tests (field_of field.entry))) }
+        ensures fault { IfErr result (λ e. FailsUnlessMemory e (item_fault comment comment_tests (field_of field.entry))) }
     {
         if let Value::Bytes(bytes) = field.value {
             let mut draft = CommentDraft::start(alloc);

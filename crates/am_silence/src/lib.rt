@@ -22,7 +22,7 @@ pub use error::SilenceError;
 pub use ids::{IdText, fresh_id};
 pub use matcher::{Matcher, MatcherDraft, MatcherKind, MatcherRef};
 pub use matchers::Matchers;
-pub use mesh::{MeshSilence, MeshSilenceDraft};
+pub use mesh::MeshSilence;
 pub use plan::{Plan, Posted, Verdict, plan_expire, plan_post};
 pub use silence::{Silence, SilenceDraft};
 pub use state::{State, state_at};

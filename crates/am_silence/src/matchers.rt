@@ -2,7 +2,7 @@
 
 ghost use Rattle.std.specs.Prelude.{◌≡◌, ◌<◌, ◌==◌, ◌^◌, [], ◌∷◌, ◌++◌, length, get_or, map, None, OnOk, IfOk, IfErr};
 ghost use Rattle.am_wire.specs.Fields.{field_of};
-ghost use Rattle.am_wire.specs.Reading.{Fails, message_in, item_fault};
+ghost use Rattle.am_wire.specs.Reading.{FailsUnlessMemory, message_in, item_fault};
 ghost use Rattle.am_silence.specs.Matchers.{matcher, matcher_value, matcher_tests};
 
 use crate::listed::Listed;
@@ -16,10 +16,17 @@ use std::marker::Model;
 ///
 /// Their texts stand in one text, one behind the other. One of 2^32 bytes or more is refused as one that memory is
 /// not enough for.
-#[derive(Debug, Drop)]
+#[derive(Debug)]
 pub struct Matchers {
     // None where there are no matchers, so that they take but a word.
     listed: Option<Box<Listed>>,
+}
+
+// (so that crates above cite one drop, and don't prove those of all that is inside)
+impl Drop for Matchers {
+    fn drop(self) {
+        let Matchers { listed: _ } = self;
+    }
 }
 
 impl Model for Matchers {
@@ -109,7 +116,7 @@ impl Matchers {
     pub(crate) fn take(&mut self, alloc: Global, field: Field<'_>) -> Result<(), WireError>
         ensures held { OnOk result (self.new ≡ self.old ++ map matcher_value (message_in matcher (field_of field.entry))) }
         ensures clean { OnOk result (item_fault matcher matcher_tests (field_of field.entry) ≡ None) }
-        ensures fault { IfErr result (λ e. Fails e (item_fault matcher matcher_tests (field_of field.entry))) }
+        ensures fault { IfErr result (λ e. FailsUnlessMemory e (item_fault matcher matcher_tests (field_of field.entry))) }
     {
         if let Value::Bytes(bytes) = field.value {
             let matcher = read_message::<MatcherDraft>(alloc, bytes, field.inside, field.at)?;

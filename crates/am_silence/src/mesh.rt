@@ -8,16 +8,15 @@ ghost use Rattle.am_wire.specs.Sizes.{counted};
 ghost use Rattle.am_silence.specs.Silences.{writes_silence};
 ghost use Rattle.am_silence.specs.Mesh.{Mesh, IsMesh, writes_mesh_silence, bucket_of};
 ghost use Rattle.am_silence.specs.States.{state_of, is_expired};
-ghost use Rattle.am_silence.specs.MeshTable.{mesh_silence};
 
 use crate::bucket::{Place, bucket_place};
 use crate::silence::{Silence, SilenceDraft};
 use crate::sizes::version_size;
 use crate::state::{State, state_at};
 use am_version_order::{Moment, Version, head_of_text};
-use am_wire::reading::{Draft, Schema, Submessage, TimestampDraft, moment_in, read_message};
-use am_wire::writing::{append_text, write_message, write_sized_message};
-use am_wire::{Field, MOST_MESSAGE_BYTES, Message, Text, WireError, WireType};
+use am_wire::reading::{Dated, DatedDraft, read_message};
+use am_wire::writing::{append_text, write_dated};
+use am_wire::{MOST_MESSAGE_BYTES, Message, Text, WireError};
 use std::alloc::{AllocError, Global};
 use std::marker::Model;
 
@@ -103,8 +102,7 @@ impl MeshSilence {
             return Err(AllocError);
         };
         let mut canonical = Vec::with_capacity(alloc, room as usize)?;
-        write_sized_message(&mut canonical, 1, size, &silence)?;
-        write_message(&mut canonical, 2, &expires_at)?;
+        write_dated(&mut canonical, size, &silence, expires_at)?;
         let bucket = bucket_place(&silence, size);
         Ok(MeshSilence {
             silence,
@@ -135,68 +133,6 @@ impl MeshSilence {
     }
 }
 
-/// A silence that is passed on as it is read.
-#[derive(Drop)]
-pub struct MeshSilenceDraft<'a> {
-    silence: Submessage<SilenceDraft<'a>>,
-    expires_at: Submessage<TimestampDraft>,
-}
-
-impl Schema for MeshSilenceDraft<'_> {
-    ghost fitting = { mesh_silence.fits };
-
-    fn fits(number: u32, wire_type: WireType) -> bool
-        ensures { result ≡ mesh_silence.fits number wire_type }
-    {
-        match number {
-            1 | 2 => wire_type == WireType::Bytes,
-            _ => true,
-        }
-    }
-}
-
-impl<'a> Draft<'a> for MeshSilenceDraft<'a> {
-    ghost use Rattle.am_silence.specs.MeshTable.{mesh_silence_value, mesh_silence_tests};
-    ghost use Rattle.am_silence.specs.Drafts.{IsMeshSilenceDraft};
-
-    type Done = MeshSilence;
-
-    ghost inside = { mesh_silence.inside };
-
-    ghost holds = { IsMeshSilenceDraft };
-
-    ghost tests = { mesh_silence_tests };
-
-    ghost value = { mesh_silence_value };
-
-    fn start(alloc: Global) -> Self {
-        MeshSilenceDraft {
-            silence: Submessage::none(alloc),
-            expires_at: Submessage::none(alloc),
-        }
-    }
-
-    fn take(&mut self, field: Field<'a>) -> Result<(), WireError> {
-        match field.number {
-            1 => self.silence.take(field)?,
-            2 => self.expires_at.take(field)?,
-            _ => {}
-        }
-        Ok(())
-    }
-
-    fn finish(self, alloc: Global, _place: usize) -> Result<MeshSilence, WireError> {
-        if !self.silence.given {
-            return Err(WireError::MissingMessage { field: 1 });
-        }
-        let silence = self.silence.draft.finish(alloc, self.silence.at)?;
-        let expires_at = moment_in(alloc, self.expires_at)?;
-        let size = silence.size();
-        let version = MeshSilence::of_parts(alloc, silence, size, expires_at)?;
-        Ok(version)
-    }
-}
-
 impl Message for MeshSilence {
     ghost use Rattle.am_silence.specs.Mesh.{IsMesh};
     ghost use Rattle.am_silence.specs.MeshTable.{reads_mesh_silence};
@@ -224,7 +160,13 @@ impl Message for MeshSilence {
 
     #[tactic(auto, unfolding(crate::specs::MeshTable::reads_mesh_silence))]
     fn decode_at(alloc: Global, bytes: &[u8], at: usize) -> Result<MeshSilence, WireError> {
-        read_message::<MeshSilenceDraft>(alloc, bytes, at, at)
+        let Dated {
+            message: silence,
+            expires_at,
+        } = read_message::<DatedDraft<SilenceDraft>>(alloc, bytes, at, at)?;
+        let size = silence.size();
+        let version = MeshSilence::of_parts(alloc, silence, size, expires_at)?;
+        Ok(version)
     }
 }
 

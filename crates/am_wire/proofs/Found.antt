@@ -11,7 +11,7 @@ use Rattle.am_wire.specs.declared.error.WireError.TheVariants as errors
 use Rattle.am_wire.specs.declared.value.WireType.{WireType}
 use Rattle.am_wire.specs.declared.value.WireType.TheVariants as kinds
 use Rattle.am_wire.specs.Varint.{IsVarint, varint_at}
-use Rattle.am_wire.specs.Fields.{FieldAt, Payload, varint, eight, four, chunk, ◌>>=◌, field_at, payload_at, number_at, chunk_at, tag_number, kind_of, next_piece, pieces, row_at}
+use Rattle.am_wire.specs.Fields.{FieldAt, Payload, varint, eight, four, delimited_at, ◌>>=◌, field_at, payload_at, number_at, payload_behind_length, tag_number, kind_of, next_piece, pieces, row_at}
 use Rattle.am_wire.specs.Grammar.{AreSpelled, IsPayload, IsField, IsRow, wire_type_of, wire_code, field_fits}
 use Rattle.am_wire.specs.Again.Pieces.{done, pieces-first}
 use Rattle.am_wire.specs.Again.Varints.{varint_filled}
@@ -120,7 +120,7 @@ abbrev IsPiece : WireType → ℕ → List ℕ → Payload × ℕ → Type 0
 IsPiece kind start bytes x = FindsPayload kind x.0 start x.1 bytes
 
 payload_found : (kind : WireType) (at start : ℕ) (bytes : List ℕ) (x : Payload × ℕ) → payload_at kind at start bytes ≡ Ok x → IsPiece kind start bytes x
-unfolding payload_at number_at chunk_at
+unfolding payload_at number_at payload_behind_length
 payload_found kinds.Varint at start bytes x h =
     let v = bind_ok (varint_at at bytes) (λ n. ok (varint n.0, n.1)) x h in
     let n = number_found at start bytes v.0 v.1 in
@@ -134,11 +134,11 @@ payload_found kinds.Four at start bytes x h =
     let le = ltb-false _ _ w.0 in
     subst (IsPiece kinds.Four start bytes) (ok_is _ _ w.1) (record { kind_is = refl; within = le; is = (length-take-le 4 bytes le, refl) })
 payload_found kinds.Bytes at start bytes x h =
-    let v = bind_ok (varint_at at bytes) (λ n. cond (ltb (length (drop n.1 bytes)) n.0) (Err (Truncated at)) (ok (chunk (start + n.1) (take n.0 (drop n.1 bytes)), n.1 + n.0))) x h in
+    let v = bind_ok (varint_at at bytes) (λ n. cond (ltb (length (drop n.1 bytes)) n.0) (Err (Truncated at)) (ok (delimited_at (start + n.1) (take n.0 (drop n.1 bytes)), n.1 + n.0))) x h in
     let size : ℕ = v.0.0 in
     let len : ℕ = v.0.1 in
     let rest : List ℕ = drop len bytes in
-    let w = when_ok (ltb (length rest) size) (Truncated at) (ok (chunk (start + len) (take size rest), len + size)) x v.2 in
+    let w = when_ok (ltb (length rest) size) (Truncated at) (ok (delimited_at (start + len) (take size rest), len + size)) x v.2 in
     let le = ltb-false _ _ w.0 in
     let n = number_found at start bytes v.0 v.1 in
     let inner : length (take size rest) ≡ size = length-take-le size rest le in

@@ -1,5 +1,6 @@
 pub mod Groups
 pub mod Items
+pub mod Judging
 pub mod Taking
 pub mod Picked
 pub mod Shortest

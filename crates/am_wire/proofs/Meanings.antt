@@ -7,7 +7,7 @@ use Rattle.am_wire.specs.declared.error.WireError.{WireError}
 use Rattle.am_wire.specs.Fields.{FieldAt, fields_of, field_at}
 use Rattle.am_wire.specs.Grammar.{AreSpelled, IsField, AreFields, field_fits}
 use Rattle.am_wire.specs.Faults.{IsFieldFault}
-use Rattle.am_wire.specs.Reading.{Table, fields_in, faults_in, scan, sound_fields, judged, read_by, ◌then◌}
+use Rattle.am_wire.specs.Reading.{Table, fields_in, faults_in, scan, sound_fields, fault_or_value, read_by, ◌then◌}
 use Rattle.am_wire.specs.Messages.{AreSound, IsMessage, HasFaultInside, HasNoField, HasFault, FailsTests}
 use Rattle.am_wire.specs.Again.Pieces.{done}
 use Rattle.am_wire.specs.Again.Fields.{field_read}
@@ -91,13 +91,13 @@ pub then_some : (f t : Option WireError) (e : WireError) → (f then t) ≡ Some
 then_some None t e h = inr (refl, h)
 then_some (Some d) t e h = inl h
 
-judged_ok : {A : Type 0} (o : Option WireError) (x v : A) → judged o x ≡ Ok v → (o ≡ None) × (x ≡ v)
-judged_ok None x v h = (refl, cc)
-judged_ok (Some e) x v h = absurd cc
+value_given : {A : Type 0} (o : Option WireError) (x v : A) → fault_or_value o x ≡ Ok v → (o ≡ None) × (x ≡ v)
+value_given None x v h = (refl, cc)
+value_given (Some e) x v h = absurd cc
 
-judged_err : {A : Type 0} (o : Option WireError) (x : A) (e : WireError) → judged o x ≡ Err e → o ≡ Some e
-judged_err None x e h = absurd cc
-judged_err (Some d) x e h = cc
+fault_given : {A : Type 0} (o : Option WireError) (x : A) (e : WireError) → fault_or_value o x ≡ Err e → o ≡ Some e
+fault_given None x e h = absurd cc
+fault_given (Some d) x e h = cc
 
 -- ---- the fields of a message, and the first fault in them
 module _ (table : Table) (at : ℕ) (bytes : List ℕ) where
@@ -193,11 +193,11 @@ module _ {A : Type 0} (table : Table) (tests : ℕ → List FieldAt → Option W
   all = fields_in table at bytes
 
   abbrev answer : Option WireError → A → Result A WireError
-  answer o x = judged o x
+  answer o x = fault_or_value o x
 
   pub message_found : (v : A) → read_by table tests value place at bytes ≡ Ok v → IsMessage table tests value place at bytes v
   message_found v h =
-      let j = judged_ok (faults_in table at bytes then tests place all) (value all) v h in
+      let j = value_given (faults_in table at bytes then tests place all) (value all) v h in
       let t = then_none (faults_in table at bytes) (tests place all) j.0 in
       record { fields = all; sound = sound_found table at bytes t.0; passes = t.1; value_is = j.1 }
 
@@ -214,7 +214,7 @@ module _ {A : Type 0} (table : Table) (tests : ℕ → List FieldAt → Option W
 
   pub failure_found : (fault : WireError) → read_by table tests value place at bytes ≡ Err fault → HasFault table fault at bytes ⊎ FailsTests table tests fault place at bytes
   failure_found fault h =
-      let j = judged_err (faults_in table at bytes then tests place all) (value all) fault h in
+      let j = fault_given (faults_in table at bytes then tests place all) (value all) fault h in
       elim (then_some (faults_in table at bytes) (tests place all) fault j) [
         | inl some ↦ inl (fault_found table at bytes fault some)
         | inr t ↦ inr (record { fields = all; sound = sound_found table at bytes t.0; fails = t.1 })

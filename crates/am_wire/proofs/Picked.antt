@@ -7,7 +7,7 @@ use Rattle.std.proofs.lemmas.List.{append-nil, map-append}
 use Rattle.std.proofs.lemmas.List.Concat.{flat_map-cons}
 use Rattle.am_wire.specs.declared.error.WireError.TheVariants.{NotUtf8}
 use Rattle.am_wire.specs.Fields.{FieldAt}
-use Rattle.am_wire.specs.Reading.{Table, picked, last_or, parts_in, message_in, messages, chunk_place, chunk_given}
+use Rattle.am_wire.specs.Reading.{Table, picked, last_or, parts_in, message_in, messages, delimited_place, delimited_given}
 use Rattle.am_wire.specs.declared.parts.Submessage.{Submessage}
 use Rattle.am_wire.specs.Parts.{IsPart}
 use Rattle.am_wire.specs.Again.Slots.{picked-append}
@@ -53,18 +53,18 @@ module _ {A : Type 0} (view : FieldAt → List A) (n : ℕ) where
 module _ {D : Type 0} (holds : List FieldAt → D → Type 0) (table : Table) (n : ℕ) (es : List FieldAt) (e : FieldAt) (p : Submessage D) (h : IsPart holds table n es p) where
   pub part_here : (later : Submessage D) → e.number ≡ n
       → ((fs : List FieldAt) → holds fs p.draft → holds (fs ++ parts_in table e) later.draft)
-      → later.at ≡ last_or p.at (chunk_place e) → later.given ≡ last_or p.given (chunk_given e) → IsPart holds table n (es ++ e ∷ []) later
+      → later.at ≡ last_or p.at (delimited_place e) → later.given ≡ last_or p.given (delimited_given e) → IsPart holds table n (es ++ e ∷ []) later
   part_here later is draft place given = record {
     draft = subst (λ (x : List FieldAt). holds x later.draft) (sym (picked-here (parts_in table) n es e is)) (draft _ h.draft);
-    place = goes_here chunk_place n 0 es e _ _ is h.place place;
-    given = goes_here chunk_given n false es e _ _ is h.given given;
+    place = goes_here delimited_place n 0 es e _ _ is h.place place;
+    given = goes_here delimited_given n false es e _ _ is h.given given;
   }
 
   pub part_past : (m : ℕ) → e.number ≡ m → eqb m n ≡ false → IsPart holds table n (es ++ e ∷ []) p
   part_past m is other = record {
     draft = subst (λ (x : List FieldAt). holds x p.draft) (sym (picked-there (parts_in table) n es e (λ same. eqb-false m n other (sym is ∙ same)))) h.draft;
-    place = goes_past chunk_place n m 0 es e _ is other h.place;
-    given = goes_past chunk_given n m false es e _ is other h.given;
+    place = goes_past delimited_place n m 0 es e _ is other h.place;
+    given = goes_past delimited_given n m false es e _ is other h.given;
   }
 
 module _ {A : Type 0} (value : List FieldAt → A) (table : Table) (n : ℕ) (es : List FieldAt) (e : FieldAt) (old : List A) (h : old ≡ map value (messages table n es)) where

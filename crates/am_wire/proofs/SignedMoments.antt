@@ -8,7 +8,7 @@ use Rattle.std.proofs.lemmas.List.Elements.{All-nil, All-cons}
 use Rattle.am_version_order.specs.Moments.{seconds_before_1970}
 use Rattle.am_wire.specs.declared.error.WireError.{WireError}
 use Rattle.am_wire.specs.declared.error.WireError.TheVariants as errors
-use Rattle.am_wire.specs.Fields.{FieldAt, Payload, varint, eight, four, chunk}
+use Rattle.am_wire.specs.Fields.{FieldAt, Payload, varint, eight, four, delimited_at}
 use Rattle.am_wire.specs.Grammar.{AreFields, IsField, IsPayload}
 use Rattle.am_wire.specs.Reading.{last_or, last_number, picked, varint_in}
 use Rattle.am_wire.specs.Timestamps.{timestamp, timestamp_tests, is_moment, moment, seconds_since_least, low_half, reads_moment}
@@ -74,7 +74,7 @@ payload_small : (p : Payload) (n a start : ℕ) (text : List ℕ) → IsPayload 
 payload_small (varint v) n a start text is d small = is.fits
 payload_small (eight v) n a start text is d small = small
 payload_small (four v) n a start text is d small = small
-payload_small (chunk inside bytes) n a start text is d small = small
+payload_small (delimited_at inside bytes) n a start text is d small = small
 
 field_small : (n : ℕ) (e : FieldAt) (at : ℕ) (text : List ℕ) → IsField e at text → (d : ℕ) → d < 2 ^ 64 → last_or d (cond (eqb e.number n) (varint_in e) []) < 2 ^ 64
 field_small n e at text is d small =

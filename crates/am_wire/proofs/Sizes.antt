@@ -51,9 +51,9 @@ size_by_zeros n some fits =
 
 -- ---- chunks
 -- the front of a chunk and its bytes, counted apart
-pub counted_chunk : (number size front : ℕ) (bytes : List ℕ) → size ≡ counted (length bytes) → front ≡ length (tag number 2) + length (shortest size)
+pub counted_delimited : (number size front : ℕ) (bytes : List ℕ) → size ≡ counted (length bytes) → front ≡ length (tag number 2) + length (shortest size)
     → counted (front + size) ≡ counted (length (writes_delimited number bytes))
-counted_chunk number size front bytes is before =
+counted_delimited number size front bytes is before =
     let parts : length (writes_delimited number bytes) ≡ length (tag number 2) + (length (shortest (length bytes)) + length bytes) =
     length-append (tag number 2) (shortest (length bytes) ++ bytes) ∙ ap (λ (n : ℕ). length (tag number 2) + n) (length-append (shortest (length bytes)) bytes) in
     elim (cases_lt (length bytes) (2 ^ 64 - 1)) [

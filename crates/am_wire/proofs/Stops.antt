@@ -10,7 +10,7 @@ use Rattle.am_wire.specs.declared.error.WireError.TheVariants as errors
 use Rattle.am_wire.specs.declared.value.WireType.{WireType}
 use Rattle.am_wire.specs.declared.value.WireType.TheVariants as kinds
 use Rattle.am_wire.specs.Varint.{IsVarint, varint_at}
-use Rattle.am_wire.specs.Fields.{FieldAt, Payload, varint, eight, four, chunk, ◌>>=◌, field_at, payload_at, number_at, chunk_at, tag_number, kind_of, row_at}
+use Rattle.am_wire.specs.Fields.{FieldAt, Payload, varint, eight, four, delimited_at, ◌>>=◌, field_at, payload_at, number_at, payload_behind_length, tag_number, kind_of, row_at}
 use Rattle.am_wire.specs.Grammar.{wire_code}
 use Rattle.am_wire.specs.Faults.{EndsInNumber, HasLongNumber, IsNumberFault, HasNumber, HasTag, IsFieldNumber, IsNoFieldNumber, IsNoWireType, EndsInPayload, HasLongPayload, HasPayload, IsFieldFault, IsRowFault}
 use Rattle.am_wire.specs.Again.Varints.{varint_read}
@@ -134,14 +134,14 @@ module _ (at : ℕ) (bytes : List ℕ) where
   varint_from_number (LongVarint place) h = h
   varint_from_number e h = absurd h
 
-  chunk_from_number : (e : WireError) → IsNumberFault at bytes e → IsPayloadFault kinds.Bytes at bytes e
-  chunk_from_number (Truncated place) h = (h.0, inl h.1)
-  chunk_from_number (LongVarint place) h = h
-  chunk_from_number e h = absurd h
+  delimited_from_number : (e : WireError) → IsNumberFault at bytes e → IsPayloadFault kinds.Bytes at bytes e
+  delimited_from_number (Truncated place) h = (h.0, inl h.1)
+  delimited_from_number (LongVarint place) h = h
+  delimited_from_number e h = absurd h
 
   module _ (start : ℕ) where
     abbrev after_length : ℕ × ℕ → Result (Payload × ℕ) WireError
-    after_length n = cond (ltb (length (drop n.1 bytes)) n.0) (Err (Truncated at)) (ok (chunk (start + n.1) (take n.0 (drop n.1 bytes)), n.1 + n.0))
+    after_length n = cond (ltb (length (drop n.1 bytes)) n.0) (Err (Truncated at)) (ok (delimited_at (start + n.1) (take n.0 (drop n.1 bytes)), n.1 + n.0))
 
     abbrev fixed : Payload → ℕ → Result (Payload × ℕ) WireError
     fixed p size = Ok (p, size)
@@ -155,7 +155,7 @@ module _ (at : ℕ) (bytes : List ℕ) where
         ]
 
     payload_fault_found : (kind : WireType) (e : WireError) → payload_at kind at start bytes ≡ Err e → IsPayloadFault kind at bytes e
-    unfolding payload_at number_at chunk_at
+    unfolding payload_at number_at payload_behind_length
     payload_fault_found kinds.Varint e h =
         elim (bind_err (varint_at at bytes) (λ n. ok (varint n.0, n.1)) e h) [
           | inl v ↦ varint_from_number e (number_fault_found at bytes e v)
@@ -165,17 +165,17 @@ module _ (at : ℕ) (bytes : List ℕ) where
     payload_fault_found kinds.Four e h = fixed_fault kinds.Four 4 (four (from_le_bytes w32 (take 4 bytes))) e (λ few. few) h
     payload_fault_found kinds.Bytes e h =
         elim (bind_err (varint_at at bytes) after_length e h) [
-          | inl v ↦ chunk_from_number e (number_fault_found at bytes e v)
+          | inl v ↦ delimited_from_number e (number_fault_found at bytes e v)
           | inr v ↦
               let n = number_found at at bytes v.0 v.1 in
-              elim (when_err (ltb (length (drop v.0.1 bytes)) v.0.0) (Truncated at) (ok (chunk (start + v.0.1) (take v.0.0 (drop v.0.1 bytes)), v.0.1 + v.0.0)) e v.2) [
+              elim (when_err (ltb (length (drop v.0.1 bytes)) v.0.0) (Truncated at) (ok (delimited_at (start + v.0.1) (take v.0.0 (drop v.0.1 bytes)), v.0.1 + v.0.0)) e v.2) [
                 | inl few ↦ subst (IsPayloadFault kinds.Bytes at bytes) few.1 (refl, inr (has_number at bytes v.0 n (ltb-true _ _ few.0)))
-                | inr whole ↦ absurd (err_ok e (chunk (start + v.0.1) (take v.0.0 (drop v.0.1 bytes)), v.0.1 + v.0.0) (sym whole.1))
+                | inr whole ↦ absurd (err_ok e (delimited_at (start + v.0.1) (take v.0.0 (drop v.0.1 bytes)), v.0.1 + v.0.0) (sym whole.1))
               ]
         ]
 
     payload_ends : (kind : WireType) → EndsInPayload kind bytes → payload_at kind at start bytes ≡ Err (Truncated at)
-    unfolding payload_at number_at chunk_at
+    unfolding payload_at number_at payload_behind_length
     payload_ends kinds.Varint h = rw (ends_fails at bytes h) refl
     payload_ends kinds.Eight h = let few : ltb (length bytes) 8 ≡ true = lt-ltb _ _ h in rw few refl
     payload_ends kinds.Four h = let few : ltb (length bytes) 4 ≡ true = lt-ltb _ _ h in rw few refl
@@ -190,7 +190,7 @@ module _ (at : ℕ) (bytes : List ℕ) where
         ]
 
     payload_long : (kind : WireType) → HasLongPayload kind bytes → payload_at kind at start bytes ≡ Err (LongVarint at)
-    unfolding payload_at number_at chunk_at
+    unfolding payload_at number_at payload_behind_length
     payload_long kinds.Varint h = rw (long_number_fails at bytes h) refl
     payload_long kinds.Bytes h = rw (long_number_fails at bytes h) refl
     payload_long kinds.Eight h = absurd h

@@ -3,7 +3,7 @@ use Rattle.std.proofs.Common.{◌≡◌, List, [], ◌∷◌, ◌++◌, Option, 
 use Rattle.std.proofs.lemmas.List.{append-nil}
 use Rattle.am_wire.specs.declared.error.WireError.{WireError}
 use Rattle.am_wire.specs.Fields.{FieldAt}
-use Rattle.am_wire.specs.Reading.{scan, sound_fields, Fails, ◌then◌}
+use Rattle.am_wire.specs.Reading.{scan, sound_fields, FailsUnlessMemory, ◌then◌}
 
 pub record Taken {D : Type 0} (holds : List FieldAt → D → Type 0) (inside : FieldAt → Option WireError) (start now : D) (all left : List (Result FieldAt WireError)) : Type 0 where
   pub front : List FieldAt
@@ -27,10 +27,10 @@ module _ {D : Type 0} (holds : List FieldAt → D → Type 0) (inside : FieldAt 
           clean = so_far.clean ∙ goes;
         }
 
-    pub Taken-fault : (e : WireError) → left ≡ Err e ∷ others → Fails e (scan inside all)
+    pub Taken-fault : (e : WireError) → left ≡ Err e ∷ others → FailsUnlessMemory e (scan inside all)
     Taken-fault e is _ = so_far.clean ∙ ap (scan inside) is
 
-    pub Taken-fails : (e : FieldAt) (fault : WireError) → left ≡ Ok e ∷ others → Fails fault (inside e) → Fails fault (scan inside all)
+    pub Taken-fails : (e : FieldAt) (fault : WireError) → left ≡ Ok e ∷ others → FailsUnlessMemory fault (inside e) → FailsUnlessMemory fault (scan inside all)
     Taken-fails e fault is fails not_memory =
         so_far.clean ∙ ap (scan inside) is ∙ ap (λ (f : Option WireError). f then scan inside others) (fails not_memory)
 

@@ -5,7 +5,7 @@ use Rattle.std.proofs.lemmas.Bool.{eqb-true, ne_eqb}
 use Rattle.am_wire.specs.declared.error.WireError.{WireError}
 use Rattle.am_wire.specs.Varint.{varint_at, shortest}
 use Rattle.am_wire.specs.Fields.{pieces, next_piece}
-use Rattle.am_wire.specs.Reading.{kept, first_fault, unpacked}
+use Rattle.am_wire.specs.Reading.{until_fault, first_fault, unpacked}
 use Rattle.am_wire.specs.Again.Pieces.{pieces-first}
 use Rattle.am_wire.specs.Again.Varints.{shortest_filled}
 
@@ -41,7 +41,7 @@ unpacked-none tag (b ∷ bytes) h = let none : suc (length bytes) ≡ 0 = eqb-tr
 
 -- what a loop has put behind `start`, and what is left of the bytes
 pub record HasUnpacked (tag : ℕ) (start now bytes rest : List ℕ) : Type 0 where
-  pub held : now ++ kept (unpacked tag rest) ≡ start ++ kept (unpacked tag bytes)
+  pub held : now ++ until_fault (unpacked tag rest) ≡ start ++ until_fault (unpacked tag bytes)
   pub clean : first_fault (unpacked tag rest) ≡ first_fault (unpacked tag bytes)
 
 module _ (tag : ℕ) (start now bytes rest : List ℕ) (h : HasUnpacked tag start now bytes rest) where
@@ -49,12 +49,12 @@ module _ (tag : ℕ) (start now bytes rest : List ℕ) (h : HasUnpacked tag star
   one_more n len e pos le =
       let first = unpacked-first tag n len rest e pos le in
       record {
-        held = append_assoc now (n ∷ []) (kept (unpacked tag (drop len rest))) ∙ ap (λ (l : List (Result ℕ WireError)). now ++ kept l) (sym first) ∙ h.held;
+        held = append_assoc now (n ∷ []) (until_fault (unpacked tag (drop len rest))) ∙ ap (λ (l : List (Result ℕ WireError)). now ++ until_fault l) (sym first) ∙ h.held;
         clean = sym (ap first_fault first) ∙ h.clean;
       }
 
-  pub no_more-held : true ≡ eqb (length rest) 0 → now ≡ start ++ kept (unpacked tag bytes)
-  no_more-held none = sym (append-nil now) ∙ ap (λ (l : List (Result ℕ WireError)). now ++ kept l) (sym (unpacked-none tag rest none)) ∙ h.held
+  pub no_more-held : true ≡ eqb (length rest) 0 → now ≡ start ++ until_fault (unpacked tag bytes)
+  no_more-held none = sym (append-nil now) ∙ ap (λ (l : List (Result ℕ WireError)). now ++ until_fault l) (sym (unpacked-none tag rest none)) ∙ h.held
 
   pub no_more-clean : true ≡ eqb (length rest) 0 → first_fault (unpacked tag bytes) ≡ None
   no_more-clean none = sym h.clean ∙ ap first_fault (unpacked-none tag rest none)

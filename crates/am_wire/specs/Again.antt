@@ -7,3 +7,4 @@ pub mod Puts
 pub mod Slots
 pub mod Written
 pub mod Moments
+pub mod Dated

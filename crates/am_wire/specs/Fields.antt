@@ -18,7 +18,7 @@ pub data Payload : Type 0 where
   varint : ℕ → Payload
   eight : ℕ → Payload
   four : ℕ → Payload
-  chunk : ℕ → List ℕ → Payload
+  delimited_at : ℕ → List ℕ → Payload
 
 -- a field, and the offset of its tag
 pub record FieldAt : Type 0 where
@@ -31,7 +31,7 @@ abbrev pub payload_of : ℕ → Value → Payload
 payload_of inside (values.Varint n) = varint n
 payload_of inside (values.Eight n) = eight n
 payload_of inside (values.Four n) = four n
-payload_of inside (values.Bytes b) = chunk inside b.now
+payload_of inside (values.Bytes b) = delimited_at inside b.now
 
 -- a field of the code, without where it lies in memory
 abbrev pub field_of : Field → FieldAt
@@ -66,10 +66,11 @@ abbrev pub fixed_at : ℕ → (List ℕ → Payload) → ℕ → List ℕ → Re
 fixed_at size payload at bytes = if nat_lt (length bytes) size then Err (Truncated at) else Ok (payload (take size bytes), size)
 
 -- a length, and that many bytes
-unfoldable pub chunk_at : ℕ → ℕ → List ℕ → Result (Payload × ℕ) WireError
-chunk_at at start bytes = do
+unfoldable pub payload_behind_length : ℕ → ℕ → List ℕ → Result (Payload × ℕ) WireError
+payload_behind_length at start bytes = do
   n ← varint_at at bytes
-  if nat_lt (length (drop n.1 bytes)) n.0 then Err (Truncated at) else Ok (chunk (start + n.1) (take n.0 (drop n.1 bytes)), n.1 + n.0)
+  if nat_lt (length (drop n.1 bytes)) n.0 then Err (Truncated at)
+      else Ok (delimited_at (start + n.1) (take n.0 (drop n.1 bytes)), n.1 + n.0)
 
 -- a number
 unfoldable pub number_at : ℕ → List ℕ → Result (Payload × ℕ) WireError
@@ -89,7 +90,7 @@ kind_of at n =
 unfoldable pub payload_at : WireType → ℕ → ℕ → List ℕ → Result (Payload × ℕ) WireError
 payload_at kinds.Varint at start bytes = number_at at bytes
 payload_at kinds.Eight at start bytes = fixed_at 8 (λ b. eight (from_le_bytes w64 b)) at bytes
-payload_at kinds.Bytes at start bytes = chunk_at at start bytes
+payload_at kinds.Bytes at start bytes = payload_behind_length at start bytes
 payload_at kinds.Four at start bytes = fixed_at 4 (λ b. four (from_le_bytes w32 b)) at bytes
 
 -- the number of a tag, which is from 1 to 2 ^ 29 - 1

@@ -5,7 +5,7 @@ use Rattle.am_wire.specs.declared.value.WireType.{WireType}
 use Rattle.am_wire.specs.declared.value.WireType.TheVariants as kinds
 use Rattle.am_wire.specs.Limits.{most}
 use Rattle.am_wire.specs.Varint.{IsVarint}
-use Rattle.am_wire.specs.Fields.{Payload, varint, eight, four, chunk, FieldAt}
+use Rattle.am_wire.specs.Fields.{Payload, varint, eight, four, delimited_at, FieldAt}
 
 -- The bytes are texts of these things, one after the other, the first of which stands at the offset `at`.
 abbrev pub AreSpelled : {A : Type 0} → (A → ℕ → List ℕ → Type 0) → List A → ℕ → List ℕ → Type 0
@@ -15,7 +15,7 @@ AreSpelled Spells (x ∷ xs) at bytes =
 
 -- ---- fields
 -- a length, and that many bytes, the first of which stands at the offset `inside`
-pub record IsChunk (inside : ℕ) (bytes : List ℕ) (at : ℕ) (text : List ℕ) : Type 0 where
+pub record IsDelimitedAt (inside : ℕ) (bytes : List ℕ) (at : ℕ) (text : List ℕ) : Type 0 where
   pub size : List ℕ
   pub size_is : IsVarint size (length bytes)
   pub text_is : text ≡ size ++ bytes
@@ -26,13 +26,13 @@ abbrev pub IsPayload : Payload → ℕ → List ℕ → Type 0
 IsPayload (varint n) at text = IsVarint text n
 IsPayload (eight n) at text = (length text ≡ 8) × (n ≡ from_le_bytes w64 text)
 IsPayload (four n) at text = (length text ≡ 4) × (n ≡ from_le_bytes w32 text)
-IsPayload (chunk inside bytes) at text = IsChunk inside bytes at text
+IsPayload (delimited_at inside bytes) at text = IsDelimitedAt inside bytes at text
 
 -- the wire type of a payload
 abbrev pub wire_type_of : Payload → WireType
 wire_type_of (varint n) = kinds.Varint
 wire_type_of (eight n) = kinds.Eight
-wire_type_of (chunk inside bytes) = kinds.Bytes
+wire_type_of (delimited_at inside bytes) = kinds.Bytes
 wire_type_of (four n) = kinds.Four
 
 -- the wire type in a tag

@@ -9,6 +9,7 @@ pub mod Writing
 pub mod Sizes
 pub mod Timestamps
 pub mod TimestampDrafts
+pub mod Dated
 pub mod Grammar
 pub mod Faults
 pub mod Messages

@@ -2,7 +2,7 @@
 use Rattle.std.specs.Prelude.{◌≡◌, ℕ, List, [], ◌∷◌, ◌++◌, Option, Some, None, All, ◌⊎◌}
 use Rattle.std.specs.List.{AllPass}
 use Rattle.am_wire.specs.declared.error.WireError.{WireError}
-use Rattle.am_wire.specs.Fields.{FieldAt, chunk}
+use Rattle.am_wire.specs.Fields.{FieldAt, delimited_at}
 use Rattle.am_wire.specs.Grammar.{AreFields, field_fits}
 use Rattle.am_wire.specs.Faults.{AreFieldsUntil}
 use Rattle.am_wire.specs.Reading.{Table}
@@ -56,4 +56,4 @@ pub record FailsTests (table : Table) (tests : ℕ → List FieldAt → Option W
 
 -- a field of bytes, the first of which stands at the offset `inside`
 abbrev pub bytes_field : ℕ → ℕ → ℕ → List ℕ → FieldAt
-bytes_field n at inside bytes = record { number = n; payload = chunk inside bytes; at = at }
+bytes_field n at inside bytes = record { number = n; payload = delimited_at inside bytes; at = at }

@@ -7,7 +7,7 @@ use Rattle.am_wire.specs.declared.error.WireError.TheVariants as errors
 use Rattle.am_wire.specs.declared.value.WireType.{WireType}
 use Rattle.am_wire.specs.declared.value.WireType.TheVariants as kinds
 use Rattle.am_wire.specs.Varint.{varint_at}
-use Rattle.am_wire.specs.Fields.{varint, chunk, FieldAt, fields_of, pieces}
+use Rattle.am_wire.specs.Fields.{varint, delimited_at, FieldAt, fields_of, pieces}
 
 -- ---- faults
 
@@ -30,8 +30,8 @@ sound_fields (Ok e ∷ items) = e ∷ sound_fields items
 sound_fields (Err fault ∷ items) = []
 
 -- a call's error is the first fault, unless memory ran out
-abbrev pub Fails : WireError → Option WireError → Type 0
-Fails e fault = e ≢ errors.Memory → fault ≡ Some e
+abbrev pub FailsUnlessMemory : WireError → Option WireError → Type 0
+FailsUnlessMemory e fault = e ≢ errors.Memory → fault ≡ Some e
 
 -- ---- a message: which wire types its numbers have, and what is at fault inside a field
 pub record Table : Type 0 where
@@ -47,20 +47,20 @@ abbrev pub faults_in : Table → ℕ → List ℕ → Option WireError
 faults_in table at bytes = scan table.inside (fields_of table.fits at bytes)
 
 -- what `fault` finds inside a payload of bytes, which begin at an offset; nothing is at fault inside other payloads
-abbrev pub in_chunk : (ℕ → List ℕ → Option WireError) → FieldAt → Option WireError
-in_chunk fault e = elim e.payload [ chunk at bytes ↦ fault at bytes | _ ↦ None ]
+abbrev pub in_delimited : (ℕ → List ℕ → Option WireError) → FieldAt → Option WireError
+in_delimited fault e = elim e.payload [ delimited_at at bytes ↦ fault at bytes | _ ↦ None ]
 
 -- inside a text
 abbrev pub text_fault : FieldAt → Option WireError
-text_fault e = in_chunk (λ at bytes. if is_utf8 bytes then None else Some (errors.NotUtf8 e.at)) e
+text_fault e = in_delimited (λ at bytes. if is_utf8 bytes then None else Some (errors.NotUtf8 e.at)) e
 
 -- inside a message that a message holds once: its own tests come later
 abbrev pub part_fault : Table → FieldAt → Option WireError
-part_fault table e = in_chunk (faults_in table) e
+part_fault table e = in_delimited (faults_in table) e
 
 -- inside one of many messages: it ends with its payload, and its tests stand at its tag
 abbrev pub item_fault : Table → (ℕ → List FieldAt → Option WireError) → FieldAt → Option WireError
-item_fault table tests e = in_chunk (λ at bytes. faults_in table at bytes then tests e.at (fields_in table at bytes)) e
+item_fault table tests e = in_delimited (λ at bytes. faults_in table at bytes then tests e.at (fields_in table at bytes)) e
 
 -- ---- values
 
@@ -78,16 +78,16 @@ abbrev pub varint_in : FieldAt → List ℕ
 varint_in e = elim e.payload [ varint n ↦ n ∷ [] | _ ↦ [] ]
 
 -- the bytes in a field, where it has some
-abbrev pub chunk_in : FieldAt → List (List ℕ)
-chunk_in e = elim e.payload [ chunk at bytes ↦ bytes ∷ [] | _ ↦ [] ]
+abbrev pub delimited_in : FieldAt → List (List ℕ)
+delimited_in e = elim e.payload [ delimited_at at bytes ↦ bytes ∷ [] | _ ↦ [] ]
 
 -- the message in a field, where it has one, as its fields
 abbrev pub message_in : Table → FieldAt → List (List FieldAt)
-message_in table e = elim e.payload [ chunk at bytes ↦ fields_in table at bytes ∷ [] | _ ↦ [] ]
+message_in table e = elim e.payload [ delimited_at at bytes ↦ fields_in table at bytes ∷ [] | _ ↦ [] ]
 
 -- the same as one list of fields, so that several payloads can be merged
 abbrev pub parts_in : Table → FieldAt → List FieldAt
-parts_in table e = elim e.payload [ chunk at bytes ↦ fields_in table at bytes | _ ↦ [] ]
+parts_in table e = elim e.payload [ delimited_at at bytes ↦ fields_in table at bytes | _ ↦ [] ]
 
 -- the table of these two
 abbrev pub table_at : (ℕ → WireType → Bool) → (FieldAt → Option WireError) → Table
@@ -99,7 +99,7 @@ last_number n es = last_or 0 (picked varint_in n es)
 
 -- the same of a text; a missing one is empty
 abbrev pub last_text : ℕ → List FieldAt → List ℕ
-last_text n es = last_or [] (picked chunk_in n es)
+last_text n es = last_or [] (picked delimited_in n es)
 
 -- each message of a number, as its fields
 abbrev pub messages : Table → ℕ → List FieldAt → List (List FieldAt)
@@ -155,27 +155,27 @@ table_of rows = record { fits = fits_by rows; inside = inside_by rows }
 
 -- ---- a whole message: the first fault in its fields, then its tests, then its value. `place` is what its
 -- tests are reported at, where they have no field of the message itself.
-abbrev pub judged : {A : Type 0} → Option WireError → A → Result A WireError
-judged (Some fault) value = Err fault
-judged None value = Ok value
+abbrev pub fault_or_value : {A : Type 0} → Option WireError → A → Result A WireError
+fault_or_value (Some fault) value = Err fault
+fault_or_value None value = Ok value
 
 -- what reading a message gives
 abbrev pub read_by : {A : Type 0} → Table → (ℕ → List FieldAt → Option WireError) → (List FieldAt → A) → ℕ → ℕ → List ℕ → Result A WireError
 read_by table tests value place at bytes =
-    judged (faults_in table at bytes then tests place (fields_in table at bytes)) (value (fields_in table at bytes))
+    fault_or_value (faults_in table at bytes then tests place (fields_in table at bytes)) (value (fields_in table at bytes))
 
 -- a call answers what reading gives, unless memory ran out
-abbrev pub Gives : {A : Type 0} → Result A WireError → Result A WireError → Type 0
-Gives (Ok x) read = read ≡ Ok x
-Gives (Err e) read = e ≢ errors.Memory → read ≡ Err e
+abbrev pub GivesUnlessMemory : {A : Type 0} → Result A WireError → Result A WireError → Type 0
+GivesUnlessMemory (Ok x) read = read ≡ Ok x
+GivesUnlessMemory (Err e) read = e ≢ errors.Memory → read ≡ Err e
 
 -- where a number stands
 abbrev pub varint_place : FieldAt → List ℕ
 varint_place e = elim e.payload [ varint n ↦ e.at ∷ [] | _ ↦ [] ]
 
 -- where a payload of bytes stands
-abbrev pub chunk_place : FieldAt → List ℕ
-chunk_place e = elim e.payload [ chunk at bytes ↦ e.at ∷ [] | _ ↦ [] ]
+abbrev pub delimited_place : FieldAt → List ℕ
+delimited_place e = elim e.payload [ delimited_at at bytes ↦ e.at ∷ [] | _ ↦ [] ]
 
 -- where the last number stands
 abbrev pub last_number_place : ℕ → List FieldAt → ℕ
@@ -183,22 +183,22 @@ last_number_place n es = last_or 0 (picked varint_place n es)
 
 -- where the last payload of bytes stands
 abbrev pub last_place : ℕ → List FieldAt → ℕ
-last_place n es = last_or 0 (picked chunk_place n es)
+last_place n es = last_or 0 (picked delimited_place n es)
 
 -- a payload of bytes was given
-abbrev pub chunk_given : FieldAt → List Bool
-chunk_given e = elim e.payload [ chunk at bytes ↦ true ∷ [] | _ ↦ [] ]
+abbrev pub delimited_given : FieldAt → List Bool
+delimited_given e = elim e.payload [ delimited_at at bytes ↦ true ∷ [] | _ ↦ [] ]
 
 -- whether a message of the number was given
 abbrev pub is_given : ℕ → List FieldAt → Bool
-is_given n es = last_or false (picked chunk_given n es)
+is_given n es = last_or false (picked delimited_given n es)
 
 -- ---- lists of numbers, one to a field or packed
 -- those before the first fault
-abbrev pub kept : {A : Type 0} → List (Result A WireError) → List A
-kept [] = []
-kept (Ok x ∷ xs) = x ∷ kept xs
-kept (Err e ∷ xs) = []
+abbrev pub until_fault : {A : Type 0} → List (Result A WireError) → List A
+until_fault [] = []
+until_fault (Ok x ∷ xs) = x ∷ until_fault xs
+until_fault (Err e ∷ xs) = []
 
 -- the first fault
 abbrev pub first_fault : {A : Type 0} → List (Result A WireError) → Option WireError
@@ -212,7 +212,7 @@ unpacked tag bytes = pieces (λ at text. varint_at tag text) 0 0 bytes
 
 -- the numbers in a field, single or packed
 abbrev pub numbers_in : FieldAt → List ℕ
-numbers_in e = elim e.payload [ varint n ↦ n ∷ [] | chunk at bytes ↦ kept (unpacked e.at bytes) | _ ↦ [] ]
+numbers_in e = elim e.payload [ varint n ↦ n ∷ [] | delimited_at at bytes ↦ until_fault (unpacked e.at bytes) | _ ↦ [] ]
 
 -- a list takes single numbers and packed ones
 abbrev pub is_varint_or_bytes : WireType → Bool
@@ -220,7 +220,7 @@ is_varint_or_bytes kind = elim kind [ kinds.Varint ↦ true | kinds.Bytes ↦ tr
 
 -- inside numbers that are packed
 abbrev pub numbers_fault : FieldAt → Option WireError
-numbers_fault e = in_chunk (λ at bytes. first_fault (unpacked e.at bytes)) e
+numbers_fault e = in_delimited (λ at bytes. first_fault (unpacked e.at bytes)) e
 
 -- a field of a list of numbers
 abbrev pub numbers_row : ℕ → Row

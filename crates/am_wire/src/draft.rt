@@ -2,7 +2,7 @@
 
 ghost use Rattle.std.specs.Prelude.{◌≡◌, ℕ, List, [], ◌∷◌, ◌++◌, Option, None, Some, ◌+◌, ◌<◌, ◌^◌, length, OnOk, IfErr};
 ghost use Rattle.am_wire.specs.Fields.{FieldAt, field_of, fields_of};
-ghost use Rattle.am_wire.specs.Reading.{Fails, Gives, judged, read_by, table_at, scan, sound_fields};
+ghost use Rattle.am_wire.specs.Reading.{FailsUnlessMemory, GivesUnlessMemory, fault_or_value, read_by, table_at, scan, sound_fields};
 ghost use Rattle.am_wire.specs.declared.error.WireError.{WireError};
 
 use crate::error::WireError;
@@ -40,7 +40,7 @@ pub trait Draft<'a>: Schema + Drop {
     fn take(&mut self, field: Field<'a>) -> Result<(), WireError>
         ensures held { OnOk result ((es : List FieldAt) → holds es self.old → holds (es ++ field_of field.entry ∷ []) self.new) }
         ensures clean { OnOk result (inside (field_of field.entry) ≡ None) }
-        ensures fault { IfErr result (λ e. Fails e (inside (field_of field.entry))) };
+        ensures fault { IfErr result (λ e. FailsUnlessMemory e (inside (field_of field.entry))) };
 
     /// The message of the fields that were taken; what its own tests find stands at `place`.
     ///
@@ -48,7 +48,7 @@ pub trait Draft<'a>: Schema + Drop {
     ///
     /// What the tests find, or [`WireError::Memory`].
     fn finish(self, alloc: Global, place: usize) -> Result<Self::Done, WireError>
-        ensures { (es : List FieldAt) → holds es self → Gives result (judged (tests place es) (value es)) };
+        ensures { (es : List FieldAt) → holds es self → GivesUnlessMemory result (fault_or_value (tests place es) (value es)) };
 }
 
 /// Takes the fields of the bytes, which begin at the offset `at` of the outermost input.
@@ -65,7 +65,7 @@ pub fn take_fields<'a, D: Draft<'a>>(
     ensures held { OnOk result ((es : List FieldAt) → D.holds es draft.old →
         D.holds (es ++ sound_fields (fields_of D.fitting at bytes.now)) draft.new) }
     ensures clean { OnOk result (scan D.inside (fields_of D.fitting at bytes.now) ≡ None) }
-    ensures fault { IfErr result (λ e. Fails e (scan D.inside (fields_of D.fitting at bytes.now))) }
+    ensures fault { IfErr result (λ e. FailsUnlessMemory e (scan D.inside (fields_of D.fitting at bytes.now))) }
 {
     for item in Scan::<D>::within(bytes, at) {
         draft.take(item?)?;
@@ -86,7 +86,7 @@ pub fn read_message<'a, D: Draft<'a>>(
     place: usize,
 ) -> Result<D::Done, WireError>
     requires { at + length bytes.now < 2 ^ 64 }
-    ensures { Gives result (read_by (table_at D.fitting D.inside) D.tests D.value place at bytes.now) }
+    ensures { GivesUnlessMemory result (read_by (table_at D.fitting D.inside) D.tests D.value place at bytes.now) }
 {
     let mut draft = D::start(alloc);
     take_fields(&mut draft, bytes, at)?;

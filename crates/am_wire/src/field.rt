@@ -3,8 +3,8 @@
 ghost use Rattle.std.specs.Prelude.{◌≡◌, ℕ, List, Bool, Result, Ok, Err, ◌+◌, ◌<◌, ◌≤◌, ◌^◌, ◌/◌, ◌%◌, length, drop, IfOk};
 ghost use Rattle.std.specs.Int.{w32, w64, from_le_bytes};
 ghost use Rattle.am_wire.specs.Length.{payload_len};
-ghost use Rattle.am_wire.specs.Fields.{Payload, varint, eight, four, chunk, field_of, payload_of, payload_seen};
-ghost use Rattle.am_wire.specs.Fields.{field_seen, number_at, fixed_at, chunk_at, payload_at, kind_of, tag_number};
+ghost use Rattle.am_wire.specs.Fields.{Payload, varint, eight, four, delimited_at, field_of, payload_of, payload_seen};
+ghost use Rattle.am_wire.specs.Fields.{field_seen, number_at, fixed_at, payload_behind_length, payload_at, kind_of, tag_number};
 ghost use Rattle.am_wire.specs.Fields.{field_at, fields_of, any};
 
 use crate::error::WireError;
@@ -102,14 +102,14 @@ fn four_payload<'a>(
     Ok((Value::Four(u32::from_le_bytes(*front)), start, 4))
 }
 
-#[tactic(auto, unfolding(crate::specs::Fields::chunk_at))]
-fn chunk_payload<'a>(
+#[tactic(auto, unfolding(crate::specs::Fields::payload_behind_length))]
+fn delimited_payload<'a>(
     bytes: &'a [u8],
     at: usize,
     start: usize,
 ) -> Result<(Value<'a>, usize, usize), WireError>
     requires { start + length bytes.now < 2 ^ 64 }
-    ensures value { payload_seen result ≡ chunk_at at start bytes.now }
+    ensures value { payload_seen result ≡ payload_behind_length at start bytes.now }
     ensures within { IfOk result (λ x. (x.1 + payload_len x.0 ≤ start + x.2) × (x.2 ≤ length bytes.now)) }
 {
     let (size, len) = varint_from(bytes, at)?;
@@ -136,7 +136,7 @@ fn payload_from<'a>(
     match wire_type {
         WireType::Varint => varint_payload(bytes, at, start),
         WireType::Eight => eight_payload(bytes, at, start),
-        WireType::Bytes => chunk_payload(bytes, at, start),
+        WireType::Bytes => delimited_payload(bytes, at, start),
         WireType::Four => four_payload(bytes, at, start),
     }
 }

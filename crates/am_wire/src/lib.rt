@@ -2,6 +2,7 @@
 #![tactic(auto)]
 
 mod bytes;
+mod dated;
 mod draft;
 mod error;
 mod field;

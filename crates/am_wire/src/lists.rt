@@ -3,7 +3,8 @@
 ghost use Rattle.std.specs.Prelude.{◌≡◌, ℕ, List, [], ◌∷◌, ◌++◌, Option, None, Some, ◌<◌, ◌^◌, length, All, OnOk, IfErr, count_by, nat_lt};
 ghost use Rattle.std.specs.List.{flat_map};
 ghost use Rattle.am_wire.specs.Fields.{field_of};
-ghost use Rattle.am_wire.specs.Reading.{Fails, last_or, chunk_in, numbers_in, numbers_fault, kept, first_fault, unpacked};
+ghost use Rattle.am_wire.specs.Reading.{FailsUnlessMemory, last_or, delimited_in, numbers_in, numbers_fault};
+ghost use Rattle.am_wire.specs.Reading.{until_fault, first_fault, unpacked};
 ghost use Rattle.am_wire.specs.Varint.{shortest};
 ghost use Rattle.am_wire.specs.Writing.{writes_delimited, writes_text, writes_numbers};
 
@@ -30,7 +31,7 @@ impl<'a> LastBytes<'a> {
 
     /// Takes the field, where it has bytes.
     pub fn take(&mut self, field: Field<'a>)
-        ensures { self.new.bytes.now ≡ last_or self.old.bytes.now (chunk_in (field_of field.entry)) }
+        ensures { self.new.bytes.now ≡ last_or self.old.bytes.now (delimited_in (field_of field.entry)) }
     {
         if let Value::Bytes(bytes) = field.value {
             self.bytes = bytes;
@@ -46,7 +47,7 @@ impl<'a> LastBytes<'a> {
 pub fn take_numbers(numbers: &mut Vec<u64>, field: Field<'_>) -> Result<(), WireError>
     ensures held { OnOk result (numbers.new.items ≡ numbers.old.items ++ numbers_in (field_of field.entry)) }
     ensures clean { OnOk result (numbers_fault (field_of field.entry) ≡ None) }
-    ensures fault { IfErr result (λ e. Fails e (numbers_fault (field_of field.entry))) }
+    ensures fault { IfErr result (λ e. FailsUnlessMemory e (numbers_fault (field_of field.entry))) }
 {
     match field.value {
         Value::Varint(number) => numbers.push(number)?,
@@ -65,9 +66,9 @@ fn packed_count(bytes: &[u8]) -> usize
 
 // Reads the numbers that are packed in bytes; a fault is reported at `at`.
 fn unpack(numbers: &mut Vec<u64>, bytes: &[u8], at: usize) -> Result<(), WireError>
-    ensures held { OnOk result (numbers.new.items ≡ numbers.old.items ++ kept (unpacked at bytes.now)) }
+    ensures held { OnOk result (numbers.new.items ≡ numbers.old.items ++ until_fault (unpacked at bytes.now)) }
     ensures clean { OnOk result (first_fault (unpacked at bytes.now) ≡ None) }
-    ensures fault { IfErr result (λ e. Fails e (first_fault (unpacked at bytes.now))) }
+    ensures fault { IfErr result (λ e. FailsUnlessMemory e (first_fault (unpacked at bytes.now))) }
 {
     numbers.reserve(packed_count(bytes))?;
     let mut rest = bytes;

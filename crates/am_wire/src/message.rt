@@ -2,7 +2,7 @@
 
 ghost use Rattle.std.specs.Prelude.{◌≡◌, ℕ, List, ◌++◌, ◌+◌, ◌<◌, ◌≤◌, ◌^◌, Result, Ok, Err, OnOk, OnErr, IfErr, ◌⊎◌, ◌↔◌, length};
 ghost use Rattle.am_wire.specs.Limits.{most};
-ghost use Rattle.am_wire.specs.Reading.{Gives};
+ghost use Rattle.am_wire.specs.Reading.{GivesUnlessMemory};
 ghost use Rattle.am_wire.specs.Sizes.{counted};
 ghost use Rattle.am_wire.specs.Writing.{writes_delimited};
 ghost use Rattle.am_wire.specs.declared.error.WireError.{WireError};
@@ -68,7 +68,7 @@ pub trait Message: Sized + Drop {
     /// The first fault in the bytes, or [`WireError::Memory`].
     fn decode_at(alloc: Global, bytes: &[u8], at: usize) -> Result<Self, WireError>
         requires { at + length bytes.now < 2 ^ 64 }
-        ensures { Gives result (reads at bytes.now) };
+        ensures { GivesUnlessMemory result (reads at bytes.now) };
 
     /// Reads a value from all of the bytes.
     ///
@@ -76,7 +76,7 @@ pub trait Message: Sized + Drop {
     ///
     /// The first fault in the bytes, or [`WireError::Memory`].
     fn decode(alloc: Global, bytes: &[u8]) -> Result<Self, WireError>
-        ensures { Gives result (reads 0 bytes.now) }
+        ensures { GivesUnlessMemory result (reads 0 bytes.now) }
     {
         Self::decode_at(alloc, bytes, 0)
     }

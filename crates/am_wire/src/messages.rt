@@ -2,7 +2,7 @@
 
 ghost use Rattle.std.specs.Prelude.{◌≡◌, ℕ, List, Result, ◌+◌, ◌<◌, ◌≤◌, ◌^◌, length, IfOk};
 ghost use Rattle.std.specs.Iterator.{item_count};
-ghost use Rattle.am_wire.specs.Reading.{Gives};
+ghost use Rattle.am_wire.specs.Reading.{GivesUnlessMemory};
 ghost use Rattle.am_wire.specs.Inputs.{message_at, messages_from, messages_of, GivesNext};
 ghost use Rattle.am_wire.specs.declared.error.WireError.{WireError};
 
@@ -15,7 +15,7 @@ use std::marker::{Model, PhantomData};
 /// The message in the row at the front of the bytes, and the row's length.
 fn message_from<V: Message>(alloc: Global, bytes: &[u8], at: usize) -> Result<(V, usize), WireError>
     requires { at + length bytes.now < 2 ^ 64 }
-    ensures value { Gives result (message_at V.reads at bytes.now) }
+    ensures value { GivesUnlessMemory result (message_at V.reads at bytes.now) }
     ensures within { IfOk result (λ x. (0 < x.1) × (x.1 ≤ length bytes.now)) }
 {
     let (text, len) = row_from(bytes, at)?;

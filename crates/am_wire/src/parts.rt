@@ -2,8 +2,8 @@
 
 ghost use Rattle.std.specs.Prelude.{◌≡◌, ℕ, false, List, [], ◌∷◌, ◌++◌, None, Some, ◌+◌, ◌<◌, ◌^◌, length, map, OnOk, IfErr};
 ghost use Rattle.am_wire.specs.Fields.{FieldAt, field_of};
-ghost use Rattle.am_wire.specs.Reading.{Fails, Table, last_or, varint_in, varint_place, chunk_in, chunk_place};
-ghost use Rattle.am_wire.specs.Reading.{chunk_given, text_fault, item_fault, message_in, part_fault, parts_in};
+ghost use Rattle.am_wire.specs.Reading.{FailsUnlessMemory, Table, last_or, varint_in, varint_place, delimited_in, delimited_place};
+ghost use Rattle.am_wire.specs.Reading.{delimited_given, text_fault, item_fault, message_in, part_fault, parts_in};
 ghost use Rattle.am_wire.specs.Reading.{table_at};
 
 use crate::draft::{Draft, read_message, take_fields};
@@ -59,9 +59,9 @@ impl<'a> LastText<'a> {
     ///
     /// [`WireError::NotUtf8`] for bytes that are no text.
     pub fn take(&mut self, field: Field<'a>) -> Result<(), WireError>
-        ensures held { OnOk result (self.new.text.now ≡ last_or self.old.text.now (chunk_in (field_of field.entry))) }
+        ensures held { OnOk result (self.new.text.now ≡ last_or self.old.text.now (delimited_in (field_of field.entry))) }
         ensures clean { OnOk result (text_fault (field_of field.entry) ≡ None) }
-        ensures fault { IfErr result (λ e. Fails e (text_fault (field_of field.entry))) }
+        ensures fault { IfErr result (λ e. FailsUnlessMemory e (text_fault (field_of field.entry))) }
     {
         if let Value::Bytes(bytes) = field.value {
             let Ok(text) = str::from_utf8(bytes) else {
@@ -107,10 +107,10 @@ impl<D> Submessage<D> {
         D: Draft<'a>,
         ensures held { OnOk result ((es : List FieldAt) → D.holds es self.old.draft →
             D.holds (es ++ parts_in (table_at D.fitting D.inside) (field_of field.entry)) self.new.draft) }
-        ensures at { OnOk result (self.new.at ≡ last_or self.old.at (chunk_place (field_of field.entry))) }
-        ensures given { OnOk result (self.new.given ≡ last_or self.old.given (chunk_given (field_of field.entry))) }
+        ensures at { OnOk result (self.new.at ≡ last_or self.old.at (delimited_place (field_of field.entry))) }
+        ensures given { OnOk result (self.new.given ≡ last_or self.old.given (delimited_given (field_of field.entry))) }
         ensures clean { OnOk result (part_fault (table_at D.fitting D.inside) (field_of field.entry) ≡ None) }
-        ensures fault { IfErr result (λ e. Fails e (part_fault (table_at D.fitting D.inside) (field_of field.entry))) }
+        ensures fault { IfErr result (λ e. FailsUnlessMemory e (part_fault (table_at D.fitting D.inside) (field_of field.entry))) }
     {
         if let Value::Bytes(bytes) = field.value {
             take_fields(&mut self.draft, bytes, field.inside)?;
@@ -135,7 +135,7 @@ pub fn take_item<'a, D: Draft<'a>>(
     ensures held { OnOk result (items.new.items
         ≡ items.old.items ++ map D.value (message_in (table_at D.fitting D.inside) (field_of field.entry))) }
     ensures clean { OnOk result (item_fault (table_at D.fitting D.inside) D.tests (field_of field.entry) ≡ None) }
-    ensures fault { IfErr result (λ e. Fails e (item_fault (table_at D.fitting D.inside) D.tests (field_of field.entry))) }
+    ensures fault { IfErr result (λ e. FailsUnlessMemory e (item_fault (table_at D.fitting D.inside) D.tests (field_of field.entry))) }
 {
     if let Value::Bytes(bytes) = field.value {
         let item = read_message::<D>(alloc, bytes, field.inside, field.at)?;

@@ -1,5 +1,6 @@
 //! What a message is read with: its table of fields, its draft and the parts of drafts.
 
+pub use crate::dated::{Dated, DatedDraft};
 pub use crate::draft::{Draft, read_message, take_fields};
 pub use crate::field::{AnyField, Schema};
 pub use crate::fields::Scan;

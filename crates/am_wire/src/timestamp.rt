@@ -3,7 +3,7 @@
 ghost use Rattle.std.specs.Prelude.{◌≡◌, ℕ, List, [], ◌∷◌, ◌++◌, OnOk, IfErr};
 ghost use Rattle.am_wire.specs.Fields.{FieldAt, field_of};
 ghost use Rattle.am_wire.specs.Parts.{IsPart};
-ghost use Rattle.am_wire.specs.Reading.{Gives, judged};
+ghost use Rattle.am_wire.specs.Reading.{GivesUnlessMemory, fault_or_value};
 ghost use Rattle.am_wire.specs.Timestamps.{timestamp, moment_of, moment_test};
 ghost use Rattle.am_wire.specs.TimestampDrafts.{IsTimestampDraft};
 
@@ -82,7 +82,7 @@ impl<'a> Draft<'a> for TimestampDraft {
 /// [`WireError::Timestamp`] where the seconds or the nanoseconds make no moment, told at the part's tag.
 pub fn moment_in(alloc: Global, part: Submessage<TimestampDraft>) -> Result<Moment, WireError>
     ensures { (n : ℕ) (es : List FieldAt) → IsPart IsTimestampDraft timestamp n es part →
-        Gives result (judged (moment_test n es) (moment_of n es)) }
+        GivesUnlessMemory result (fault_or_value (moment_test n es) (moment_of n es)) }
 {
     let moment = part.draft.finish(alloc, part.at)?;
     if part.given {

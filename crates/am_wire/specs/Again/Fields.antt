@@ -5,8 +5,8 @@ use Rattle.std.proofs.lemmas.Bool.{lt-ltb, le-ltb}
 use Rattle.std.proofs.lemmas.List.{take_at, drop_at}
 use Rattle.am_wire.specs.declared.value.WireType.{WireType}
 use Rattle.am_wire.specs.declared.value.WireType.TheVariants as kinds
-use Rattle.am_wire.specs.Fields.{FieldAt, Payload, varint, eight, four, chunk, field_at, payload_at, number_at, chunk_at, tag_number}
-use Rattle.am_wire.specs.Fields.{kind_of}
+use Rattle.am_wire.specs.Fields.{FieldAt, Payload, varint, eight, four, delimited_at, field_at, payload_at, number_at}
+use Rattle.am_wire.specs.Fields.{payload_behind_length, tag_number, kind_of}
 use Rattle.am_wire.specs.Grammar.{IsPayload, IsField, wire_type_of, wire_code, field_fits}
 use Rattle.am_wire.specs.Again.Varints.{varint_read, varint_filled}
 use Rattle.am_wire.specs.Again.Pieces.{Reads}
@@ -41,7 +41,7 @@ kind_of_is at n kind =
 -- the payload at the front
 pub payload_read : (p : Payload) (at start : ℕ) (text rest : List ℕ) → IsPayload p start text
     → payload_at (wire_type_of p) at start (text ++ rest) ≡ Ok (p, length text)
-unfolding payload_at number_at chunk_at
+unfolding payload_at number_at payload_behind_length
 payload_read (varint n) at start text rest is = rw (varint_read at n text rest is) refl
 payload_read (eight n) at start text rest is =
     let room : ltb (length (text ++ rest)) 8 ≡ false = le-ltb _ _ (omega (arith, length-append text rest, is.0)) in
@@ -51,14 +51,14 @@ payload_read (four n) at start text rest is =
     let room : ltb (length (text ++ rest)) 4 ≡ false = le-ltb _ _ (omega (arith, length-append text rest, is.0)) in
     let front : take 4 (text ++ rest) ≡ text = take_at text rest 4 is.0 in
     rw (room, front, is.0, is.1) refl
-payload_read (chunk inside bytes) at start text rest is =
+payload_read (delimited_at inside bytes) at start text rest is =
     let regroup : text ++ rest ≡ is.size ++ (bytes ++ rest) = ap (λ (x : List ℕ). x ++ rest) is.text_is ∙ append_assoc is.size bytes rest in
     let sized = varint_read at (length bytes) is.size (bytes ++ rest) is.size_is in
     let cut : drop (length is.size) (is.size ++ (bytes ++ rest)) ≡ bytes ++ rest = drop_at is.size (bytes ++ rest) (length is.size) refl in
     let room : ltb (length (bytes ++ rest)) (length bytes) ≡ false = le-ltb _ _ (omega (arith, length-append bytes rest)) in
     let front : take (length bytes) (bytes ++ rest) ≡ bytes = take_at bytes rest (length bytes) refl in
     let len : length is.size + length bytes ≡ length text = sym (ap length is.text_is ∙ length-append is.size bytes) in
-    ap (chunk_at at start) regroup ∙ rw (sized, cut, room, front, len, is.inside_is) refl
+    ap (payload_behind_length at start) regroup ∙ rw (sized, cut, room, front, len, is.inside_is) refl
 
 pub field_read : (fits : ℕ → WireType → Bool) (e : FieldAt) (at : ℕ) (text : List ℕ) → IsField e at text → field_fits fits e ≡ true
     → Reads (field_at fits) e at text

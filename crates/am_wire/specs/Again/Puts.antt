@@ -7,7 +7,7 @@ use Rattle.am_wire.specs.declared.error.WireError.{WireError}
 use Rattle.am_wire.specs.declared.value.WireType.{WireType}
 use Rattle.am_wire.specs.declared.value.WireType.TheVariants as kinds
 use Rattle.am_wire.specs.Varint.{shortest}
-use Rattle.am_wire.specs.Fields.{FieldAt, varint, chunk, fields_of, field_at, pieces}
+use Rattle.am_wire.specs.Fields.{FieldAt, varint, delimited_at, fields_of, field_at, pieces}
 use Rattle.am_wire.specs.Grammar.{IsField}
 use Rattle.am_wire.specs.Reading.{scan, sound_fields, ◌then◌}
 use Rattle.am_wire.specs.Writing.{tag, writes_number, writes_delimited, writes_text}
@@ -24,8 +24,9 @@ abbrev pub number_field : ℕ → ℕ → ℕ → FieldAt
 number_field n v at = record { number = n; payload = varint v; at = at }
 
 -- the field of bytes
-abbrev pub chunk_field : ℕ → List ℕ → ℕ → FieldAt
-chunk_field n bytes at = record { number = n; payload = chunk (at + length (tag n 2) + length (shortest (length bytes))) bytes; at = at }
+abbrev pub delimited_field : ℕ → List ℕ → ℕ → FieldAt
+delimited_field n bytes at =
+    record { number = n; payload = delimited_at (at + length (tag n 2) + length (shortest (length bytes))) bytes; at = at }
 
 -- the fields of a number: none where it is 0
 abbrev pub number_fields : ℕ → ℕ → ℕ → List FieldAt
@@ -33,16 +34,16 @@ number_fields n v at = cond (eqb v 0) [] (number_field n v at ∷ [])
 
 -- the fields of a text: none where it is empty
 abbrev pub text_fields : ℕ → List ℕ → ℕ → List FieldAt
-text_fields n bytes at = cond (eqb (length bytes) 0) [] (chunk_field n bytes at ∷ [])
+text_fields n bytes at = cond (eqb (length bytes) 0) [] (delimited_field n bytes at ∷ [])
 
 -- texts, each as a field of its own
 abbrev pub writes_each_delimited : ℕ → List (List ℕ) → List ℕ
 writes_each_delimited n texts = flat_map (writes_delimited n) texts
 
 -- the fields of texts
-abbrev pub chunk_fields : ℕ → List (List ℕ) → ℕ → List FieldAt
-chunk_fields n [] at = []
-chunk_fields n (t ∷ texts) at = chunk_field n t at ∷ chunk_fields n texts (at + length (writes_delimited n t))
+abbrev pub delimited_fields : ℕ → List (List ℕ) → ℕ → List FieldAt
+delimited_fields n [] at = []
+delimited_fields n (t ∷ texts) at = delimited_field n t at ∷ delimited_fields n texts (at + length (writes_delimited n t))
 
 pub length-writes_delimited : (n : ℕ) (bytes : List ℕ) → length bytes ≤ length (writes_delimited n bytes)
 length-writes_delimited n bytes =
@@ -91,11 +92,11 @@ module _ (fits : ℕ → WireType → Bool) where
           | false ↦ writes_number_field v at small fit
         ]
 
-    pub Puts-chunk : (bytes : List ℕ) (at : ℕ) → length bytes < 2 ^ 64 → fits n kinds.Bytes ≡ true
-        → Puts fits at (writes_delimited n bytes) (chunk_field n bytes at ∷ [])
-    Puts-chunk bytes at small fit =
+    pub Puts-delimited : (bytes : List ℕ) (at : ℕ) → length bytes < 2 ^ 64 → fits n kinds.Bytes ≡ true
+        → Puts fits at (writes_delimited n bytes) (delimited_field n bytes at ∷ [])
+    Puts-delimited bytes at small fit =
         let size : List ℕ = shortest (length bytes) in
-        let field : IsField (chunk_field n bytes at) at (writes_delimited n bytes) = record {
+        let field : IsField (delimited_field n bytes at) at (writes_delimited n bytes) = record {
           tag = tag n 2;
           payload = size ++ bytes;
           text_is = refl;
@@ -106,29 +107,29 @@ module _ (fits : ℕ → WireType → Bool) where
           payload_is = record { size = size; size_is = shortest_spells (length bytes) small; text_is = refl; inside_is = refl };
         } in
         record {
-          reads = λ rest. pieces-reads (field_at fits) at (writes_delimited n bytes) rest (chunk_field n bytes at)
-              (field_read fits (chunk_field n bytes at) at (writes_delimited n bytes) field fit);
+          reads = λ rest. pieces-reads (field_at fits) at (writes_delimited n bytes) rest (delimited_field n bytes at)
+              (field_read fits (delimited_field n bytes at) at (writes_delimited n bytes) field fit);
         }
 
     pub Puts-text : (bytes : List ℕ) (at : ℕ) → length bytes < 2 ^ 64 → fits n kinds.Bytes ≡ true
         → Puts fits at (writes_text n bytes) (text_fields n bytes at)
     Puts-text bytes at small fit =
         elim (eqb (length bytes) 0) as (λ b. Puts fits at (cond b [] (writes_delimited n bytes))
-        (cond b [] (chunk_field n bytes at ∷ []))) [
+        (cond b [] (delimited_field n bytes at ∷ []))) [
           | true ↦ Puts-nil at
-          | false ↦ Puts-chunk bytes at small fit
+          | false ↦ Puts-delimited bytes at small fit
         ]
 
-    pub Puts-chunks : (texts : List (List ℕ)) (at : ℕ) → length (writes_each_delimited n texts) < 2 ^ 64 → fits n kinds.Bytes ≡ true
-        → Puts fits at (writes_each_delimited n texts) (chunk_fields n texts at)
-    Puts-chunks [] at small fit = Puts-nil at
-    Puts-chunks (t ∷ texts) at small fit =
+    pub Puts-each_delimited : (texts : List (List ℕ)) (at : ℕ) → length (writes_each_delimited n texts) < 2 ^ 64 → fits n kinds.Bytes ≡ true
+        → Puts fits at (writes_each_delimited n texts) (delimited_fields n texts at)
+    Puts-each_delimited [] at small fit = Puts-nil at
+    Puts-each_delimited (t ∷ texts) at small fit =
         let whole = length-append (writes_delimited n t) (writes_each_delimited n texts) in
         let inner = length-writes_delimited n t in
-        Puts-then at (writes_delimited n t) (writes_each_delimited n texts) (chunk_field n t at ∷ [])
-        (chunk_fields n texts (at + length (writes_delimited n t)))
-        (Puts-chunk t at (omega (arith, whole, inner)) fit)
-        (Puts-chunks texts (at + length (writes_delimited n t)) (omega (arith, whole)) fit)
+        Puts-then at (writes_delimited n t) (writes_each_delimited n texts) (delimited_field n t at ∷ [])
+        (delimited_fields n texts (at + length (writes_delimited n t)))
+        (Puts-delimited t at (omega (arith, whole, inner)) fit)
+        (Puts-each_delimited texts (at + length (writes_delimited n t)) (omega (arith, whole)) fit)
 
 -- ---- a whole text
 pub Puts-whole : (fits : ℕ → WireType → Bool) (at : ℕ) (text : List ℕ) (es : List FieldAt) → Puts fits at text es

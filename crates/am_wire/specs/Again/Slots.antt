@@ -9,7 +9,7 @@ use Rattle.am_wire.specs.declared.value.WireType.{WireType}
 use Rattle.am_wire.specs.Fields.{FieldAt}
 use Rattle.am_wire.specs.Reading.{Row, fits_by, inside_by, picked}
 use Rattle.am_wire.specs.Writing.{writes_number, writes_text, writes_delimited}
-use Rattle.am_wire.specs.Again.Puts.{AllClean, number_field, number_fields, text_fields, chunk_field, chunk_fields}
+use Rattle.am_wire.specs.Again.Puts.{AllClean, number_field, number_fields, text_fields, delimited_field, delimited_fields}
 
 -- ---- what is written
 -- a number that is left out where it is 0, bytes that are left out where there are none, a message, and messages:
@@ -45,8 +45,8 @@ written (s ∷ before) = written before ++ put s.slot_number s.content
 unfoldable pub slot_fields : ℕ → Content → ℕ → List FieldAt
 slot_fields n (number v) at = number_fields n v at
 slot_fields n (text bytes) at = text_fields n bytes at
-slot_fields n (part bytes) at = chunk_field n bytes at ∷ []
-slot_fields n (items bytes texts) at = chunk_fields n texts at
+slot_fields n (part bytes) at = delimited_field n bytes at ∷ []
+slot_fields n (items bytes texts) at = delimited_fields n texts at
 
 -- the fields of slots, the last of which comes first
 unfoldable pub fields_at : ℕ → List Slot → List FieldAt
@@ -94,9 +94,9 @@ abbrev pub AllNumbered : ℕ → List FieldAt → Type 0
 AllNumbered n [] = Unit {0}
 AllNumbered n (e ∷ es) = (e.number ≡ n) × AllNumbered n es
 
-chunk_fields_numbered : (n : ℕ) (texts : List (List ℕ)) (at : ℕ) → AllNumbered n (chunk_fields n texts at)
-chunk_fields_numbered n [] at = tt
-chunk_fields_numbered n (t ∷ texts) at = (refl, chunk_fields_numbered n texts (at + length (writes_delimited n t)))
+delimited_fields_numbered : (n : ℕ) (texts : List (List ℕ)) (at : ℕ) → AllNumbered n (delimited_fields n texts at)
+delimited_fields_numbered n [] at = tt
+delimited_fields_numbered n (t ∷ texts) at = (refl, delimited_fields_numbered n texts (at + length (writes_delimited n t)))
 
 numbered_if : (n : ℕ) (b : Bool) (e : FieldAt) → e.number ≡ n → AllNumbered n (cond b [] (e ∷ []))
 numbered_if n true e h = tt
@@ -105,9 +105,9 @@ numbered_if n false e h = (h, tt)
 pub slot_fields_numbered : (n : ℕ) (c : Content) (at : ℕ) → AllNumbered n (slot_fields n c at)
 unfolding slot_fields
 slot_fields_numbered n (number v) at = numbered_if n (eqb v 0) (number_field n v at) refl
-slot_fields_numbered n (text bytes) at = numbered_if n (eqb (length bytes) 0) (chunk_field n bytes at) refl
+slot_fields_numbered n (text bytes) at = numbered_if n (eqb (length bytes) 0) (delimited_field n bytes at) refl
 slot_fields_numbered n (part bytes) at = (refl, tt)
-slot_fields_numbered n (items bytes texts) at = chunk_fields_numbered n texts at
+slot_fields_numbered n (items bytes texts) at = delimited_fields_numbered n texts at
 
 module _ {A : Type 0} (view : FieldAt → List A) (n : ℕ) where
   pub picked-append : (es fs : List FieldAt) → picked view n (es ++ fs) ≡ picked view n es ++ picked view n fs

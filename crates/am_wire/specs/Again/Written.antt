@@ -18,14 +18,14 @@ use Rattle.am_wire.specs.declared.value.WireType.TheVariants as kinds
 use Rattle.am_wire.specs.Varint.{shortest, varint_at}
 use Rattle.am_wire.specs.Fields.{FieldAt, fields_of, pieces}
 use Rattle.am_wire.specs.Reading.{Table, Row, scan, sound_fields, table_of, fits_by, inside_by, varint_row, text_row, blob_row, part_row}
-use Rattle.am_wire.specs.Reading.{item_row, numbers_row, item_fault, fields_in, faults_in, judged, read_by, ◌then◌, picked, last_or}
-use Rattle.am_wire.specs.Reading.{varint_in, chunk_in, chunk_given, message_in, parts_in, last_number, last_text, messages, merged}
-use Rattle.am_wire.specs.Reading.{is_given, numbers_in, all_numbers, kept, first_fault}
+use Rattle.am_wire.specs.Reading.{item_row, numbers_row, item_fault, fields_in, faults_in, fault_or_value, read_by, ◌then◌, picked, last_or}
+use Rattle.am_wire.specs.Reading.{varint_in, delimited_in, delimited_given, message_in, parts_in, last_number, last_text, messages, merged}
+use Rattle.am_wire.specs.Reading.{is_given, numbers_in, all_numbers, until_fault, first_fault}
 use Rattle.am_wire.specs.Writing.{tag, writes_text, writes_delimited, writes_messages}
-use Rattle.am_wire.specs.Again.Puts.{Puts, Puts-nil, Puts-then, Puts-number, Puts-text, Puts-chunk, Puts-chunks, Puts-whole}
+use Rattle.am_wire.specs.Again.Puts.{Puts, Puts-nil, Puts-then, Puts-number, Puts-text, Puts-delimited, Puts-each_delimited, Puts-whole}
 use Rattle.am_wire.specs.Again.Puts.{length-writes_delimited, writes_each_delimited, AllClean, AllClean-append}
 use Rattle.am_wire.specs.Again.Puts.{sound_fields-done, scan-done, number_field}
-use Rattle.am_wire.specs.Again.Puts.{number_fields, text_fields, chunk_field, chunk_fields}
+use Rattle.am_wire.specs.Again.Puts.{number_fields, text_fields, delimited_field, delimited_fields}
 use Rattle.am_wire.specs.Again.Pieces.{done, Reads, pieces-reads}
 use Rattle.am_wire.specs.Again.Varints.{varint_again, shortest_filled}
 use Rattle.am_wire.specs.Again.Slots.{Content, number, text, part, items, Slot, slot, put, written, slot_fields, fields_at, content_at}
@@ -53,9 +53,10 @@ pub read_by-reads : {A : Type 0} {table : Table} {tests : ℕ → List FieldAt �
     {value : List FieldAt → A} {bytes : List ℕ} {v : A}
     → ReadsAs table tests value bytes v → (place at : ℕ) → read_by table tests value place at bytes ≡ Ok v
 read_by-reads {A} {table} {tests} {value} {bytes} {v} r place at =
-    ap (λ (f : Option WireError). judged (f then tests place (fields_in table at bytes)) (value (fields_in table at bytes))) (r.clean at)
-    ∙ ap (λ (f : Option WireError). judged f (value (fields_in table at bytes))) ((r.means at).passes place)
-    ∙ ap (λ (x : A). judged None x) (r.means at).value_is
+    ap (λ (f : Option WireError).
+    fault_or_value (f then tests place (fields_in table at bytes)) (value (fields_in table at bytes))) (r.clean at)
+    ∙ ap (λ (f : Option WireError). fault_or_value f (value (fields_in table at bytes))) ((r.means at).passes place)
+    ∙ ap (λ (x : A). fault_or_value None x) (r.means at).value_is
 
 -- ---- what is written
 pub record IsWritten (rows : List Row) (slots : List Slot) : Type 0 where
@@ -74,8 +75,8 @@ clean_if : (inside : FieldAt → Option WireError) (b : Bool) (e : FieldAt) → 
 clean_if inside true e h = tt
 clean_if inside false e h = (h, tt)
 
-chunk_small : (n : ℕ) (bytes : List ℕ) → length (writes_delimited n bytes) < 2 ^ 64 → length bytes < 2 ^ 64
-chunk_small n bytes small = let h = length-writes_delimited n bytes in omega (arith, h)
+delimited_small : (n : ℕ) (bytes : List ℕ) → length (writes_delimited n bytes) < 2 ^ 64 → length bytes < 2 ^ 64
+delimited_small n bytes small = let h = length-writes_delimited n bytes in omega (arith, h)
 
 -- a text that is left out is empty
 text_small : (n : ℕ) (bytes : List ℕ) → length (writes_text n bytes) < 2 ^ 64 → length bytes < 2 ^ 64
@@ -83,7 +84,7 @@ text_small n bytes =
     elim (eqb (length bytes) 0) as (λ b. eqb (length bytes) 0 ≡ b → length (cond b [] (writes_delimited n bytes)) < 2 ^ 64
     → length bytes < 2 ^ 64) [
       | true ↦ λ e _. let h = eqb-true _ _ e in omega (arith, h)
-      | false ↦ λ e small. chunk_small n bytes small
+      | false ↦ λ e small. delimited_small n bytes small
     ] refl
 
 module _ {rows : List Row} {before : List Slot} (w : IsWritten rows before) (n : ℕ) where
@@ -124,14 +125,15 @@ module _ {rows : List Row} {before : List Slot} (w : IsWritten rows before) (n :
       (λ at _. cleaned (varint_row n) (number_fields n v at) row (clean_if (varint_row n).row_inside (eqb v 0) (number_field n v at) refl))
 
   -- bytes whose row takes them, and in which nothing is at fault
-  written_bytes : (bytes : List ℕ) (row : Row) → ((at : ℕ) → row.row_inside (chunk_field n bytes at) ≡ None) → row.takes kinds.Bytes ≡ true
-      → is_next n before ≡ true → row_at rows n ≡ row → IsWritten rows (slot n (text bytes) ∷ before)
+  written_bytes : (bytes : List ℕ) (row : Row) → ((at : ℕ) → row.row_inside (delimited_field n bytes at) ≡ None)
+      → row.takes kinds.Bytes ≡ true → is_next n before ≡ true → row_at rows n ≡ row → IsWritten rows (slot n (text bytes) ∷ before)
   unfolding slot_fields
   written_bytes bytes row clean takes next is =
       let order = IsNext-from n before next in
       one_more (text bytes) order
       (λ at small. Puts-text (fits_by rows) n order.low order.high bytes at (text_small n bytes small) (taken row kinds.Bytes is takes))
-      (λ at _. cleaned row (text_fields n bytes at) is (clean_if row.row_inside (eqb (length bytes) 0) (chunk_field n bytes at) (clean at)))
+      (λ at _. cleaned row (text_fields n bytes at) is
+      (clean_if row.row_inside (eqb (length bytes) 0) (delimited_field n bytes at) (clean at)))
 
   pub written_text : (bytes : List ℕ) → IsUtf8 bytes → is_next n before ≡ true → row_at rows n ≡ text_row n
       → IsWritten rows (slot n (text bytes) ∷ before)
@@ -149,21 +151,21 @@ module _ {rows : List Row} {before : List Slot} (w : IsWritten rows before) (n :
     written_part {bytes} {v} inner next row =
         let order = IsNext-from n before next in
         one_more (part bytes) order
-        (λ at small. Puts-chunk (fits_by rows) n order.low order.high bytes at (chunk_small n bytes small)
+        (λ at small. Puts-delimited (fits_by rows) n order.low order.high bytes at (delimited_small n bytes small)
         (taken (part_row n table) kinds.Bytes row refl))
-        (λ at small. cleaned (part_row n table) (chunk_field n bytes at ∷ []) row ((inner (chunk_small n bytes small)).clean _, tt))
+        (λ at small. cleaned (part_row n table) (delimited_field n bytes at ∷ []) row ((inner (delimited_small n bytes small)).clean _, tt))
 
     -- messages, each of them a field; a message x is written as `writes x`
     module _ {writes : A → List ℕ} where
       items_clean : (xs : List A) (at : ℕ) → EachReads table tests value writes xs
           → length (writes_each_delimited n (map writes xs)) < 2 ^ 64
-          → AllClean (item_fault table tests) (chunk_fields n (map writes xs) at)
+          → AllClean (item_fault table tests) (delimited_fields n (map writes xs) at)
       items_clean [] at inner small = tt
       items_clean (x ∷ xs) at inner small =
           let P : A → Type 0 = λ y. length (writes y) < 2 ^ 64 → ReadsAs table tests value (writes y) y in
           let len = length-append (writes_delimited n (writes x)) (writes_each_delimited n (map writes xs)) in
-          let one = All-head P x xs inner.each (chunk_small n (writes x) (omega (arith, len))) in
-          let e : FieldAt = chunk_field n (writes x) at in
+          let one = All-head P x xs inner.each (delimited_small n (writes x) (omega (arith, len))) in
+          let e : FieldAt = delimited_field n (writes x) at in
           let p : ℕ = at + length (tag n 2) + length (shortest (length (writes x))) in (
             ap (λ (f : Option WireError). f then tests e.at (fields_in table p (writes x))) (one.clean p) ∙ (one.means p).passes e.at,
             items_clean xs (at + length (writes_delimited n (writes x))) (record { each = All-tail P x xs inner.each })
@@ -179,10 +181,10 @@ module _ {rows : List Row} {before : List Slot} (w : IsWritten rows before) (n :
           let same = flat_map-map (writes_delimited n) writes xs in
           let len : length (writes_each_delimited n (map writes xs)) ≡ length (writes_messages writes n xs) = ap length same in
           one_more (items (writes_messages writes n xs) (map writes xs)) order
-          (λ at small. subst (λ (bytes : List ℕ). Puts (fits_by rows) at bytes (chunk_fields n (map writes xs) at)) same
-          (Puts-chunks (fits_by rows) n order.low order.high (map writes xs) at (omega (arith, len))
+          (λ at small. subst (λ (bytes : List ℕ). Puts (fits_by rows) at bytes (delimited_fields n (map writes xs) at)) same
+          (Puts-each_delimited (fits_by rows) n order.low order.high (map writes xs) at (omega (arith, len))
           (taken (item_row n table tests) kinds.Bytes row refl)))
-          (λ at small. cleaned (item_row n table tests) (chunk_fields n (map writes xs) at) row
+          (λ at small. cleaned (item_row n table tests) (delimited_fields n (map writes xs) at) row
           (items_clean xs at inner (omega (arith, len))))
 
 -- ---- numbers packed in one field
@@ -200,7 +202,7 @@ unpacked_from tag at (x ∷ xs) small =
     pieces-reads (one_number tag) at (shortest x) (flat_map shortest xs) x (number_read tag at x (All-head (λ y. y < 2 ^ 64) x xs small))
     ∙ ap (λ (r : List (Result ℕ WireError)). Ok x ∷ r) (unpacked_from tag more xs (All-tail (λ y. y < 2 ^ 64) x xs small))
 
-kept-done : (xs : List ℕ) → kept (map done xs) ≡ xs
+kept-done : (xs : List ℕ) → until_fault (map done xs) ≡ xs
 kept-done [] = refl
 kept-done (x ∷ xs) = ap (λ (r : List ℕ). x ∷ r) (kept-done xs)
 
@@ -215,10 +217,10 @@ written_numbers w n xs small next row =
     ∙ first_fault-done xs) refl next row
 
 -- ---- what is read of it
-last_chunk_or : {A : Type 0} (view : FieldAt → List A) (d : A) (x : A) (b : Bool) (e : FieldAt) → view e ≡ x ∷ [] → (b ≡ true → x ≡ d)
+last_delimited_or : {A : Type 0} (view : FieldAt → List A) (d : A) (x : A) (b : Bool) (e : FieldAt) → view e ≡ x ∷ [] → (b ≡ true → x ≡ d)
     → last_or d (flat_map view (cond b [] (e ∷ []))) ≡ x
-last_chunk_or {A} view d x true e is none = sym (none refl)
-last_chunk_or {A} view d x false e is none = ap (λ (xs : List A). last_or d (xs ++ [])) is
+last_delimited_or {A} view d x true e is none = sym (none refl)
+last_delimited_or {A} view d x false e is none = ap (λ (xs : List A). last_or d (xs ++ [])) is
 
 module _ {rows : List Row} {slots : List Slot} (w : IsWritten rows slots) (at n : ℕ) where
   -- what is seen in the fields of the number
@@ -235,13 +237,13 @@ module _ {rows : List Row} {slots : List Slot} (w : IsWritten rows slots) (at n 
   unfolding slot_fields
   number_again {v} is =
       ap (last_or 0) (seen varint_in (number v) is)
-      ∙ last_chunk_or varint_in 0 v (eqb v 0) (number_field n v (place_at n at slots)) refl (eqb-true v 0)
+      ∙ last_delimited_or varint_in 0 v (eqb v 0) (number_field n v (place_at n at slots)) refl (eqb-true v 0)
 
   pub text_again : {bytes : List ℕ} → content_at n slots ≡ text bytes → last_text n (fields_at at slots) ≡ bytes
   unfolding slot_fields
   text_again {bytes} is =
-      ap (last_or []) (seen chunk_in (text bytes) is)
-      ∙ last_chunk_or chunk_in [] bytes (eqb (length bytes) 0) (chunk_field n bytes (place_at n at slots)) refl
+      ap (last_or []) (seen delimited_in (text bytes) is)
+      ∙ last_delimited_or delimited_in [] bytes (eqb (length bytes) 0) (delimited_field n bytes (place_at n at slots)) refl
       (λ e. nil_from_length bytes (eqb-true (length bytes) 0 e))
 
   pub numbers_again : (xs : List ℕ) → All (λ x. x < 2 ^ 64) xs → content_at n slots ≡ text (flat_map shortest xs)
@@ -249,8 +251,8 @@ module _ {rows : List Row} {slots : List Slot} (w : IsWritten rows slots) (at n 
   unfolding slot_fields
   numbers_again xs small is =
       let bytes : List ℕ = flat_map shortest xs in
-      let e : FieldAt = chunk_field n bytes (place_at n at slots) in
-      let unpacks : numbers_in e ≡ xs = ap kept (unpacked_from e.at 0 xs small) ∙ kept-done xs in
+      let e : FieldAt = delimited_field n bytes (place_at n at slots) in
+      let unpacks : numbers_in e ≡ xs = ap until_fault (unpacked_from e.at 0 xs small) ∙ kept-done xs in
       seen numbers_in (text bytes) is
       ∙ elim (eqb (length bytes) 0) as (λ b. eqb (length bytes) 0 ≡ b → flat_map numbers_in (cond b [] (e ∷ [])) ≡ xs) [
         | true ↦ λ t. sym (numbers_empty xs (eqb-true (length bytes) 0 t))
@@ -263,7 +265,7 @@ module _ {rows : List Row} {slots : List Slot} (w : IsWritten rows slots) (at n 
 
   pub given_again : {bytes : List ℕ} → content_at n slots ≡ part bytes → is_given n (fields_at at slots) ≡ true
   unfolding slot_fields
-  given_again {bytes} is = ap (last_or false) (seen chunk_given (part bytes) is)
+  given_again {bytes} is = ap (last_or false) (seen delimited_given (part bytes) is)
 
   -- the message's fields, read where its text stands
   module _ (table : Table) where
@@ -283,21 +285,21 @@ module _ {rows : List Row} {slots : List Slot} (w : IsWritten rows slots) (at n 
         let whole : length (put n (content_at n slots)) ≡ length (writes_delimited n bytes) = ap (λ (c : Content). length (put n c)) is in
         let j = merged_again table is in
         subst (λ (es : List FieldAt). Means tests value es v) (sym j.1)
-        ((inner (chunk_small n bytes (omega (arith, len, whole)))).means j.0)
+        ((inner (delimited_small n bytes (omega (arith, len, whole)))).means j.0)
 
     module _ {writes : A → List ℕ} where
       values : (xs : List A) (p : ℕ) → EachReads table tests value writes xs → length (writes_each_delimited n (map writes xs)) < 2 ^ 64
-          → map value (flat_map (message_in table) (chunk_fields n (map writes xs) p)) ≡ xs
+          → map value (flat_map (message_in table) (delimited_fields n (map writes xs) p)) ≡ xs
       values [] p inner lt = refl
       values (x ∷ xs) p inner lt =
           let P : A → Type 0 = λ y. length (writes y) < 2 ^ 64 → ReadsAs table tests value (writes y) y in
           let len = length-append (writes_delimited n (writes x)) (writes_each_delimited n (map writes xs)) in
           let q : ℕ = p + length (tag n 2) + length (shortest (length (writes x))) in
-          let one = ((All-head P x xs inner.each (chunk_small n (writes x) (omega (arith, lt, len)))).means q).value_is in
+          let one = ((All-head P x xs inner.each (delimited_small n (writes x) (omega (arith, lt, len)))).means q).value_is in
           let more = values xs (p + length (writes_delimited n (writes x))) (record { each = All-tail P x xs inner.each })
           (omega (arith, lt, len)) in
           ap (λ (y : A). y ∷ map value
-          (flat_map (message_in table) (chunk_fields n (map writes xs) (p + length (writes_delimited n (writes x)))))) one
+          (flat_map (message_in table) (delimited_fields n (map writes xs) (p + length (writes_delimited n (writes x)))))) one
           ∙ ap (λ (ys : List A). x ∷ ys) more
 
       pub items_again : {xs : List A} → EachReads table tests value writes xs
