@@ -58,7 +58,7 @@ fn one(alloc: Global, version: &MeshSilence, state: State) -> Result<Vec<u8>, Al
     ensures { IfOk result (λ bytes. (d : Data) × IsGettable version.now.silence state d
         × (bytes.items ≡ good_bytes (compact_text d))) }
 {
-    let body = write_silence(Vec::new(alloc), version.silence(), state)?;
+    let body = write_silence(Vec::new(alloc), version, state)?;
     let bytes = good(alloc, &body)?;
     Ok(bytes)
 }

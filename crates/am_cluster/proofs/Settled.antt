@@ -18,7 +18,7 @@ use Rattle.am_silence.specs.Again.{mesh_exact as silences_exact}
 use Rattle.am_nflog.specs.Mesh.{Mesh as LogMesh, IsMesh as IsLogMesh, mesh_version as entry_version}
 use Rattle.am_nflog.specs.Again.{mesh_exact as entries_exact}
 use Rattle.am_nflog.specs.Keys.{exact_keys, key_cmp}
-use Rattle.am_nflog.specs.declared.entry.LogKey.{LogKey}
+use Rattle.am_nflog.specs.LogKeys.{LogKey}
 use Rattle.am_merge.specs.Maps.{IsMap, at, greater_of, swept}
 use Rattle.am_merge.proofs.Keys.{IsKeyOrder, at-Contains, at-above, key_order, same_key}
 use Rattle.am_merge.proofs.Joins.{greater_of-assoc, greater_of-comm, greater_of-same}

@@ -13,7 +13,7 @@ use Rattle.am_instance.specs.Stands.{Stand, entry_at, log_in_view, silence_at, s
 use Rattle.am_carried.specs.Contents.{IsReadable}
 use Rattle.am_silence.specs.Mesh.{Mesh, mesh_version}
 use Rattle.am_nflog.specs.Mesh.{Mesh as LogMesh, mesh_version as entry_version}
-use Rattle.am_nflog.specs.declared.entry.LogKey.{LogKey}
+use Rattle.am_nflog.specs.LogKeys.{LogKey}
 use Rattle.am_runs.specs.Settles.{join_of}
 use Rattle.am_runs.specs.declared.step.Source.TheVariants.{Made, Lent}
 use Rattle.am_runs.specs.Steps.Step.{Back, Refused}

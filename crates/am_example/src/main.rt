@@ -2,7 +2,7 @@
 #![tactic(auto)]
 
 use am_merge::Held;
-use am_silence::{MeshSilence, State, state_at};
+use am_silence::{MeshSilence, State};
 use am_snapshot::{SnapshotError, load};
 use am_version_order::{Moment, Version};
 use std::process::ExitCode;
@@ -54,7 +54,7 @@ fn main(rt: HostRuntime) -> ExitCode {
         }
     }
     for version in held.iter() {
-        let state = state_name(state_at(version.silence(), now));
+        let state = state_name(version.state_at(now));
         let _ = println!(rt; "{} is {state}", version.key().as_str());
     }
     ExitCode::SUCCESS

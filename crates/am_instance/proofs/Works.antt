@@ -10,7 +10,7 @@ use Rattle.am_instance.specs.declared.error.StepError.{StepError}
 use Rattle.am_silence.specs.Mesh.{Mesh, mesh_version}
 use Rattle.am_nflog.specs.Mesh.{Mesh as LogMesh, mesh_version as entry_version}
 use Rattle.am_merge.specs.Maps.{if_live}
-use Rattle.am_nflog.specs.declared.entry.LogKey.{LogKey}
+use Rattle.am_nflog.specs.LogKeys.{LogKey}
 use Rattle.am_instance.specs.declared.event.Event.{Event}
 use Rattle.am_instance.specs.declared.error.StepError.TheVariants.{Memory}
 use Rattle.am_instance.specs.declared.reply.Made.{Made}

@@ -8,7 +8,7 @@ use Rattle.am_version_order.specs.Versions.{Version, is_live}
 use Rattle.am_silence.specs.Mesh.{Mesh, mesh_version}
 use Rattle.am_nflog.specs.Mesh.{Mesh as LogMesh, mesh_version as entry_version}
 use Rattle.am_nflog.specs.Keys.{key_cmp}
-use Rattle.am_nflog.specs.declared.entry.LogKey.{LogKey}
+use Rattle.am_nflog.specs.LogKeys.{LogKey}
 use Rattle.am_merge.specs.Maps.{is_above, at}
 use Rattle.am_collect.specs.Events.{Events, after, after_all}
 use Rattle.am_collect.specs.Events.Event.{Delivered}

@@ -18,7 +18,7 @@ use Rattle.am_matcher.specs.Matching.{passes, IsVerdict}
 use Rattle.am_matcher.specs.Mutes.{AreMuted}
 use Rattle.am_nflog.specs.Mesh.{Mesh as LogMesh, mesh_version as entry_version}
 use Rattle.am_nflog.specs.Made.{made_entry, expiry}
-use Rattle.am_nflog.specs.declared.entry.LogKey.{LogKey}
+use Rattle.am_nflog.specs.LogKeys.{LogKey}
 use Rattle.am_dedup.specs.Decisions.{decision, logged, set_of}
 use Rattle.am_merge.specs.Maps.{if_live}
 use Rattle.am_instance.specs.declared.event.Event.{Event}

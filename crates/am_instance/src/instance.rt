@@ -16,7 +16,7 @@ use crate::event::{Event, Place};
 use crate::reply::Outcome;
 use am_matcher::PatternCache;
 use am_merge::Held;
-use am_nflog::{LogKey, MeshEntry};
+use am_nflog::MeshEntry;
 use am_silence::MeshSilence;
 use am_version_order::Moment;
 use std::alloc::Global;
@@ -179,13 +179,15 @@ impl Instance {
                 resolved,
                 repeat,
                 send_resolved,
-            } => {
-                let key = LogKey {
-                    group_key,
-                    receiver,
-                };
-                Ok(self.decide(&key, &firing, &resolved, repeat, send_resolved, now))
-            }
+            } => self.decide(
+                &group_key,
+                &receiver,
+                &firing,
+                &resolved,
+                repeat,
+                send_resolved,
+                now,
+            ),
             Event::Mutes { labels } => self.mute(&labels, now),
             Event::Show => self.show(now),
             Event::Tick => Ok(self.collect(now)),

@@ -7,7 +7,7 @@ ghost use Rattle.std.specs.Cmp.Lexicographic.{slice_cmp};
 ghost use Rattle.am_silence.specs.Mesh.{IsMesh, mesh_version};
 ghost use Rattle.am_nflog.specs.Mesh.{IsMesh as IsLogMesh, mesh_version as entry_version};
 ghost use Rattle.am_nflog.specs.Keys.{key_cmp};
-ghost use Rattle.am_nflog.specs.declared.entry.LogKey.{LogKey};
+ghost use Rattle.am_nflog.specs.LogKeys.{LogKey};
 ghost use Rattle.am_gossip.specs.Streams.{fed_in, stream_of};
 ghost use Rattle.am_matcher.specs.declared.labels.Label.{Label};
 ghost use Rattle.am_matcher.specs.Mutes.{AreMuted};

@@ -1,15 +1,12 @@
 //! Notifications of groups, and what is asked before one.
 
-ghost use Rattle.std.specs.Prelude.{◌≡◌, [], Ok, Some, option_map, OnErr, IfOk, IfErr};
+ghost use Rattle.std.specs.Prelude.{◌≡◌, [], Some, OnErr, IfOk, IfErr};
 ghost use Rattle.am_instance.specs.declared.event.Event.TheVariants as events;
 ghost use Rattle.am_instance.specs.declared.error.StepError.TheVariants as errors;
 ghost use Rattle.am_instance.specs.declared.reply.Reply.TheVariants as replies;
-ghost use Rattle.std.specs.Option.{option_copied};
-ghost use Rattle.am_dedup.specs.Decisions.{logged};
 ghost use Rattle.am_instance.specs.Configs.{peers_but};
 ghost use Rattle.am_instance.specs.Changes.{only_if};
 ghost use Rattle.am_instance.specs.Deliveries.Delivery.{OfEntry};
-ghost use Rattle.am_instance.specs.Replies.{entry_in_view};
 ghost use Rattle.am_instance.specs.Sendings.{Sends, deltas_to, sent_by};
 ghost use Rattle.am_instance.specs.Steps.{IsLoggedHere, IsWork, is_changed};
 
@@ -19,11 +16,11 @@ use crate::outbox::Outbox;
 use crate::reply::{Made, Outcome, Reply};
 use crate::requests::{is_changed, quiet};
 use crate::views::{entry_in_view, log_shown, silences_shown};
-use am_dedup::decide;
+use am_dedup::decide_over;
 use am_gossip::StateKey;
 use am_matcher::Labels;
-use am_merge::{Held, Taken};
-use am_nflog::{Entry, Hashes, LogKey, MeshEntry, Receiver, make_entry};
+use am_merge::Taken;
+use am_nflog::{Hashes, LogKey, MeshEntry, Receiver, make_entry};
 use am_version_order::{Interval, Moment, Version};
 use am_wire::Bytes;
 use std::alloc::Global;
@@ -81,25 +78,27 @@ impl Instance {
     /// Whether a group is to be notified.
     pub(crate) fn decide(
         &self,
-        key: &LogKey,
+        group_key: &Bytes,
+        receiver: &Receiver,
         firing: &Hashes,
         resolved: &Hashes,
         repeat: Interval,
         send_resolved: bool,
         now: Moment,
-    ) -> Outcome
-        ensures { IsWork self.now (events.Decide key.now.group_key key.now.receiver firing.now resolved.now repeat send_resolved) now
-            (Ok result) self.now }
+    ) -> Result<Outcome, StepError>
+        ensures { IsWork self.now (events.Decide group_key.now receiver.now firing.now resolved.now repeat send_resolved) now
+            result self.now }
     {
-        let decision = decide(
-            logged_entry(&self.log, key, now),
+        let key = LogKey::new(self.alloc, group_key.as_slice(), receiver)?;
+        let decision = decide_over(
+            entry_in_view(&self.log, &key, now),
             firing.as_slice(),
             resolved.as_slice(),
             repeat,
             send_resolved,
             now,
         );
-        quiet(self.alloc, Reply::Decided(decision))
+        Ok(quiet(self.alloc, Reply::Decided(decision)))
     }
 
     /// Which silences mute an alert.
@@ -117,16 +116,6 @@ impl Instance {
         let silences = silences_shown(self.alloc, &self.silences, &mut Vec::new(self.alloc), now)?;
         let log = log_shown(self.alloc, &self.log, now)?;
         Ok(quiet(self.alloc, Reply::Shown { silences, log }))
-    }
-}
-
-/// The entry of a key, where it is in view.
-fn logged_entry<'a>(log: &'a Held<MeshEntry>, key: &LogKey, now: Moment) -> Option<&'a Entry>
-    ensures { option_map logged (option_copied result) ≡ option_map (λ m. logged m.entry) (entry_in_view now log.now key.now) }
-{
-    match entry_in_view(log, key, now) {
-        Some(version) => Some(version.entry()),
-        None => None,
     }
 }
 

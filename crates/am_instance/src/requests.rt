@@ -28,7 +28,6 @@ use am_matcher::Filter;
 use am_merge::{Held, Taken};
 use am_silence::{
     Matchers, MeshSilence, Plan, Posted, SilenceError, Verdict, fresh_id, plan_expire, plan_post,
-    state_at,
 };
 use am_version_order::{Moment, Version};
 use am_wire::Text;
@@ -62,7 +61,7 @@ impl Instance {
         let Some(version) = silence_in_view(&self.silences, id, now) else {
             return Ok(quiet(self.alloc, Reply::Refused(SilenceError::NotFound)));
         };
-        let state = state_at(version.silence(), now);
+        let state = version.state_at(now);
         let copy = version.try_clone(self.alloc)?;
         Ok(quiet(self.alloc, Reply::Silence(copy, state)))
     }

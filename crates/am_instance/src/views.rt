@@ -11,18 +11,18 @@ ghost use Rattle.am_instance.specs.Replies.{entry_in_view, silence_in_view, sile
 use am_matcher::Filter;
 use am_merge::Held;
 use am_nflog::{LogKey, MeshEntry};
-use am_silence::{MeshSilence, Silence, State, state_at};
+use am_silence::{MeshSilence, State};
 use am_version_order::{Moment, Version};
 use am_wire::Text;
 use std::alloc::{AllocError, Global};
 
-/// Whether a silence passes all filters.
-fn passes_all(silence: &Silence, filters: &mut Vec<Filter>) -> Result<bool, AllocError>
-    ensures answer { IfOk result (λ yes. yes ≡ list_all (λ f. passes f silence.now) filters.old.items) }
+/// Whether the silence of a version passes all filters.
+fn passes_all(version: &MeshSilence, filters: &mut Vec<Filter>) -> Result<bool, AllocError>
+    ensures answer { IfOk result (λ yes. yes ≡ list_all (λ f. passes f version.now.silence) filters.old.items) }
     ensures same { filters.new.items ≡ filters.old.items }
 {
     for filter in filters.iter_mut() {
-        if !filter.passes(silence)? {
+        if !filter.passes_version(version)? {
             return Ok(false);
         }
     }
@@ -40,8 +40,8 @@ fn show_silence(
     ensures shown { OnOk result (shown.new.items ≡ shown.old.items ++ silences_shown now filters.old.items (version.now ∷ [])) }
     ensures same { filters.new.items ≡ filters.old.items }
 {
-    if now < version.expires() && passes_all(version.silence(), filters)? {
-        let state = state_at(version.silence(), now);
+    if now < version.expires() && passes_all(version, filters)? {
+        let state = version.state_at(now);
         shown.push((version.try_clone(alloc)?, state))?;
     }
     Ok(())

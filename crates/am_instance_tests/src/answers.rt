@@ -130,7 +130,7 @@ fn are_made(outcome: &Outcome, new: &Moments, ended: &Moments) -> bool {
 }
 
 fn is_entry(entry: &MeshEntry, firing: &[u64]) -> bool {
-    entry.entry().firing_alerts.as_slice() == firing && entry.expires() == at(200)
+    entry.firing_alerts().eq(firing.iter().copied()) && entry.expires() == at(200)
 }
 
 // The copy of an entry that was made, the answer, and where it goes.
@@ -221,10 +221,13 @@ fn state_shown(silences: &[(MeshSilence, State)]) -> Option<Option<State>> {
 fn hashes_shown(log: &[MeshEntry]) -> Option<Option<(u64, u64)>> {
     match log {
         [] => Some(None),
-        [entry] => match entry.entry().firing_alerts.as_slice() {
-            [one, two] => Some(Some((*one, *two))),
-            _ => None,
-        },
+        [entry] => {
+            let mut hashes = entry.firing_alerts();
+            match (hashes.next(), hashes.next(), hashes.next()) {
+                (Some(one), Some(two), None) => Some(Some((one, two))),
+                _ => None,
+            }
+        }
         _ => None,
     }
 }

@@ -156,10 +156,9 @@ pub fn are_sent(alloc: Global, outcome: &Outcome, wanted: &[Sending]) -> bool {
 
 /// Whether a version is of this silence, with these moments.
 pub fn is_version(version: &MeshSilence, id: &str, wanted: &Moments) -> bool {
-    let silence = version.silence();
     let moments = [
-        silence.starts_at.parts(),
-        silence.ends_at.parts(),
+        version.starts_at().parts(),
+        version.ends_at().parts(),
         version.updated().parts(),
         version.expires().parts(),
     ];

@@ -5,9 +5,9 @@ use crate::fixtures::{Time, at, at_nanos, instance};
 use am_dedup::{Decision, Reason};
 use am_gossip::FrameError;
 use am_instance::{Event, Instance, StepError};
-use am_nflog::{Entry, LogKey};
+use am_nflog::{Entry, LogKey, Receiver};
 use am_version_order::{Interval, Moment};
-use am_wire::{Bytes, Message, WireError};
+use am_wire::{Bytes, Message, Text, WireError};
 use std::alloc::Global;
 use std::process::Abort;
 
@@ -46,45 +46,40 @@ fn minute() -> Interval {
     Interval::from_nanos(60_000_000_000).unwrap()
 }
 
-// A group was notified.
-fn notified(group: Entry) -> Event {
-    let Entry {
-        key: LogKey {
-            group_key,
-            receiver,
-        },
-        firing_alerts,
-        resolved_alerts,
-        ..
-    } = group;
-    Event::Notified {
+// The receiver of a key.
+fn receiver_of(alloc: Global, key: &LogKey) -> Option<Receiver> {
+    let group_name = Text::copied(alloc, key.group_name()).ok()?;
+    Some(Receiver {
+        group_name,
+        integration: Text::copied(alloc, key.integration()).ok()?,
+        idx: key.idx(),
+    })
+}
+
+// The group with this key was notified, of what fires in an entry.
+fn notified(alloc: Global, group_key: Bytes, group: Entry) -> Option<Event> {
+    let receiver = receiver_of(alloc, &group.key)?;
+    Some(Event::Notified {
         group_key,
         receiver,
-        firing: firing_alerts,
-        resolved: resolved_alerts,
+        firing: group.firing_alerts,
+        resolved: group.resolved_alerts,
         repeat: minute(),
-    }
+    })
 }
 
 // Whether a group is to be notified.
-fn asked(group: Entry, send_resolved: bool) -> Event {
-    let Entry {
-        key: LogKey {
-            group_key,
-            receiver,
-        },
-        firing_alerts,
-        resolved_alerts,
-        ..
-    } = group;
-    Event::Decide {
+fn asked(alloc: Global, group: Entry, send_resolved: bool) -> Option<Event> {
+    let group_key = Bytes::copied(alloc, group.key.group_key()).ok()?;
+    let receiver = receiver_of(alloc, &group.key)?;
+    Some(Event::Decide {
         group_key,
         receiver,
-        firing: firing_alerts,
-        resolved: resolved_alerts,
+        firing: group.firing_alerts,
+        resolved: group.resolved_alerts,
         repeat: minute(),
         send_resolved,
-    }
+    })
 }
 
 // Whether a notification of group `g` is answered so.
@@ -96,7 +91,9 @@ fn is_noted(
     wanted: &Wanted,
 ) -> Option<bool> {
     let entry = Entry::decode(alloc, group.0).ok()?;
-    is_answered(alloc, instance, notified(entry), now, wanted).ok()
+    let group_key = Bytes::copied(alloc, entry.key.group_key()).ok()?;
+    let event = notified(alloc, group_key, entry)?;
+    is_answered(alloc, instance, event, now, wanted).ok()
 }
 
 // What the group is notified of at 100 s, one notification after the other, and whether each changes the log.
@@ -140,18 +137,18 @@ fn at_the_last_moment_no_entry_is_made(rt: HostRuntime) {
     assert_eq!(rt; left, Some((Some(true), 0)));
 }
 
-// A group whose key is as long as a version may be.
-fn long_group(alloc: Global) -> Option<Entry> {
-    let mut entry = Entry::decode(alloc, ONE.0).ok()?;
-    entry.key.group_key = Bytes::new(vec![in alloc; b'g'; 67_108_864].ok()?);
-    Some(entry)
+// A group whose key is as long as a version may be was notified.
+fn long_group_notified(alloc: Global) -> Option<Event> {
+    let entry = Entry::decode(alloc, ONE.0).ok()?;
+    let group_key = Bytes::new(vec![in alloc; b'g'; 67_108_864].ok()?);
+    notified(alloc, group_key, entry)
 }
 
 // Why a notification of it is refused; the instance is then as it was.
 fn fault_of_group(alloc: Global, instance: &mut Instance) -> Option<StepError> {
-    let group = long_group(alloc)?;
+    let event = long_group_notified(alloc)?;
     let changed = Wanted::Logged(&[1], true);
-    let answered = is_answered(alloc, instance, notified(group), at(100), &changed);
+    let answered = is_answered(alloc, instance, event, at(100), &changed);
     if instance.last() != at(10) || !instance.log().is_empty() {
         return None;
     }
@@ -189,7 +186,7 @@ fn are_noted(alloc: Global, instance: &mut Instance, notices: &[Group]) -> bool 
 fn is_decided(alloc: Global, instance: &mut Instance, row: &Row) -> Option<bool> {
     let entry = Entry::decode(alloc, row.1.0).ok()?;
     let wanted = Wanted::Decided(row.4);
-    let event = asked(entry, row.3);
+    let event = asked(alloc, entry, row.3)?;
     is_answered(alloc, instance, event, at_nanos(row.2), &wanted).ok()
 }
 

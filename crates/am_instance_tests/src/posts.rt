@@ -47,7 +47,7 @@ const fn ended_from(starts_at: i64) -> Moments {
 }
 
 fn matchers(alloc: Global, rows: &[MatcherRow]) -> Option<Matchers> {
-    let mut matchers = Matchers::none();
+    let mut matchers = Matchers::none(alloc);
     for &(kind, name, pattern) in rows {
         let matcher = MatcherRef::new(kind, name, pattern);
         matchers.push(alloc, &matcher).ok()?;

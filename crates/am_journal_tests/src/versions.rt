@@ -1,6 +1,6 @@
 //! Versions of which the tests speak: of the silence `k`, and of the log's entry `k`.
 
-use am_nflog::{Bytes, Entry, Hashes, LogKey, MeshEntry, Receiver};
+use am_nflog::{Bytes, Entry, Hashes, LogKey, MeshEntry};
 use am_silence::{Matchers, MeshSilence, Silence};
 use am_version_order::{Interval, Moment};
 use am_wire::{Text, WireError};
@@ -20,7 +20,7 @@ pub fn at(seconds: u64) -> Moment {
 fn silence_of(alloc: Global, updated: u64) -> Result<Silence, AllocError> {
     Ok(Silence {
         id: Text::copied(alloc, "k")?,
-        matchers: Matchers::none(),
+        matchers: Matchers::none(alloc),
         starts_at: at(0),
         ends_at: at(5),
         updated_at: at(updated),
@@ -34,20 +34,8 @@ pub fn silence(alloc: Global, (updated, expires): Span) -> Result<MeshSilence, W
     MeshSilence::new(alloc, silence, at(expires))
 }
 
-fn key(alloc: Global) -> Result<LogKey, AllocError> {
-    let group_key = Bytes::copied(alloc, b"k")?;
-    Ok(LogKey {
-        group_key,
-        receiver: Receiver {
-            group_name: Text::new(String::new(alloc)),
-            integration: Text::new(String::new(alloc)),
-            idx: 0,
-        },
-    })
-}
-
 fn entry_of(alloc: Global, updated: u64) -> Result<Entry, AllocError> {
-    let key = key(alloc)?;
+    let key = LogKey::of_parts(alloc, b"k", "", "", 0)?;
     Ok(Entry {
         key,
         group_hash: Bytes::new(Vec::new(alloc)),

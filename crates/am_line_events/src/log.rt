@@ -11,7 +11,7 @@ ghost use Rattle.am_nflog.specs.MeshTable.{reads_mesh_entry};
 ghost use Rattle.am_line_events.specs.Versions.{entry_of};
 
 use crate::rows::append_version;
-use crate::texts::{bytes_of, hashes_of, receiver_of};
+use crate::texts::hashes_of;
 use am_nflog::{Entry, LogKey, MeshEntry};
 use am_schedule::{LogLine, Shared};
 use am_wire::{Bytes, WireError};
@@ -24,10 +24,13 @@ fn entry(alloc: Global, line: &LogLine) -> Result<Entry, AllocError>
     ensures fits { OnOk result (length (writes_mesh_entry (entry_of line.now)) ≤ most) }
 {
     Ok(Entry {
-        key: LogKey {
-            group_key: bytes_of(alloc, &line.group)?,
-            receiver: receiver_of(alloc, &line.receiver)?,
-        },
+        key: LogKey::of_parts(
+            alloc,
+            line.group.as_str().as_bytes(),
+            line.receiver.as_str(),
+            "",
+            0,
+        )?,
         group_hash: Bytes::new(Vec::new(alloc)),
         resolved: false,
         timestamp: line.updated,

@@ -23,7 +23,7 @@ fn wanted(alloc: Global, name: &Word, value: &Word) -> Result<Matchers, AllocErr
     ensures matchers { IfOk result (λ matchers. matchers ≡ wants name.now value.now) }
     ensures short { (length name.now ≤ 1024) × (length value.now ≤ 1024) }
 {
-    let mut matchers = Matchers::none();
+    let mut matchers = Matchers::none(alloc);
     let matcher = MatcherRef::new(MatcherKind::Equal, name.as_str(), value.as_str());
     matchers.push(alloc, &matcher)?;
     Ok(matchers)

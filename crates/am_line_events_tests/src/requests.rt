@@ -20,11 +20,16 @@ struct Post {
 
 // Whether it has the one matcher, which wants that value of the label.
 fn wants(posted: &Posted, name: &str, value: &str) -> bool {
-    if posted.matchers.len() != 1 {
-        return false;
+    let mut matchers = posted.matchers.iter();
+    match matchers.next() {
+        Some(matcher) => {
+            matcher.kind() == MatcherKind::Equal
+                && matcher.name() == name
+                && matcher.pattern() == value
+                && matchers.is_empty()
+        }
+        None => false,
     }
-    let matcher = posted.matchers.at(0);
-    matcher.kind() == MatcherKind::Equal && matcher.name() == name && matcher.pattern() == value
 }
 
 fn has_id(posted: &Posted, id: Option<&str>) -> bool {

@@ -6,7 +6,7 @@ ghost use Rattle.am_matcher.specs.Patterns.{is_match, IsSound, IsBroken};
 use crate::compiled::BuildError;
 use crate::kept::Kept;
 use am_merge::Held;
-use am_silence::{Matchers, MeshSilence};
+use am_silence::{MatcherIter, MeshSilence};
 use std::alloc::Global;
 use std::collections::HashMap;
 use std::marker::Model;
@@ -102,9 +102,8 @@ impl PatternCache {
         }
     }
 
-    fn mark_all(&mut self, matchers: &Matchers) {
-        for index in 0..matchers.len() {
-            let matcher = matchers.at(index);
+    fn mark_all(&mut self, matchers: MatcherIter<'_>) {
+        for matcher in matchers {
             if matcher.kind().is_regexp() {
                 self.mark(matcher.pattern());
             }
@@ -117,7 +116,7 @@ impl PatternCache {
             return;
         }
         for version in held.iter() {
-            self.mark_all(&version.silence().matchers);
+            self.mark_all(version.matchers());
         }
         self.kept.retain(|_, kept| kept.take_mark());
     }

@@ -9,7 +9,7 @@ ghost use Rattle.am_matcher.specs.Matching.{IsSoundMatcher, IsBrokenMatcher, pat
 use crate::compiled::{BuildError, Compiled};
 use crate::filter_text::parts_of;
 use crate::pieces::{inside_of, pieces_of, text_of, text_of_pieces};
-use am_silence::{Matcher, MatcherRef, Matchers, Silence};
+use am_silence::{Matcher, MatcherIter, MatcherRef, MeshSilence, Silence};
 use am_wire::Text;
 use std::alloc::{AllocError, Global};
 use std::marker::Model;
@@ -95,12 +95,12 @@ fn later_pattern<'a>(before: &'a str, matcher: &MatcherRef<'a>, name: &str) -> &
 }
 
 /// The pattern of the last matcher with this name, or the empty text.
-fn pattern_of<'a>(matchers: &'a Matchers, name: &str) -> &'a str
-    ensures { result.now ≡ pattern_in matchers.now name.now }
+fn pattern_of<'a>(matchers: MatcherIter<'a>, name: &str) -> &'a str
+    ensures { result.now ≡ pattern_in matchers.entry name.now }
 {
     let mut pattern = "";
-    for index in 0..matchers.len() {
-        pattern = later_pattern(pattern, &matchers.at(index), name);
+    for matcher in matchers {
+        pattern = later_pattern(pattern, &matcher, name);
     }
     pattern
 }
@@ -157,7 +157,21 @@ impl Filter {
         ensures same { self.new ≡ self.old }
     {
         let name = self.compiled.matcher().name.as_str();
-        let pattern = pattern_of(&silence.matchers, name);
+        let pattern = pattern_of(silence.matchers.iter(), name);
+        self.compiled.matches(pattern)
+    }
+
+    /// Whether the silence of a version passes, as [`Filter::passes`] says.
+    ///
+    /// # Errors
+    ///
+    /// [`AllocError`] where memory runs out.
+    pub fn passes_version(&mut self, version: &MeshSilence) -> Result<bool, AllocError>
+        ensures answer { IfOk result (λ yes. yes ≡ passes self.old version.now.silence) }
+        ensures same { self.new ≡ self.old }
+    {
+        let name = self.compiled.matcher().name.as_str();
+        let pattern = pattern_of(version.matchers(), name);
         self.compiled.matches(pattern)
     }
 }

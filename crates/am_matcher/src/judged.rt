@@ -7,7 +7,7 @@ ghost use Rattle.am_matcher.specs.Matching.{matches_value, IsSoundMatcher, IsBro
 use crate::cache::PatternCache;
 use crate::compiled::BuildError;
 use crate::labels::{Label, value_of};
-use am_silence::{MatcherKind, MatcherRef, Matchers, Verdict};
+use am_silence::{MatcherIter, MatcherKind, MatcherRef, Matchers, Verdict};
 use std::alloc::{AllocError, Global};
 
 /// Whether the value of a matcher's label matches.
@@ -36,16 +36,16 @@ fn judge(
 /// labels are.
 pub fn judge_all(
     patterns: &mut PatternCache,
-    matchers: &Matchers,
+    matchers: MatcherIter<'_>,
     labels: &[Label],
 ) -> Result<bool, BuildError>
-    ensures answer { IfOk result (λ yes. yes ≡ match_all matchers.now labels.now) }
-    ensures sound { OnOk result (All IsSoundMatcher matchers.now) }
-    ensures broken { IsErrOf result BuildError.BadPattern → Any IsBrokenMatcher matchers.now }
+    ensures answer { IfOk result (λ yes. yes ≡ match_all matchers.entry labels.now) }
+    ensures sound { OnOk result (All IsSoundMatcher matchers.entry) }
+    ensures broken { IsErrOf result BuildError.BadPattern → Any IsBrokenMatcher matchers.entry }
 {
     let mut all = true;
-    for index in 0..matchers.len() {
-        let matches = judge(patterns, &matchers.at(index), labels)?;
+    for matcher in matchers {
+        let matches = judge(patterns, &matcher, labels)?;
         all &= matches;
     }
     Ok(all)
@@ -60,7 +60,7 @@ impl PatternCache {
     pub fn verdict(&mut self, matchers: &Matchers) -> Result<Verdict, AllocError>
         ensures { IfOk result (IsVerdict matchers.now) }
     {
-        match judge_all(self, matchers, &[]) {
+        match judge_all(self, matchers.iter(), &[]) {
             Ok(true) => Ok(Verdict::AllEmpty),
             Ok(false) => Ok(Verdict::Fine),
             Err(BuildError::BadPattern) => Ok(Verdict::Bad),

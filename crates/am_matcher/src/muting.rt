@@ -33,8 +33,7 @@ pub enum Effect {
 fn is_active(version: &MeshSilence, now: Moment) -> bool
     ensures { result ≡ is_active now version.now }
 {
-    let silence = version.silence();
-    now < version.expires() && silence.starts_at <= now && now < silence.ends_at
+    now < version.expires() && version.starts_at() <= now && now < version.ends_at()
 }
 
 /// What a silence does to an alert with these labels. Only the patterns of an active one are looked at.
@@ -49,7 +48,7 @@ fn effect_of(
     if !is_active(version, now) {
         return Ok(Effect::Idle);
     }
-    match judge_all(patterns, &version.silence().matchers, labels) {
+    match judge_all(patterns, version.matchers(), labels) {
         Ok(true) => Ok(Effect::Mutes),
         Ok(false) => Ok(Effect::Passes),
         Err(BuildError::BadPattern) => Ok(Effect::Broken),

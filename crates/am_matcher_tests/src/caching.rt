@@ -118,7 +118,7 @@ fn pattern_verdict(
     patterns: &mut PatternCache,
     pattern: &str,
 ) -> Result<Verdict, AllocError> {
-    let mut matchers = Matchers::none();
+    let mut matchers = Matchers::none(alloc);
     matchers.push(alloc, &MatcherRef::new(MatcherKind::Regexp, "", pattern))?;
     patterns.verdict(&matchers)
 }

@@ -4,7 +4,7 @@ use Rattle.std.specs.Prelude.{All, Contains, Option, slice_index_or}
 use Rattle.std.proofs.lemmas.List.Elements.{All-nil, All-cons, All-head, All-tail, All-append, All-contains_itself, Contains-append_left, Contains-append_right}
 use Rattle.am_silence.specs.Mesh.{Mesh, IsMesh, mesh_version}
 use Rattle.am_nflog.specs.Mesh.{Mesh as LogMesh, IsMesh as IsLogMesh, mesh_version as entry_version}
-use Rattle.am_nflog.specs.declared.entry.LogKey.{LogKey}
+use Rattle.am_nflog.specs.LogKeys.{LogKey}
 use Rattle.am_gossip.specs.declared.frame.Frame.{Frame}
 use Rattle.am_gossip.specs.declared.frame.Frame.TheVariants as frames
 use Rattle.am_gossip.specs.Frames.{fits}

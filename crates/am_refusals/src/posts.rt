@@ -20,7 +20,7 @@ pub fn run(rt: &HostRuntime) {
 /// The event: silence `a`, EQUAL job `x`, from 11 s to 200 s, with bits 0.
 fn event(alloc: Global) -> Option<Event> {
     let id = Text::copied(alloc, "a").ok()?;
-    let mut matchers = Matchers::none();
+    let mut matchers = Matchers::none(alloc);
     let matcher = MatcherRef::new(MatcherKind::Equal, "job", "x");
     matchers.push(alloc, &matcher).ok()?;
     let posted = Posted {
@@ -73,8 +73,7 @@ fn tell(rt: &HostRuntime, instance: &Instance, outcome: &Outcome) {
         let _ = println!(rt; "posted {}", id.as_str());
     }
     for made in outcome.made.silences.as_slice() {
-        let silence = made.silence();
-        let (start, end) = (silence.starts_at.parts().0, silence.ends_at.parts().0);
+        let (start, end) = (made.starts_at().parts().0, made.ends_at().parts().0);
         let (updated, expires) = (made.updated().parts().0, made.expires().parts().0);
         let _ = println!(rt;
             "made {} {start} {end} {updated} {expires}",

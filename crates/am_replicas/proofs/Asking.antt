@@ -3,7 +3,7 @@ use Rattle.std.proofs.Common.{◌≡◌, ◌↔◌, ◌≢◌, ℕ, ◌+◌, Boo
 use Rattle.std.specs.Prelude.{option_map, nat_lt, if◌then◌else◌}
 use Rattle.std.specs.FinSet.{is_subset}
 use Rattle.am_nflog.specs.Mesh.{Mesh as LogMesh, mesh_version as entry_version}
-use Rattle.am_nflog.specs.declared.entry.LogKey.{LogKey}
+use Rattle.am_nflog.specs.LogKeys.{LogKey}
 use Rattle.am_dedup.specs.Decisions.{Hashes, Logged, decision, decision_after, has_none, logged}
 use Rattle.am_dedup.specs.declared.decision.Decision.TheVariants.{Skip, Notify}
 use Rattle.am_dedup.specs.declared.decision.Reason.TheVariants.{First, NewFiring, AllResolved, NewResolved, Repeat}

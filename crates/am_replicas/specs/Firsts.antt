@@ -1,6 +1,6 @@
 -- Questions whether a group is notified.
 use Rattle.std.specs.Prelude.{ℕ, Bool, not, List}
-use Rattle.am_nflog.specs.declared.entry.LogKey.{LogKey}
+use Rattle.am_nflog.specs.LogKeys.{LogKey}
 use Rattle.am_nflog.specs.declared.receiver.Receiver.{Receiver}
 use Rattle.am_dedup.specs.Decisions.{has_none, set_of}
 use Rattle.am_dedup.specs.declared.decision.Decision.TheVariants.{Notify}

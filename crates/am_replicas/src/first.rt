@@ -3,7 +3,7 @@
 ghost use Rattle.std.specs.Prelude.{◌≡◌, ◌≢◌, ◌↔◌, ◌+◌, ◌<◌, ◌≤◌, ◌++◌, ◌∷◌, ℕ, Bool, List, Option, Some, None, true, false, Contains};
 ghost use Rattle.am_nflog.specs.Mesh.{Mesh as LogMesh, mesh_version as entry_version};
 ghost use Rattle.am_nflog.specs.Keys.{key_cmp};
-ghost use Rattle.am_nflog.specs.declared.entry.LogKey.{LogKey};
+ghost use Rattle.am_nflog.specs.LogKeys.{LogKey};
 ghost use Rattle.am_version_order.specs.Versions.{is_below};
 ghost use Rattle.am_merge.specs.Views.{IsBest, IsInView, IsViewAt};
 ghost use Rattle.am_runs.specs.Steps.{Step, delivered_in, moment};

@@ -5,7 +5,7 @@ ghost use Rattle.am_matcher.specs.declared.labels.Label.{Label};
 ghost use Rattle.am_matcher.specs.Mutes.{AreMuted};
 ghost use Rattle.am_silence.specs.Mesh.{IsMesh, mesh_version};
 ghost use Rattle.am_nflog.specs.Mesh.{IsMesh as IsLogMesh, mesh_version as entry_version};
-ghost use Rattle.am_nflog.specs.declared.entry.LogKey.{LogKey};
+ghost use Rattle.am_nflog.specs.LogKeys.{LogKey};
 ghost use Rattle.am_merge.specs.Views.{IsViewAt};
 ghost use Rattle.am_collect.specs.Events.{HaveSame};
 ghost use Rattle.am_instance.specs.declared.event.Event.{Event};

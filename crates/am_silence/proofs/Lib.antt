@@ -1,8 +1,12 @@
 pub mod Buckets
 pub mod FirstComments
 pub mod Judging
-pub mod Marks
+pub mod MatcherParts
+pub mod MatcherTexts
 pub mod Parts
 pub mod SameMatchers
+pub mod Spelling
+pub mod Standing
+pub mod Ranges
 pub mod Planning
 pub mod Refusing

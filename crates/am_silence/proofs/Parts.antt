@@ -1,11 +1,11 @@
 -- A part that stands behind its length.
-use Rattle.std.proofs.Common.{◌≡◌, ℕ, ◌+◌, ◌-◌, ◌<◌, ◌≤◌, List, [], ◌++◌, length, length-append, take, drop, Result, Ok, Err, IfOk, inl, inr, refl, sym, ap, subst, ◌∙◌, arith}
-use Rattle.std.proofs.Math.Seq.{drop-append_seam, take-append_seam}
-use Rattle.std.proofs.lemmas.List.{take_rest}
+use Rattle.std.proofs.Common.{◌≡◌, ℕ, ◌+◌, ◌-◌, ◌<◌, ◌≤◌, List, [], ◌++◌, length, length-append, append_assoc, take, drop, Result, Ok, Err, IfOk, inl, inr, refl, sym, ap, subst, ◌∙◌, arith}
+use Rattle.std.proofs.Math.Seq.{drop-append_seam, take-append_seam, drop-append-add}
+use Rattle.std.proofs.lemmas.List.{take_rest, drop-append-le}
 use Rattle.am_wire.specs.declared.error.WireError.{WireError}
 use Rattle.am_wire.specs.Varint.{varint_at, shortest}
 use Rattle.am_wire.specs.Again.Varints.{varint_read, shortest_spells}
-use Rattle.am_silence.specs.declared.bucket.Place.{Place}
+use Rattle.am_silence.specs.declared.place.Place.{Place}
 use Rattle.am_silence.specs.Places.{Follows, StandsAt}
 
 module _ {part bytes : List ℕ} (h : Follows 0 part bytes) where
@@ -34,8 +34,32 @@ module _ {part bytes : List ℕ} (h : Follows 0 part bytes) where
     pub part_read : take size (take (length bytes - len) (drop len bytes)) ≡ part
     part_read = rw (rest, size_read) (take-append_seam part h.rest)
 
-    pub part_whole : size ≡ length (take size (take (length bytes - len) (drop len bytes)))
-    part_whole = size_read ∙ sym (ap length part_read)
+    pub part_fits : size ≤ length (take (length bytes - len) (drop len bytes))
+    part_fits = omega (arith, size_read, ap length rest ∙ length-append part h.rest)
+
+    pub behind_read : drop size (take (length bytes - len) (drop len bytes)) ≡ h.rest
+    behind_read = rw (rest, size_read) (drop-append_seam part h.rest)
+
+-- ---- the same of a text that the text is a part of
+pub follows_past : {at : ℕ} {part text : List ℕ} (before : List ℕ) → Follows at part text → Follows (length before + at) part (before ++ text)
+follows_past {at} {part} {text} before h = record {
+  rest = h.rest;
+  within = omega (arith, h.within, length-append before text);
+  short = h.short;
+  is = drop-append-add before text at ∙ h.is;
+}
+
+follows_before : {at : ℕ} {part text : List ℕ} (after : List ℕ) → Follows at part text → Follows at part (text ++ after)
+follows_before {at} {part} {text} after h = record {
+  rest = h.rest ++ after;
+  within = omega (arith, h.within, length-append text after);
+  short = h.short;
+  is = drop-append-le at text after h.within ∙ ap (λ (x : List ℕ). x ++ after) h.is
+      ∙ append_assoc (shortest (length part)) (part ++ h.rest) after ∙ ap (λ (x : List ℕ). shortest (length part) ++ x) (append_assoc part h.rest after);
+}
+
+pub follows_within : {at : ℕ} {part mid : List ℕ} (before after : List ℕ) → Follows at part mid → Follows (length before + at) part (before ++ (mid ++ after))
+follows_within before after h = follows_past before (follows_before after h)
 
 -- ---- the place of a part
 pub empty_at_0 : {part : List ℕ} {place : Place} {text : List ℕ} → place.start ≡ 0 → StandsAt part place text → [] ≡ part

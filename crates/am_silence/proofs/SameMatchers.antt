@@ -1,21 +1,20 @@
 -- Matchers that are the same are equal.
-use Rattle.std.proofs.Common.{◌≡◌, Bool, true, ◌&&◌, ◌==◌, ◌↔◌, IsTrue, List, refl, sym, ap, ◌∙◌}
+use Rattle.std.proofs.Common.{◌≡◌, Bool, true, ◌&&◌, ◌==◌, ◌<◌, ◌^◌, false, List, length, refl, sym, ap, ◌∙◌}
 use Rattle.std.specs.Bool.{Decides}
+use Rattle.std.specs.Prelude.{All}
+use Rattle.std.specs.Str.{bytes_eq}
 use Rattle.std.specs.Cmp.{first_so, second_so}
 use Rattle.std.specs.Cmp.Derive.{both_true}
 use Rattle.std.proofs.lemmas.Slice.Eq.{bytes_eq-Decides, slice_eq-Decides}
 use Rattle.std.proofs.lemmas.Bool.Decides.{Decides-eqb}
 use Rattle.am_silence.specs.declared.matcher.Matcher.{Matcher}
 use Rattle.am_silence.specs.declared.matcher.MatcherKind.{MatcherKind}
-use Rattle.am_silence.specs.declared.matcher.MatcherKind.TheVariants as kinds
 use Rattle.am_silence.specs.Kinds.{kind_code, kind_of}
+use Rattle.am_silence.specs.Again.{kind_again}
+use Rattle.am_silence.specs.Matchers.{IsMatcher}
+use Rattle.am_silence.specs.MatcherTexts.{writes_matchers, matchers_in}
 use Rattle.am_silence.specs.Plans.{same_matcher, same_matchers}
-
-kind_again : (k : MatcherKind) → kind_of (kind_code k) ≡ k
-kind_again kinds.Equal = refl
-kind_again kinds.Regexp = refl
-kind_again kinds.NotEqual = refl
-kind_again kinds.NotRegexp = refl
+use Rattle.am_silence.proofs.MatcherTexts.{matchers_spelled}
 
 kind_Decides : (k l : MatcherKind) → Decides (kind_code k == kind_code l) (k ≡ l)
 kind_Decides k l = (λ h. sym (kind_again k) ∙ (ap kind_of ((Decides-eqb (kind_code k) (kind_code l)).0 h) ∙ kind_again l), λ e. (Decides-eqb (kind_code k) (kind_code l)).1 (ap kind_code e))
@@ -34,5 +33,27 @@ matcher_Decides m n =
     and_true : (a b : Bool) → (a && b) ≡ true → (a ≡ true) × (b ≡ true)
     and_true a b h = (first_so a b h, second_so a b h)
 
-pub same_matchers-equal : (xs ys : List Matcher) (r : Bool) → r ≡ same_matchers xs ys → IsTrue r ↔ (xs ≡ ys)
-same_matchers-equal xs ys r e = slice_eq-Decides matcher_Decides xs ys r e
+same_matchers-Decides : (xs ys : List Matcher) → Decides (same_matchers xs ys) (xs ≡ ys)
+same_matchers-Decides xs ys = slice_eq-Decides matcher_Decides xs ys (same_matchers xs ys) refl
+
+-- tests of one fact are one
+one_test : {P : Type 0} (a b : Bool) → Decides a P → Decides b P → a ≡ b
+one_test true b one other = sym (other.1 (one.0 refl))
+one_test false true one other = one.1 (other.0 refl)
+one_test false false one other = refl
+
+-- ---- the texts of matchers
+module _ (xs ys : List Matcher) (values_x : All IsMatcher xs) (values_y : All IsMatcher ys)
+    (short_x : length (writes_matchers xs) < 2 ^ 64) (short_y : length (writes_matchers ys) < 2 ^ 64)
+    (r : Bool) (is : r ≡ bytes_eq (writes_matchers xs) (writes_matchers ys)) where
+  -- those of one text are equal
+  of_one_text : writes_matchers xs ≡ writes_matchers ys → xs ≡ ys
+  of_one_text same = sym (matchers_spelled xs values_x short_x) ∙ ap matchers_in same ∙ matchers_spelled ys values_y short_y
+
+  pub texts_tell : Decides r (xs ≡ ys)
+  texts_tell =
+      let tells = bytes_eq-Decides (writes_matchers xs) (writes_matchers ys) in
+      (λ h. of_one_text (tells.0 (sym is ∙ h)), λ e. is ∙ tells.1 (ap writes_matchers e))
+
+  pub texts_test : r ≡ same_matchers xs ys
+  texts_test = one_test r (same_matchers xs ys) texts_tell (same_matchers-Decides xs ys)

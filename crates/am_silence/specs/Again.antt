@@ -36,13 +36,13 @@ kind_low kinds.Regexp = omega arith
 kind_low kinds.NotEqual = omega arith
 kind_low kinds.NotRegexp = omega arith
 
-kind_again : (k : MatcherKind) → kind_of (kind_code k) ≡ k
+pub kind_again : (k : MatcherKind) → kind_of (kind_code k) ≡ k
 kind_again kinds.Equal = refl
 kind_again kinds.Regexp = refl
 kind_again kinds.NotEqual = refl
 kind_again kinds.NotRegexp = refl
 
-matcher_reads : (m : Matcher) → IsMatcher m → length (writes_matcher m) < 2 ^ 64
+pub matcher_reads : (m : Matcher) → IsMatcher m → length (writes_matcher m) < 2 ^ 64
     → ReadsAs matcher matcher_tests matcher_value (writes_matcher m) m
 unfolding writes_matcher
 matcher_reads m is small =

@@ -6,7 +6,7 @@ use Rattle.am_silence.specs.declared.sizes.SilenceFields.{SilenceFields}
 abbrev pub silence_in : SilenceFields → Silence
 silence_in fields = record {
   id = fields.id.now;
-  matchers = fields.matchers.now;
+  matchers = fields.matchers;
   starts_at = fields.starts_at;
   ends_at = fields.ends_at;
   updated_at = fields.updated_at;

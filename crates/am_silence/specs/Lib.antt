@@ -1,10 +1,11 @@
 pub mod Kinds
-pub mod Marks
 pub mod Matchers
+pub mod MatcherTexts
 pub mod Comments
 pub mod Silences
 pub mod Mesh
 pub mod Places
+pub mod Spelled
 pub mod Fields
 pub mod MeshTable
 pub mod Drafts

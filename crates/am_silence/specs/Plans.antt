@@ -27,9 +27,13 @@ pub record Post : Type 0 where
 abbrev pub post_of : Posted → ℕ → ℕ → ℕ → Post
 post_of posted now bits retention = record { posted = posted; now = now; bits = bits; retention = retention }
 
+-- the silence of a version of the view
+abbrev pub silence_in_view : Option Mesh → Option Silence
+silence_in_view version = option_map (λ m. m.silence) version
+
 -- the held silence of a post: that of the view's version of the posted id; none where no id is posted
 abbrev pub held_silence : Option Mesh → Posted → Option Silence
-held_silence held posted = if is_some posted.id then option_map (λ m. m.silence) held else None
+held_silence held posted = if is_some posted.id then silence_in_view held else None
 
 -- ---- versions
 

@@ -4,15 +4,15 @@ ghost use Rattle.std.specs.Prelude.{◌≡◌, ◌==◌, ◌&&◌, length, is_so
 ghost use Rattle.std.specs.List.{list_any};
 ghost use Rattle.std.specs.Option.{option_copied};
 ghost use Rattle.am_silence.specs.declared.error.SilenceError.TheVariants as errors;
-ghost use Rattle.am_silence.specs.Plans.{held_silence};
+ghost use Rattle.am_silence.specs.Plans.{silence_in_view, held_silence};
 ghost use Rattle.am_silence.specs.Refusals.{Refuses, ◌when◌, posted_refusal, matchers_refusal, times_refusal, newer_refusal, held_refusal};
 
 use crate::error::SilenceError;
+use crate::iter::MatcherIter;
 use crate::matchers::Matchers;
 use crate::mesh::MeshSilence;
 use crate::plan::{Posted, Verdict};
-use crate::silence::Silence;
-use crate::state::{State, state_at};
+use crate::state::State;
 use am_version_order::Moment;
 
 /// The tests of what is posted, and of the silence that is posted again, which is given back.
@@ -22,8 +22,8 @@ pub fn check_posted<'a>(
     posted: &Posted,
     verdict: Verdict,
     now: Moment,
-) -> Result<Option<&'a Silence>, SilenceError>
-    ensures held { IfOk result (λ silence. option_copied silence ≡ held_silence (option_copied held.entry) posted.now) }
+) -> Result<Option<&'a MeshSilence>, SilenceError>
+    ensures held { IfOk result (λ version. silence_in_view (option_copied version) ≡ held_silence (option_copied held.entry) posted.now) }
     ensures tests { Refuses result (posted_refusal (option_copied held.entry) posted.now verdict now) }
 {
     let held = held_silence(held, posted)?;
@@ -37,15 +37,15 @@ pub fn check_posted<'a>(
 fn held_silence<'a>(
     held: Option<&'a MeshSilence>,
     posted: &Posted,
-) -> Result<Option<&'a Silence>, SilenceError>
-    ensures held { IfOk result (λ silence. option_copied silence ≡ held_silence (option_copied held.entry) posted.now) }
+) -> Result<Option<&'a MeshSilence>, SilenceError>
+    ensures held { IfOk result (λ version. silence_in_view (option_copied version) ≡ held_silence (option_copied held.entry) posted.now) }
     ensures found { Refuses result (errors.NotFound when (is_some posted.now.id && is_none (option_copied held.entry))) }
 {
     if posted.id.is_none() {
         return Ok(None);
     }
     match held {
-        Some(version) => Ok(Some(version.silence())),
+        Some(version) => Ok(Some(version)),
         None => Err(SilenceError::NotFound),
     }
 }
@@ -58,7 +58,7 @@ fn check_matchers(matchers: &Matchers, verdict: Verdict) -> Result<(), SilenceEr
     if matchers.is_empty() {
         return Err(SilenceError::NoMatcher);
     }
-    if has_empty_name(matchers) {
+    if has_empty_name(matchers.iter()) {
         return Err(SilenceError::EmptyName);
     }
     match verdict {
@@ -69,11 +69,11 @@ fn check_matchers(matchers: &Matchers, verdict: Verdict) -> Result<(), SilenceEr
 }
 
 // A matcher names no label.
-fn has_empty_name(matchers: &Matchers) -> bool
-    ensures { result ≡ list_any (λ m. length m.name == 0) matchers.now }
+fn has_empty_name(matchers: MatcherIter<'_>) -> bool
+    ensures { result ≡ list_any (λ m. length m.name == 0) matchers.entry }
 {
-    for index in 0..matchers.len() {
-        if matchers.at(index).name().is_empty() {
+    for matcher in matchers {
+        if matcher.name().is_empty() {
             return true;
         }
     }
@@ -96,12 +96,12 @@ fn check_times(posted: &Posted, now: Moment) -> Result<(), SilenceError>
 
 /// The silence was updated before now, so that a version which is made now is greater.
 #[tactic(auto, unfolding(crate::specs::Refusals::newer_refusal))]
-pub fn check_older(held: &Silence, now: Moment) -> Result<(), SilenceError>
-    ensures tests { Refuses result (newer_refusal held.now now) }
+pub fn check_older(held: &MeshSilence, now: Moment) -> Result<(), SilenceError>
+    ensures tests { Refuses result (newer_refusal held.now.silence now) }
 {
-    if held.updated_at >= now {
+    if held.updated_at() >= now {
         return Err(SilenceError::Newer {
-            held: held.updated_at,
+            held: held.updated_at(),
         });
     }
     Ok(())
@@ -109,11 +109,11 @@ pub fn check_older(held: &Silence, now: Moment) -> Result<(), SilenceError>
 
 // The same of a silence that is posted again, unless it has expired: it then gets no new version.
 #[tactic(auto, unfolding(crate::specs::Refusals::held_refusal))]
-fn check_held(held: Option<&Silence>, now: Moment) -> Result<(), SilenceError>
-    ensures tests { Refuses result (held_refusal (option_copied held.entry) now) }
+fn check_held(held: Option<&MeshSilence>, now: Moment) -> Result<(), SilenceError>
+    ensures tests { Refuses result (held_refusal (silence_in_view (option_copied held.entry)) now) }
 {
     match held {
-        Some(held) if state_at(held, now) != State::Expired => check_older(held, now),
+        Some(held) if held.state_at(now) != State::Expired => check_older(held, now),
         _ => Ok(()),
     }
 }

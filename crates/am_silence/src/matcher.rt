@@ -3,7 +3,7 @@
 ghost use Rattle.std.specs.Prelude.{◌≡◌, ℕ, List, [], ◌∷◌, ◌++◌, ◌<◌, ◌≤◌, OnOk, IfOk, IfErr, Ok, length};
 ghost use Rattle.am_wire.specs.Fields.{FieldAt, field_of};
 ghost use Rattle.am_wire.specs.declared.error.WireError.TheVariants as WireError;
-ghost use Rattle.am_silence.specs.Kinds.{kind_code, is_regexp};
+ghost use Rattle.am_silence.specs.Kinds.{kind_code, kind_of, is_regexp};
 ghost use Rattle.am_wire.specs.Sizes.{counted};
 ghost use Rattle.am_silence.specs.Matchers.{matcher, wants_label, writes_matcher, IsMatcher};
 
@@ -32,12 +32,21 @@ impl MatcherKind {
         ensures known { IfOk result (λ kind. (number < 4) × (kind_code kind ≡ number)) }
         ensures unknown { IfErr result (λ e. (4 ≤ number) × (e ≡ WireError.MatcherType at)) }
     {
+        if number > 3 {
+            return Err(WireError::MatcherType { at });
+        }
+        Ok(MatcherKind::of_number(number))
+    }
+
+    /// The kind of a number below 4.
+    pub(crate) fn of_number(number: u64) -> MatcherKind
+        ensures { result ≡ kind_of number }
+    {
         match number {
-            0 => Ok(MatcherKind::Equal),
-            1 => Ok(MatcherKind::Regexp),
-            2 => Ok(MatcherKind::NotEqual),
-            3 => Ok(MatcherKind::NotRegexp),
-            _ => Err(WireError::MatcherType { at }),
+            0 => MatcherKind::Equal,
+            1 => MatcherKind::Regexp,
+            2 => MatcherKind::NotEqual,
+            _ => MatcherKind::NotRegexp,
         }
     }
 

@@ -1,50 +1,54 @@
 //! The matchers of a silence.
 
-ghost use Rattle.std.specs.Prelude.{◌≡◌, ◌<◌, ◌==◌, ◌^◌, [], ◌∷◌, ◌++◌, length, get_or, map, None, OnOk, IfOk, IfErr};
+ghost use Rattle.std.specs.Prelude.{◌≡◌, ◌==◌, [], ◌∷◌, ◌++◌, length, map, None, OnOk, OnErr, IfOk, IfErr};
 ghost use Rattle.am_wire.specs.Fields.{field_of};
 ghost use Rattle.am_wire.specs.Reading.{FailsUnlessMemory, message_in, item_fault};
-ghost use Rattle.am_silence.specs.Matchers.{matcher, matcher_value, matcher_tests};
+ghost use Rattle.am_wire.specs.Writing.{writes_delimited};
+ghost use Rattle.am_silence.specs.Matchers.{matcher, matcher_value, matcher_tests, writes_matcher, IsMatcher};
 
-use crate::listed::Listed;
-use crate::matcher::{Matcher, MatcherDraft, MatcherKind, MatcherRef};
+use crate::iter::MatcherIter;
+use crate::matcher::{Matcher, MatcherDraft, MatcherRef};
 use am_wire::reading::read_message;
+use am_wire::writing::{delimited_size, write_prefix};
 use am_wire::{Field, Value, WireError};
 use std::alloc::{AllocError, Global};
 use std::marker::Model;
 
 /// The matchers of a silence, in their order. Contracts see the list.
 ///
-/// Their texts stand in one text, one behind the other. One of 2^32 bytes or more is refused as one that memory is
-/// not enough for.
+/// They are kept as their canonical text.
 #[derive(Debug)]
 pub struct Matchers {
-    // None where there are no matchers, so that they take but a word.
-    listed: Option<Box<Listed>>,
+    text: Vec<u8>,
 }
 
 // (so that crates above cite one drop, and don't prove those of all that is inside)
 impl Drop for Matchers {
     fn drop(self) {
-        let Matchers { listed: _ } = self;
+        let Matchers { text: _ } = self;
     }
 }
 
 impl Model for Matchers {
-    ghost use Rattle.std.specs.Prelude.{List, []};
-    ghost use Rattle.std.specs.Option.{option_map_or};
+    ghost use Rattle.std.specs.Prelude.{List};
     ghost use Rattle.am_silence.specs.declared.matcher.Matcher.{Matcher};
+    ghost use Rattle.am_silence.specs.MatcherTexts.{matchers_in, IsMatchersText};
 
     ghost Value = { List Matcher };
 
-    ghost view = { λ m. option_map_or (λ listed. listed.value) m.listed [] };
+    ghost view = { λ m. matchers_in m.text.items };
+
+    ghost invariant = { λ m. IsMatchersText m.text.items };
 }
 
 impl Matchers {
     /// No matchers. It takes no memory.
-    pub fn none() -> Matchers
+    pub fn none(alloc: Global) -> Matchers
         ensures { result ≡ [] }
     {
-        Matchers { listed: None }
+        Matchers {
+            text: Vec::new(alloc),
+        }
     }
 
     /// Copies of these matchers.
@@ -55,57 +59,38 @@ impl Matchers {
     pub fn new(alloc: Global, matchers: &[Matcher]) -> Result<Matchers, AllocError>
         ensures { IfOk result (λ copies. copies ≡ matchers.now) }
     {
-        let mut copies = Matchers::none();
+        let mut copies = Matchers::none(alloc);
         for matcher in matchers {
             copies.push(alloc, &matcher.borrowed())?;
         }
         Ok(copies)
     }
 
-    pub fn len(&self) -> usize
-        ensures { result ≡ length self.now }
-    {
-        match &self.listed {
-            Some(listed) => listed.len(),
-            None => 0,
-        }
-    }
-
     pub fn is_empty(&self) -> bool
         ensures { result ≡ (length self.now == 0) }
     {
-        self.len() == 0
+        self.text.is_empty()
     }
 
-    /// The matcher at an index.
-    pub fn at(&self, index: usize) -> MatcherRef<'_>
-        requires { index < length self.now }
-        ensures item { result ≡ get_or self.now index result }
-        ensures count { length self.now < 2 ^ 64 }
+    /// Goes over the matchers. It takes no memory.
+    pub fn iter(&self) -> MatcherIter<'_>
+        ensures { result ≡ self.now }
     {
-        match &self.listed {
-            Some(listed) => listed.at(index),
-            None => MatcherRef::new(MatcherKind::Equal, "", ""),
-        }
+        MatcherIter::over(self.text.as_slice())
     }
 
     /// Puts a copy of a matcher at the end.
     ///
     /// # Errors
     ///
-    /// [`AllocError`] where memory runs out.
+    /// [`AllocError`] where memory runs out. The matchers stay as they were.
     pub fn push(&mut self, alloc: Global, matcher: &MatcherRef<'_>) -> Result<(), AllocError>
-        ensures { OnOk result (self.new ≡ self.old ++ matcher.now ∷ []) }
+        ensures pushed { OnOk result (self.new ≡ self.old ++ matcher.now ∷ []) }
+        ensures unchanged { OnErr result (self.new ≡ self.old) }
     {
-        match &mut self.listed {
-            Some(listed) => listed.push(matcher),
-            None => {
-                let mut listed = Listed::none(alloc);
-                listed.push(matcher)?;
-                self.listed = Some(Box::new(alloc, listed)?);
-                Ok(())
-            }
-        }
+        let field = field_text(alloc, matcher)?;
+        self.text.extend_from_slice(field.as_slice())?;
+        Ok(())
     }
 
     /// Reads the matcher in a field, and puts it at the end.
@@ -129,9 +114,7 @@ impl Matchers {
     pub(crate) fn shrink_to_fit(&mut self)
         ensures { self.new ≡ self.old }
     {
-        if let Some(listed) = &mut self.listed {
-            listed.shrink_to_fit();
-        }
+        self.text.shrink_to_fit();
     }
 
     /// A copy.
@@ -142,14 +125,20 @@ impl Matchers {
     pub fn try_clone(&self, alloc: Global) -> Result<Matchers, AllocError>
         ensures { IfOk result (λ copy. copy ≡ self.now) }
     {
-        match &self.listed {
-            Some(listed) => {
-                let copy = listed.try_clone(alloc)?;
-                Ok(Matchers {
-                    listed: Some(Box::new(alloc, copy)?),
-                })
-            }
-            None => Ok(Matchers::none()),
-        }
+        Ok(Matchers {
+            text: Vec::from_slice(alloc, self.text.as_slice())?,
+        })
     }
+}
+
+// A matcher as a field of its silence, in no more room than it takes.
+fn field_text(alloc: Global, matcher: &MatcherRef<'_>) -> Result<Vec<u8>, AllocError>
+    ensures written { IfOk result (λ text. text.items ≡ writes_delimited 2 (writes_matcher matcher.now)) }
+    ensures value { OnOk result (IsMatcher matcher.now) }
+{
+    let size = matcher.size();
+    let mut text = Vec::with_capacity(alloc, delimited_size(2, size) as usize)?;
+    write_prefix(&mut text, 2, size)?;
+    matcher.write(&mut text)?;
+    Ok(text)
 }

@@ -1,34 +1,39 @@
 //! Silences as instances pass them on.
 
 ghost use Rattle.std.specs.Prelude.{◌≡◌, ◌<◌, ◌≤◌, length, Err, IfOk, IfErr, false, ◌⊎◌, ◌↔◌};
+ghost use Rattle.am_silence.specs.Fields.{silence_in};
 ghost use Rattle.am_wire.specs.Limits.{most};
 ghost use Rattle.am_wire.specs.declared.error.WireError.TheVariants as errors;
 ghost use Rattle.am_version_order.specs.Moments.{greatest};
 ghost use Rattle.am_wire.specs.Sizes.{counted};
 ghost use Rattle.am_silence.specs.Silences.{writes_silence};
-ghost use Rattle.am_silence.specs.Mesh.{Mesh, IsMesh, writes_mesh_silence, bucket_of};
+ghost use Rattle.am_silence.specs.Mesh.{IsMesh, writes_mesh_silence, bucket_of};
 ghost use Rattle.am_silence.specs.States.{state_of, is_expired};
 
-use crate::bucket::{Place, bucket_place};
+use crate::iter::MatcherIter;
+use crate::places::{Places, write_silence};
 use crate::silence::{Silence, SilenceDraft};
-use crate::sizes::version_size;
-use crate::state::{State, state_at};
+use crate::sizes::{SilenceFields, version_size};
+use crate::state::{State, state_between};
 use am_version_order::{Moment, Version, head_of_text};
 use am_wire::reading::{Dated, DatedDraft, read_message};
-use am_wire::writing::{append_text, write_dated};
+use am_wire::writing::{append_text, write_message, write_prefix};
 use am_wire::{MOST_MESSAGE_BYTES, Message, Text, WireError};
 use std::alloc::{AllocError, Global};
 use std::marker::Model;
 
 /// A version of a silence: the silence, and the moment from which on it may be forgotten.
 ///
-/// Its canonical text is kept beside its parts, so that comparing takes no memory, and of its bucket the
-/// place in that text. A text of 2^32 bytes or more is refused as one that memory is not enough for.
+/// Of a version its canonical text is kept, and beside it the identifier, the moments, and where the other parts stand
+/// in the text: they are read where they are asked for. A text of 2^32 bytes or more is refused as one that memory is
+/// not enough for.
 pub struct MeshSilence {
-    silence: Silence,
+    id: Text,
+    starts_at: Moment,
+    ends_at: Moment,
+    updated_at: Moment,
     expires_at: Moment,
-    // (here it fills the gap before the words of the text)
-    bucket: Place,
+    places: Places,
     canonical: Vec<u8>,
 }
 
@@ -36,9 +41,12 @@ pub struct MeshSilence {
 impl Drop for MeshSilence {
     fn drop(self) {
         let MeshSilence {
-            silence: _,
+            id: _,
+            starts_at: _,
+            ends_at: _,
+            updated_at: _,
             expires_at: _,
-            bucket: _,
+            places: _,
             canonical: _,
         } = self;
     }
@@ -46,17 +54,23 @@ impl Drop for MeshSilence {
 
 impl Model for MeshSilence {
     ghost use Rattle.std.specs.Prelude.{◌≡◌};
-    ghost use Rattle.am_silence.specs.Mesh.{Mesh, IsMesh, writes_mesh_silence, bucket_of};
-    ghost use Rattle.am_silence.specs.Places.{StandsAt};
+    ghost use Rattle.am_silence.specs.Mesh.{Mesh, IsMesh, writes_mesh_silence};
+    ghost use Rattle.am_silence.specs.Places.{StandIn};
+    ghost use Rattle.am_silence.specs.Spelled.{version_in};
 
     ghost Value = { Mesh };
 
-    ghost view = { λ m. record { silence = m.silence; expires_at = m.expires_at } };
+    ghost view = { λ m. version_in m.canonical.items };
 
     ghost invariant = { λ m. record {
-      canonical : m.canonical.items ≡ writes_mesh_silence (record { silence = m.silence; expires_at = m.expires_at });
-      bucket : StandsAt (bucket_of m.silence.matchers) m.bucket m.canonical.items;
-      value : IsMesh (record { silence = m.silence; expires_at = m.expires_at });
+      canonical : m.canonical.items ≡ writes_mesh_silence (version_in m.canonical.items);
+      value : IsMesh (version_in m.canonical.items);
+      id : m.id ≡ (version_in m.canonical.items).silence.id;
+      starts_at : m.starts_at ≡ (version_in m.canonical.items).silence.starts_at;
+      ends_at : m.ends_at ≡ (version_in m.canonical.items).silence.ends_at;
+      updated_at : m.updated_at ≡ (version_in m.canonical.items).silence.updated_at;
+      expires_at : m.expires_at ≡ (version_in m.canonical.items).expires_at;
+      places : StandIn (version_in m.canonical.items).silence m.places m.canonical.items;
     } };
 }
 
@@ -79,51 +93,118 @@ impl MeshSilence {
             (most < length (writes_mesh_silence (record { silence = silence; expires_at = expires_at }))) }
         ensures refused { IfErr result (λ e. (e ≡ errors.Memory) ⊎ (e ≡ errors.TooLarge)) }
     {
-        let size = silence.size();
+        MeshSilence::of_fields(alloc, &SilenceFields::of(&silence), expires_at)
+    }
+
+    // The same of fields.
+    pub(crate) fn of_fields(
+        alloc: Global,
+        fields: &SilenceFields<'_>,
+        expires_at: Moment,
+    ) -> Result<MeshSilence, WireError>
+        ensures parts { IfOk result (λ m. m ≡ record { silence = silence_in fields.now; expires_at = expires_at }) }
+        ensures value { IfOk result IsMesh }
+        ensures within { IfOk result (λ m. length (writes_mesh_silence m) ≤ most) }
+        ensures too_large { (result ≡ Err errors.TooLarge) ↔
+            (most < length (writes_mesh_silence (record { silence = silence_in fields.now; expires_at = expires_at }))) }
+        ensures refused { IfErr result (λ e. (e ≡ errors.Memory) ⊎ (e ≡ errors.TooLarge)) }
+    {
+        let size = fields.size();
         if version_size(size, expires_at) > MOST_MESSAGE_BYTES {
             return Err(WireError::TooLarge);
         }
-        let version = MeshSilence::of_parts(alloc, silence, size, expires_at)?;
+        let version = MeshSilence::of_sized(alloc, fields, size, expires_at)?;
         Ok(version)
     }
 
-    // A version of these parts, whose silence has so many bytes.
+    // A version of these fields, whose silence has so many bytes, however many.
     #[tactic(auto, unfolding(crate::specs::Mesh::writes_mesh_silence))]
-    fn of_parts(
+    fn of_sized(
         alloc: Global,
-        silence: Silence,
+        fields: &SilenceFields<'_>,
         size: u64,
         expires_at: Moment,
     ) -> Result<MeshSilence, AllocError>
-        requires { size ≡ counted (length (writes_silence silence)) }
-        ensures { IfOk result (λ m. m ≡ record { silence = silence; expires_at = expires_at }) }
+        requires { size ≡ counted (length (writes_silence (silence_in fields.now))) }
+        ensures { IfOk result (λ m. m ≡ record { silence = silence_in fields.now; expires_at = expires_at }) }
     {
-        let Ok(room) = u32::try_from(version_size(size, expires_at)) else {
-            return Err(AllocError);
-        };
-        let mut canonical = Vec::with_capacity(alloc, room as usize)?;
-        write_dated(&mut canonical, size, &silence, expires_at)?;
-        let bucket = bucket_place(&silence, size);
+        let room = version_size(size, expires_at) as usize;
+        let mut canonical = Vec::with_capacity(alloc, room)?;
+        write_prefix(&mut canonical, 1, size)?;
+        let places = write_silence(&mut canonical, fields)?;
+        write_message(&mut canonical, 2, &expires_at)?;
         Ok(MeshSilence {
-            silence,
+            id: Text::copied(alloc, fields.id)?,
+            starts_at: fields.starts_at,
+            ends_at: fields.ends_at,
+            updated_at: fields.updated_at,
             expires_at,
-            bucket,
+            places,
             canonical,
         })
     }
 
-    pub fn silence(&self) -> &Silence
-        ensures { result.now ≡ self.now.silence }
+    /// The fields of the silence.
+    pub(crate) fn fields(&self) -> SilenceFields<'_>
+        ensures { silence_in result ≡ self.now.silence }
     {
-        &self.silence
+        SilenceFields {
+            id: self.id.as_str(),
+            matchers: self.matchers(),
+            starts_at: self.starts_at,
+            ends_at: self.ends_at,
+            updated_at: self.updated_at,
+            created_by: self.created_by(),
+            comment: self.comment(),
+        }
     }
 
-    /// The state of the silence at a moment: at the last one all silences have expired.
-    pub(crate) fn state_at(&self, now: Moment) -> State
+    /// The matchers of the silence, in their order.
+    pub fn matchers(&self) -> MatcherIter<'_>
+        ensures { result ≡ self.now.silence.matchers }
+    {
+        let places = self.places;
+        MatcherIter::over(&self.canonical[places.matchers as usize..places.matchers_end as usize])
+    }
+
+    pub fn starts_at(&self) -> Moment
+        ensures { result ≡ self.now.silence.starts_at }
+    {
+        self.starts_at
+    }
+
+    pub fn ends_at(&self) -> Moment
+        ensures { result ≡ self.now.silence.ends_at }
+    {
+        self.ends_at
+    }
+
+    pub fn updated_at(&self) -> Moment
+        ensures { result ≡ self.now.silence.updated_at }
+    {
+        self.updated_at
+    }
+
+    /// Who made the silence.
+    pub fn created_by(&self) -> &str
+        ensures { result.now ≡ self.now.silence.created_by }
+    {
+        self.places.created_by.text_of(&self.canonical)
+    }
+
+    /// Why it was made.
+    pub fn comment(&self) -> &str
+        ensures { result.now ≡ self.now.silence.comment }
+    {
+        self.places.comment.text_of(&self.canonical)
+    }
+
+    /// The state of the silence at a moment: at the last one all silences have expired. It takes no memory.
+    pub fn state_at(&self, now: Moment) -> State
         ensures state { result ≡ state_of self.now.silence now }
         ensures last { is_expired result ≡ false → now < greatest }
     {
-        state_at(&self.silence, now)
+        state_between(self.starts_at, self.ends_at, now)
     }
 
     pub fn expires_at(&self) -> Moment
@@ -164,8 +245,8 @@ impl Message for MeshSilence {
             message: silence,
             expires_at,
         } = read_message::<DatedDraft<SilenceDraft>>(alloc, bytes, at, at)?;
-        let size = silence.size();
-        let version = MeshSilence::of_parts(alloc, silence, size, expires_at)?;
+        let fields = silence.fields();
+        let version = MeshSilence::of_sized(alloc, &fields, fields.size(), expires_at)?;
         Ok(version)
     }
 }
@@ -188,7 +269,7 @@ impl Version for MeshSilence {
     ghost is_value = { IsMesh };
 
     fn key(&self) -> &Text {
-        &self.silence.id
+        &self.id
     }
 
     fn head(id: &Text) -> u64 {
@@ -196,11 +277,11 @@ impl Version for MeshSilence {
     }
 
     fn try_key(&self, alloc: Global) -> Result<Text, AllocError> {
-        self.silence.id.try_clone(alloc)
+        self.id.try_clone(alloc)
     }
 
     fn updated(&self) -> Moment {
-        self.silence.updated_at
+        self.updated_at
     }
 
     fn expires(&self) -> Moment {
@@ -212,14 +293,17 @@ impl Version for MeshSilence {
     }
 
     fn bucket(&self) -> &[u8] {
-        self.bucket.part_of(self.canonical.as_slice())
+        self.places.bucket.part_of(self.canonical.as_slice())
     }
 
     fn try_clone(&self, alloc: Global) -> Result<MeshSilence, AllocError> {
         Ok(MeshSilence {
-            silence: self.silence.try_clone(alloc)?,
+            id: self.id.try_clone(alloc)?,
+            starts_at: self.starts_at,
+            ends_at: self.ends_at,
+            updated_at: self.updated_at,
             expires_at: self.expires_at,
-            bucket: self.bucket,
+            places: self.places,
             canonical: self.canonical.clone()?,
         })
     }

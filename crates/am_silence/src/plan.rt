@@ -5,7 +5,7 @@ ghost use Rattle.std.specs.Option.{option_copied};
 ghost use Rattle.am_version_order.specs.Versions.{IsLive};
 ghost use Rattle.am_silence.specs.declared.error.SilenceError.TheVariants as errors;
 ghost use Rattle.am_silence.specs.Mesh.{mesh_version};
-ghost use Rattle.am_silence.specs.Plans.{post_of, held_silence, planned, plan_over, new_plan, versions, successor, ended_of};
+ghost use Rattle.am_silence.specs.Plans.{post_of, held_silence, planned, silence_in_view, plan_over, new_plan, versions, successor, ended_of};
 ghost use Rattle.am_silence.specs.Plans.{Succeeds, IsUpdate, MayUpdate};
 ghost use Rattle.am_silence.specs.Refusals.{◌before◌, refusal, early_refusal, end_refusal, early_end_refusal, fresh_refusal, size_refusal};
 
@@ -13,8 +13,7 @@ use crate::checks::{check_fresh, check_older, check_posted};
 use crate::error::SilenceError;
 use crate::matchers::Matchers;
 use crate::mesh::MeshSilence;
-use crate::silence::Silence;
-use crate::state::{State, state_at};
+use crate::state::State;
 use crate::update::may_update;
 use crate::versions::{check_ended, ended_version, new_version, updated_version};
 use am_version_order::{Interval, Moment};
@@ -90,35 +89,35 @@ pub fn plan_post(
         (λ v. IfSome (option_copied held.entry) (λ version. Succeeds version v))) }
 {
     let held = check_posted(held, &posted, verdict, now)?;
-    plan_over(alloc, held, posted, now, bits, id_held, retention)
+    plan_over(alloc, held, &posted, now, bits, id_held, retention)
 }
 
-// The versions that a post makes, where `held` is the silence that is posted again.
+// The versions that a post makes, where `held` is the version of the silence that is posted again.
 #[tactic(auto, unfolding(crate::specs::Refusals::fresh_refusal, crate::specs::Refusals::size_refusal))]
 fn plan_over(
     alloc: Global,
-    held: Option<&Silence>,
-    posted: Posted,
+    held: Option<&MeshSilence>,
+    posted: &Posted,
     now: Moment,
     bits: u128,
     id_held: bool,
     retention: Interval,
 ) -> Result<Plan, SilenceError>
-    ensures planned { IfOk result (λ plan. plan ≡ plan_over (option_copied held.entry) (post_of posted now bits retention)) }
-    ensures fresh { OnOk result (fresh_refusal (option_copied held.entry) posted id_held now ≡ None) }
-    ensures size { OnOk result (size_refusal (versions (plan_over (option_copied held.entry) (post_of posted now bits retention))) ≡ None) }
+    ensures planned { IfOk result (λ plan. plan ≡ plan_over (silence_in_view (option_copied held.entry)) (post_of posted.now now bits retention)) }
+    ensures fresh { OnOk result (fresh_refusal (silence_in_view (option_copied held.entry)) posted.now id_held now ≡ None) }
+    ensures size { OnOk result (size_refusal (versions (plan_over (silence_in_view (option_copied held.entry)) (post_of posted.now now bits retention))) ≡ None) }
     ensures refused { IfErr result (λ e. e ≢ errors.Memory →
-        (fresh_refusal (option_copied held.entry) posted id_held now
-        before size_refusal (versions (plan_over (option_copied held.entry) (post_of posted now bits retention)))) ≡ Some e) }
+        (fresh_refusal (silence_in_view (option_copied held.entry)) posted.now id_held now
+        before size_refusal (versions (plan_over (silence_in_view (option_copied held.entry)) (post_of posted.now now bits retention)))) ≡ Some e) }
     ensures in_place { IfOk result (λ plan. IsUpdate plan ↔
-        IsSomeAnd (option_copied held.entry) (λ silence. MayUpdate silence posted now)) }
-    ensures live { now < posted.ends_at → IfOk result (λ plan. All (λ v. IsLive now (mesh_version v)) (versions plan)) }
+        IsSomeAnd (silence_in_view (option_copied held.entry)) (λ silence. MayUpdate silence posted.now now)) }
+    ensures live { now < posted.now.ends_at → IfOk result (λ plan. All (λ v. IsLive now (mesh_version v)) (versions plan)) }
     ensures memory { IfErr result (λ e. e ≡ errors.Memory →
-        (fresh_refusal (option_copied held.entry) posted id_held now
-        before size_refusal (versions (plan_over (option_copied held.entry) (post_of posted now bits retention)))) ≡ None) }
+        (fresh_refusal (silence_in_view (option_copied held.entry)) posted.now id_held now
+        before size_refusal (versions (plan_over (silence_in_view (option_copied held.entry)) (post_of posted.now now bits retention)))) ≡ None) }
 {
     match held {
-        Some(held) if may_update(held, &posted, now) => {
+        Some(held) if may_update(held, posted, now) => {
             let version = updated_version(alloc, held, posted, now, retention)?;
             Ok(Plan::Update(version))
         }
@@ -133,24 +132,24 @@ fn plan_over(
 #[tactic(auto, unfolding(crate::specs::Refusals::size_refusal))]
 fn plan_new(
     alloc: Global,
-    held: Option<&Silence>,
-    posted: Posted,
+    held: Option<&MeshSilence>,
+    posted: &Posted,
     now: Moment,
     bits: u128,
     retention: Interval,
 ) -> Result<Plan, SilenceError>
     ensures new { IfOk result (λ plan. ¬ IsUpdate plan) }
-    ensures planned { IfOk result (λ plan. plan ≡ new_plan (option_copied held.entry) (post_of posted now bits retention)) }
+    ensures planned { IfOk result (λ plan. plan ≡ new_plan (silence_in_view (option_copied held.entry)) (post_of posted.now now bits retention)) }
     ensures accepted { OnOk result (
-        size_refusal (versions (new_plan (option_copied held.entry) (post_of posted now bits retention))) ≡ None) }
+        size_refusal (versions (new_plan (silence_in_view (option_copied held.entry)) (post_of posted.now now bits retention))) ≡ None) }
     ensures refused { IfErr result (λ e. e ≢ errors.Memory →
-        size_refusal (versions (new_plan (option_copied held.entry) (post_of posted now bits retention))) ≡ Some e) }
+        size_refusal (versions (new_plan (silence_in_view (option_copied held.entry)) (post_of posted.now now bits retention))) ≡ Some e) }
     ensures memory { IfErr result (λ e. e ≡ errors.Memory →
-        size_refusal (versions (new_plan (option_copied held.entry) (post_of posted now bits retention))) ≡ None) }
-    ensures live { now < posted.ends_at → IfOk result (λ plan. All (λ v. IsLive now (mesh_version v)) (versions plan)) }
+        size_refusal (versions (new_plan (silence_in_view (option_copied held.entry)) (post_of posted.now now bits retention))) ≡ None) }
+    ensures live { now < posted.now.ends_at → IfOk result (λ plan. All (λ v. IsLive now (mesh_version v)) (versions plan)) }
 {
     match held {
-        Some(held) if state_at(held, now) != State::Expired => {
+        Some(held) if held.state_at(now) != State::Expired => {
             check_ended(held, now, retention)?;
             let new = new_version(alloc, posted, now, bits, retention)?;
             let ended = ended_version(alloc, held, now, retention)?;
@@ -188,10 +187,9 @@ pub fn plan_expire(
     let Some(held) = held else {
         return Err(SilenceError::NotFound);
     };
-    let silence = held.silence();
     if held.state_at(now) == State::Expired {
         return Err(SilenceError::AlreadyExpired);
     }
-    check_older(silence, now)?;
-    ended_version(alloc, silence, now, retention)
+    check_older(held, now)?;
+    ended_version(alloc, held, now, retention)
 }

@@ -1,22 +1,21 @@
 //! Silences.
 
 ghost use Rattle.std.specs.Prelude.{◌≡◌, ℕ, List, [], ◌∷◌, ◌++◌, OnOk, IfOk, IfErr};
-ghost use Rattle.std.specs.Prelude.{All, if◌then◌else◌};
-ghost use Rattle.am_silence.specs.Matchers.{IsMatcher, writes_matcher};
-ghost use Rattle.am_wire.specs.Writing.{writes_delimited, writes_messages};
-ghost use Rattle.am_silence.specs.Silences.{silence};
+ghost use Rattle.std.specs.Prelude.{if◌then◌else◌};
+ghost use Rattle.am_silence.specs.Fields.{silence_in};
+ghost use Rattle.am_silence.specs.Silences.{silence, writes_silence, IsSilence};
 
 use crate::comment::FirstComment;
-use crate::matcher::MatcherRef;
 use crate::matchers::Matchers;
 use crate::sizes::SilenceFields;
 use am_version_order::Moment;
 use am_wire::reading::{
     Draft, LastText, Schema, Submessage, TimestampDraft, moment_in, read_message,
 };
-use am_wire::writing::{write_message, write_prefix, write_text};
+use am_wire::writing::{write_message, write_text};
 use am_wire::{Field, Message, Text, WireError, WireType};
 use std::alloc::{AllocError, Global};
+use std::marker::Model;
 
 /// A silence: from `starts_at` until `ends_at`, alerts whose labels pass all matchers are muted.
 #[derive(Debug, Drop)]
@@ -47,6 +46,75 @@ impl Silence {
             updated_at: self.updated_at,
             created_by: self.created_by.try_clone(alloc)?,
             comment: self.comment.try_clone(alloc)?,
+        })
+    }
+}
+
+/// A silence as it was read, whose texts are the input's. Contracts see the silence.
+#[derive(Drop)]
+pub struct SilenceParts<'a> {
+    id: &'a str,
+    matchers: Matchers,
+    starts_at: Moment,
+    ends_at: Moment,
+    updated_at: Moment,
+    created_by: &'a str,
+    comment: &'a str,
+}
+
+impl<'a> Model for SilenceParts<'a> {
+    ghost use Rattle.am_silence.specs.declared.silence.Silence.{Silence};
+
+    ghost Value = { Silence };
+
+    ghost view = { λ s. record {
+      id = s.id.now;
+      matchers = s.matchers;
+      starts_at = s.starts_at;
+      ends_at = s.ends_at;
+      updated_at = s.updated_at;
+      created_by = s.created_by.now;
+      comment = s.comment.now;
+    } };
+}
+
+impl<'a> SilenceParts<'a> {
+    /// The fields of the silence.
+    pub(crate) fn fields(&self) -> SilenceFields<'_>
+        ensures { silence_in result ≡ self.now }
+    {
+        SilenceFields {
+            id: self.id,
+            matchers: self.matchers.iter(),
+            starts_at: self.starts_at,
+            ends_at: self.ends_at,
+            updated_at: self.updated_at,
+            created_by: self.created_by,
+            comment: self.comment,
+        }
+    }
+
+    /// A silence with texts of its own.
+    ///
+    /// # Errors
+    ///
+    /// [`AllocError`] where memory runs out.
+    pub fn copied(self, alloc: Global) -> Result<Silence, AllocError>
+        ensures { IfOk result (λ copy. copy ≡ self.entry) }
+    {
+        let id = Text::copied(alloc, self.id)?;
+        let created_by = Text::copied(alloc, self.created_by)?;
+        let comment = Text::copied(alloc, self.comment)?;
+        let mut matchers = self.matchers;
+        matchers.shrink_to_fit();
+        Ok(Silence {
+            id,
+            matchers,
+            starts_at: self.starts_at,
+            ends_at: self.ends_at,
+            updated_at: self.updated_at,
+            created_by,
+            comment,
         })
     }
 }
@@ -98,7 +166,7 @@ impl<'a> Draft<'a> for SilenceDraft<'a> {
     ghost use Rattle.am_silence.specs.Silences.{silence_value, silence_tests};
     ghost use Rattle.am_silence.specs.Drafts.{IsSilenceDraft};
 
-    type Done = Silence;
+    type Done = SilenceParts<'a>;
 
     ghost inside = { silence.inside };
 
@@ -112,7 +180,7 @@ impl<'a> Draft<'a> for SilenceDraft<'a> {
         SilenceDraft {
             alloc,
             id: LastText::none(),
-            matchers: Matchers::none(),
+            matchers: Matchers::none(alloc),
             starts_at: Submessage::none(alloc),
             ends_at: Submessage::none(alloc),
             updated_at: Submessage::none(alloc),
@@ -137,19 +205,14 @@ impl<'a> Draft<'a> for SilenceDraft<'a> {
         Ok(())
     }
 
-    fn finish(self, alloc: Global, _place: usize) -> Result<Silence, WireError> {
+    fn finish(self, alloc: Global, _place: usize) -> Result<SilenceParts<'a>, WireError> {
         let (created_by, comment) = self.author_and_comment();
         let starts_at = moment_in(alloc, self.starts_at)?;
         let ends_at = moment_in(alloc, self.ends_at)?;
         let updated_at = moment_in(alloc, self.updated_at)?;
-        let id = Text::copied(alloc, self.id.text)?;
-        let created_by = Text::copied(alloc, created_by)?;
-        let comment = Text::copied(alloc, comment)?;
-        let mut matchers = self.matchers;
-        matchers.shrink_to_fit();
-        Ok(Silence {
-            id,
-            matchers,
+        Ok(SilenceParts {
+            id: self.id.text,
+            matchers: self.matchers,
             starts_at,
             ends_at,
             updated_at,
@@ -159,24 +222,26 @@ impl<'a> Draft<'a> for SilenceDraft<'a> {
     }
 }
 
-/// Writes each matcher as a field.
-fn push_matchers(out: &mut Vec<u8>, matchers: &Matchers) -> Result<(), AllocError>
-    ensures written { OnOk result (out.new.items ≡ out.old.items ++ writes_messages writes_matcher 2 matchers.now) }
-    ensures value { OnOk result (All IsMatcher matchers.now) }
+/// Writes the silence of these fields at the end of the bytes.
+///
+/// # Errors
+///
+/// [`AllocError`] where memory runs out. A part of the text may be left.
+#[tactic(auto, unfolding(crate::specs::Silences::writes_silence))]
+pub(crate) fn write_silence_fields(
+    out: &mut Vec<u8>,
+    fields: &SilenceFields<'_>,
+) -> Result<(), AllocError>
+    ensures written { OnOk result (out.new.items ≡ out.old.items ++ writes_silence (silence_in fields.now)) }
+    ensures value { OnOk result (IsSilence (silence_in fields.now)) }
 {
-    for index in 0..matchers.len() {
-        push_matcher(out, &matchers.at(index))?;
-    }
-    Ok(())
-}
-
-/// Writes a matcher as a field.
-fn push_matcher(out: &mut Vec<u8>, matcher: &MatcherRef<'_>) -> Result<(), AllocError>
-    ensures written { OnOk result (out.new.items ≡ out.old.items ++ writes_delimited 2 (writes_matcher matcher.now)) }
-    ensures value { OnOk result (IsMatcher matcher.now) }
-{
-    write_prefix(out, 2, matcher.size())?;
-    matcher.write(out)
+    write_text(out, 1, fields.id)?;
+    out.extend_from_slice(fields.matchers.as_text())?;
+    write_message(out, 3, &fields.starts_at)?;
+    write_message(out, 4, &fields.ends_at)?;
+    write_message(out, 5, &fields.updated_at)?;
+    write_text(out, 8, fields.created_by)?;
+    write_text(out, 9, fields.comment)
 }
 
 impl Message for Silence {
@@ -195,20 +260,13 @@ impl Message for Silence {
         SilenceFields::of(self).size()
     }
 
-    #[tactic(auto, unfolding(crate::specs::Silences::writes_silence))]
     fn write(&self, out: &mut Vec<u8>) -> Result<(), AllocError> {
-        write_text(out, 1, self.id.as_str())?;
-        push_matchers(out, &self.matchers)?;
-        write_message(out, 3, &self.starts_at)?;
-        write_message(out, 4, &self.ends_at)?;
-        write_message(out, 5, &self.updated_at)?;
-        write_text(out, 8, self.created_by.as_str())?;
-        write_text(out, 9, self.comment.as_str())?;
-        Ok(())
+        write_silence_fields(out, &SilenceFields::of(self))
     }
 
     #[tactic(auto, unfolding(crate::specs::Silences::reads_silence))]
     fn decode_at(alloc: Global, bytes: &[u8], at: usize) -> Result<Silence, WireError> {
-        read_message::<SilenceDraft>(alloc, bytes, at, at)
+        let parts = read_message::<SilenceDraft>(alloc, bytes, at, at)?;
+        Ok(parts.copied(alloc)?)
     }
 }

@@ -1,23 +1,21 @@
 //! How many bytes canonical texts have, before anything of them is made.
 
-ghost use Rattle.std.specs.Prelude.{◌≡◌, ◌≤◌, length, take};
+ghost use Rattle.std.specs.Prelude.{◌≡◌, length};
 ghost use Rattle.am_wire.specs.Sizes.{counted};
-ghost use Rattle.am_wire.specs.Writing.{writes_messages};
 ghost use Rattle.am_silence.specs.Fields.{silence_in};
-ghost use Rattle.am_silence.specs.Matchers.{writes_matcher};
 ghost use Rattle.am_silence.specs.Mesh.{Mesh, writes_mesh_silence};
 ghost use Rattle.am_silence.specs.Silences.{writes_silence};
 
-use crate::matchers::Matchers;
+use crate::iter::MatcherIter;
 use crate::silence::Silence;
 use am_version_order::Moment;
-use am_wire::writing::{dated_size, delimited_size, message_size, text_size};
+use am_wire::writing::{dated_size, message_size, text_size};
 
 /// The fields of a silence, whose texts and matchers are another's.
-#[derive(Clone, Copy)]
+#[derive(Drop)]
 pub struct SilenceFields<'a> {
     pub id: &'a str,
-    pub matchers: &'a Matchers,
+    pub matchers: MatcherIter<'a>,
     pub starts_at: Moment,
     pub ends_at: Moment,
     pub updated_at: Moment,
@@ -32,7 +30,7 @@ impl<'a> SilenceFields<'a> {
     {
         SilenceFields {
             id: silence.id.as_str(),
-            matchers: &silence.matchers,
+            matchers: silence.matchers.iter(),
             starts_at: silence.starts_at,
             ends_at: silence.ends_at,
             updated_at: silence.updated_at,
@@ -47,26 +45,13 @@ impl<'a> SilenceFields<'a> {
         ensures { result ≡ counted (length (writes_silence (silence_in self.now))) }
     {
         text_size(1, self.id)
-            .saturating_add(matchers_size(self.matchers, self.matchers.len()))
+            .saturating_add(self.matchers.as_text().len() as u64)
             .saturating_add(message_size(3, &self.starts_at))
             .saturating_add(message_size(4, &self.ends_at))
             .saturating_add(message_size(5, &self.updated_at))
             .saturating_add(text_size(8, self.created_by))
             .saturating_add(text_size(9, self.comment))
     }
-}
-
-/// How many bytes the first matchers have, each as a field.
-pub fn matchers_size(matchers: &Matchers, count: usize) -> u64
-    requires { count ≤ length matchers.now }
-    ensures { result ≡ counted (length (writes_messages writes_matcher 2 (take count matchers.now))) }
-{
-    let mut size: u64 = 0;
-    for index in 0..count {
-        let matcher = matchers.at(index);
-        size = size.saturating_add(delimited_size(2, matcher.size()));
-    }
-    size
 }
 
 /// How many bytes a version has whose silence has so many.

@@ -1,7 +1,9 @@
 //! Whether a silence has begun, and whether it has ended.
 
-ghost use Rattle.std.specs.Prelude.{◌≡◌};
-ghost use Rattle.am_silence.specs.States.{state_of};
+ghost use Rattle.std.specs.Prelude.{◌≡◌, ◌<◌, false};
+ghost use Rattle.am_silence.specs.declared.silence.Silence.{Silence};
+ghost use Rattle.am_version_order.specs.Moments.{greatest};
+ghost use Rattle.am_silence.specs.States.{state_of, is_expired};
 
 use crate::silence::Silence;
 use am_version_order::Moment;
@@ -21,9 +23,17 @@ pub enum State {
 pub fn state_at(silence: &Silence, now: Moment) -> State
     ensures { result ≡ state_of silence.now now }
 {
-    if now < silence.starts_at {
+    state_between(silence.starts_at, silence.ends_at, now)
+}
+
+/// The state of a silence with this start and this end.
+pub(crate) fn state_between(starts_at: Moment, ends_at: Moment, now: Moment) -> State
+    ensures state { (silence : Silence) → starts_at ≡ silence.starts_at → ends_at ≡ silence.ends_at → result ≡ state_of silence now }
+    ensures last { is_expired result ≡ false → now < greatest }
+{
+    if now < starts_at {
         State::Pending
-    } else if now < silence.ends_at {
+    } else if now < ends_at {
         State::Active
     } else {
         State::Expired

@@ -10,8 +10,8 @@ ghost use Rattle.am_moment_text.specs.Written.{WritesMoment};
 
 use crate::tokens::{add, add_text, add_truth};
 use am_moment_text::write_moment;
-use am_silence::{MatcherKind, Matchers, MeshSilence, Silence, State};
-use am_version_order::Moment;
+use am_silence::{MatcherIter, MatcherKind, MeshSilence, State};
+use am_version_order::{Moment, Version};
 use json::{Token, Writer};
 use std::alloc::AllocError;
 
@@ -53,20 +53,19 @@ fn add_matcher(
 }
 
 /// Adds matchers, without brackets.
-fn add_each_matcher(out: &mut Writer, matchers: &Matchers) -> Result<(), AllocError>
-    ensures { OnOk result (Adds out.old out.new (row_tokens (map matcher_data matchers.now))) }
+fn add_each_matcher(out: &mut Writer, matchers: MatcherIter<'_>) -> Result<(), AllocError>
+    ensures { OnOk result (Adds out.old out.new (row_tokens (map matcher_data matchers.entry))) }
 {
-    for index in 0..matchers.len() {
-        let matcher = matchers.at(index);
+    for matcher in matchers {
         add_matcher(out, matcher.kind(), matcher.name(), matcher.pattern())?;
     }
     Ok(())
 }
 
 /// Adds the member that lists the matchers.
-fn add_matchers(out: &mut Writer, matchers: &Matchers) -> Result<(), AllocError>
+fn add_matchers(out: &mut Writer, matchers: MatcherIter<'_>) -> Result<(), AllocError>
     ensures { OnOk result (Adds out.old out.new
-        (key (codes "matchers") ∷ data_tokens (array (items_of (map matcher_data matchers.now))))) }
+        (key (codes "matchers") ∷ data_tokens (array (items_of (map matcher_data matchers.entry))))) }
 {
     add(out, Token::Key("matchers"))?;
     add(out, Token::BeginArray)?;
@@ -96,19 +95,23 @@ fn add_moment(out: &mut Writer, name: &str, moment: Moment) -> Result<(), AllocE
     Ok(())
 }
 
-/// Adds a silence in a state.
-pub fn add_silence(out: &mut Writer, silence: &Silence, state: State) -> Result<(), AllocError>
-    ensures { OnOk result ((d : Data) × IsGettable silence.now state d × Adds out.old out.new (data_tokens d)) }
+/// Adds the silence of a version in a state.
+pub fn add_silence(
+    out: &mut Writer,
+    version: &MeshSilence,
+    state: State,
+) -> Result<(), AllocError>
+    ensures { OnOk result ((d : Data) × IsGettable version.now.silence state d × Adds out.old out.new (data_tokens d)) }
 {
     add(out, Token::BeginObject)?;
-    add_text(out, "comment", silence.comment.as_str())?;
-    add_text(out, "createdBy", silence.created_by.as_str())?;
-    add_moment(out, "endsAt", silence.ends_at)?;
-    add_text(out, "id", silence.id.as_str())?;
-    add_matchers(out, &silence.matchers)?;
-    add_moment(out, "startsAt", silence.starts_at)?;
+    add_text(out, "comment", version.comment())?;
+    add_text(out, "createdBy", version.created_by())?;
+    add_moment(out, "endsAt", version.ends_at())?;
+    add_text(out, "id", version.key().as_str())?;
+    add_matchers(out, version.matchers())?;
+    add_moment(out, "startsAt", version.starts_at())?;
     add_status(out, state)?;
-    add_moment(out, "updatedAt", silence.updated_at)?;
+    add_moment(out, "updatedAt", version.updated_at())?;
     add(out, Token::EndObject)?;
     Ok(())
 }
@@ -118,7 +121,7 @@ fn add_each_silence(out: &mut Writer, rows: &[(MeshSilence, State)]) -> Result<(
     ensures { OnOk result ((ds : List Data) × AreGettable rows.now ds × Adds out.old out.new (row_tokens ds)) }
 {
     for (version, state) in rows {
-        add_silence(out, version.silence(), *state)?;
+        add_silence(out, version, *state)?;
     }
     Ok(())
 }

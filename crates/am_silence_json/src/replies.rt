@@ -8,7 +8,7 @@ ghost use Rattle.am_silence_json.specs.Gettables.{IsGettable, AreGettable, poste
 
 use crate::gettable::{add_posted, add_silence, add_silences};
 use crate::tokens::add;
-use am_silence::{MeshSilence, Silence, State};
+use am_silence::{MeshSilence, State};
 use json::{Token, Writer};
 use std::alloc::AllocError;
 
@@ -26,17 +26,21 @@ pub fn write_silences(out: Vec<u8>, rows: &[(MeshSilence, State)]) -> Result<Vec
     Ok(writer.into_inner())
 }
 
-/// One silence in its state: compact JSON behind what `out` holds.
+/// The silence of a version in its state: compact JSON behind what `out` holds.
 ///
 /// # Errors
 ///
 /// [`AllocError`] where memory runs out.
-pub fn write_silence(out: Vec<u8>, silence: &Silence, state: State) -> Result<Vec<u8>, AllocError>
-    ensures { IfOk result (λ body. (d : Data) × IsGettable silence.now state d
+pub fn write_silence(
+    out: Vec<u8>,
+    version: &MeshSilence,
+    state: State,
+) -> Result<Vec<u8>, AllocError>
+    ensures { IfOk result (λ body. (d : Data) × IsGettable version.now.silence state d
         × (body.items ≡ out.items ++ compact_text d)) }
 {
     let mut writer = Writer::new(out);
-    add_silence(&mut writer, silence, state)?;
+    add_silence(&mut writer, version, state)?;
     Ok(writer.into_inner())
 }
 

@@ -39,7 +39,7 @@ const A: &[u8] =
     b"\x0A\x19\x0A\x01a\x12\x08\x12\x03job\x1A\x01x\x1A\x02\x08\x0A\x22\x02\x08\x64\x2A\x02\x08\x0A\x12\x03\x08\xC8\x01";
 
 fn matchers(alloc: Global, rows: &[MatcherRow]) -> Result<Matchers, AllocError> {
-    let mut matchers = Matchers::none();
+    let mut matchers = Matchers::none(alloc);
     for &(kind, name, pattern) in rows {
         matchers.push(alloc, &MatcherRef::new(kind, name, pattern))?;
     }
@@ -47,13 +47,16 @@ fn matchers(alloc: Global, rows: &[MatcherRow]) -> Result<Matchers, AllocError> 
 }
 
 /// From 10.0005 s to 100 s, updated at 10.0005 s.
-fn silence(alloc: Global, (id, author, comment, rows): SilenceRow) -> Result<Silence, AllocError> {
+fn silence(
+    alloc: Global,
+    (id, author, comment, rows): SilenceRow,
+) -> Result<MeshSilence, WireError> {
     let start = Moment::from_parts(10, 500_000).unwrap_or(Moment::LEAST);
     let end = Moment::from_parts(100, 0).unwrap_or(Moment::LEAST);
     let matchers = matchers(alloc, rows)?;
     let id = Text::copied(alloc, id)?;
     let created_by = Text::copied(alloc, author)?;
-    Ok(Silence {
+    let silence = Silence {
         id,
         matchers,
         starts_at: start,
@@ -61,7 +64,8 @@ fn silence(alloc: Global, (id, author, comment, rows): SilenceRow) -> Result<Sil
         updated_at: start,
         created_by,
         comment: Text::copied(alloc, comment)?,
-    })
+    };
+    MeshSilence::new(alloc, silence, end)
 }
 
 fn body_is(body: Result<Vec<u8>, AllocError>, wanted: &str) -> bool {
@@ -73,7 +77,7 @@ fn body_is(body: Result<Vec<u8>, AllocError>, wanted: &str) -> bool {
 
 fn shows(rt: &impl Abort, alloc: Global, row: SilenceRow, state: State, wanted: &str) {
     let shown = match silence(alloc, row) {
-        Ok(silence) => body_is(write_silence(Vec::new(alloc), &silence, state), wanted),
+        Ok(version) => body_is(write_silence(Vec::new(alloc), &version, state), wanted),
         Err(_) => false,
     };
     assert!(rt; shown, "{wanted}");

@@ -24,11 +24,10 @@ fn seconds(moment: Moment) -> i64 {
 
 /// The first of the matchers is this one.
 fn is_first(matchers: &Matchers, kind: MatcherKind, name: &str, pattern: &str) -> bool {
-    if matchers.is_empty() {
-        return false;
+    match matchers.iter().next() {
+        Some(first) => first.kind() == kind && first.name() == name && first.pattern() == pattern,
+        None => false,
     }
-    let first = matchers.at(0);
-    first.kind() == kind && first.name() == name && first.pattern() == pattern
 }
 
 fn posts_that(
@@ -41,7 +40,7 @@ fn posts_that(
     };
     let first = is_first(&posted.matchers, kind, name, pattern);
     posted_id == id
-        && posted.matchers.len() == count
+        && posted.matchers.iter().count() == count
         && first
         && seconds(posted.starts_at) == start
         && seconds(posted.ends_at) == end

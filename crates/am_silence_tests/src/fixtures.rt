@@ -31,7 +31,7 @@ pub fn retention() -> Interval {
 
 /// The matchers of these rows.
 pub fn matchers(alloc: Global, rows: &[MatcherRow]) -> Result<Matchers, AllocError> {
-    let mut matchers = Matchers::none();
+    let mut matchers = Matchers::none(alloc);
     for &(kind, name, pattern) in rows {
         matchers.push(alloc, &MatcherRef::new(kind, name, pattern))?;
     }

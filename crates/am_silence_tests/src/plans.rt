@@ -1,6 +1,6 @@
 //! What posts and ends of silences make.
 
-use crate::fixtures::{JOB_IS_X, at, matchers, retention, version};
+use crate::fixtures::{JOB_IS_X, at, matchers, retention, silence, version};
 use am_silence::SilenceError::{
     AllMatchEmpty, AlreadyExpired, BadPattern, EmptyName, EndInPast, EndNotAfterStart, IdInUse,
     NoMatcher, NotFound,
@@ -170,10 +170,9 @@ fn planned(
 }
 
 fn moments_of(version: &MeshSilence) -> Moments {
-    let silence = version.silence();
     [
-        silence.starts_at.parts(),
-        silence.ends_at.parts(),
+        version.starts_at().parts(),
+        version.ends_at().parts(),
         version.updated().parts(),
         version.expires().parts(),
     ]
@@ -181,11 +180,7 @@ fn moments_of(version: &MeshSilence) -> Moments {
 
 // The version is of this identifier, by `ops`, with the comment `hi`.
 fn is_posted(version: &MeshSilence, id: &str) -> bool {
-    let silence = version.silence();
-    version.key().as_str() == id
-        && silence.id.as_str() == id
-        && silence.created_by.as_str() == "ops"
-        && silence.comment.as_str() == "hi"
+    version.key().as_str() == id && version.created_by() == "ops" && version.comment() == "hi"
 }
 
 // It is a version of the silence `a`, and greater than the one that is there.
@@ -477,14 +472,25 @@ fn state_then(alloc: Global, (seconds, nanos): Time) -> Result<Option<State>, Wi
     let Some(now) = Moment::from_parts(seconds, nanos) else {
         return Ok(None);
     };
+    let silence = silence(alloc, &JOB_IS_X, [10_000, 100_000, 10_000])?;
+    Ok(Some(state_at(&silence, now)))
+}
+
+// The same of a version of the silence.
+fn version_state_then(alloc: Global, (seconds, nanos): Time) -> Result<Option<State>, WireError> {
+    let Some(now) = Moment::from_parts(seconds, nanos) else {
+        return Ok(None);
+    };
     let version = held(alloc, [10_000, 100_000, 10_000])?;
-    Ok(Some(state_at(version.silence(), now)))
+    Ok(Some(version.state_at(now)))
 }
 
 #[test]
 fn states_begin_at_their_moments(rt: HostRuntime) {
     for (time, wanted) in STATES {
         let state = state_then(rt.alloc(), time);
+        assert!(rt; state == Ok(Some(wanted)), "{time:?}: {state:?}");
+        let state = version_state_then(rt.alloc(), time);
         assert!(rt; state == Ok(Some(wanted)), "{time:?}: {state:?}");
     }
 }

@@ -1,7 +1,7 @@
 //! How silences are written, read, compared and copied.
 
 use crate::fixtures::{JOB_IS_X, MatcherRow, at, holds, matchers, version};
-use am_silence::{Matcher, MatcherKind, Matchers, MeshSilence, fresh_id};
+use am_silence::{Matcher, MatcherIter, MatcherKind, Matchers, MeshSilence, fresh_id};
 use am_version_order::{Moment, Version};
 use am_wire::{Message, WireError};
 use std::alloc::{AllocError, Global};
@@ -52,14 +52,13 @@ fn parts_are_written(rt: HostRuntime) {
 
 // Update moment and expiry, the expiry of the message, start and end of the silence, and its update moment.
 fn moments_of(version: &MeshSilence) -> [Moment; 6] {
-    let silence = version.silence();
     [
         version.updated(),
         version.expires(),
         version.expires_at(),
-        silence.starts_at,
-        silence.ends_at,
-        silence.updated_at,
+        version.starts_at(),
+        version.ends_at(),
+        version.updated_at(),
     ]
 }
 
@@ -70,26 +69,27 @@ fn has_texts(version: &MeshSilence, key: &str, canonical: &[u8], bucket: &[u8]) 
 
 // Id, author and comment are these.
 fn has_words(version: &MeshSilence, id: &str, author: &str, comment: &str) -> bool {
-    let silence = version.silence();
-    silence.id.as_str() == id
-        && silence.created_by.as_str() == author
-        && silence.comment.as_str() == comment
+    version.key().as_str() == id && version.created_by() == author && version.comment() == comment
 }
 
 // There is one matcher, and it is this one.
-fn is_matcher(matchers: &Matchers, (kind, name, pattern): MatcherRow) -> bool {
-    if matchers.len() != 1 {
-        return false;
+fn is_matcher(mut matchers: MatcherIter<'_>, (kind, name, pattern): MatcherRow) -> bool {
+    match matchers.next() {
+        Some(matcher) => {
+            matcher.kind() == kind
+                && matcher.name() == name
+                && matcher.pattern() == pattern
+                && matchers.is_empty()
+        }
+        None => false,
     }
-    let matcher = matchers.at(0);
-    matcher.kind() == kind && matcher.name() == name && matcher.pattern() == pattern
 }
 
 fn is_first(version: &MeshSilence) -> bool {
     let (ten, end, expiry) = (at(10_000), at(100_000), at(200_000));
     has_texts(version, "a", &FIRST, &JOB_IS_X_TEXT)
         && moments_of(version) == [ten, expiry, expiry, ten, end, ten]
-        && is_matcher(&version.silence().matchers, JOB_IS_X[0])
+        && is_matcher(version.matchers(), JOB_IS_X[0])
 }
 
 fn is_first_read(alloc: Global, bytes: &[u8]) -> Result<bool, WireError> {
@@ -140,7 +140,7 @@ fn is_joined(version: &MeshSilence) -> bool {
     let (least, expiry) = (Moment::LEAST, at(200_000));
     has_words(version, "a", "", "hi")
         && moments_of(version) == [least, expiry, expiry, least, least, least]
-        && version.silence().matchers.is_empty()
+        && version.matchers().is_empty()
         && version.canonical().len() == 53
         && version.bucket().is_empty()
 }
@@ -331,7 +331,7 @@ fn is_matcher_copied(
     row: MatcherRow,
 ) -> Result<bool, WireError> {
     let copy = matchers.try_clone(alloc)?;
-    Ok(is_matcher(&copy, row))
+    Ok(is_matcher(copy.iter(), row))
 }
 
 fn are_copied(alloc: Global, rows: &[MatcherRow; 1]) -> Result<bool, WireError> {

@@ -8,7 +8,7 @@ use Rattle.am_silence.specs.States.{state_of}
 use Rattle.am_silence.specs.declared.state.State.{State}
 use Rattle.am_silence.specs.declared.state.State.TheVariants.{Pending, Active, Expired}
 use Rattle.am_nflog.specs.Mesh.{Mesh as LogMesh, mesh_version as entry_version}
-use Rattle.am_nflog.specs.declared.entry.LogKey.{LogKey}
+use Rattle.am_nflog.specs.LogKeys.{LogKey}
 use Rattle.am_merge.specs.Maps.{swept}
 use Rattle.am_snapshot.specs.declared.error.SnapshotError.{SnapshotError}
 use Rattle.am_snapshot.specs.declared.error.SnapshotError.TheVariants.{Write, Memory}

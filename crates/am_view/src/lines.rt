@@ -7,8 +7,8 @@ ghost use Rattle.am_view.specs.Views.{entry_line, shows_line, silence_line, stat
 use crate::lists::Numbers;
 use crate::words::Word;
 use am_nflog::{LogKey, MeshEntry};
-use am_silence::{MeshSilence, State, state_at};
-use am_version_order::Moment;
+use am_silence::{MeshSilence, State};
+use am_version_order::{Moment, Version};
 use std::alloc::AllocError;
 use std::fmt::{self, Display};
 
@@ -42,11 +42,10 @@ impl Display for Key<'_> {
 
     #[tactic(auto, unfolding(crate::specs::Views::key_words))]
     fn fmt<W: fmt::Write>(&self, f: &mut fmt::Formatter<W>) -> fmt::Result {
-        let receiver = &self.0.receiver;
-        let group = Word(self.0.group_key.as_slice());
-        let name = Word(receiver.group_name.as_str().as_bytes());
-        let integration = Word(receiver.integration.as_str().as_bytes());
-        let idx = receiver.idx;
+        let group = Word(self.0.group_key());
+        let name = Word(self.0.group_name().as_bytes());
+        let integration = Word(self.0.integration().as_bytes());
+        let idx = self.0.idx();
         write!(f, "{group} {name} {integration} {idx}")
     }
 }
@@ -89,9 +88,8 @@ pub fn append_silence(
 ) -> Result<(), AllocError>
     ensures { OnOk result (string_bytes out.new ≡ string_bytes out.old ++ silence_line (option_copied owner.entry.0) now version.now) }
 {
-    let silence = version.silence();
-    let id = Word(silence.id.as_str().as_bytes());
-    let state = state_name(state_at(silence, now));
+    let id = Word(version.key().as_str().as_bytes());
+    let state = state_name(version.state_at(now));
     writeln!(out, "{owner}sil {id} {state}")
 }
 
@@ -104,9 +102,8 @@ pub fn append_entry(
 ) -> Result<(), AllocError>
     ensures { OnOk result (string_bytes out.new ≡ string_bytes out.old ++ entry_line (option_copied owner.entry.0) version.now) }
 {
-    let entry = version.entry();
-    let key = Key(&entry.key);
-    let firing = Numbers(entry.firing_alerts.as_slice());
-    let resolved = Numbers(entry.resolved_alerts.as_slice());
+    let key = Key(version.key());
+    let firing = Numbers(version.firing_alerts());
+    let resolved = Numbers(version.resolved_alerts());
     writeln!(out, "{owner}nfl {key} {firing} {resolved}")
 }

@@ -6,31 +6,36 @@ ghost use Rattle.am_view.specs.Lists.{behind_commas};
 ghost use Rattle.am_view.specs.Words.{listed_word_of};
 
 use crate::words::ListedWord;
+use am_nflog::HashIter;
 use am_wire::Text;
 use std::fmt::{self, Display};
 
 /// Numbers that are printed as a word: in decimal with commas between them, or `-` for none.
-#[derive(Clone, Copy)]
-pub struct Numbers<'a>(pub &'a [u64]);
+#[derive(Drop)]
+pub struct Numbers<'a>(pub HashIter<'a>);
 
 impl Display for Numbers<'_> {
     ghost use Rattle.std.specs.Prelude.{Some};
     ghost use Rattle.am_view.specs.Lists.{numbers_word};
 
-    ghost output = { λ numbers. Some (numbers_word numbers.0.now) };
+    ghost output = { λ numbers. Some (numbers_word numbers.0) };
 
     fn fmt<W: fmt::Write>(&self, f: &mut fmt::Formatter<W>) -> fmt::Result {
-        let Some((first, rest)) = self.0.split_first() else {
+        let mut numbers = self.0.again();
+        let Some(first) = numbers.next() else {
             return f.write_str("-");
         };
         write!(f, "{first}")?;
-        write_numbers(rest, f)
+        write_numbers(numbers, f)
     }
 }
 
 /// Writes numbers, each behind a comma.
-fn write_numbers<W: fmt::Write>(numbers: &[u64], f: &mut fmt::Formatter<W>) -> fmt::Result
-    ensures { WritesOnOk W.write_str_gives f.old result (behind_commas decimal numbers.now) f.new }
+fn write_numbers<W: fmt::Write>(
+    numbers: HashIter<'_>,
+    f: &mut fmt::Formatter<W>,
+) -> fmt::Result
+    ensures { WritesOnOk W.write_str_gives f.old result (behind_commas decimal numbers.entry) f.new }
 {
     for number in numbers {
         write!(f, ",{number}")?;

@@ -1,5 +1,6 @@
 //! Texts and lists as words.
 
+use am_nflog::HashIter;
 use am_view::{ListedWord, Numbers, Texts, Word};
 use am_wire::Text;
 use std::alloc::{AllocError, Global};
@@ -63,7 +64,7 @@ fn numbers_are_listed(rt: HostRuntime) {
         (&[18_446_744_073_709_551_615, 7], "18446744073709551615,7"),
     ];
     for (numbers, word) in rows {
-        let is_list = prints(rt.alloc(), Numbers(numbers), word);
+        let is_list = prints(rt.alloc(), Numbers(HashIter::of(numbers)), word);
         assert!(rt; is_list, "{word}");
     }
 }

@@ -1,6 +1,10 @@
-use Rattle.std.proofs.Common.{◌≡◌, find, drop}
+use Rattle.std.proofs.Common.{◌≡◌, find}
 use Rattle.am_silence.specs.Matchers.{wants_label}
+use Rattle.am_silence.proofs.Buckets.{GoesOn}
 use Rattle.am_silence.proofs.bucket.first_wanting.Given as goal
 
-abbrev pub invariant-loop-index : goal.invariant-loop-index
-invariant-loop-index l = find wants_label l.matchers ≡ find wants_label (drop l.index l.matchers)
+abbrev pub invariant-loop-matcher : goal.invariant-loop-matcher
+invariant-loop-matcher l = record {
+  found : find wants_label l.fn.matchers ≡ find wants_label l.rest;
+  goes_on : GoesOn l.fn.matchers l.rest l.at;
+}

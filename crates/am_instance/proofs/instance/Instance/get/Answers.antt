@@ -3,7 +3,6 @@ use Rattle.std.specs.Option.{option_copied}
 use Rattle.std.proofs.lemmas.Result.{err_from_is_err_and}
 use Rattle.am_silence.specs.States.{state_of}
 use Rattle.am_silence.specs.Mesh.{Mesh}
-use Rattle.am_silence.specs.declared.silence.Silence.{Silence}
 use Rattle.am_silence.specs.declared.state.State.{State}
 use Rattle.am_instance.specs.declared.reply.Reply.TheVariants as replies
 use Rattle.am_instance.specs.Replies.{found_reply}
@@ -27,6 +26,6 @@ returns c =
     let v = c.in-Some.version.now in
     let reply : c.quiet-2.result.reply ≡ replies.Silence v (state_of v.silence c.args.now) =
     c.quiet-2.ensures.reply ∙ ap (λ (m : Mesh). replies.Silence m c.state_at-state.result) c.in_ok-copy.ensures
-    ∙ ap (λ (s : State). replies.Silence v s) (c.state_at-state.ensures ∙ ap (λ (s : Silence). state_of s c.args.now) c.silence.ensures) in
+    ∙ ap (λ (s : State). replies.Silence v s) c.state_at-state.ensures.state in
     rw (← c.self.view_is) (quiet_work _ _ c.args.now c.quiet-2.result refl refl refl refl c.quiet-2.ensures.sent c.quiet-2.ensures.made
     (subst (λ o. found_reply c.args.now o c.quiet-2.result.reply) found reply, c.quiet-2.ensures.made))

@@ -1,0 +1,9 @@
+use Rattle.am_silence.specs.Places.{StandsAt}
+use Rattle.am_silence.specs.Spelled.{version_in}
+use Rattle.am_silence.proofs.mesh.MeshSilence.created_by.Goals as goal
+
+pub returns : goal.returns
+returns c =
+    let part = (version_in c.self.inside.canonical.items).silence.created_by in
+    let stands : StandsAt part c.self.inside.places.created_by c.deref.result.now = rw c.deref.ensures.value c.self.invariant.places.created_by in
+    rw (← c.self.view_is) (c.text_of.ensures part stands)

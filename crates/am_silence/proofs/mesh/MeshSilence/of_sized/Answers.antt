@@ -1,0 +1,61 @@
+use Rattle.std.proofs.Common.{rules, ◌≡◌, ℕ, ◌≤◌, ◌^◌, List, ◌++◌, length, length-append, sym, ap, subst, ◌∙◌, arith}
+use Rattle.am_wire.specs.Again.Varints.{shortest_filled}
+use Rattle.am_wire.specs.Timestamps.{writes_moment}
+use Rattle.am_wire.specs.Varint.{shortest}
+use Rattle.am_wire.specs.Writing.{tag, writes_delimited}
+use Rattle.am_silence.specs.Fields.{silence_in}
+use Rattle.am_silence.specs.Mesh.{Mesh, IsMesh, writes_mesh_silence}
+use Rattle.am_silence.specs.Places.{StandIn}
+use Rattle.am_silence.specs.Spelled.{version_in, version_spelled}
+use Rattle.am_silence.proofs.Spelling.{written_version}
+use Rattle.am_silence.proofs.Standing.{stand_before}
+use Rattle.am_silence.proofs.mesh.MeshSilence.of_sized.Goals as goal
+
+pub write_silence-requires : goal.write_silence-requires
+write_silence-requires c =
+    omega (
+      arith,
+      ap length c.in_ok-write_prefix.ensures.ok,
+      length-append c.in_ok-canonical.canonical.items (tag 1 2 ++ shortest c.args.size),
+      length-append (tag 1 2) (shortest c.args.size),
+      shortest_filled c.args.size,
+    )
+
+module _ (c : goal.After-result-4-1) where
+  abbrev version : Mesh
+  version = record { silence = silence_in c.args.fields.now; expires_at = c.args.expires_at }
+
+  abbrev text : List ℕ
+  text = c.write_message.new.out.items
+
+  small : length text ≤ 2 ^ 63
+  small = search rules
+
+  written : text ≡ writes_mesh_silence version
+  written = written_version version c.args.size _ _ _ _ c.requires small c.in_ok-canonical.ensures.items c.in_ok-write_prefix.ensures.ok
+      c.in_ok-places.ensures.written c.in_ok-write_message.ensures.written
+
+  sound : IsMesh version
+  sound = record { silence = c.in_ok-places.ensures.value; expires_at = c.in_ok-write_message.ensures.value; size = subst (λ (x : List ℕ). length x ≤ 2 ^ 63) written small }
+
+  spelled : version_in text ≡ version
+  spelled = ap version_in written ∙ version_spelled version sound
+
+  standing : StandIn version.silence c.in_ok-places.places text
+  standing = subst (λ (x : List ℕ). StandIn version.silence c.in_ok-places.places x) (sym c.in_ok-write_message.ensures.written)
+      (stand_before c.in_ok-places.ensures.places (writes_delimited 2 (writes_moment c.args.expires_at)))
+
+pub invariant_of-result : goal.invariant_of-result
+invariant_of-result c = record {
+  canonical = written c ∙ ap writes_mesh_silence (sym (spelled c));
+  value = subst IsMesh (sym (spelled c)) (sound c);
+  id = c.in_ok-copied.ensures ∙ ap (λ (m : Mesh). m.silence.id) (sym (spelled c));
+  starts_at = ap (λ (m : Mesh). m.silence.starts_at) (sym (spelled c));
+  ends_at = ap (λ (m : Mesh). m.silence.ends_at) (sym (spelled c));
+  updated_at = ap (λ (m : Mesh). m.silence.updated_at) (sym (spelled c));
+  expires_at = ap (λ (m : Mesh). m.expires_at) (sym (spelled c));
+  places = subst (λ (m : Mesh). StandIn m.silence c.in_ok-places.places (text c)) (sym (spelled c)) (standing c);
+}
+
+pub returns : goal.returns
+returns c = spelled c
