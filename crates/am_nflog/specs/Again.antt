@@ -16,7 +16,7 @@ use Rattle.am_wire.specs.Dated.{dated, dated_tests, dated_value}
 use Rattle.am_wire.specs.Again.Dated.{dated_reads, made_reads, read_alike}
 use Rattle.am_nflog.specs.declared.receiver.Receiver.{Receiver}
 use Rattle.am_nflog.specs.declared.entry.Entry.{Entry}
-use Rattle.am_nflog.specs.declared.entry.LogKey.{LogKey}
+use Rattle.am_nflog.specs.LogKeys.{LogKey}
 use Rattle.am_nflog.specs.Receivers.{receiver, receiver_tests, receiver_value, reads_receiver, writes_receiver, IsReceiver}
 use Rattle.am_nflog.specs.Entries.{entry, entry_tests, entry_value, reads_entry, writes_entry, IsEntry}
 use Rattle.am_nflog.specs.Mesh.{Mesh, IsMesh, mesh_version, writes_mesh_entry}

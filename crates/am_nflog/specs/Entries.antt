@@ -10,7 +10,7 @@ use Rattle.am_wire.specs.Reading.{last_number, last_text, all_numbers, merged, i
 use Rattle.am_wire.specs.Timestamps.{timestamp, moment_of, moment_test, writes_moment}
 use Rattle.am_wire.specs.Writing.{writes_number, writes_text, writes_delimited, writes_numbers}
 use Rattle.am_nflog.specs.declared.entry.Entry.{Entry}
-use Rattle.am_nflog.specs.declared.entry.LogKey.{LogKey}
+use Rattle.am_nflog.specs.LogKeys.{LogKey}
 use Rattle.am_nflog.specs.Receivers.{receiver, receiver_value, writes_receiver, IsReceiver}
 
 -- which wire types an entry's fields have, and what is at fault inside them

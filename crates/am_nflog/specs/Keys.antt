@@ -1,13 +1,13 @@
 -- The order of log keys: group key, group name, integration, byte by byte, then the index as a number.
-use Rattle.std.specs.Prelude.{◌≡◌}
+use Rattle.std.specs.Prelude.{◌≡◌, Bool, nat_eq}
 use Rattle.std.specs.declared.cmp.Ordering.{Ordering}
 use Rattle.std.specs.declared.cmp.Ordering.TheVariants.{Less, Equal, Greater}
-use Rattle.std.specs.Ordering.{nat_cmp, ordering_then, on, then_cmp}
-use Rattle.std.specs.Cmp.Lexicographic.{slice_cmp}
+use Rattle.std.specs.Ordering.{nat_cmp, ordering_then, on, then_cmp, eq_of_both}
+use Rattle.std.specs.Cmp.Lexicographic.{pointwise, slice_cmp}
 use Rattle.std.proofs.Common.{refl, sym}
 use Rattle.std.proofs.lemmas.Cmp.{ranked}
 use Rattle.std.proofs.lemmas.Map.Lookups.{exact_bytes}
-use Rattle.am_nflog.specs.declared.entry.LogKey.{LogKey}
+use Rattle.am_nflog.specs.LogKeys.{LogKey}
 
 -- keys in their order
 abbrev pub key_cmp : LogKey → LogKey → Ordering
@@ -15,6 +15,13 @@ key_cmp =
     then_cmp (on (λ k. k.group_key) (slice_cmp nat_cmp))
     (then_cmp (on (λ k. k.receiver.group_name) (slice_cmp nat_cmp))
     (then_cmp (on (λ k. k.receiver.integration) (slice_cmp nat_cmp)) (on (λ k. k.receiver.idx) nat_cmp)))
+
+-- keys are equal where all their parts are
+abbrev pub key_eq : LogKey → LogKey → Bool
+key_eq =
+    eq_of_both (on (λ k. k.group_key) (pointwise nat_eq))
+    (eq_of_both (on (λ k. k.receiver.group_name) (pointwise nat_eq))
+    (eq_of_both (on (λ k. k.receiver.integration) (pointwise nat_eq)) (on (λ k. k.receiver.idx) nat_eq)))
 
 then_equal : (a b : Ordering) → ordering_then a b ≡ Equal → (a ≡ Equal) × (b ≡ Equal)
 then_equal Less b h = absurd cc

@@ -1,8 +1,13 @@
 pub mod Receivers
+pub mod LogKeys
 pub mod Entries
+pub mod Fields
 pub mod Keys
 pub mod Mesh
 pub mod MeshTable
+pub mod Spelled
+pub mod Places
+pub mod Packed
 pub mod Drafts
 pub mod Again
 pub mod Made

@@ -4,7 +4,7 @@ use Rattle.am_version_order.specs.Moments.{greatest}
 use Rattle.am_version_order.specs.Versions.{Version}
 use Rattle.am_wire.specs.Dated.{writes_dated}
 use Rattle.am_nflog.specs.declared.entry.Entry.{Entry}
-use Rattle.am_nflog.specs.declared.entry.LogKey.{LogKey}
+use Rattle.am_nflog.specs.LogKeys.{LogKey}
 use Rattle.am_nflog.specs.Entries.{writes_entry, IsEntry}
 
 -- an entry, and the moment from which on it may be forgotten

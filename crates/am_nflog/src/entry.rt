@@ -1,87 +1,21 @@
 //! Entries of the log.
 
 ghost use Rattle.std.specs.Prelude.{◌≡◌, ℕ, List, [], ◌∷◌, ◌++◌, OnOk, IfOk, IfErr};
-ghost use Rattle.std.proofs.Common.{rules};
-ghost use Rattle.std.specs.Cmp.{partial_order_from_own_ties};
-ghost use Rattle.std.specs.Cmp.Rules.{comparing};
-ghost use Rattle.std.specs.Ordering.{as_partial_cmp};
 ghost use Rattle.am_nflog.specs.Entries.{entry};
-ghost use Rattle.am_nflog.specs.Keys.{key_cmp};
+ghost use Rattle.am_nflog.specs.Fields.{entry_in};
 
+use crate::fields::EntryFields;
 use crate::hashes::Hashes;
-use crate::receiver::{Receiver, ReceiverDraft};
+use crate::key::LogKey;
+use crate::receiver::{ReceiverDraft, ReceiverRef};
 use am_version_order::Moment;
 use am_wire::reading::{
     Draft, LastBytes, LastNumber, Schema, Submessage, TimestampDraft, moment_in, read_message,
     take_numbers,
 };
-use am_wire::writing::{
-    bytes_size, message_size, number_size, numbers_size, write_bytes, write_message, write_number,
-    write_numbers,
-};
 use am_wire::{Bytes, Field, Message, WireError, WireType};
 use std::alloc::{AllocError, Global};
-use std::cmp::Ordering;
-
-/// Which group of alerts, and which receiver. Keys are ordered by group key, group name and
-/// integration, byte by byte, and then by index as a number.
-#[derive(Debug, PartialEq, Eq, Drop)]
-pub struct LogKey {
-    pub group_key: Bytes,
-    pub receiver: Receiver,
-}
-
-impl LogKey {
-    /// A copy.
-    ///
-    /// # Errors
-    ///
-    /// [`AllocError`] where memory runs out.
-    pub fn try_clone(&self, alloc: Global) -> Result<LogKey, AllocError>
-        ensures { IfOk result (λ copy. copy ≡ self.now) }
-    {
-        Ok(LogKey {
-            group_key: self.group_key.try_clone(alloc)?,
-            receiver: self.receiver.try_clone(alloc)?,
-        })
-    }
-}
-
-impl PartialOrd for LogKey {
-    ghost partial_cmp = { as_partial_cmp key_cmp };
-
-    ghost laws = { partial_order_from_own_ties (Prim.search (comparing, rules) depth 9) (Prim.search (comparing, rules) depth 9) };
-
-    fn partial_cmp(&self, other: &LogKey) -> Option<Ordering> {
-        Some(self.cmp(other))
-    }
-}
-
-impl Ord for LogKey {
-    ghost cmp = { key_cmp };
-
-    ghost total = { Prim.search (comparing, rules) depth 9 };
-
-    ghost matches_partial_cmp = { Prim.search (comparing, rules) depth 9 };
-
-    ghost matches_eq = { Prim.search (comparing, rules) depth 9 };
-
-    fn cmp(&self, other: &LogKey) -> Ordering {
-        let (to, other_to) = (&self.receiver, &other.receiver);
-        match self.group_key.cmp(&other.group_key) {
-            Ordering::Equal => {}
-            order => return order,
-        }
-        match to.group_name.cmp(&other_to.group_name) {
-            Ordering::Equal => {}
-            order => return order,
-        }
-        match to.integration.cmp(&other_to.integration) {
-            Ordering::Equal => to.idx.cmp(&other_to.idx),
-            order => order,
-        }
-    }
-}
+use std::marker::Model;
 
 /// What was notified of a group to a receiver: which alerts were firing then, and which resolved.
 #[derive(Debug, Drop)]
@@ -116,6 +50,63 @@ impl Entry {
     }
 }
 
+/// An entry as it was read, whose texts are the input's. Contracts see the entry.
+#[derive(Drop)]
+pub struct EntryParts<'a> {
+    group_key: &'a [u8],
+    receiver: ReceiverRef<'a>,
+    group_hash: &'a [u8],
+    resolved: bool,
+    timestamp: Moment,
+    firing_alerts: Vec<u64>,
+    resolved_alerts: Vec<u64>,
+}
+
+impl<'a> Model for EntryParts<'a> {
+    ghost use Rattle.am_nflog.specs.declared.entry.Entry.{Entry};
+
+    ghost Value = { Entry };
+
+    ghost view = { λ e. record {
+      key = record { group_key = e.group_key.now; receiver = e.receiver };
+      group_hash = e.group_hash.now;
+      resolved = e.resolved;
+      timestamp = e.timestamp;
+      firing_alerts = e.firing_alerts.items;
+      resolved_alerts = e.resolved_alerts.items;
+    } };
+}
+
+impl<'a> EntryParts<'a> {
+    /// The fields of the entry.
+    pub(crate) fn fields(&self) -> EntryFields<'_>
+        ensures { entry_in result ≡ self.now }
+    {
+        EntryFields {
+            group_key: self.group_key,
+            group_name: self.receiver.group_name(),
+            integration: self.receiver.integration(),
+            idx: self.receiver.idx(),
+            group_hash: self.group_hash,
+            resolved: self.resolved,
+            timestamp: self.timestamp,
+            firing_alerts: self.firing_alerts.as_slice(),
+            resolved_alerts: self.resolved_alerts.as_slice(),
+        }
+    }
+
+    /// An entry with texts and lists of its own.
+    ///
+    /// # Errors
+    ///
+    /// [`AllocError`] where memory runs out.
+    pub fn copied(&self, alloc: Global) -> Result<Entry, AllocError>
+        ensures { IfOk result (λ copy. copy ≡ self.now) }
+    {
+        self.fields().copied(alloc)
+    }
+}
+
 /// An entry as it is read.
 #[derive(Drop)]
 pub struct EntryDraft<'a> {
@@ -147,7 +138,7 @@ impl<'a> Draft<'a> for EntryDraft<'a> {
     ghost use Rattle.am_nflog.specs.Entries.{entry_value, entry_tests};
     ghost use Rattle.am_nflog.specs.Drafts.{IsEntryDraft};
 
-    type Done = Entry;
+    type Done = EntryParts<'a>;
 
     ghost inside = { entry.inside };
 
@@ -183,27 +174,20 @@ impl<'a> Draft<'a> for EntryDraft<'a> {
         Ok(())
     }
 
-    fn finish(self, alloc: Global, _place: usize) -> Result<Entry, WireError> {
+    fn finish(self, alloc: Global, _place: usize) -> Result<EntryParts<'a>, WireError> {
         if !self.receiver.given {
             return Err(WireError::MissingMessage { field: 2 });
         }
         let timestamp = moment_in(alloc, self.timestamp)?;
         let receiver = self.receiver.draft.finish(alloc, self.receiver.at)?;
-        let group_key = Bytes::copied(alloc, self.group_key.bytes)?;
-        let group_hash = Bytes::copied(alloc, self.group_hash.bytes)?;
-        let (mut firing, mut resolved) = (self.firing_alerts, self.resolved_alerts);
-        firing.shrink_to_fit();
-        resolved.shrink_to_fit();
-        Ok(Entry {
-            key: LogKey {
-                group_key,
-                receiver,
-            },
-            group_hash,
+        Ok(EntryParts {
+            group_key: self.group_key.bytes,
+            receiver,
+            group_hash: self.group_hash.bytes,
             resolved: self.resolved.value != 0,
             timestamp,
-            firing_alerts: Hashes::new(firing),
-            resolved_alerts: Hashes::new(resolved),
+            firing_alerts: self.firing_alerts,
+            resolved_alerts: self.resolved_alerts,
         })
     }
 }
@@ -220,31 +204,18 @@ impl Message for Entry {
 
     ghost again = { entry_again };
 
-    #[tactic(auto, unfolding(crate::specs::Entries::writes_entry))]
     fn size(&self) -> u64 {
-        bytes_size(1, self.key.group_key.as_slice())
-            .saturating_add(message_size(2, &self.key.receiver))
-            .saturating_add(bytes_size(3, self.group_hash.as_slice()))
-            .saturating_add(number_size(4, u64::from(self.resolved)))
-            .saturating_add(message_size(5, &self.timestamp))
-            .saturating_add(numbers_size(6, self.firing_alerts.as_slice()))
-            .saturating_add(numbers_size(7, self.resolved_alerts.as_slice()))
+        EntryFields::of(self).size()
     }
 
-    #[tactic(auto, unfolding(crate::specs::Entries::writes_entry))]
     fn write(&self, out: &mut Vec<u8>) -> Result<(), AllocError> {
-        write_bytes(out, 1, self.key.group_key.as_slice())?;
-        write_message(out, 2, &self.key.receiver)?;
-        write_bytes(out, 3, self.group_hash.as_slice())?;
-        write_number(out, 4, u64::from(self.resolved))?;
-        write_message(out, 5, &self.timestamp)?;
-        write_numbers(out, 6, self.firing_alerts.as_slice())?;
-        write_numbers(out, 7, self.resolved_alerts.as_slice())?;
+        EntryFields::of(self).write(out)?;
         Ok(())
     }
 
     #[tactic(auto, unfolding(crate::specs::Entries::reads_entry))]
     fn decode_at(alloc: Global, bytes: &[u8], at: usize) -> Result<Entry, WireError> {
-        read_message::<EntryDraft>(alloc, bytes, at, at)
+        let entry = read_message::<EntryDraft>(alloc, bytes, at, at)?;
+        Ok(entry.copied(alloc)?)
     }
 }

@@ -2,6 +2,7 @@
 
 ghost use Rattle.std.specs.Prelude.{◌≡◌, ℕ, List, IfOk};
 
+use crate::hash_iter::HashIter;
 use std::alloc::{AllocError, Global};
 use std::marker::Model;
 
@@ -31,6 +32,13 @@ impl Hashes {
         ensures { result.now ≡ self.now }
     {
         self.hashes.as_slice()
+    }
+
+    /// The hashes, one by one.
+    pub fn iter(&self) -> HashIter<'_>
+        ensures { result ≡ self.now }
+    {
+        HashIter::of(self.as_slice())
     }
 
     /// Gives the vector back. It takes no memory.

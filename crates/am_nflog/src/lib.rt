@@ -2,15 +2,21 @@
 #![tactic(auto)]
 
 mod entry;
+mod fields;
+mod hash_iter;
 mod hashes;
+mod key;
 mod make;
 mod mesh;
+mod places;
 mod receiver;
 mod record;
 
 pub use am_wire::Bytes;
-pub use entry::{Entry, EntryDraft, LogKey};
+pub use entry::{Entry, EntryDraft, EntryParts};
+pub use hash_iter::HashIter;
 pub use hashes::Hashes;
+pub use key::LogKey;
 pub use make::make_entry;
 pub use mesh::MeshEntry;
-pub use receiver::{Receiver, ReceiverDraft};
+pub use receiver::{Receiver, ReceiverDraft, ReceiverRef};

@@ -6,7 +6,7 @@ ghost use Rattle.am_wire.specs.declared.error.WireError.TheVariants as errors;
 ghost use Rattle.am_nflog.specs.Mesh.{writes_mesh_entry};
 ghost use Rattle.am_nflog.specs.Made.{made_entry, expiry};
 
-use crate::entry::{Entry, LogKey};
+use crate::fields::EntryFields;
 use crate::hashes::Hashes;
 use crate::mesh::MeshEntry;
 use crate::receiver::Receiver;
@@ -52,17 +52,17 @@ pub fn make_entry(
     if expires_at <= now {
         return Ok(None);
     }
-    let entry = Entry {
-        key: LogKey {
-            group_key,
-            receiver,
-        },
-        group_hash: Bytes::new(Vec::new(alloc)),
+    let fields = EntryFields {
+        group_key: group_key.as_slice(),
+        group_name: receiver.group_name.as_str(),
+        integration: receiver.integration.as_str(),
+        idx: receiver.idx,
+        group_hash: &[],
         resolved: false,
         timestamp: now,
-        firing_alerts: firing,
-        resolved_alerts: resolved,
+        firing_alerts: firing.as_slice(),
+        resolved_alerts: resolved.as_slice(),
     };
-    let made = MeshEntry::new(alloc, entry, expires_at)?;
+    let made = MeshEntry::of_fields(alloc, &fields, expires_at)?;
     Ok(Some(made))
 }

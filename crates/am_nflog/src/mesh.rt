@@ -1,26 +1,37 @@
 //! Entries as instances pass them on.
 
 ghost use Rattle.std.specs.Prelude.{◌≡◌, ℕ, ◌<◌, ◌≤◌, List, [], ◌∷◌, ◌++◌, length, Err, OnOk, IfOk, IfErr, ◌⊎◌, ◌↔◌};
+ghost use Rattle.am_version_order.specs.Moments.{greatest};
 ghost use Rattle.am_wire.specs.Limits.{most};
 ghost use Rattle.am_wire.specs.declared.error.WireError.TheVariants as errors;
 ghost use Rattle.am_wire.specs.Sizes.{counted};
-ghost use Rattle.am_nflog.specs.Entries.{writes_entry};
+ghost use Rattle.am_nflog.specs.Entries.{writes_entry, IsEntry};
+ghost use Rattle.am_nflog.specs.Fields.{entry_in};
 ghost use Rattle.am_nflog.specs.Mesh.{Mesh, writes_mesh_entry};
+ghost use Rattle.am_nflog.specs.Places.{StandAt};
 
-use crate::entry::{Entry, EntryDraft, LogKey};
+use crate::entry::{Entry, EntryDraft};
+use crate::fields::EntryFields;
+use crate::hash_iter::HashIter;
+use crate::key::LogKey;
+use crate::places::Places;
 use am_version_order::{Moment, Version, head_of_text};
 use am_wire::reading::{Dated, DatedDraft, read_message};
-use am_wire::writing::{append_text, dated_size, write_dated};
+use am_wire::writing::{append_text, dated_size, write_message, write_prefix};
 use am_wire::{MOST_MESSAGE_BYTES, Message, WireError};
 use std::alloc::{AllocError, Global};
 use std::marker::Model;
 
 /// A version of an entry: the entry, and the moment from which on it may be forgotten.
 ///
-/// Its canonical text is kept beside its parts, so that comparing takes no memory.
+/// Its canonical text is kept, so that comparing takes no memory; beside it stand its key and its moments, and the
+/// places of its other parts in that text. A text of 2^32 bytes or more is refused as one that memory is not enough for.
 pub struct MeshEntry {
-    entry: Entry,
+    key: LogKey,
+    timestamp: Moment,
     expires_at: Moment,
+    places: Places,
+    resolved: bool,
     canonical: Vec<u8>,
 }
 
@@ -28,8 +39,11 @@ pub struct MeshEntry {
 impl Drop for MeshEntry {
     fn drop(self) {
         let MeshEntry {
-            entry: _,
+            key: _,
+            timestamp: _,
             expires_at: _,
+            places: _,
+            resolved: _,
             canonical: _,
         } = self;
     }
@@ -38,14 +52,21 @@ impl Drop for MeshEntry {
 impl Model for MeshEntry {
     ghost use Rattle.std.specs.Prelude.{◌≡◌};
     ghost use Rattle.am_nflog.specs.Mesh.{Mesh, IsMesh, writes_mesh_entry};
+    ghost use Rattle.am_nflog.specs.Spelled.{spelled};
+    ghost use Rattle.am_nflog.specs.Places.{StandAt};
 
     ghost Value = { Mesh };
 
-    ghost view = { λ m. record { entry = m.entry; expires_at = m.expires_at } };
+    ghost view = { λ m. spelled m.canonical.items };
 
     ghost invariant = { λ m. record {
-      canonical : m.canonical.items ≡ writes_mesh_entry (record { entry = m.entry; expires_at = m.expires_at });
-      value : IsMesh (record { entry = m.entry; expires_at = m.expires_at });
+      canonical : m.canonical.items ≡ writes_mesh_entry (spelled m.canonical.items);
+      value : IsMesh (spelled m.canonical.items);
+      key : m.key ≡ (spelled m.canonical.items).entry.key;
+      timestamp : m.timestamp ≡ (spelled m.canonical.items).entry.timestamp;
+      expires_at : m.expires_at ≡ (spelled m.canonical.items).expires_at;
+      resolved : m.resolved ≡ (spelled m.canonical.items).entry.resolved;
+      places : StandAt (spelled m.canonical.items).entry m.places m.canonical.items;
     } };
 }
 
@@ -56,7 +77,6 @@ impl MeshEntry {
     ///
     /// [`WireError::TooLarge`] exactly where its canonical text has over 67,108,864 bytes, and
     /// [`WireError::Memory`] where memory runs out.
-    #[tactic(auto, unfolding(crate::specs::Mesh::writes_mesh_entry))]
     pub fn new(alloc: Global, entry: Entry, expires_at: Moment) -> Result<MeshEntry, WireError>
         ensures parts { IfOk result (λ m. m ≡ record { entry = entry; expires_at = expires_at }) }
         ensures within { IfOk result (λ m. length (writes_mesh_entry m) ≤ most) }
@@ -64,39 +84,59 @@ impl MeshEntry {
             (most < length (writes_mesh_entry (record { entry = entry; expires_at = expires_at }))) }
         ensures refused { IfErr result (λ e. (e ≡ errors.Memory) ⊎ (e ≡ errors.TooLarge)) }
     {
-        let size = entry.size();
+        MeshEntry::of_fields(alloc, &EntryFields::of(&entry), expires_at)
+    }
+
+    // The same of an entry's fields.
+    #[tactic(auto, unfolding(crate::specs::Mesh::writes_mesh_entry))]
+    pub(crate) fn of_fields(
+        alloc: Global,
+        fields: &EntryFields<'_>,
+        expires_at: Moment,
+    ) -> Result<MeshEntry, WireError>
+        ensures parts { IfOk result (λ m. m ≡ record { entry = entry_in fields.now; expires_at = expires_at }) }
+        ensures within { IfOk result (λ m. length (writes_mesh_entry m) ≤ most) }
+        ensures too_large { (result ≡ Err errors.TooLarge) ↔
+            (most < length (writes_mesh_entry (record { entry = entry_in fields.now; expires_at = expires_at }))) }
+        ensures refused { IfErr result (λ e. (e ≡ errors.Memory) ⊎ (e ≡ errors.TooLarge)) }
+    {
+        let size = fields.size();
         if dated_size(size, expires_at) > MOST_MESSAGE_BYTES {
             return Err(WireError::TooLarge);
         }
-        let version = MeshEntry::of_parts(alloc, entry, size, expires_at)?;
+        let version = MeshEntry::of_sized(alloc, fields, size, expires_at)?;
         Ok(version)
     }
 
     // A version of these parts, however long its text is; the entry has so many bytes.
     #[tactic(auto, unfolding(crate::specs::Mesh::writes_mesh_entry))]
-    fn of_parts(
+    fn of_sized(
         alloc: Global,
-        entry: Entry,
+        fields: &EntryFields<'_>,
         size: u64,
         expires_at: Moment,
     ) -> Result<MeshEntry, AllocError>
-        requires { size ≡ counted (length (writes_entry entry)) }
-        ensures { IfOk result (λ m. m ≡ record { entry = entry; expires_at = expires_at }) }
+        requires { size ≡ counted (length (writes_entry (entry_in fields.now))) }
+        ensures { IfOk result (λ m. m ≡ record { entry = entry_in fields.now; expires_at = expires_at }) }
     {
         let room = dated_size(size, expires_at) as usize;
         let mut canonical = Vec::with_capacity(alloc, room)?;
-        write_dated(&mut canonical, size, &entry, expires_at)?;
+        let places = write_version(&mut canonical, fields, size, expires_at)?;
+        let key = fields.key(alloc)?;
         Ok(MeshEntry {
-            entry,
+            key,
+            timestamp: fields.timestamp,
             expires_at,
+            places,
+            resolved: fields.resolved,
             canonical,
         })
     }
 
-    pub fn entry(&self) -> &Entry
-        ensures { result.now ≡ self.now.entry }
+    pub fn timestamp(&self) -> Moment
+        ensures { result ≡ self.now.entry.timestamp }
     {
-        &self.entry
+        self.timestamp
     }
 
     pub fn expires_at(&self) -> Moment
@@ -104,6 +144,58 @@ impl MeshEntry {
     {
         self.expires_at
     }
+
+    pub fn group_hash(&self) -> &[u8]
+        ensures { result.now ≡ self.now.entry.group_hash }
+    {
+        self.places.group_hash.part_of(self.canonical.as_slice())
+    }
+
+    pub fn resolved(&self) -> bool
+        ensures { result ≡ self.now.entry.resolved }
+    {
+        self.resolved
+    }
+
+    /// The alerts that were firing, one by one.
+    pub fn firing_alerts(&self) -> HashIter<'_>
+        ensures { result ≡ self.now.entry.firing_alerts }
+    {
+        let packed = self.places.firing_alerts.part_of(self.canonical.as_slice());
+        HashIter::unpacking(packed)
+    }
+
+    /// The alerts that were resolved, one by one.
+    pub fn resolved_alerts(&self) -> HashIter<'_>
+        ensures { result ≡ self.now.entry.resolved_alerts }
+    {
+        let packed = self
+            .places
+            .resolved_alerts
+            .part_of(self.canonical.as_slice());
+        HashIter::unpacking(packed)
+    }
+}
+
+// Writes a version whose entry has so many bytes, and tells where the entry's parts stand.
+#[tactic(auto, unfolding(crate::specs::Mesh::writes_mesh_entry))]
+fn write_version(
+    out: &mut Vec<u8>,
+    fields: &EntryFields<'_>,
+    size: u64,
+    expires_at: Moment,
+) -> Result<Places, AllocError>
+    requires { size ≡ counted (length (writes_entry (entry_in fields.now))) }
+    ensures written { OnOk result (out.new.items ≡
+        out.old.items ++ writes_mesh_entry (record { entry = entry_in fields.now; expires_at = expires_at })) }
+    ensures value { OnOk result (IsEntry (entry_in fields.now)) }
+    ensures moment { OnOk result (expires_at ≤ greatest) }
+    ensures places { IfOk result (λ places. StandAt (entry_in fields.now) places out.new.items) }
+{
+    write_prefix(out, 1, size)?;
+    let places = fields.write(out)?;
+    write_message(out, 2, &expires_at)?;
+    Ok(places)
 }
 
 impl Message for MeshEntry {
@@ -137,8 +229,9 @@ impl Message for MeshEntry {
             message: entry,
             expires_at,
         } = read_message::<DatedDraft<EntryDraft>>(alloc, bytes, at, at)?;
-        let size = entry.size();
-        let version = MeshEntry::of_parts(alloc, entry, size, expires_at)?;
+        let fields = entry.fields();
+        let size = fields.size();
+        let version = MeshEntry::of_sized(alloc, &fields, size, expires_at)?;
         Ok(version)
     }
 }
@@ -163,19 +256,19 @@ impl Version for MeshEntry {
     ghost is_value = { IsMesh };
 
     fn key(&self) -> &LogKey {
-        &self.entry.key
+        &self.key
     }
 
     fn head(key: &LogKey) -> u64 {
-        head_of_text(key.group_key.as_slice())
+        head_of_text(key.group_key())
     }
 
     fn try_key(&self, alloc: Global) -> Result<LogKey, AllocError> {
-        self.entry.key.try_clone(alloc)
+        self.key.try_clone(alloc)
     }
 
     fn updated(&self) -> Moment {
-        self.entry.timestamp
+        self.timestamp
     }
 
     fn expires(&self) -> Moment {
@@ -192,8 +285,11 @@ impl Version for MeshEntry {
 
     fn try_clone(&self, alloc: Global) -> Result<MeshEntry, AllocError> {
         Ok(MeshEntry {
-            entry: self.entry.try_clone(alloc)?,
+            key: self.key.try_clone(alloc)?,
+            timestamp: self.timestamp,
             expires_at: self.expires_at,
+            places: self.places,
+            resolved: self.resolved,
             canonical: self.canonical.clone()?,
         })
     }

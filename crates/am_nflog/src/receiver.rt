@@ -1,12 +1,14 @@
 //! Receivers: to whom a group's notifications go.
 
-ghost use Rattle.std.specs.Prelude.{◌≡◌, ℕ, List, [], ◌∷◌, ◌++◌, OnOk, IfOk, IfErr};
-ghost use Rattle.am_nflog.specs.Receivers.{receiver};
+ghost use Rattle.std.specs.Prelude.{◌≡◌, ℕ, List, [], ◌∷◌, ◌++◌, OnOk, IfOk, IfErr, length};
+ghost use Rattle.am_wire.specs.Sizes.{counted};
+ghost use Rattle.am_nflog.specs.Receivers.{receiver, writes_receiver, IsReceiver};
 
 use am_wire::reading::{Draft, LastNumber, LastText, Schema, read_message};
 use am_wire::writing::{number_size, text_size, write_number, write_text};
 use am_wire::{Field, Message, Text, WireError, WireType};
 use std::alloc::{AllocError, Global};
+use std::marker::Model;
 
 /// One integration of a receiver. Receivers are ordered by group name, integration and index.
 #[derive(Debug, PartialEq, Eq, PartialOrd, Ord, Drop)]
@@ -17,6 +19,17 @@ pub struct Receiver {
 }
 
 impl Receiver {
+    // The same receiver, whose texts are this one's.
+    fn borrowed(&self) -> ReceiverRef<'_>
+        ensures { result ≡ self.now }
+    {
+        ReceiverRef::new(
+            self.group_name.as_str(),
+            self.integration.as_str(),
+            self.idx,
+        )
+    }
+
     /// A copy.
     ///
     /// # Errors
@@ -25,11 +38,90 @@ impl Receiver {
     pub fn try_clone(&self, alloc: Global) -> Result<Receiver, AllocError>
         ensures { IfOk result (λ copy. copy ≡ self.now) }
     {
+        self.borrowed().copied(alloc)
+    }
+}
+
+/// A receiver whose texts are another's. Contracts see the receiver.
+#[derive(Drop)]
+pub struct ReceiverRef<'a> {
+    group_name: &'a str,
+    integration: &'a str,
+    idx: u32,
+}
+
+impl<'a> Model for ReceiverRef<'a> {
+    ghost use Rattle.am_nflog.specs.declared.receiver.Receiver.{Receiver};
+
+    ghost Value = { Receiver };
+
+    ghost view = { λ r. record { group_name = r.group_name.now; integration = r.integration.now; idx = r.idx } };
+}
+
+impl<'a> ReceiverRef<'a> {
+    /// A receiver of these parts.
+    pub fn new(group_name: &'a str, integration: &'a str, idx: u32) -> Self
+        ensures { result ≡ record { group_name = group_name.now; integration = integration.now; idx = idx } }
+    {
+        ReceiverRef {
+            group_name,
+            integration,
+            idx,
+        }
+    }
+
+    pub fn group_name(&self) -> &'a str
+        ensures { result.now ≡ self.now.group_name }
+    {
+        self.group_name
+    }
+
+    pub fn integration(&self) -> &'a str
+        ensures { result.now ≡ self.now.integration }
+    {
+        self.integration
+    }
+
+    pub fn idx(&self) -> u32
+        ensures { result ≡ self.now.idx }
+    {
+        self.idx
+    }
+
+    /// A receiver with texts of its own.
+    ///
+    /// # Errors
+    ///
+    /// [`AllocError`] where memory runs out.
+    pub fn copied(&self, alloc: Global) -> Result<Receiver, AllocError>
+        ensures { IfOk result (λ copy. copy ≡ self.now) }
+    {
         Ok(Receiver {
-            group_name: self.group_name.try_clone(alloc)?,
-            integration: self.integration.try_clone(alloc)?,
+            group_name: Text::copied(alloc, self.group_name)?,
+            integration: Text::copied(alloc, self.integration)?,
             idx: self.idx,
         })
+    }
+
+    /// How many bytes its text has.
+    #[tactic(auto, unfolding(crate::specs::Receivers::writes_receiver))]
+    pub(crate) fn size(&self) -> u64
+        ensures { result ≡ counted (length (writes_receiver self.now)) }
+    {
+        text_size(1, self.group_name)
+            .saturating_add(text_size(2, self.integration))
+            .saturating_add(number_size(3, u64::from(self.idx)))
+    }
+
+    /// Writes its text at the end of the bytes.
+    #[tactic(auto, unfolding(crate::specs::Receivers::writes_receiver))]
+    pub(crate) fn write(&self, out: &mut Vec<u8>) -> Result<(), AllocError>
+        ensures written { OnOk result (out.new.items ≡ out.old.items ++ writes_receiver self.now) }
+        ensures value { OnOk result (IsReceiver self.now) }
+    {
+        write_text(out, 1, self.group_name)?;
+        write_text(out, 2, self.integration)?;
+        write_number(out, 3, u64::from(self.idx))
     }
 }
 
@@ -59,7 +151,7 @@ impl<'a> Draft<'a> for ReceiverDraft<'a> {
     ghost use Rattle.am_nflog.specs.Receivers.{receiver_value, receiver_tests};
     ghost use Rattle.am_nflog.specs.Drafts.{IsReceiverDraft};
 
-    type Done = Receiver;
+    type Done = ReceiverRef<'a>;
 
     ghost inside = { receiver.inside };
 
@@ -87,14 +179,9 @@ impl<'a> Draft<'a> for ReceiverDraft<'a> {
         Ok(())
     }
 
-    fn finish(self, alloc: Global, _place: usize) -> Result<Receiver, WireError> {
-        let group_name = Text::copied(alloc, self.group_name.text)?;
-        let integration = Text::copied(alloc, self.integration.text)?;
-        Ok(Receiver {
-            group_name,
-            integration,
-            idx: (self.idx.value % (1 << 32)) as u32,
-        })
+    fn finish(self, _alloc: Global, _place: usize) -> Result<ReceiverRef<'a>, WireError> {
+        let idx = (self.idx.value % (1 << 32)) as u32;
+        Ok(ReceiverRef::new(self.group_name.text, self.integration.text, idx))
     }
 }
 
@@ -110,23 +197,17 @@ impl Message for Receiver {
 
     ghost again = { receiver_again };
 
-    #[tactic(auto, unfolding(crate::specs::Receivers::writes_receiver))]
     fn size(&self) -> u64 {
-        text_size(1, self.group_name.as_str())
-            .saturating_add(text_size(2, self.integration.as_str()))
-            .saturating_add(number_size(3, u64::from(self.idx)))
+        self.borrowed().size()
     }
 
-    #[tactic(auto, unfolding(crate::specs::Receivers::writes_receiver))]
     fn write(&self, out: &mut Vec<u8>) -> Result<(), AllocError> {
-        write_text(out, 1, self.group_name.as_str())?;
-        write_text(out, 2, self.integration.as_str())?;
-        write_number(out, 3, u64::from(self.idx))?;
-        Ok(())
+        self.borrowed().write(out)
     }
 
     #[tactic(auto, unfolding(crate::specs::Receivers::reads_receiver))]
     fn decode_at(alloc: Global, bytes: &[u8], at: usize) -> Result<Receiver, WireError> {
-        read_message::<ReceiverDraft>(alloc, bytes, at, at)
+        let receiver = read_message::<ReceiverDraft>(alloc, bytes, at, at)?;
+        Ok(receiver.copied(alloc)?)
     }
 }

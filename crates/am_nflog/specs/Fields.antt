@@ -1,0 +1,17 @@
+-- The fields of an entry, whose texts and lists lie elsewhere.
+use Rattle.am_nflog.specs.declared.entry.Entry.{Entry}
+use Rattle.am_nflog.specs.declared.fields.EntryFields.{EntryFields}
+
+-- the entry of these fields
+abbrev pub entry_in : EntryFields → Entry
+entry_in fields = record {
+  key = record {
+    group_key = fields.group_key.now;
+    receiver = record { group_name = fields.group_name.now; integration = fields.integration.now; idx = fields.idx };
+  };
+  group_hash = fields.group_hash.now;
+  resolved = fields.resolved;
+  timestamp = fields.timestamp;
+  firing_alerts = fields.firing_alerts.now;
+  resolved_alerts = fields.resolved_alerts.now;
+}

@@ -1,0 +1,164 @@
+//! The fields of an entry, wherever they lie: how many bytes they have, and how they are written.
+
+ghost use Rattle.std.specs.Prelude.{◌≡◌, ◌++◌, ◌<◌, ◌^◌, length, All, OnOk, IfOk};
+ghost use Rattle.std.specs.List.{flat_map};
+ghost use Rattle.am_wire.specs.Sizes.{counted};
+ghost use Rattle.am_wire.specs.Varint.{shortest};
+ghost use Rattle.am_wire.specs.Writing.{writes_text, writes_delimited, writes_numbers};
+ghost use Rattle.am_nflog.specs.Entries.{writes_entry, IsEntry};
+ghost use Rattle.am_nflog.specs.Fields.{entry_in};
+ghost use Rattle.am_nflog.specs.Places.{StandsAt, StandAt};
+ghost use Rattle.am_nflog.specs.Receivers.{writes_receiver, IsReceiver};
+
+use crate::entry::Entry;
+use crate::hashes::Hashes;
+use crate::key::LogKey;
+use crate::places::{Place, Places};
+use crate::receiver::ReceiverRef;
+use am_version_order::Moment;
+use am_wire::Bytes;
+use am_wire::writing::{
+    bytes_size, delimited_size, message_size, number_size, numbers_size, write_bytes,
+    write_message, write_number, write_numbers, write_prefix,
+};
+use std::alloc::{AllocError, Global};
+
+/// The fields of an entry, whose texts and lists are another's.
+#[derive(Clone, Copy)]
+pub struct EntryFields<'a> {
+    pub group_key: &'a [u8],
+    pub group_name: &'a str,
+    pub integration: &'a str,
+    pub idx: u32,
+    pub group_hash: &'a [u8],
+    pub resolved: bool,
+    pub timestamp: Moment,
+    pub firing_alerts: &'a [u64],
+    pub resolved_alerts: &'a [u64],
+}
+
+impl<'a> EntryFields<'a> {
+    /// The fields of an entry.
+    pub fn of(entry: &'a Entry) -> Self
+        ensures { entry_in result ≡ entry.now }
+    {
+        EntryFields {
+            group_key: entry.key.group_key(),
+            group_name: entry.key.group_name(),
+            integration: entry.key.integration(),
+            idx: entry.key.idx(),
+            group_hash: entry.group_hash.as_slice(),
+            resolved: entry.resolved,
+            timestamp: entry.timestamp,
+            firing_alerts: entry.firing_alerts.as_slice(),
+            resolved_alerts: entry.resolved_alerts.as_slice(),
+        }
+    }
+
+    /// The key, with a text of its own.
+    ///
+    /// # Errors
+    ///
+    /// [`AllocError`] where memory runs out.
+    pub fn key(&self, alloc: Global) -> Result<LogKey, AllocError>
+        ensures { IfOk result (λ key. key ≡ (entry_in self.now).key) }
+    {
+        let (group_name, integration) = (self.group_name, self.integration);
+        LogKey::of_parts(alloc, self.group_key, group_name, integration, self.idx)
+    }
+
+    /// An entry with texts and lists of its own.
+    ///
+    /// # Errors
+    ///
+    /// [`AllocError`] where memory runs out.
+    pub fn copied(&self, alloc: Global) -> Result<Entry, AllocError>
+        ensures { IfOk result (λ copy. copy ≡ entry_in self.now) }
+    {
+        Ok(Entry {
+            key: self.key(alloc)?,
+            group_hash: Bytes::copied(alloc, self.group_hash)?,
+            resolved: self.resolved,
+            timestamp: self.timestamp,
+            firing_alerts: Hashes::new(self.firing_alerts.to_vec(alloc)?),
+            resolved_alerts: Hashes::new(self.resolved_alerts.to_vec(alloc)?),
+        })
+    }
+
+    fn receiver(&self) -> ReceiverRef<'a>
+        ensures { result ≡ (entry_in self.now).key.receiver }
+    {
+        ReceiverRef::new(self.group_name, self.integration, self.idx)
+    }
+
+    /// How many bytes the entry has.
+    #[tactic(auto, unfolding(crate::specs::Entries::writes_entry))]
+    pub fn size(&self) -> u64
+        ensures { result ≡ counted (length (writes_entry (entry_in self.now))) }
+    {
+        bytes_size(1, self.group_key)
+            .saturating_add(delimited_size(2, self.receiver().size()))
+            .saturating_add(bytes_size(3, self.group_hash))
+            .saturating_add(number_size(4, u64::from(self.resolved)))
+            .saturating_add(message_size(5, &self.timestamp))
+            .saturating_add(numbers_size(6, self.firing_alerts))
+            .saturating_add(numbers_size(7, self.resolved_alerts))
+    }
+
+    /// Writes the entry at the end of the bytes, and tells where its parts stand in them.
+    ///
+    /// # Errors
+    ///
+    /// [`AllocError`] where memory runs out, or 2^32 bytes or more stand before a part. Some of the text may be left.
+    #[tactic(auto, unfolding(crate::specs::Entries::writes_entry))]
+    pub fn write(&self, out: &mut Vec<u8>) -> Result<Places, AllocError>
+        ensures written { OnOk result (out.new.items ≡ out.old.items ++ writes_entry (entry_in self.now)) }
+        ensures value { OnOk result (IsEntry (entry_in self.now)) }
+        ensures places { IfOk result (λ places. StandAt (entry_in self.now) places out.new.items) }
+    {
+        write_bytes(out, 1, self.group_key)?;
+        push_receiver(out, &self.receiver())?;
+        let group_hash = push_bytes(out, 3, self.group_hash)?;
+        write_number(out, 4, u64::from(self.resolved))?;
+        write_message(out, 5, &self.timestamp)?;
+        let firing_alerts = push_numbers(out, 6, self.firing_alerts)?;
+        let resolved_alerts = push_numbers(out, 7, self.resolved_alerts)?;
+        Ok(Places {
+            group_hash,
+            firing_alerts,
+            resolved_alerts,
+        })
+    }
+}
+
+// Writes a receiver as the field 2.
+fn push_receiver(out: &mut Vec<u8>, receiver: &ReceiverRef<'_>) -> Result<(), AllocError>
+    ensures written { OnOk result (out.new.items ≡ out.old.items ++ writes_delimited 2 (writes_receiver receiver.now)) }
+    ensures value { OnOk result (IsReceiver receiver.now) }
+{
+    write_prefix(out, 2, receiver.size())?;
+    receiver.write(out)
+}
+
+// Writes bytes as a field, where there are any, and tells where they stand.
+fn push_bytes(out: &mut Vec<u8>, number: u32, bytes: &[u8]) -> Result<Place, AllocError>
+    requires { number < 16 }
+    ensures written { OnOk result (out.new.items ≡ out.old.items ++ writes_text number bytes.now) }
+    ensures place { IfOk result (λ place. StandsAt bytes.now place out.new.items) }
+{
+    let place = Place::behind_tag(out.len(), bytes.is_empty())?;
+    write_bytes(out, number, bytes)?;
+    Ok(place)
+}
+
+// Writes numbers packed in one field, where there are any, and tells where they stand.
+fn push_numbers(out: &mut Vec<u8>, number: u32, numbers: &[u64]) -> Result<Place, AllocError>
+    requires { number < 16 }
+    ensures written { OnOk result (out.new.items ≡ out.old.items ++ writes_numbers number numbers.now) }
+    ensures range { OnOk result (All (λ n. n < 2 ^ 64) numbers.now) }
+    ensures place { IfOk result (λ place. StandsAt (flat_map shortest numbers.now) place out.new.items) }
+{
+    let place = Place::behind_tag(out.len(), numbers.is_empty())?;
+    write_numbers(out, number, numbers)?;
+    Ok(place)
+}

@@ -1,0 +1,204 @@
+//! Keys of the log.
+
+ghost use Rattle.std.specs.Prelude.{◌≡◌, IfOk};
+ghost use Rattle.std.proofs.Common.{rules};
+ghost use Rattle.std.specs.Cmp.{partial_order_from_own_ties};
+ghost use Rattle.std.specs.Cmp.Rules.{comparing};
+ghost use Rattle.std.specs.Ordering.{as_partial_cmp};
+ghost use Rattle.std.specs.Str.{IsUtf8};
+ghost use Rattle.am_nflog.specs.Keys.{key_cmp, key_eq};
+
+use crate::receiver::Receiver;
+use std::alloc::{AllocError, Global};
+use std::cmp::Ordering;
+use std::marker::Model;
+
+/// Which group of alerts, and which receiver. Keys are ordered by group key, group name and
+/// integration, byte by byte, and then by index as a number.
+///
+/// The three texts stand in one, one behind the other. One of 2^32 bytes or more is refused as one that memory is
+/// not enough for.
+#[derive(Debug)]
+pub struct LogKey {
+    text: Vec<u8>,
+    // Where the group name begins.
+    group_name: u32,
+    // Where the integration begins.
+    integration: u32,
+    idx: u32,
+}
+
+// (so that crates above cite one drop, and don't prove those of all that is inside)
+impl Drop for LogKey {
+    fn drop(self) {
+        let LogKey {
+            text: _,
+            group_name: _,
+            integration: _,
+            idx: _,
+        } = self;
+    }
+}
+
+impl Model for LogKey {
+    ghost use Rattle.am_nflog.specs.LogKeys.{LogKey, key_in, AreParted};
+
+    ghost Value = { LogKey };
+
+    ghost view = { λ k. key_in k.text.items k.group_name k.integration k.idx };
+
+    ghost invariant = { λ k. AreParted k.text.items k.group_name k.integration };
+}
+
+impl LogKey {
+    /// The key of a group and a receiver.
+    ///
+    /// # Errors
+    ///
+    /// [`AllocError`] where memory runs out.
+    pub fn new(alloc: Global, group_key: &[u8], receiver: &Receiver) -> Result<LogKey, AllocError>
+        ensures { IfOk result (λ key. key ≡ record { group_key = group_key.now; receiver = receiver.now }) }
+    {
+        let (group_name, integration) = (&receiver.group_name, &receiver.integration);
+        LogKey::of_parts(
+            alloc,
+            group_key,
+            group_name.as_str(),
+            integration.as_str(),
+            receiver.idx,
+        )
+    }
+
+    /// The key of a group and the receiver of these parts.
+    ///
+    /// # Errors
+    ///
+    /// [`AllocError`] where memory runs out.
+    pub fn of_parts(
+        alloc: Global,
+        group_key: &[u8],
+        group_name: &str,
+        integration: &str,
+        idx: u32,
+    ) -> Result<LogKey, AllocError>
+        ensures { IfOk result (λ key. key ≡ record {
+          group_key = group_key.now;
+          receiver = record { group_name = group_name.now; integration = integration.now; idx = idx };
+        }) }
+    {
+        let name_at = group_key.len();
+        let integration_at = name_at.saturating_add(group_name.len());
+        let length = integration_at.saturating_add(integration.len());
+        if length > u32::MAX as usize {
+            return Err(AllocError);
+        }
+        let mut text = Vec::with_capacity(alloc, length)?;
+        text.extend_from_slice(group_key)?;
+        text.extend_from_slice(group_name.as_bytes())?;
+        text.extend_from_slice(integration.as_bytes())?;
+        Ok(LogKey {
+            text,
+            group_name: name_at as u32,
+            integration: integration_at as u32,
+            idx,
+        })
+    }
+
+    pub fn group_key(&self) -> &[u8]
+        ensures { result.now ≡ self.now.group_key }
+    {
+        &self.text[..self.group_name as usize]
+    }
+
+    pub fn group_name(&self) -> &str
+        ensures bytes { result.now ≡ self.now.receiver.group_name }
+        ensures utf8 { IsUtf8 self.now.receiver.group_name }
+    {
+        let bytes = &self.text[self.group_name as usize..self.integration as usize];
+        // (the bytes of a text were put there)
+        unsafe { str::from_utf8_unchecked(bytes) }
+    }
+
+    pub fn integration(&self) -> &str
+        ensures bytes { result.now ≡ self.now.receiver.integration }
+        ensures utf8 { IsUtf8 self.now.receiver.integration }
+    {
+        let bytes = &self.text[self.integration as usize..];
+        // (likewise)
+        unsafe { str::from_utf8_unchecked(bytes) }
+    }
+
+    pub fn idx(&self) -> u32
+        ensures { result ≡ self.now.receiver.idx }
+    {
+        self.idx
+    }
+
+    /// A copy.
+    ///
+    /// # Errors
+    ///
+    /// [`AllocError`] where memory runs out.
+    pub fn try_clone(&self, alloc: Global) -> Result<LogKey, AllocError>
+        ensures { IfOk result (λ copy. copy ≡ self.now) }
+    {
+        Ok(LogKey {
+            text: self.text.as_slice().to_vec(alloc)?,
+            group_name: self.group_name,
+            integration: self.integration,
+            idx: self.idx,
+        })
+    }
+}
+
+impl PartialEq for LogKey {
+    ghost eq = { key_eq };
+
+    ghost laws = { Prim.search (comparing, rules) depth 9 };
+
+    fn eq(&self, other: &LogKey) -> bool {
+        self.group_key() == other.group_key()
+            && self.group_name() == other.group_name()
+            && self.integration() == other.integration()
+            && self.idx == other.idx
+    }
+}
+
+impl Eq for LogKey {
+    ghost laws = { Prim.search (comparing, rules) depth 9 };
+}
+
+impl PartialOrd for LogKey {
+    ghost partial_cmp = { as_partial_cmp key_cmp };
+
+    ghost laws = { partial_order_from_own_ties (Prim.search (comparing, rules) depth 9) (Prim.search (comparing, rules) depth 9) };
+
+    fn partial_cmp(&self, other: &LogKey) -> Option<Ordering> {
+        Some(self.cmp(other))
+    }
+}
+
+impl Ord for LogKey {
+    ghost cmp = { key_cmp };
+
+    ghost total = { Prim.search (comparing, rules) depth 9 };
+
+    ghost matches_partial_cmp = { Prim.search (comparing, rules) depth 9 };
+
+    ghost matches_eq = { Prim.search (comparing, rules) depth 9 };
+
+    fn cmp(&self, other: &LogKey) -> Ordering {
+        match self.group_key().cmp(other.group_key()) {
+            Ordering::Equal => {}
+            order => return order,
+        }
+        match self.group_name().cmp(other.group_name()) {
+            Ordering::Equal => {}
+            order => return order,
+        }
+        match self.integration().cmp(other.integration()) {
+            Ordering::Equal => self.idx().cmp(&other.idx()),
+            order => order,
+        }
+    }
+}
