@@ -70,10 +70,10 @@ module _ (ms : List Matcher) where
   bucket_first none = ap (λ (b : Bool). option_map_or writes_matcher (if b then None else find wants_label ms) []) (sym none)
 
   pub bucket_place : (place : Option ℕ) → false ≡ list_any (λ m. is_regexp m.kind) ms
-      → MatchOption place (find wants_label ms ≡ None) (λ at. IsSomeAnd (find wants_label ms) (λ m. Follows at (writes_matcher m) (writes_matchers ms)))
-      → MatchOption place (bucket_of ms ≡ []) (λ at. Follows at (bucket_of ms) (writes_matchers ms))
+      → MatchOption place (find wants_label ms ≡ None) (λ at. (0 < at) × IsSomeAnd (find wants_label ms) (λ m. Follows at (writes_matcher m) (writes_matchers ms)))
+      → MatchOption place (bucket_of ms ≡ []) (λ at. (0 < at) × Follows at (bucket_of ms) (writes_matchers ms))
   bucket_place None none h = bucket_first none ∙ ap (λ (found : Option Matcher). option_map_or writes_matcher found []) h
-  bucket_place (Some at) none h = subst (λ (bucket : List ℕ). Follows at bucket (writes_matchers ms)) (sym (bucket_first none)) (of_found (find wants_label ms) h)
+  bucket_place (Some at) none h = (h.0, subst (λ (bucket : List ℕ). Follows at bucket (writes_matchers ms)) (sym (bucket_first none)) (of_found (find wants_label ms) h.1))
     where
       of_found : (found : Option Matcher) → IsSomeAnd found (λ m. Follows at (writes_matcher m) (writes_matchers ms)) → Follows at (option_map_or writes_matcher found []) (writes_matchers ms)
       of_found None h = absurd h

@@ -1,6 +1,6 @@
 //! Where the bucket of a silence stands in the text of its matchers.
 
-ghost use Rattle.std.specs.Prelude.{◌≡◌, [], None, MatchOption, IsSomeAnd};
+ghost use Rattle.std.specs.Prelude.{◌≡◌, ◌<◌, [], None, MatchOption, IsSomeAnd};
 ghost use Rattle.std.specs.List.{list_any, find};
 ghost use Rattle.am_silence.specs.Kinds.{is_regexp};
 ghost use Rattle.am_silence.specs.MatcherTexts.{writes_matchers};
@@ -13,7 +13,7 @@ use crate::iter::MatcherIter;
 /// Where the bucket stands in the text of these matchers: how many bytes come before its length.
 pub fn bucket_offset(matchers: MatcherIter<'_>) -> Option<usize>
     ensures { MatchOption result (bucket_of matchers.entry ≡ [])
-        (λ at. Follows at (bucket_of matchers.entry) (writes_matchers matchers.entry)) }
+        (λ at. (0 < at) × Follows at (bucket_of matchers.entry) (writes_matchers matchers.entry)) }
 {
     if has_regexp(matchers.again()) {
         return None;
@@ -23,8 +23,8 @@ pub fn bucket_offset(matchers: MatcherIter<'_>) -> Option<usize>
 
 // Where the length of the first matcher that wants a label stands.
 fn first_wanting(matchers: MatcherIter<'_>) -> Option<usize>
-    ensures { MatchOption result (find wants_label matchers.entry ≡ None) (λ at. IsSomeAnd (find wants_label matchers.entry)
-        (λ m. Follows at (writes_matcher m) (writes_matchers matchers.entry))) }
+    ensures { MatchOption result (find wants_label matchers.entry ≡ None) (λ at. (0 < at) ×
+        IsSomeAnd (find wants_label matchers.entry) (λ m. Follows at (writes_matcher m) (writes_matchers matchers.entry))) }
 {
     let len = matchers.as_text().len();
     let mut rest = matchers;

@@ -35,7 +35,6 @@ pub struct Places {
 /// [`AllocError`] where memory runs out, or the text has 2^32 bytes or more. A part of the silence may be left.
 #[tactic(auto, unfolding(crate::specs::Silences::writes_silence))]
 pub fn write_silence(out: &mut Vec<u8>, fields: &SilenceFields<'_>) -> Result<Places, AllocError>
-    requires { 0 < length out.old.items }
     ensures written { OnOk result (out.new.items ≡ out.old.items ++ writes_silence (silence_in fields.now)) }
     ensures value { OnOk result (IsSilence (silence_in fields.now)) }
     ensures places { IfOk result (λ places. StandIn (silence_in fields.now) places out.new.items) }
@@ -61,7 +60,6 @@ fn write_matchers(
     out: &mut Vec<u8>,
     matchers: &MatcherIter<'_>,
 ) -> Result<(u32, u32, Place), AllocError>
-    requires { 0 < length out.old.items }
     ensures written { OnOk result (out.new.items ≡ out.old.items ++ writes_matchers matchers.now) }
     ensures values { OnOk result (All IsMatcher matchers.now) }
     ensures between { IfOk result (λ places. StandsBetween places.0 places.1 (writes_matchers matchers.now) out.new.items) }
@@ -76,7 +74,6 @@ fn write_matchers(
 
 // Where the bucket of matchers stands, whose text begins at a place.
 fn bucket_place(start: u32, matchers: &MatcherIter<'_>) -> Result<Place, AllocError>
-    requires { 0 < start }
     ensures { IfOk result (λ place. (front : List ℕ) → length front ≡ start →
         StandsAt (bucket_of matchers.now) place (front ++ writes_matchers matchers.now)) }
 {

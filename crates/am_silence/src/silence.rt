@@ -3,16 +3,16 @@
 ghost use Rattle.std.specs.Prelude.{◌≡◌, ℕ, List, [], ◌∷◌, ◌++◌, OnOk, IfOk, IfErr};
 ghost use Rattle.std.specs.Prelude.{if◌then◌else◌};
 ghost use Rattle.am_silence.specs.Fields.{silence_in};
-ghost use Rattle.am_silence.specs.Silences.{silence, writes_silence, IsSilence};
+ghost use Rattle.am_silence.specs.Silences.{silence};
 
 use crate::comment::FirstComment;
 use crate::matchers::Matchers;
+use crate::places::write_silence;
 use crate::sizes::SilenceFields;
 use am_version_order::Moment;
 use am_wire::reading::{
     Draft, LastText, Schema, Submessage, TimestampDraft, moment_in, read_message,
 };
-use am_wire::writing::{write_message, write_text};
 use am_wire::{Field, Message, Text, WireError, WireType};
 use std::alloc::{AllocError, Global};
 use std::marker::Model;
@@ -222,28 +222,6 @@ impl<'a> Draft<'a> for SilenceDraft<'a> {
     }
 }
 
-/// Writes the silence of these fields at the end of the bytes.
-///
-/// # Errors
-///
-/// [`AllocError`] where memory runs out. A part of the text may be left.
-#[tactic(auto, unfolding(crate::specs::Silences::writes_silence))]
-pub(crate) fn write_silence_fields(
-    out: &mut Vec<u8>,
-    fields: &SilenceFields<'_>,
-) -> Result<(), AllocError>
-    ensures written { OnOk result (out.new.items ≡ out.old.items ++ writes_silence (silence_in fields.now)) }
-    ensures value { OnOk result (IsSilence (silence_in fields.now)) }
-{
-    write_text(out, 1, fields.id)?;
-    out.extend_from_slice(fields.matchers.as_text())?;
-    write_message(out, 3, &fields.starts_at)?;
-    write_message(out, 4, &fields.ends_at)?;
-    write_message(out, 5, &fields.updated_at)?;
-    write_text(out, 8, fields.created_by)?;
-    write_text(out, 9, fields.comment)
-}
-
 impl Message for Silence {
     ghost use Rattle.am_silence.specs.Silences.{IsSilence, reads_silence, writes_silence};
     ghost use Rattle.am_silence.specs.Again.{silence_again};
@@ -261,7 +239,8 @@ impl Message for Silence {
     }
 
     fn write(&self, out: &mut Vec<u8>) -> Result<(), AllocError> {
-        write_silence_fields(out, &SilenceFields::of(self))
+        write_silence(out, &SilenceFields::of(self))?;
+        Ok(())
     }
 
     #[tactic(auto, unfolding(crate::specs::Silences::reads_silence))]

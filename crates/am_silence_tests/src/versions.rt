@@ -1,7 +1,7 @@
 //! How silences are written, read, compared and copied.
 
 use crate::fixtures::{JOB_IS_X, MatcherRow, at, holds, matchers, version};
-use am_silence::{Matcher, MatcherIter, MatcherKind, Matchers, MeshSilence, fresh_id};
+use am_silence::{Matcher, MatcherIter, MatcherKind, MatcherRef, MeshSilence, fresh_id};
 use am_version_order::{Moment, Version};
 use am_wire::{Message, WireError};
 use std::alloc::{AllocError, Global};
@@ -72,24 +72,26 @@ fn has_words(version: &MeshSilence, id: &str, author: &str, comment: &str) -> bo
     version.key().as_str() == id && version.created_by() == author && version.comment() == comment
 }
 
-// There is one matcher, and it is this one.
-fn is_matcher(mut matchers: MatcherIter<'_>, (kind, name, pattern): MatcherRow) -> bool {
-    match matchers.next() {
-        Some(matcher) => {
-            matcher.kind() == kind
-                && matcher.name() == name
-                && matcher.pattern() == pattern
-                && matchers.is_empty()
+fn is_matcher(matcher: &MatcherRef<'_>, (kind, name, pattern): MatcherRow) -> bool {
+    matcher.kind() == kind && matcher.name() == name && matcher.pattern() == pattern
+}
+
+// The matchers are these, in this order.
+fn are_matchers(mut matchers: MatcherIter<'_>, rows: &[MatcherRow]) -> bool {
+    for row in rows {
+        match matchers.next() {
+            Some(matcher) if is_matcher(&matcher, *row) => {}
+            _ => return false,
         }
-        None => false,
     }
+    matchers.is_empty()
 }
 
 fn is_first(version: &MeshSilence) -> bool {
     let (ten, end, expiry) = (at(10_000), at(100_000), at(200_000));
     has_texts(version, "a", &FIRST, &JOB_IS_X_TEXT)
         && moments_of(version) == [ten, expiry, expiry, ten, end, ten]
-        && is_matcher(version.matchers(), JOB_IS_X[0])
+        && are_matchers(version.matchers(), &JOB_IS_X)
 }
 
 fn is_first_read(alloc: Global, bytes: &[u8]) -> Result<bool, WireError> {
@@ -325,23 +327,32 @@ fn a_matcher_is_written_as_it_is_read(rt: HostRuntime) {
     holds(&rt, is_matcher_kept(rt.alloc(), &JOB_IS_X_TEXT));
 }
 
-fn is_matcher_copied(
-    alloc: Global,
-    matchers: &Matchers,
-    row: MatcherRow,
-) -> Result<bool, WireError> {
-    let copy = matchers.try_clone(alloc)?;
-    Ok(is_matcher(copy.iter(), row))
-}
+/// Matchers of each kind, whose names and patterns are empty, short, and longer than one byte can tell.
+const OF_EACH_KIND: [MatcherRow; 6] = [
+    (MatcherKind::Regexp, "job", "x|y"),
+    (MatcherKind::Equal, "", ""),
+    (MatcherKind::NotEqual, "", "é"),
+    (MatcherKind::NotRegexp, "zone", ""),
+    (
+        MatcherKind::Equal,
+        "0123456789012345678901234567890123456789012345678901234567890123\
+            4567890123456789012345678901234567890123456789012345678901234567",
+        "x",
+    ),
+    (MatcherKind::Equal, "", "z"),
+];
 
-fn are_copied(alloc: Global, rows: &[MatcherRow; 1]) -> Result<bool, WireError> {
+fn are_copied(alloc: Global, rows: &[MatcherRow]) -> Result<bool, WireError> {
     let matchers = matchers(alloc, rows)?;
-    is_matcher_copied(alloc, &matchers, rows[0])
+    let copy = matchers.try_clone(alloc)?;
+    Ok(are_matchers(copy.iter(), rows) && copy.is_empty() == rows.is_empty())
 }
 
 #[test]
 fn matchers_are_copied(rt: HostRuntime) {
+    holds(&rt, are_copied(rt.alloc(), &[]));
     holds(&rt, are_copied(rt.alloc(), &JOB_IS_X));
+    holds(&rt, are_copied(rt.alloc(), &OF_EACH_KIND));
 }
 
 /// Bits, and the identifier that they give.

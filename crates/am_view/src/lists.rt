@@ -31,10 +31,7 @@ impl Display for Numbers<'_> {
 }
 
 /// Writes numbers, each behind a comma.
-fn write_numbers<W: fmt::Write>(
-    numbers: HashIter<'_>,
-    f: &mut fmt::Formatter<W>,
-) -> fmt::Result
+fn write_numbers<W: fmt::Write>(numbers: HashIter<'_>, f: &mut fmt::Formatter<W>) -> fmt::Result
     ensures { WritesOnOk W.write_str_gives f.old result (behind_commas decimal numbers.entry) f.new }
 {
     for number in numbers {

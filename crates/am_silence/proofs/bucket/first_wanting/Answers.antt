@@ -1,4 +1,4 @@
-use Rattle.std.proofs.Common.{Option, ℕ, ◌+◌, List, refl, sym, ap₂, subst, length, ◌-◌, ◌∙◌}
+use Rattle.std.proofs.Common.{arith, Option, ℕ, ◌+◌, List, refl, sym, ap₂, subst, length, ◌-◌, ◌∙◌}
 use Rattle.std.specs.Prelude.{IsSomeAnd}
 use Rattle.am_silence.specs.declared.matcher.Matcher.{Matcher}
 use Rattle.am_silence.specs.Matchers.{writes_matcher}
@@ -24,6 +24,8 @@ pub returns-then-wants_label : goal.returns-then-wants_label
 returns-then-wants_label c =
     let on = c.loop-matcher.invariant.goes_on in
     let first = c.in-Some.ensures.steps in
-    let found = c.loop-matcher.invariant.found ∙ found_here on first (sym c.wants_label.ensures ∙ c.if-wants_label.true) in
-    subst (λ (found : Option Matcher). IsSomeAnd found (λ m. Follows (c.loop-matcher.at + 1) (writes_matcher m) (writes_matchers c.args.matchers)))
-    (sym found) (matcher_follows on first c.as_text-len.ensures.short)
+    let found = c.loop-matcher.invariant.found ∙ found_here on first (sym c.wants_label.ensures ∙ c.if-wants_label.true) in (
+      omega arith,
+      subst (λ (found : Option Matcher). IsSomeAnd found (λ m. Follows (c.loop-matcher.at + 1) (writes_matcher m) (writes_matchers c.args.matchers)))
+          (sym found) (matcher_follows on first c.as_text-len.ensures.short),
+    )

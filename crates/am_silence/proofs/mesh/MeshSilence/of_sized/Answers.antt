@@ -1,8 +1,6 @@
-use Rattle.std.proofs.Common.{rules, ◌≡◌, ℕ, ◌≤◌, ◌^◌, List, ◌++◌, length, length-append, sym, ap, subst, ◌∙◌, arith}
-use Rattle.am_wire.specs.Again.Varints.{shortest_filled}
+use Rattle.std.proofs.Common.{rules, ◌≡◌, ℕ, ◌≤◌, ◌^◌, List, length, sym, ap, subst, ◌∙◌}
 use Rattle.am_wire.specs.Timestamps.{writes_moment}
-use Rattle.am_wire.specs.Varint.{shortest}
-use Rattle.am_wire.specs.Writing.{tag, writes_delimited}
+use Rattle.am_wire.specs.Writing.{writes_delimited}
 use Rattle.am_silence.specs.Fields.{silence_in}
 use Rattle.am_silence.specs.Mesh.{Mesh, IsMesh, writes_mesh_silence}
 use Rattle.am_silence.specs.Places.{StandIn}
@@ -10,16 +8,6 @@ use Rattle.am_silence.specs.Spelled.{version_in, version_spelled}
 use Rattle.am_silence.proofs.Spelling.{written_version}
 use Rattle.am_silence.proofs.Standing.{stand_before}
 use Rattle.am_silence.proofs.mesh.MeshSilence.of_sized.Goals as goal
-
-pub write_silence-requires : goal.write_silence-requires
-write_silence-requires c =
-    omega (
-      arith,
-      ap length c.in_ok-write_prefix.ensures.ok,
-      length-append c.in_ok-canonical.canonical.items (tag 1 2 ++ shortest c.args.size),
-      length-append (tag 1 2) (shortest c.args.size),
-      shortest_filled c.args.size,
-    )
 
 module _ (c : goal.After-result-4-1) where
   abbrev version : Mesh
