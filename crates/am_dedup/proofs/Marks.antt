@@ -1,14 +1,13 @@
 -- Sorted hashes, their first places, and the marks at these.
-use Rattle.std.proofs.Common.{arith, ◌≡◌, ℕ, ◌+◌, ◌-◌, ◌<◌, ◌≤◌, ◌%◌, take, Bool, true, false, refl, sym, ◌∙◌, ap, cond, List, length, get_or, Option, Some, None, nat_eq, nat_lt, ◌||◌, set}
+use Rattle.std.proofs.Common.{arith, ◌≡◌, ℕ, ◌+◌, ◌-◌, ◌<◌, ◌≤◌, ◌%◌, Bool, true, false, refl, sym, ◌∙◌, ap, cond, List, [], ◌∷◌, ◌++◌, length, get_or, Option, Some, None, nat_eq, nat_lt, ◌||◌, set}
 use Rattle.std.specs.List.{position, position_or_len, list_all}
 use Rattle.std.specs.List.Sorted.{IsNonDecreasing}
 use Rattle.std.proofs.lemmas.Bool.Decides.{nat_tests}
 use Rattle.std.proofs.lemmas.List.{get_or-set_same, get_or-set_other, get_or_default}
 use Rattle.std.proofs.lemmas.List.Elements.{All-from_get_or}
-use Rattle.std.proofs.lemmas.List.Folds.{list_any_more}
 use Rattle.std.proofs.lemmas.List.Quantifiers.{position-Some}
 use Rattle.std.proofs.lemmas.List.Sums.{position_or_len_is, fails_before_first, list_all-from_AllPass}
-use Rattle.am_dedup.proofs.Sets.{is_among, is_same, is_itself, or_true, or_false}
+use Rattle.am_dedup.proofs.Sets.{is_among, is_same, is_itself, or_true, or_false, among_one_more}
 
 -- the first place of a hash
 abbrev pub first_place : List ℕ → ℕ → Option ℕ
@@ -71,26 +70,26 @@ abbrev pub Marks : List ℕ → List Bool → List ℕ → Type 0
 Marks sorted marks listed = (hash place : ℕ) → first_place sorted hash ≡ Some place → get_or marks place false ≡ is_among listed hash
 
 -- a mark for one more hash that is listed
-pub marks_more : (sorted listed : List ℕ) (marks : List Bool) (i at : ℕ) → i < length listed → at < length marks → first_place sorted (get_or listed i 0) ≡ Some at → Marks sorted marks (take i listed) → Marks sorted (set marks at true) (take (i + 1) listed)
-marks_more sorted listed marks i at within fits is marked hash place first =
-    elim (nat_eq (get_or listed i 0) hash) as (λ b. nat_eq (get_or listed i 0) hash ≡ b → get_or (set marks at true) place false ≡ is_among (take (i + 1) listed) hash) [
+pub marks_more : (sorted before : List ℕ) (marks : List Bool) (last at : ℕ) → at < length marks → first_place sorted last ≡ Some at → Marks sorted marks before → Marks sorted (set marks at true) (before ++ last ∷ [])
+marks_more sorted before marks last at fits is marked hash place first =
+    elim (nat_eq last hash) as (λ b. nat_eq last hash ≡ b → get_or (set marks at true) place false ≡ is_among (before ++ last ∷ []) hash) [
       | true ↦ λ e.
           let here : at ≡ place = cc (sym is ∙ ap (first_place sorted) (is_same _ _ e) ∙ first) in
           ap (λ n. get_or (set marks at true) n false) (sym here)
           ∙ get_or-set_same marks at true false fits
-          ∙ sym (list_any_more (λ y. nat_eq y hash) listed i 0 within ∙ ap (λ b. is_among (take i listed) hash || b) e ∙ or_true _)
+          ∙ sym (among_one_more before last hash ∙ ap (λ b. is_among before hash || b) e ∙ or_true _)
       | false ↦ λ e.
           get_or-set_other marks at place true false (λ one. absurd (cc (sym e ∙ ap (λ n. nat_eq n hash) (same_place sorted _ hash at is (first ∙ ap Some one)) ∙ is_itself hash)))
           ∙ marked hash place first
-          ∙ sym (list_any_more (λ y. nat_eq y hash) listed i 0 within ∙ ap (λ b. is_among (take i listed) hash || b) e ∙ or_false _)
+          ∙ sym (among_one_more before last hash ∙ ap (λ b. is_among before hash || b) e ∙ or_false _)
     ] refl
 
 -- and none for one that has no place
-pub marks_same : (sorted listed : List ℕ) (marks : List Bool) (i : ℕ) → i < length listed → first_place sorted (get_or listed i 0) ≡ None → Marks sorted marks (take i listed) → Marks sorted marks (take (i + 1) listed)
-marks_same sorted listed marks i within none marked hash place first =
-    elim (nat_eq (get_or listed i 0) hash) as (λ b. nat_eq (get_or listed i 0) hash ≡ b → get_or marks place false ≡ is_among (take (i + 1) listed) hash) [
+pub marks_same : (sorted before : List ℕ) (marks : List Bool) (last : ℕ) → first_place sorted last ≡ None → Marks sorted marks before → Marks sorted marks (before ++ last ∷ [])
+marks_same sorted before marks last none marked hash place first =
+    elim (nat_eq last hash) as (λ b. nat_eq last hash ≡ b → get_or marks place false ≡ is_among (before ++ last ∷ []) hash) [
       | true ↦ λ e. absurd (cc (sym none ∙ ap (first_place sorted) (is_same _ _ e) ∙ first))
-      | false ↦ λ e. marked hash place first ∙ sym (list_any_more (λ y. nat_eq y hash) listed i 0 within ∙ ap (λ b. is_among (take i listed) hash || b) e ∙ or_false _)
+      | false ↦ λ e. marked hash place first ∙ sym (among_one_more before last hash ∙ ap (λ b. is_among before hash || b) e ∙ or_false _)
     ] refl
 
 -- a table that has each hash's remainder

@@ -1,12 +1,12 @@
 -- The set of a list's hashes, against the list.
-use Rattle.std.proofs.Common.{rules, arith, ◌≡◌, ℕ, suc, ◌+◌, ◌-◌, ◌<◌, ◌≤◌, take, drop, Bool, true, false, refl, sym, ◌∙◌, ap, List, [], ◌∷◌, length, get_or, Contains, ◌↔◌, nat_eq, ◌&&◌, ◌||◌}
+use Rattle.std.proofs.Common.{rules, ◌≡◌, ℕ, suc, ◌-◌, ◌<◌, take, drop, Bool, true, false, refl, sym, ◌∙◌, ap, List, [], ◌∷◌, ◌++◌, length, get_or, Contains, ◌↔◌, nat_eq, ◌&&◌, ◌||◌}
 use Rattle.std.specs.List.{list_any, list_all}
 use Rattle.std.specs.Ordering.{nat_cmp}
 use Rattle.std.specs.Cmp.{both_ways}
 use Rattle.std.specs.FinSet.{contains, is_subset, is_subset-contains, contains-is_subset, contains-from_list_nat, same_set, nat_cmp-IsAntisymmetric, len-empty, empty_of_len, contains-empty}
 use Rattle.std.proofs.lemmas.Cmp.{nat_cmp_total}
 use Rattle.std.proofs.lemmas.List.Elements.{All-contains}
-use Rattle.std.proofs.lemmas.List.{take-append-drop, length-drop, length-take-le}
+use Rattle.std.proofs.lemmas.List.{take-append-drop, length-drop}
 use Rattle.std.proofs.Math.Seq.{take-length}
 use Rattle.std.proofs.lemmas.List.Folds.{list_any-append, list_all-append, list_any-from_Any, list_all_at}
 use Rattle.std.specs.List.Sorted.{IsPermutation}
@@ -66,26 +66,13 @@ none_is (x ∷ hashes) =
           ∙ sym (more_than_none (length hashes))
     ] refl
 
--- the first part of a list, and the rest
-pub parts_are : (hashes : List ℕ) (start hash : ℕ) → is_among hashes hash ≡ (is_among (take start hashes) hash || is_among (drop start hashes) hash)
-parts_are hashes start hash = ap (λ l. is_among l hash) (sym (take-append-drop start hashes)) ∙ list_any-append (λ y. nat_eq y hash) (take start hashes) (drop start hashes)
+-- one hash more behind a list
+pub among_one_more : (hashes : List ℕ) (last hash : ℕ) → is_among (hashes ++ last ∷ []) hash ≡ (is_among hashes hash || nat_eq last hash)
+among_one_more hashes last hash = list_any-append (λ y. nat_eq y hash) hashes (last ∷ []) ∙ ap (λ b. is_among hashes hash || b) (or_false (nat_eq last hash))
 
 -- a slice to the end
 pub to_end : (hashes : List ℕ) (start : ℕ) → take (length hashes - start) (drop start hashes) ≡ drop start hashes
 to_end hashes start = ap (λ n. take n (drop start hashes)) (sym (length-drop start hashes)) ∙ take-length (drop start hashes)
-
-pub in_rest : (hashes : List ℕ) (start hash place : ℕ) → start ≤ length hashes → (place < length (drop start hashes)) × (is_among (drop start hashes) hash ≡ true) → (start + place < length hashes) × (is_among hashes hash ≡ true)
-in_rest hashes start hash place within found =
-    let len = length-drop start hashes in
-    (omega (arith, len, within, found.0), parts_are hashes start hash ∙ ap (λ b. is_among (take start hashes) hash || b) found.1 ∙ or_true _)
-
-pub in_front : (hashes : List ℕ) (start hash place : ℕ) → start ≤ length hashes → (place < length (take start hashes)) × (is_among (take start hashes) hash ≡ true) → (place < length hashes) × (is_among hashes hash ≡ true)
-in_front hashes start hash place within found =
-    let len = length-take-le start hashes within in
-    (omega (arith, len, within, found.0), parts_are hashes start hash ∙ ap (λ b. b || is_among (drop start hashes) hash) found.1)
-
-pub in_neither : (hashes : List ℕ) (start hash : ℕ) → is_among (drop start hashes) hash ≡ false → is_among (take start hashes) hash ≡ false → is_among hashes hash ≡ false
-in_neither hashes start hash back front = parts_are hashes start hash ∙ ap (λ b. b || is_among (drop start hashes) hash) front ∙ back
 
 -- a hash that is not among the others is in no set within theirs
 pub not_within : (hashes others : List ℕ) (i : ℕ) → i < length hashes → is_among others (get_or hashes i 0) ≡ false → is_subset (set_of hashes) (set_of others) ≡ false

@@ -3,6 +3,7 @@ use Rattle.std.specs.Prelude.{ℕ, ◌+◌, Bool, not, ◌&&◌, ◌==◌, List,
 use Rattle.std.specs.Ordering.{nat_cmp}
 use Rattle.std.specs.FinSet.{FinSet, from_list, is_subset, len}
 use Rattle.am_nflog.specs.declared.entry.Entry.{Entry}
+use Rattle.am_dedup.specs.declared.decision.LastNotice.{LastNotice}
 use Rattle.am_dedup.specs.declared.decision.Decision.{Decision}
 use Rattle.am_dedup.specs.declared.decision.Decision.TheVariants.{Skip, Notify}
 use Rattle.am_dedup.specs.declared.decision.Reason.TheVariants.{First, NewFiring, AllResolved, NewResolved, Repeat}
@@ -28,6 +29,10 @@ pub record Logged : Type 0 where
 -- what an entry tells of its group
 abbrev pub logged : Entry → Logged
 logged e = record { firing = set_of e.firing_alerts; resolved = set_of e.resolved_alerts; timestamp = e.timestamp }
+
+-- so does what was told when it was notified last
+abbrev pub noticed : LastNotice → Logged
+noticed n = record { firing = set_of n.firing; resolved = set_of n.resolved; timestamp = n.timestamp }
 
 -- the first case that holds, where the log has an entry
 unfoldable pub decision_after : Logged → Hashes → Hashes → ℕ → Bool → ℕ → Decision

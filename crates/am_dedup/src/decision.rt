@@ -1,14 +1,14 @@
 //! Whether a group of alerts is notified.
 
-ghost use Rattle.std.specs.Prelude.{◌≡◌, ◌+◌, ◌-◌, ◌%◌, IsTrue, ◌<◌, ◌≤◌, length, option_map, nat_eq, ℕ, Some, get_or};
-ghost use Rattle.std.specs.Prelude.{nat_lt, true, false, IfSome, IfNone};
+ghost use Rattle.std.specs.Prelude.{◌≡◌, ◌+◌, ◌-◌, ◌%◌, IsTrue, ◌<◌, ◌≤◌, length, option_map, nat_eq, ℕ, Some, None, get_or, Bool};
+ghost use Rattle.std.specs.Prelude.{nat_lt, true, false};
 ghost use Rattle.std.specs.FinSet.{is_subset};
 ghost use Rattle.std.specs.List.{list_any, position};
 ghost use Rattle.std.specs.List.Sorted.{IsNonDecreasing};
 ghost use Rattle.std.specs.Option.{option_copied};
-ghost use Rattle.am_dedup.specs.Decisions.{decision, decision_after, has_none, logged, set_of};
+ghost use Rattle.am_dedup.specs.Decisions.{Hashes, decision, decision_after, logged, noticed, set_of};
 
-use am_nflog::Entry;
+use am_nflog::{Entry, HashIter, MeshEntry};
 use am_version_order::{Interval, Moment};
 
 // So many hashes are looked for in one walk over the entry's, where they come in no order.
@@ -42,6 +42,14 @@ pub enum Decision {
     Notify(Reason),
 }
 
+// What was told of a group when it was notified last.
+#[derive(Drop)]
+struct LastNotice<'a> {
+    firing: HashIter<'a>,
+    resolved: HashIter<'a>,
+    timestamp: Moment,
+}
+
 /// Whether a group is notified at `now`, of which the view of the log has this entry or none. The lists of alert
 /// hashes count as sets. It takes no memory. Lists in the order of the entry's take linear time; in any other order each
 /// 2,048 hashes take one walk over the entry's, with a look into a table at each, or a search by halving at the worst.
@@ -57,36 +65,77 @@ pub fn decide(
     ensures { result ≡ decision (option_map logged (option_copied entry.entry)) (set_of firing.now)
         (set_of resolved.now) repeat send_resolved now }
 {
-    match entry {
-        Some(entry) => decide_after(entry, firing, resolved, repeat, send_resolved, now),
-        None if has_none(firing) => Decision::Skip,
-        None => Decision::Notify(Reason::First),
-    }
+    let Some(entry) = entry else {
+        return decide_first(firing);
+    };
+    let notice = LastNotice {
+        firing: entry.firing_alerts.iter(),
+        resolved: entry.resolved_alerts.iter(),
+        timestamp: entry.timestamp,
+    };
+    decide_after(&notice, firing, resolved, repeat, send_resolved, now)
 }
 
-// The decision where the log has an entry.
-#[tactic(auto, unfolding(crate::specs::Decisions::decision_after))]
-fn decide_after(
-    entry: &Entry,
+/// The same of a version of the log, whose hashes are read in its text.
+#[tactic(auto, unfolding(crate::specs::Decisions::decision))]
+pub fn decide_over(
+    version: Option<&MeshEntry>,
     firing: &[u64],
     resolved: &[u64],
     repeat: Interval,
     send_resolved: bool,
     now: Moment,
 ) -> Decision
-    ensures { result ≡ decision_after (logged entry.now) (set_of firing.now) (set_of resolved.now) repeat send_resolved now }
+    ensures { result ≡ decision (option_map logged (option_map (λ m. m.entry) (option_copied version.entry)))
+        (set_of firing.now) (set_of resolved.now) repeat send_resolved now }
 {
-    if !is_within(firing, entry.firing_alerts.as_slice()) {
+    let Some(version) = version else {
+        return decide_first(firing);
+    };
+    let notice = LastNotice {
+        firing: version.firing_alerts(),
+        resolved: version.resolved_alerts(),
+        timestamp: version.timestamp(),
+    };
+    decide_after(&notice, firing, resolved, repeat, send_resolved, now)
+}
+
+// The decision where the log has no entry.
+#[tactic(auto, using(crate::proofs::Sets::none_is), unfolding(crate::specs::Decisions::decision))]
+fn decide_first(firing: &[u64]) -> Decision
+    ensures { (resolved : Hashes) (repeat : ℕ) (wanted : Bool) (now : ℕ) →
+        result ≡ decision None (set_of firing.now) resolved repeat wanted now }
+{
+    if firing.is_empty() {
+        Decision::Skip
+    } else {
+        Decision::Notify(Reason::First)
+    }
+}
+
+// The decision where the log has an entry.
+#[tactic(auto, using(crate::proofs::Sets::none_is), unfolding(crate::specs::Decisions::decision_after))]
+fn decide_after(
+    notice: &LastNotice<'_>,
+    firing: &[u64],
+    resolved: &[u64],
+    repeat: Interval,
+    send_resolved: bool,
+    now: Moment,
+) -> Decision
+    ensures { result ≡ decision_after (noticed notice.now) (set_of firing.now) (set_of resolved.now) repeat send_resolved now }
+{
+    if !is_within(firing, &notice.firing) {
         Decision::Notify(Reason::NewFiring)
-    } else if has_none(firing) {
-        if has_none(entry.firing_alerts.as_slice()) {
+    } else if firing.is_empty() {
+        if notice.firing.is_empty() {
             Decision::Skip
         } else {
             Decision::Notify(Reason::AllResolved)
         }
-    } else if send_resolved && !is_within(resolved, entry.resolved_alerts.as_slice()) {
+    } else if send_resolved && !is_within(resolved, &notice.resolved) {
         Decision::Notify(Reason::NewResolved)
-    } else if is_over(entry.timestamp, repeat, now) {
+    } else if is_over(notice.timestamp, repeat, now) {
         Decision::Notify(Reason::Repeat)
     } else {
         Decision::Skip
@@ -100,62 +149,43 @@ fn is_over(start: Moment, interval: Interval, now: Moment) -> bool
     start.checked_add(interval).is_some_and(|end| end < now)
 }
 
-fn has_none(hashes: &[u64]) -> bool
-    ensures { result ≡ has_none (set_of hashes.now) }
-{
-    hashes.is_empty()
-}
-
 // Whether each of the hashes is listed. Each is looked for first behind the one found before it, and the rest of those
 // that come in no order by groups.
-fn is_within(hashes: &[u64], listed: &[u64]) -> bool
+fn is_within(hashes: &[u64], listed: &HashIter<'_>) -> bool
     ensures { result ≡ is_subset (set_of hashes.now) (set_of listed.now) }
 {
-    let mut behind = 0;
+    let mut rest = listed.again();
     let mut turns_left = TURNS;
     for (count, hash) in hashes.iter().enumerate() {
         if turns_left == 0 {
             return are_groups_within(&hashes[count..], listed);
         }
-        match place_of(*hash, listed, behind) {
-            Some(place) => {
-                if place < behind {
-                    turns_left -= 1;
-                }
-                behind = place + 1;
+        if !skip_past(*hash, &mut rest) {
+            rest = listed.again();
+            turns_left -= 1;
+            if !skip_past(*hash, &mut rest) {
+                return false;
             }
-            None => return false,
         }
     }
     true
 }
 
-// Where a hash is listed: the first place from `start` on, or else the first one of all.
-fn place_of(hash: u64, listed: &[u64], start: usize) -> Option<usize>
-    requires { start ≤ length listed.now }
-    ensures found { IfSome result (λ place. (place < length listed.now) × (list_any (λ y. nat_eq y hash) listed.now ≡ true)) }
-    ensures missing { IfNone result (list_any (λ y. nat_eq y hash) listed.now ≡ false) }
+// Whether a hash is among those to come; what is left then comes behind it.
+fn skip_past(hash: u64, rest: &mut HashIter<'_>) -> bool
+    ensures found { result ≡ list_any (λ y. nat_eq y hash) rest.old }
+    ensures left { (other : ℕ) → list_any (λ y. nat_eq y other) rest.new ≡ true → list_any (λ y. nat_eq y other) rest.old ≡ true }
 {
-    match first_place_of(hash, &listed[start..]) {
-        Some(place) => Some(start + place),
-        None => first_place_of(hash, &listed[..start]),
-    }
-}
-
-fn first_place_of(hash: u64, hashes: &[u64]) -> Option<usize>
-    ensures found { IfSome result (λ place. (place < length hashes.now) × (list_any (λ y. nat_eq y hash) hashes.now ≡ true)) }
-    ensures missing { IfNone result (list_any (λ y. nat_eq y hash) hashes.now ≡ false) }
-{
-    for (place, other) in hashes.iter().enumerate() {
-        if *other == hash {
-            return Some(place);
+    while let Some(other) = rest.next() {
+        if other == hash {
+            return true;
         }
     }
-    None
+    false
 }
 
 // Whether each of the hashes is listed, by groups of them.
-fn are_groups_within(hashes: &[u64], listed: &[u64]) -> bool
+fn are_groups_within(hashes: &[u64], listed: &HashIter<'_>) -> bool
     ensures { result ≡ is_subset (set_of hashes.now) (set_of listed.now) }
 {
     let mut rest = hashes;
@@ -170,7 +200,7 @@ fn are_groups_within(hashes: &[u64], listed: &[u64]) -> bool
 }
 
 // Whether each hash of a group is listed. The group is sorted in an array, so that no memory is taken.
-fn is_group_within(group: &[u64], listed: &[u64]) -> bool
+fn is_group_within(group: &[u64], listed: &HashIter<'_>) -> bool
     requires { length group.now ≤ 2048 }
     ensures { result ≡ is_subset (set_of group.now) (set_of listed.now) }
 {
@@ -182,7 +212,7 @@ fn is_group_within(group: &[u64], listed: &[u64]) -> bool
 }
 
 // Whether each of the sorted hashes is listed.
-fn is_sorted_within(sorted: &[u64], listed: &[u64]) -> bool
+fn is_sorted_within(sorted: &[u64], listed: &HashIter<'_>) -> bool
     requires fits { length sorted.now ≤ 2048 }
     requires sorted { IsNonDecreasing sorted.now }
     ensures { result ≡ is_subset (set_of sorted.now) (set_of listed.now) }
@@ -207,7 +237,7 @@ fn is_new(sorted: &[u64], place: usize) -> bool
 }
 
 // Which of the sorted hashes are listed, by their first places.
-fn marks_of(sorted: &[u64], listed: &[u64]) -> [bool; GROUP]
+fn marks_of(sorted: &[u64], listed: &HashIter<'_>) -> [bool; GROUP]
     requires fits { length sorted.now ≤ 2048 }
     requires sorted { IsNonDecreasing sorted.now }
     ensures { (hash place : ℕ) → position (λ y. nat_eq y hash) sorted.now ≡ Some place →
@@ -215,8 +245,8 @@ fn marks_of(sorted: &[u64], listed: &[u64]) -> [bool; GROUP]
 {
     let met = remainders_of(sorted);
     let mut marks = [false; GROUP];
-    for hash in listed {
-        if let Some(place) = met_place_of(*hash, sorted, &met) {
+    for hash in listed.again() {
+        if let Some(place) = met_place_of(hash, sorted, &met) {
             marks[place] = true;
         }
     }

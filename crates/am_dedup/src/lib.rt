@@ -5,5 +5,5 @@ mod decision;
 pub mod laws;
 mod wait;
 
-pub use decision::{Decision, Reason, decide};
+pub use decision::{Decision, Reason, decide, decide_over};
 pub use wait::due;

@@ -17,6 +17,14 @@ pub const UNPACKED: [u8; 26] = [
     0x0A, 0x30, 0x01, 0x30, 0x02, 0x12, 0x03, 0x08, 0xC8, 0x01,
 ];
 
+/// All parts: group key `g`, receiver `r`, `w`, 0, group hash `h`, resolved, timestamp 10 s, firing 300 and 7, resolved 9,
+/// expiry 200 s.
+pub const FULL: [u8; 35] = [
+    0x0A, 0x1C, 0x0A, 0x01, 0x67, 0x12, 0x06, 0x0A, 0x01, 0x72, 0x12, 0x01, 0x77, 0x1A, 0x01, 0x68,
+    0x20, 0x01, 0x2A, 0x02, 0x08, 0x0A, 0x32, 0x03, 0xAC, 0x02, 0x07, 0x3A, 0x01, 0x09, 0x12, 0x03,
+    0x08, 0xC8, 0x01,
+];
+
 /// A group key of so many bytes, with which that entry takes all 67,108,864 bytes that a version may have.
 pub const LONGEST_KEY: usize = 67_108_833;
 
@@ -45,12 +53,8 @@ pub fn receiver(alloc: Global, idx: u32) -> Result<Receiver, AllocError> {
 
 /// The key of a group key of so many `g`, and that receiver.
 pub fn key(alloc: Global, size: usize, idx: u32) -> Result<LogKey, AllocError> {
-    let group_key = Bytes::new(vec![in alloc; b'g'; size]?);
-    let receiver = receiver(alloc, idx)?;
-    Ok(LogKey {
-        group_key,
-        receiver,
-    })
+    let group_key = vec![in alloc; b'g'; size]?;
+    LogKey::of_parts(alloc, group_key.as_slice(), "r", "w", idx)
 }
 
 /// The entry of a group key of so many `g`: at 10 s, with 1 and 2 firing.

@@ -1,7 +1,7 @@
 //! The entries that notifications leave.
 
-use crate::fixtures::{LONGEST_KEY, PACKED, at, entry, seconds};
-use am_nflog::{Entry, LogKey, MeshEntry, make_entry};
+use crate::fixtures::{LONGEST_KEY, PACKED, at, receiver, seconds};
+use am_nflog::{Bytes, Hashes, MeshEntry, make_entry};
 use am_version_order::{Interval, Moment, Version};
 use am_wire::WireError;
 use std::alloc::Global;
@@ -15,22 +15,15 @@ fn made(
     retention: Interval,
     now: Moment,
 ) -> Result<Option<MeshEntry>, WireError> {
-    let Entry {
-        key,
-        firing_alerts,
-        resolved_alerts,
-        ..
-    } = entry(alloc, size)?;
-    let LogKey {
-        group_key,
-        receiver,
-    } = key;
+    let group_key = Bytes::new(vec![in alloc; b'g'; size]?);
+    let receiver = receiver(alloc, 0)?;
+    let firing = Hashes::new(vec![in alloc; 1, 2]?);
     make_entry(
         alloc,
         group_key,
         receiver,
-        firing_alerts,
-        resolved_alerts,
+        firing,
+        Hashes::new(Vec::new(alloc)),
         repeat,
         retention,
         now,

@@ -1,6 +1,6 @@
 //! Versions of entries: their parts, their bytes and their order.
 
-use crate::fixtures::{LONGEST_KEY, PACKED, UNPACKED, at, key, receiver, version};
+use crate::fixtures::{FULL, LONGEST_KEY, PACKED, UNPACKED, at, key, receiver, version};
 use am_nflog::{Hashes, LogKey, MeshEntry, Receiver};
 use am_version_order::Version;
 use am_wire::{Message, WireError};
@@ -14,18 +14,15 @@ fn holds(rt: &impl Abort, answer: Result<bool, WireError>) {
 }
 
 fn is_key(key: &LogKey) -> bool {
-    let texts = [
-        key.receiver.group_name.as_str(),
-        key.receiver.integration.as_str(),
-    ];
-    key.group_key.as_slice() == b"g".as_slice() && texts == ["r", "w"] && key.receiver.idx == 0
+    let texts = [key.group_name(), key.integration()];
+    key.group_key() == b"g".as_slice() && texts == ["r", "w"] && key.idx() == 0
 }
 
 fn is_version(version: &MeshEntry) -> bool {
     let moments = [version.updated(), version.expires(), version.expires_at()];
     is_key(version.key())
         && moments == [at(10), at(200), at(200)]
-        && version.entry().firing_alerts.as_slice() == [1, 2].as_slice()
+        && version.firing_alerts().eq([1, 2])
         && version.canonical() == PACKED.as_slice()
         && version.bucket().is_empty()
 }
@@ -44,6 +41,27 @@ fn parts_are_read(rt: HostRuntime) {
 #[test]
 fn lists_are_read_packed_or_not(rt: HostRuntime) {
     holds(&rt, is_read(rt.alloc(), &UNPACKED));
+}
+
+fn is_full(version: &MeshEntry) -> bool {
+    let firing = version.firing_alerts();
+    is_key(version.key())
+        && version.group_hash() == b"h".as_slice()
+        && version.resolved()
+        && version.timestamp() == at(10)
+        && !firing.is_empty()
+        && firing.again().eq([300, 7])
+        && version.resolved_alerts().eq([9])
+}
+
+fn is_read_in_full(alloc: Global, bytes: &[u8]) -> Result<bool, WireError> {
+    let read = MeshEntry::decode(alloc, bytes)?;
+    Ok(is_full(&read) && read.canonical() == bytes)
+}
+
+#[test]
+fn all_parts_are_read(rt: HostRuntime) {
+    holds(&rt, is_read_in_full(rt.alloc(), &FULL));
 }
 
 // The message, encoded, is these bytes.
@@ -70,10 +88,15 @@ fn version_len(alloc: Global, size: usize) -> Result<usize, WireError> {
 }
 
 #[test]
-fn a_version_that_is_too_long_is_refused(rt: HostRuntime) {
+fn a_version_of_the_most_bytes_is_made(rt: HostRuntime) {
     let longest = version_len(rt.alloc(), LONGEST_KEY);
+    assert_eq!(rt; longest, Ok(67_108_864));
+}
+
+#[test]
+fn a_version_that_is_too_long_is_refused(rt: HostRuntime) {
     let over = version_len(rt.alloc(), LONGEST_KEY + 1);
-    assert_eq!(rt; [longest, over], [Ok(67_108_864), Err(WireError::TooLarge)]);
+    assert_eq!(rt; over, Err(WireError::TooLarge));
 }
 
 fn is_key_copied(alloc: Global, version: &MeshEntry) -> Result<bool, AllocError> {

@@ -1,34 +1,27 @@
-use Rattle.std.proofs.Common.{arith, ◌<◌, sym, ◌∙◌, ap, refl, true, false, length}
-use Rattle.std.proofs.lemmas.List.{get_or-replicate, take_all}
+use Rattle.std.proofs.Common.{rules, arith, ◌<◌, ◌++◌, [], ◌∷◌, List, ℕ, append_assoc, sym, ◌∙◌, ap, refl, true, false, length}
+use Rattle.std.proofs.lemmas.List.{get_or-replicate}
 use Rattle.std.proofs.Math.ListN.{length-set}
-use Rattle.am_dedup.proofs.Sets.{is_among}
-use Rattle.am_dedup.proofs.Marks.{is_within, marks_more, marks_same}
+use Rattle.am_dedup.proofs.Marks.{is_within, marks_more}
 use Rattle.am_dedup.proofs.decision.marks_of.Goals as goal
-use Rattle.am_dedup.proofs.decision.marks_of.Goals.{in-Some, in_default}
 
 pub loop-hash-init : goal.loop-hash-init
-loop-hash-init c = (
-  refl,
-  λ hash place first.
+loop-hash-init c = record {
+  size = refl;
+  marked = λ hash place first.
       let within = is_within c.args.sorted.now hash place first in
-      get_or-replicate 2048 place false false (omega (arith, within, c.requires.fits)),
-)
+      get_or-replicate 2048 place false false (omega (arith, within, c.requires.fits));
+  walk = search rules;
+}
 
-pub loop-hash-preserved : goal.loop-hash-preserved
-loop-hash-preserved c =
-    elim c.match-met_place_of.branch [
-      | in-Some w ↦
-          let first = sym c.met_place_of.ensures ∙ w.in-Some.is in
-          let within = is_within c.args.sorted.now _ w.in-Some.place first in
-          let fits : w.in-Some.place < length c.loop-hash.marks = omega (arith, within, c.requires.fits, c.loop-hash.invariant.0) in (
-            ap length w.marks-is ∙ length-set c.loop-hash.marks w.in-Some.place true ∙ c.loop-hash.invariant.0,
-            rw w.marks-is (marks_more c.args.sorted.now c.args.listed.now c.loop-hash.marks c.loop-hash.hash-index w.in-Some.place c.loop-hash-test.true fits first c.loop-hash.invariant.1),
-          )
-      | in_default w ↦ (
-        ap length w.marks-is ∙ c.loop-hash.invariant.0,
-        rw w.marks-is (marks_same c.args.sorted.now c.args.listed.now c.loop-hash.marks c.loop-hash.hash-index c.loop-hash-test.true (sym c.met_place_of.ensures ∙ w.in_default.is) c.loop-hash.invariant.1),
-      )
-    ]
-
-pub returns : goal.returns
-returns c = λ hash place first. c.loop-hash.invariant.1 hash place first ∙ ap (λ l. is_among l hash) (take_all c.loop-hash.hash-index c.args.listed.now (omega arith))
+pub loop-hash-preserved-in-Some-met_place_of : goal.loop-hash-preserved-in-Some-met_place_of
+loop-hash-preserved-in-Some-met_place_of c =
+    let old = c.loop-hash.invariant in
+    let at = c.in-Some-met_place_of.place in
+    let first = sym c.in-Some-met_place_of.ensures in
+    let within = is_within c.args.sorted.now c.in-Some.hash at first in
+    let fits : at < length c.loop-hash.marks = omega (arith, within, c.requires.fits, old.size) in
+    record {
+      size = length-set c.loop-hash.marks at true ∙ old.size;
+      marked = marks_more c.args.sorted.now c.loop-hash.yielded c.loop-hash.marks c.in-Some.hash at fits first old.marked;
+      walk = old.walk ∙ ap (λ (l : List ℕ). c.loop-hash.yielded ++ l) c.in-Some.ensures.steps ∙ sym (append_assoc c.loop-hash.yielded (c.in-Some.hash ∷ []) c.next.new.self);
+    }
