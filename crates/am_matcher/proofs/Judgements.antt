@@ -1,17 +1,53 @@
--- Matchers that are judged one after the other.
-use Rattle.std.proofs.Common.{◌≡◌, ℕ, ◌+◌, ◌<◌, Bool, ◌&&◌, List, length, take, get_or, All, subst, sym, ap, ap₂, ◌∙◌}
-use Rattle.std.proofs.lemmas.List.Elements.{All-more}
-use Rattle.std.proofs.lemmas.List.Folds.{list_all_more}
+-- Matchers that are judged one after the other: m comes before the others.
+use Rattle.std.proofs.Common.{◌≡◌, ℕ, suc, Bool, true, false, ◌&&◌, cond, find, List, [], ◌∷◌, reverse, Option, Some, None, All, Any, refl, sym, ap, subst, ◌∙◌, arith}
+use Rattle.std.specs.Prelude.{if◌then◌else◌}
+use Rattle.std.specs.Option.{option_map_or, option_or}
+use Rattle.std.proofs.lemmas.List.{reverse-append}
+use Rattle.std.proofs.lemmas.List.Elements.{All-cons}
+use Rattle.std.proofs.lemmas.List.Folds.{find-append}
 use Rattle.am_silence.specs.declared.matcher.Matcher.{Matcher}
 use Rattle.am_matcher.specs.declared.labels.Label.{Label}
-use Rattle.am_matcher.specs.Labels.{value_in}
-use Rattle.am_matcher.specs.Matching.{matches_value, match_all, IsSoundMatcher}
+use Rattle.am_matcher.specs.Texts.{is_text}
+use Rattle.am_matcher.specs.Labels.{last_named, value_in}
+use Rattle.am_matcher.specs.Matching.{matches_value, match_all, IsSoundMatcher, IsBrokenMatcher}
 
--- m is the next matcher, and says this of its label
-pub match_all-more : (ms : List Matcher) (labels : List Label) (i : ℕ) (m : Matcher) (before matches : Bool) → i < length ms → m ≡ get_or ms i m → before ≡ match_all (take i ms) labels → matches ≡ matches_value m (value_in labels m.name) → (before && matches) ≡ match_all (take (i + 1) ms) labels
-match_all-more ms labels i m before matches within is so now =
-    let test : Matcher → Bool = λ x. matches_value x (value_in labels x.name) in
-    ap₂ (λ (a b : Bool). a && b) so (now ∙ ap test is) ∙ sym (list_all_more test ms i m within)
+and_next : (before matches rest : Bool) → ((before && matches) && rest) ≡ (before && (matches && rest))
+and_next true matches rest = refl
+and_next false matches rest = refl
 
-pub all_sound-more : (ms : List Matcher) (i : ℕ) (m : Matcher) → i < length ms → m ≡ get_or ms i m → All IsSoundMatcher (take i ms) → IsSoundMatcher m → All IsSoundMatcher (take (i + 1) ms)
-all_sound-more ms i m within is so now = All-more IsSoundMatcher ms i m within so (subst IsSoundMatcher is now)
+-- the first of two options, or what is so far
+last_or : (found : Option Matcher) (m : Matcher) (test : Bool) (before : List ℕ)
+    → option_map_or (λ m. m.pattern) (option_or found (cond test (Some m) None)) before ≡ option_map_or (λ m. m.pattern) found (if test then m.pattern else before)
+last_or (Some x) m test before = refl
+last_or None m true before = refl
+last_or None m false before = refl
+
+module _ {left others : List Matcher} {m : Matcher} (first : left ≡ m ∷ others) where
+  -- m says this of its label
+  pub match_all-first : (labels : List Label) (before matches : Bool) → matches ≡ matches_value m (value_in labels m.name)
+      → ((before && matches) && match_all others labels) ≡ (before && match_all left labels)
+  match_all-first labels before matches now =
+      and_next before matches (match_all others labels)
+      ∙ ap (λ (b : Bool). before && (b && match_all others labels)) now
+      ∙ ap (λ (ms : List Matcher). before && match_all ms labels) (sym first)
+
+  pub all_sound-first : IsSoundMatcher m → All IsSoundMatcher others → All IsSoundMatcher left
+  all_sound-first sound rest = subst (All IsSoundMatcher) (sym first) (All-cons IsSoundMatcher m others sound rest)
+
+  pub any_broken-first : IsBrokenMatcher m → Any IsBrokenMatcher left
+  any_broken-first broken = subst (Any IsBrokenMatcher) (sym first) (0, m, omega arith, refl, broken)
+
+  pub any_broken-later : Any IsBrokenMatcher others → Any IsBrokenMatcher left
+  any_broken-later (k, x, within, is, broken) = subst (Any IsBrokenMatcher) (sym first) (suc k, x, omega (arith, within), is, broken)
+
+  -- of a name the last matcher counts
+  pub pattern-first : (name before : List ℕ)
+      → option_map_or (λ m. m.pattern) (last_named (λ m. m.name) name others) (if is_text m.name name then m.pattern else before)
+      ≡ option_map_or (λ m. m.pattern) (last_named (λ m. m.name) name left) before
+  pattern-first name before =
+      let test : Matcher → Bool = λ x. is_text x.name name in
+      let found : find test (reverse (m ∷ others)) ≡ option_or (find test (reverse others)) (cond (test m) (Some m) None) =
+      ap (find test) (reverse-append (m ∷ []) others) ∙ find-append test (reverse others) (m ∷ []) in
+      sym (last_or (find test (reverse others)) m (test m) before)
+      ∙ ap (λ (o : Option Matcher). option_map_or (λ m. m.pattern) o before) (sym found)
+      ∙ ap (λ (ms : List Matcher). option_map_or (λ m. m.pattern) (last_named (λ m. m.name) name ms) before) (sym first)

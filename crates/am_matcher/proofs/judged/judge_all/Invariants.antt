@@ -1,9 +1,11 @@
-use Rattle.std.proofs.Common.{◌≡◌, take, All}
-use Rattle.am_matcher.specs.Matching.{IsSoundMatcher, match_all}
+use Rattle.std.proofs.Common.{◌≡◌, ◌&&◌, All, Any}
+use Rattle.am_matcher.specs.Matching.{IsSoundMatcher, IsBrokenMatcher, match_all}
 use Rattle.am_matcher.proofs.judged.judge_all.Given as goal
 
-abbrev pub invariant-loop-index : goal.invariant-loop-index
-invariant-loop-index l = record {
-  answer : l.all ≡ match_all (take l.index l.matchers) l.labels;
-  sound : All IsSoundMatcher (take l.index l.matchers);
+-- what is left decides
+abbrev pub invariant-loop-matcher : goal.invariant-loop-matcher
+invariant-loop-matcher l = record {
+  answer : (l.all && match_all l.matcher-iterator l.labels) ≡ match_all l.fn.matchers l.labels;
+  sound : All IsSoundMatcher l.matcher-iterator → All IsSoundMatcher l.fn.matchers;
+  broken : Any IsBrokenMatcher l.matcher-iterator → Any IsBrokenMatcher l.fn.matchers;
 }
