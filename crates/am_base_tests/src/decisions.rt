@@ -1,9 +1,9 @@
 //! Whether a group is notified, and when an instance is due.
 
-use am_dedup::{Decision, Reason, decide, due};
-use am_nflog::{Bytes, Entry, Hashes, LogKey, Receiver};
+use am_dedup::{Decision, Reason, decide, decide_over, due};
+use am_nflog::{Bytes, Entry, Hashes, LogKey, MeshEntry};
 use am_version_order::{Interval, Moment};
-use am_wire::Text;
+use am_wire::WireError;
 use std::alloc::{AllocError, Global};
 use std::process::Abort;
 
@@ -16,28 +16,9 @@ fn minute() -> Interval {
     Interval::from_nanos(60_000_000_000).unwrap()
 }
 
-fn receiver(alloc: Global) -> Result<Receiver, AllocError> {
-    let group_name = Text::copied(alloc, "r")?;
-    let integration = Text::copied(alloc, "w")?;
-    Ok(Receiver {
-        group_name,
-        integration,
-        idx: 0,
-    })
-}
-
-fn key(alloc: Global) -> Result<LogKey, AllocError> {
-    let receiver = receiver(alloc)?;
-    let group_key = Bytes::copied(alloc, b"g")?;
-    Ok(LogKey {
-        group_key,
-        receiver,
-    })
-}
-
 // The entry of a group that was notified at 100 s, with nothing resolved.
 fn entry(alloc: Global, firing: &[u64]) -> Result<Entry, AllocError> {
-    let key = key(alloc)?;
+    let key = LogKey::of_parts(alloc, b"g", "r", "w", 0)?;
     let firing = Vec::from_slice(alloc, firing)?;
     Ok(Entry {
         key,
@@ -72,11 +53,40 @@ fn decided(
     ))
 }
 
-// Sees that of each row it is decided so.
+fn version(alloc: Global, firing: &[u64]) -> Result<MeshEntry, WireError> {
+    let entry = entry(alloc, firing)?;
+    MeshEntry::new(alloc, entry, at(200, 0))
+}
+
+// The same of the version of that entry.
+fn decided_over(
+    alloc: Global,
+    listed: &[u64],
+    row: Row,
+    wants_resolved: bool,
+) -> Result<Decision, WireError> {
+    let version = version(alloc, listed)?;
+    let (firing, resolved, nanos, _) = row;
+    let now = at(160, nanos);
+    Ok(decide_over(
+        Some(&version),
+        firing,
+        resolved,
+        minute(),
+        wants_resolved,
+        now,
+    ))
+}
+
+// Sees that of each row it is decided so, over the entry and over its version.
 fn are_decided(rt: &impl Abort, alloc: Global, listed: &[u64], rows: &[Row], wants_resolved: bool) {
     for row in rows {
         let decision = decided(alloc, listed, *row, wants_resolved);
-        assert!(rt; decision == Ok(row.3), "{decision:?}");
+        let over = decided_over(alloc, listed, *row, wants_resolved);
+        assert!(rt;
+            decision == Ok(row.3) && over == Ok(row.3),
+            "{decision:?} {over:?}"
+        );
     }
 }
 
@@ -113,7 +123,10 @@ fn a_group_whose_entry_lists_nothing_firing_is_skipped(rt: HostRuntime) {
 fn a_group_without_an_entry_is_notified_where_something_fires(rt: HostRuntime) {
     let quiet = decide(None, &[], &[2], minute(), true, at(160, 0));
     let firing = decide(None, &[1], &[], minute(), true, at(160, 0));
-    assert!(rt; quiet == Decision::Skip && firing == Decision::Notify(Reason::First));
+    let over = decide_over(None, &[1], &[], minute(), true, at(160, 0));
+    assert!(rt;
+        quiet == Decision::Skip && firing == Decision::Notify(Reason::First) && over == firing
+    );
 }
 
 const MOST: usize = 4_096;
@@ -134,8 +147,8 @@ fn spread(hashes: &mut [u64], places: u64, step: u64) {
     }
 }
 
-// The decision over a row's long lists.
-fn long_decided(alloc: Global, row: Long) -> Result<Decision, AllocError> {
+// The decision over a row's long lists, of which the entry's are packed in its version.
+fn long_decided(alloc: Global, row: Long) -> Result<Decision, WireError> {
     let (listed_count, firing_count, step, missing) = row;
     let mut listed = [0; MOST];
     spread(&mut listed, MOST as u64, 1);
@@ -144,9 +157,9 @@ fn long_decided(alloc: Global, row: Long) -> Result<Decision, AllocError> {
     if let Some(hash) = missing.and_then(|place| firing.get_mut(place)) {
         *hash = nth(listed_count as u64);
     }
-    let entry = entry(alloc, &listed[..listed_count.min(MOST)])?;
+    let version = version(alloc, &listed[..listed_count.min(MOST)])?;
     let firing = &firing[..firing_count.min(MOST)];
-    Ok(decide(Some(&entry), firing, &[], minute(), true, at(160, 0)))
+    Ok(decide_over(Some(&version), firing, &[], minute(), true, at(160, 0)))
 }
 
 // Sees that each row is skipped, and notified where a hash isn't listed.

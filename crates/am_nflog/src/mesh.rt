@@ -25,7 +25,8 @@ use std::marker::Model;
 /// A version of an entry: the entry, and the moment from which on it may be forgotten.
 ///
 /// Its canonical text is kept, so that comparing takes no memory; beside it stand its key and its moments, and the
-/// places of its other parts in that text. A text of 2^32 bytes or more is refused as one that memory is not enough for.
+/// places of its other parts in that text. One with a part behind 2^32 bytes or more of the text is refused as one that
+/// memory is not enough for.
 pub struct MeshEntry {
     key: LogKey,
     timestamp: Moment,
