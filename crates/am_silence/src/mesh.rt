@@ -25,8 +25,8 @@ use std::marker::Model;
 /// A version of a silence: the silence, and the moment from which on it may be forgotten.
 ///
 /// Of a version its canonical text is kept, and beside it the identifier, the moments, and where the other parts stand
-/// in the text: they are read where they are asked for. A text of 2^32 bytes or more is refused as one that memory is
-/// not enough for.
+/// in the text: they are read where they are asked for. One with a part behind 2^32 bytes or more of the text is refused
+/// as one that memory is not enough for.
 pub struct MeshSilence {
     id: Text,
     starts_at: Moment,
