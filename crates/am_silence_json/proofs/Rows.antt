@@ -1,6 +1,6 @@
 -- One value more.
-use Rattle.std.proofs.Common.{◌≡◌, ℕ, ◌+◌, ◌<◌, List, [], ◌∷◌, ◌++◌, length, take, get_or, map, ap, ◌∙◌, append-nil}
-use Rattle.std.proofs.lemmas.List.{take_more, map-append}
+use Rattle.std.proofs.Common.{◌≡◌, ℕ, ◌+◌, ◌<◌, List, [], ◌∷◌, ◌++◌, length, take, get_or, map, sym, ap, ◌∙◌, append-nil, append_assoc}
+use Rattle.std.proofs.lemmas.List.{take_more}
 use Rattle.std.proofs.lemmas.Grind.{flat_map-append}
 use Rattle.json.specs.Written.{Written}
 use Rattle.serde_json.specs.Data.{Data}
@@ -18,16 +18,13 @@ pub one_more : {a b c : Written} (ds : List Data) (d : Data) → Adds a b (row_t
     → Adds b c (data_tokens d) → Adds a c (row_tokens (ds ++ d ∷ []))
 one_more ds d first second = rw (row_more ds d) (chain first second)
 
-matchers_more : (ms : List Matcher) (i : ℕ) (m : Matcher) → i < length ms
-    → map matcher_data (take (i + 1) ms) ≡ map matcher_data (take i ms) ++ matcher_data (get_or ms i m) ∷ []
-matchers_more ms i m h = ap (map matcher_data) (take_more ms i m h) ∙ map-append matcher_data (take i ms) (get_or ms i m ∷ [])
-
-pub matcher_more :
-    {a b c : Written} (ms : List Matcher) (i : ℕ) (m : Matcher) → i < length ms → m ≡ get_or ms i m
-    → Adds a b (row_tokens (map matcher_data (take i ms))) → Adds b c (data_tokens (matcher_data m))
-    → Adds a c (row_tokens (map matcher_data (take (i + 1) ms)))
-matcher_more ms i m h e first second =
-    rw (matchers_more ms i m h, ← e) (one_more (map matcher_data (take i ms)) (matcher_data m) first second)
+-- the next matcher, and those that are left
+pub matcher_more : {a b : Written} {left others : List Matcher} {m : Matcher} → left ≡ m ∷ others → Adds a b (data_tokens (matcher_data m))
+    → b.tokens ++ row_tokens (map matcher_data others) ≡ a.tokens ++ row_tokens (map matcher_data left)
+matcher_more {a} {b} {left} {others} {m} first added =
+    ap (λ ts. ts ++ row_tokens (map matcher_data others)) added.tokens
+    ∙ append_assoc a.tokens (data_tokens (matcher_data m)) (row_tokens (map matcher_data others))
+    ∙ ap (λ (ms : List Matcher). a.tokens ++ row_tokens (map matcher_data ms)) (sym first)
 
 gettable_more : (rows : List (Mesh × State)) (ds : List Data) (row : Mesh × State) (d : Data)
     → AreGettable rows ds → IsGettable row.0.silence row.1 d → AreGettable (rows ++ row ∷ []) (ds ++ d ∷ [])

@@ -7,5 +7,5 @@ abbrev pub invariant-loop-filter : goal.invariant-loop-filter
 invariant-loop-filter l =
     record {
       same : l.filter-items ≡ l.fn.filters.items;
-      left : list_all (λ f. passes f l.silence) (drop l.filter-index l.fn.filters.items) ≡ list_all (λ f. passes f l.silence) l.fn.filters.items;
+      left : list_all (λ f. passes f l.version.silence) (drop l.filter-index l.fn.filters.items) ≡ list_all (λ f. passes f l.version.silence) l.fn.filters.items;
     }
