@@ -2,8 +2,9 @@
 
 use crate::fixtures::{JOB_IS_X, MatcherRow, silence};
 use crate::matchers::{answer, verdict_on};
+use crate::muting::version;
 use am_matcher::{BuildError, Filter, FilterError};
-use am_silence::{MatcherKind, Silence, Verdict};
+use am_silence::{MatcherKind, MeshSilence, Silence, Verdict};
 use std::alloc::{AllocError, Global};
 
 /// Why a text is refused as a filter.
@@ -120,6 +121,27 @@ fn wrong_filters(alloc: Global) -> Option<usize> {
 fn filters_pass_silences(rt: HostRuntime) {
     let wrong = wrong_filters(rt.alloc());
     assert_eq!(rt; wrong, None);
+}
+
+fn passed_version(alloc: Global, text: &str, version: &MeshSilence) -> Result<bool, FilterError> {
+    let mut filter = Filter::parse(alloc, text)?;
+    Ok(filter.passes_version(version)?)
+}
+
+/// A version of a silence that wants job `x` passes the filter.
+fn version_passes(alloc: Global, text: &str) -> Option<bool> {
+    match version(alloc, "p", &[JOB_IS_X], 200) {
+        Ok(version) => passed_version(alloc, text, &version).ok(),
+        Err(_) => None,
+    }
+}
+
+#[test]
+fn filters_pass_versions(rt: HostRuntime) {
+    let same = version_passes(rt.alloc(), "job=x");
+    assert_eq!(rt; same, Some(true));
+    let other = version_passes(rt.alloc(), "job=y");
+    assert_eq!(rt; other, Some(false));
 }
 
 /// Whether the answers are right, or [`AllocError`] where memory runs out.

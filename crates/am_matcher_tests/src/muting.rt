@@ -30,7 +30,7 @@ pub fn labels_of(alloc: Global, rows: &[LabelRow]) -> Result<Labels, AllocError>
 }
 
 /// A version of the silence of these matchers, which expires after so many seconds.
-fn version(
+pub fn version(
     alloc: Global,
     id: &str,
     rows: &[MatcherRow],

@@ -30,6 +30,17 @@ fn is_first(matchers: &Matchers, kind: MatcherKind, name: &str, pattern: &str) -
     }
 }
 
+/// There are so many matchers.
+fn are_so_many(matchers: &Matchers, count: usize) -> bool {
+    let mut rest = matchers.iter();
+    for _ in 0..count {
+        if rest.next().is_none() {
+            return false;
+        }
+    }
+    rest.is_empty()
+}
+
 fn posts_that(
     posted: &Posted,
     (id, count, (kind, name, pattern), (start, end), author, comment): PostRow,
@@ -40,7 +51,7 @@ fn posts_that(
     };
     let first = is_first(&posted.matchers, kind, name, pattern);
     posted_id == id
-        && posted.matchers.iter().count() == count
+        && are_so_many(&posted.matchers, count)
         && first
         && seconds(posted.starts_at) == start
         && seconds(posted.ends_at) == end
