@@ -24,11 +24,14 @@ pub commas_more : {X : Type 0} (word : X → List ℕ) (xs : List X) (i : ℕ) (
 commas_more word xs i d within =
     flat_map_more (λ x. 44 ∷ word x) [] (take i xs) (get_or xs i d) ∙ ap (behind_commas word) (sym (take_more xs i d within))
 
+-- the same behind those that are written
+pub commas_next : {X : Type 0} (word : X → List ℕ) (done : List X) (x : X) → behind_commas word done ++ (44 ∷ word x) ≡ behind_commas word (done ++ x ∷ [])
+commas_next word done x = flat_map_more (λ y. 44 ∷ word y) [] done x
+
 -- nothing in the list
-pub numbers_none : (ns : List ℕ) → length ns ≡ 0 → codes "-" ≡ numbers_word ns
+pub numbers_none : (ns : List ℕ) → ns ≡ [] → codes "-" ≡ numbers_word ns
 unfolding numbers_word
-numbers_none [] none = refl
-numbers_none (n ∷ ns) none = absurd cc
+numbers_none ns none = rw none refl
 
 pub texts_none : (texts : List (List ℕ)) → length texts ≡ 0 → codes "-" ≡ texts_word texts
 unfolding texts_word
