@@ -5,7 +5,7 @@ use Rattle.am_view.proofs.Listing.{commas_next}
 use Rattle.am_view.proofs.lists.write_numbers.Goals as goal
 
 pub loop-number-init : goal.loop-number-init
-loop-number-init g c = ([], c.into_iter-number-iterator.ensures, λ plain. search rules)
+loop-number-init g c = ([], c.into_iter-number-iterator.ensures.into_iter_gives, λ plain. search rules)
 
 pub loop-number-preserved : goal.loop-number-preserved
 loop-number-preserved g c =
