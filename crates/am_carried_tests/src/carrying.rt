@@ -47,7 +47,7 @@ fn is_silence(version: &MeshSilence, wanted: Made) -> bool {
 
 // Whether it is an entry of this group, made at this second.
 fn is_entry(version: &MeshEntry, wanted: Made) -> bool {
-    version.key().group_key.as_slice() == [wanted.0].as_slice() && version.updated() == at(wanted.1)
+    version.key().group_key() == [wanted.0].as_slice() && version.updated() == at(wanted.1)
 }
 
 // Whether these are silences of these ids, made at these seconds.
