@@ -3,9 +3,10 @@
 use am_version_order::Moment;
 use am_wire::reading::{LastNumber, LastText, Submessage, TimestampDraft, moment_in, take_item};
 use am_wire::writing::{
-    append_text, write_delimited, write_message, write_number, write_prefix, write_text,
+    append_text, dated_size, write_dated, write_delimited, write_message, write_number,
+    write_prefix, write_text,
 };
-use am_wire::{Fields, WireError};
+use am_wire::{Fields, Message, WireError};
 use std::alloc::{AllocError, Global};
 use std::process::Abort;
 
@@ -45,6 +46,23 @@ fn is_sample_written(alloc: Global) -> Result<bool, WireError> {
 #[test]
 fn parts_are_written(rt: HostRuntime) {
     holds(&rt, is_sample_written(rt.alloc()));
+}
+
+/// A message, here the moment 10 s, that may be forgotten from 200 s on.
+const DATED: [u8; 9] = [0x0A, 0x02, 0x08, 0x0A, 0x12, 0x03, 0x08, 0xC8, 0x01];
+
+// It is written behind its length, with its moment, in as many bytes as are counted before.
+fn is_dated_written(alloc: Global) -> Result<bool, WireError> {
+    let expires_at = Moment::from_parts(200, 0).unwrap_or(Moment::LEAST);
+    let (message, mut bytes) = (ten(), Vec::new(alloc));
+    let size = message.size();
+    write_dated(&mut bytes, size, &message, expires_at)?;
+    Ok(bytes.as_slice() == DATED.as_slice() && dated_size(size, expires_at) == 9)
+}
+
+#[test]
+fn a_message_is_written_with_its_moment(rt: HostRuntime) {
+    holds(&rt, is_dated_written(rt.alloc()));
 }
 
 fn text_in(bytes: &[u8]) -> Result<&str, WireError> {
