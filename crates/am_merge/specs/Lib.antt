@@ -1,5 +1,6 @@
 pub mod Buckets
 pub mod Entries
+pub mod Filings
 pub mod Indexes
 pub mod Maps
 pub mod Places
