@@ -19,7 +19,7 @@ use std::alloc::{AllocError, Global};
 use std::cmp::Ordering;
 
 /// Fewer entries than this are sorted as they come.
-const MANY: usize = 4_096;
+const MANY: usize = 128;
 
 /// Lists with room for the entries of the indexes by expiry and by bucket, when these are made anew.
 #[derive(Drop)]

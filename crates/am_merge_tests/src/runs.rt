@@ -74,7 +74,14 @@ fn merge_as_lists(alloc: Global, count: u32, others: u32) -> Result<bool, AllocE
 }
 
 // How many rows a map and another one are made of.
-const SIZES: [(u32, u32); 5] = [(0, 300), (80, 600), (300, 300), (600, 80), (600, 1)];
+const SIZES: [(u32, u32); 6] = [
+    (0, 300),
+    (80, 600),
+    (300, 300),
+    (600, 600),
+    (600, 80),
+    (600, 1),
+];
 
 #[test]
 fn large_maps_merge_as_lists_do(rt: HostRuntime) -> Result<(), Fail> {

@@ -28,6 +28,7 @@ impl Hashes {
         Hashes { hashes }
     }
 
+    /// The hashes, in their order.
     pub fn as_slice(&self) -> &[u64]
         ensures { result.now ≡ self.now }
     {

@@ -104,12 +104,14 @@ impl LogKey {
         })
     }
 
+    /// The key of the group of alerts.
     pub fn group_key(&self) -> &[u8]
         ensures { result.now ≡ self.now.group_key }
     {
         &self.text[..self.group_name as usize]
     }
 
+    /// The name of the receiver.
     pub fn group_name(&self) -> &str
         ensures bytes { result.now ≡ self.now.receiver.group_name }
         ensures utf8 { IsUtf8 self.now.receiver.group_name }
@@ -119,6 +121,7 @@ impl LogKey {
         unsafe { str::from_utf8_unchecked(bytes) }
     }
 
+    /// The name of the receiver's integration.
     pub fn integration(&self) -> &str
         ensures bytes { result.now ≡ self.now.receiver.integration }
         ensures utf8 { IsUtf8 self.now.receiver.integration }
@@ -128,6 +131,7 @@ impl LogKey {
         unsafe { str::from_utf8_unchecked(bytes) }
     }
 
+    /// The number of the integration in its receiver.
     pub fn idx(&self) -> u32
         ensures { result ≡ self.now.receiver.idx }
     {

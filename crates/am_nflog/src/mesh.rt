@@ -134,24 +134,28 @@ impl MeshEntry {
         })
     }
 
+    /// The moment of the notification, by which versions replace each other.
     pub fn timestamp(&self) -> Moment
         ensures { result ≡ self.now.entry.timestamp }
     {
         self.timestamp
     }
 
+    /// The moment from which on it may be forgotten.
     pub fn expires_at(&self) -> Moment
         ensures { result ≡ self.now.expires_at }
     {
         self.expires_at
     }
 
+    /// The bytes of the field `group_hash` of its protobuf message, which nothing here sets.
     pub fn group_hash(&self) -> &[u8]
         ensures { result.now ≡ self.now.entry.group_hash }
     {
         self.places.group_hash.part_of(self.canonical.as_slice())
     }
 
+    /// The field `resolved` of its protobuf message, which nothing here sets.
     pub fn resolved(&self) -> bool
         ensures { result ≡ self.now.entry.resolved }
     {

@@ -70,18 +70,21 @@ impl<'a> ReceiverRef<'a> {
         }
     }
 
+    /// The name of the receiver.
     pub fn group_name(&self) -> &'a str
         ensures { result.now ≡ self.now.group_name }
     {
         self.group_name
     }
 
+    /// The name of its integration.
     pub fn integration(&self) -> &'a str
         ensures { result.now ≡ self.now.integration }
     {
         self.integration
     }
 
+    /// The number of the integration in its receiver.
     pub fn idx(&self) -> u32
         ensures { result ≡ self.now.idx }
     {

@@ -49,18 +49,6 @@ follows_past {at} {part} {text} before h = record {
   is = drop-append-add before text at ∙ h.is;
 }
 
-follows_before : {at : ℕ} {part text : List ℕ} (after : List ℕ) → Follows at part text → Follows at part (text ++ after)
-follows_before {at} {part} {text} after h = record {
-  rest = h.rest ++ after;
-  within = omega (arith, h.within, length-append text after);
-  short = h.short;
-  is = drop-append-le at text after h.within ∙ ap (λ (x : List ℕ). x ++ after) h.is
-      ∙ append_assoc (shortest (length part)) (part ++ h.rest) after ∙ ap (λ (x : List ℕ). shortest (length part) ++ x) (append_assoc part h.rest after);
-}
-
-pub follows_within : {at : ℕ} {part mid : List ℕ} (before after : List ℕ) → Follows at part mid → Follows (length before + at) part (before ++ (mid ++ after))
-follows_within before after h = follows_past before (follows_before after h)
-
 -- ---- the place of a part
 pub empty_at_0 : {part : List ℕ} {place : Place} {text : List ℕ} → place.start ≡ 0 → StandsAt part place text → [] ≡ part
 empty_at_0 none h = elim h [ inl e ↦ sym e.1 | inr f ↦ let no : ⊥ = omega (arith, none, f.0) in absurd no ]

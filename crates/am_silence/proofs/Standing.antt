@@ -19,15 +19,6 @@ module _ {start : ℕ} {part text : List ℕ} (h : Follows start part text) wher
         ∙ ap (λ (x : List ℕ). shortest (length part) ++ x) (append_assoc part h.rest more);
   }
 
-  -- the same behind another text
-  pub follows_after : (front : List ℕ) → Follows (length front + start) part (front ++ text)
-  follows_after front = record {
-    rest = h.rest;
-    within = omega (arith, h.within, length-append front text);
-    short = h.short;
-    is = drop-append-add front text start ∙ h.is;
-  }
-
 pub at_before : {part : List ℕ} {place : Place} {text : List ℕ} → StandsAt part place text → (more : List ℕ) → StandsAt part place (text ++ more)
 at_before h more = elim h [ inl e ↦ inl e | inr f ↦ inr (f.0, follows_before f.1 more) ]
 
@@ -61,24 +52,11 @@ module _ {start end : ℕ} {part text : List ℕ} (h : StandsBetween start end p
   pub between_within : end ≤ length text
   between_within = omega (arith, h.ends, ap length h.is, length-append h.front (part ++ h.back), length-append part h.back)
 
-  pub between_ordered : start ≤ end
-  between_ordered = omega (arith, h.begins, h.ends)
-
   pub range_is : slice_range text start end ≡ part
   range_is =
       let long : end - start ≡ length part = omega (arith, h.begins, h.ends) in
       let rest : drop start text ≡ part ++ h.back = rw (h.begins, h.is) (drop-append_seam h.front (part ++ h.back)) in
       rw (long, rest) (take-append_seam part h.back)
-
--- a part at the end of a text
-pub between_end : (front part : List ℕ) (start end : ℕ) → start ≡ length front → end ≡ length (front ++ part) → StandsBetween start end part (front ++ part)
-between_end front part start end begins ends = record {
-  front = front;
-  back = [];
-  is = ap (λ (x : List ℕ). front ++ x) (sym (append-nil part));
-  begins = begins;
-  ends = ends ∙ length-append front part;
-}
 
 pub stand_before : {s : Silence} {p : Places} {text : List ℕ} → StandIn s p text → (more : List ℕ) → StandIn s p (text ++ more)
 stand_before h more = record {

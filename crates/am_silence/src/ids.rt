@@ -27,6 +27,7 @@ impl Model for IdText {
 }
 
 impl IdText {
+    /// The identifier, in the form of RFC 9562.
     pub fn as_str(&self) -> &str
         ensures { result.now ≡ self.now }
     {

@@ -132,18 +132,21 @@ impl<'a> MatcherRef<'a> {
         }
     }
 
+    /// How it compares.
     pub fn kind(&self) -> MatcherKind
         ensures { result ≡ self.now.kind }
     {
         self.kind
     }
 
+    /// The label's name.
     pub fn name(&self) -> &'a str
         ensures { result.now ≡ self.now.name }
     {
         self.name
     }
 
+    /// The value, or the regular expression, that the label's value is compared with.
     pub fn pattern(&self) -> &'a str
         ensures { result.now ≡ self.now.pattern }
     {

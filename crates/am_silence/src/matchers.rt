@@ -66,6 +66,7 @@ impl Matchers {
         Ok(copies)
     }
 
+    /// Whether there is no matcher.
     pub fn is_empty(&self) -> bool
         ensures { result ≡ (length self.now == 0) }
     {

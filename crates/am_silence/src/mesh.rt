@@ -167,18 +167,21 @@ impl MeshSilence {
         MatcherIter::over(&self.canonical[places.matchers as usize..places.matchers_end as usize])
     }
 
+    /// The moment from which on it is active.
     pub fn starts_at(&self) -> Moment
         ensures { result ≡ self.now.silence.starts_at }
     {
         self.starts_at
     }
 
+    /// The moment from which on it is expired.
     pub fn ends_at(&self) -> Moment
         ensures { result ≡ self.now.silence.ends_at }
     {
         self.ends_at
     }
 
+    /// The moment of its last change, by which versions replace each other.
     pub fn updated_at(&self) -> Moment
         ensures { result ≡ self.now.silence.updated_at }
     {
@@ -207,6 +210,7 @@ impl MeshSilence {
         state_between(self.starts_at, self.ends_at, now)
     }
 
+    /// The moment from which on it may be forgotten.
     pub fn expires_at(&self) -> Moment
         ensures { result ≡ self.now.expires_at }
     {

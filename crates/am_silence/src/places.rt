@@ -32,7 +32,7 @@ pub struct Places {
 ///
 /// # Errors
 ///
-/// [`AllocError`] where memory runs out, or the text has 2^32 bytes or more. A part of the silence may be left.
+/// [`AllocError`] where memory runs out, or 2^32 bytes or more stand before a part. Some of the text may be left.
 #[tactic(auto, unfolding(crate::specs::Silences::writes_silence))]
 pub fn write_silence(out: &mut Vec<u8>, fields: &SilenceFields<'_>) -> Result<Places, AllocError>
     ensures written { OnOk result (out.new.items ≡ out.old.items ++ writes_silence (silence_in fields.now)) }

@@ -5,8 +5,8 @@ ghost use Rattle.std.specs.Option.{option_copied};
 ghost use Rattle.am_version_order.specs.Versions.{IsLive};
 ghost use Rattle.am_silence.specs.declared.error.SilenceError.TheVariants as errors;
 ghost use Rattle.am_silence.specs.Mesh.{mesh_version};
-ghost use Rattle.am_silence.specs.Plans.{post_of, held_silence, planned, silence_in_view, plan_over, new_plan, versions, successor, ended_of};
-ghost use Rattle.am_silence.specs.Plans.{Succeeds, IsUpdate, MayUpdate};
+ghost use Rattle.am_silence.specs.Plans.{post_of, held_silence, planned, silence_in_view, plan_over, new_plan};
+ghost use Rattle.am_silence.specs.Plans.{versions, successor, ended_of, Succeeds, IsUpdate, MayUpdate};
 ghost use Rattle.am_silence.specs.Refusals.{◌before◌, refusal, early_refusal, end_refusal, early_end_refusal, fresh_refusal, size_refusal};
 
 use crate::checks::{check_fresh, check_older, check_posted};
@@ -103,18 +103,22 @@ fn plan_over(
     id_held: bool,
     retention: Interval,
 ) -> Result<Plan, SilenceError>
-    ensures planned { IfOk result (λ plan. plan ≡ plan_over (silence_in_view (option_copied held.entry)) (post_of posted.now now bits retention)) }
+    ensures planned { IfOk result (λ plan.
+        plan ≡ plan_over (silence_in_view (option_copied held.entry)) (post_of posted.now now bits retention)) }
     ensures fresh { OnOk result (fresh_refusal (silence_in_view (option_copied held.entry)) posted.now id_held now ≡ None) }
-    ensures size { OnOk result (size_refusal (versions (plan_over (silence_in_view (option_copied held.entry)) (post_of posted.now now bits retention))) ≡ None) }
+    ensures size { OnOk result (size_refusal (versions
+        (plan_over (silence_in_view (option_copied held.entry)) (post_of posted.now now bits retention))) ≡ None) }
     ensures refused { IfErr result (λ e. e ≢ errors.Memory →
         (fresh_refusal (silence_in_view (option_copied held.entry)) posted.now id_held now
-        before size_refusal (versions (plan_over (silence_in_view (option_copied held.entry)) (post_of posted.now now bits retention)))) ≡ Some e) }
+        before size_refusal (versions
+        (plan_over (silence_in_view (option_copied held.entry)) (post_of posted.now now bits retention)))) ≡ Some e) }
     ensures in_place { IfOk result (λ plan. IsUpdate plan ↔
         IsSomeAnd (silence_in_view (option_copied held.entry)) (λ silence. MayUpdate silence posted.now now)) }
     ensures live { now < posted.now.ends_at → IfOk result (λ plan. All (λ v. IsLive now (mesh_version v)) (versions plan)) }
     ensures memory { IfErr result (λ e. e ≡ errors.Memory →
         (fresh_refusal (silence_in_view (option_copied held.entry)) posted.now id_held now
-        before size_refusal (versions (plan_over (silence_in_view (option_copied held.entry)) (post_of posted.now now bits retention)))) ≡ None) }
+        before size_refusal (versions
+        (plan_over (silence_in_view (option_copied held.entry)) (post_of posted.now now bits retention)))) ≡ None) }
 {
     match held {
         Some(held) if may_update(held, posted, now) => {
@@ -139,7 +143,8 @@ fn plan_new(
     retention: Interval,
 ) -> Result<Plan, SilenceError>
     ensures new { IfOk result (λ plan. ¬ IsUpdate plan) }
-    ensures planned { IfOk result (λ plan. plan ≡ new_plan (silence_in_view (option_copied held.entry)) (post_of posted.now now bits retention)) }
+    ensures planned { IfOk result (λ plan.
+        plan ≡ new_plan (silence_in_view (option_copied held.entry)) (post_of posted.now now bits retention)) }
     ensures accepted { OnOk result (
         size_refusal (versions (new_plan (silence_in_view (option_copied held.entry)) (post_of posted.now now bits retention))) ≡ None) }
     ensures refused { IfErr result (λ e. e ≢ errors.Memory →

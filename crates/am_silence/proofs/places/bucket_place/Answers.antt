@@ -3,7 +3,7 @@ use Rattle.am_silence.specs.declared.matcher.Matcher.{Matcher}
 use Rattle.am_silence.specs.MatcherTexts.{writes_matchers}
 use Rattle.am_silence.specs.Mesh.{bucket_of}
 use Rattle.am_silence.specs.Places.{Follows}
-use Rattle.am_silence.proofs.Standing.{follows_after}
+use Rattle.am_silence.proofs.Parts.{follows_past}
 use Rattle.am_silence.proofs.places.bucket_place.Goals as goal
 
 pub returns-in-Ok : goal.returns-in-Ok
@@ -15,4 +15,4 @@ returns-in-Ok c = λ front at.
     let low : c.in-Ok.start < 4294967296 = search rules in
     let place : c.in-Ok.start ≡ length front + offset = omega (arith, c.in-Ok.ensures, c.saturating_add.ensures, at, low) in
     let some : 0 < c.in-Ok.start = omega (arith, place, h.0) in
-    inr (some, subst (λ (start : ℕ). Follows start (bucket_of ms) (front ++ writes_matchers ms)) (sym place) (follows_after h.1 front))
+    inr (some, subst (λ (start : ℕ). Follows start (bucket_of ms) (front ++ writes_matchers ms)) (sym place) (follows_past front h.1))
