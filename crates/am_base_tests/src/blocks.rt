@@ -96,6 +96,7 @@ impl Twins {
                 offset: *offset,
             };
             self.blocks.search_near(guess, &Number(number)) == place
+                && self.blocks.search_onward(guess, &Number(number)) == place
         }) && self.blocks.search_near(near_to(place), &Number(number)) == place
             && self.blocks.search_by(&Number(number), &Number(number)) == place
             && self.blocks.search_by(&Rough(number), &Number(number)) == place
@@ -221,4 +222,23 @@ fn an_empty_list_has_nothing(rt: HostRuntime) {
     let blocks: Blocks<u32> = Blocks::new(rt.alloc());
     let is_empty = blocks.first().is_none() && is_walk_of(blocks.walk_from(blocks.end()), &[]);
     assert!(rt; is_empty && is_walk_of(Walk::none(), &[]));
+}
+
+// Whether so many numbers come in place of another one, by whichever way they are read.
+fn are_refilled(alloc: Global, count: u32) -> Result<bool, AllocError> {
+    let mut blocks = Blocks::new(alloc);
+    blocks.reserve(1)?;
+    blocks.insert(blocks.end(), 7);
+    let numbers: Vec<u32> = (0..count).collect(alloc)?;
+    blocks.reserve_for_all(numbers.len())?;
+    blocks.refill(&numbers);
+    Ok(is_walk_of(blocks.walk(), &numbers))
+}
+
+#[test]
+fn all_items_come_in_place_of_others(rt: HostRuntime) {
+    for count in [0, 1, 126, 127, 128, 254, 255, 1000] {
+        let are_refilled = are_refilled(rt.alloc(), count);
+        assert_eq!(rt; are_refilled, Ok(true), "{count} numbers");
+    }
 }

@@ -46,6 +46,15 @@ fn the_outermost_moments_are_named(rt: HostRuntime) {
 }
 
 #[test]
+fn moments_count_nanoseconds(rt: HostRuntime) {
+    let counts = [
+        Moment::LEAST.nanos_since_least(),
+        Moment::GREATEST.nanos_since_least(),
+    ];
+    assert!(rt; counts == [0, 315_537_897_599_999_999_999]);
+}
+
+#[test]
 fn moments_are_in_order(rt: HostRuntime) {
     let is_between = match Moment::from_parts(0, 1) {
         Some(moment) => Moment::LEAST < moment && moment < Moment::GREATEST,

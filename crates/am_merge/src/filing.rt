@@ -10,7 +10,7 @@ ghost use Rattle.am_merge.specs.Buckets.{bucket_slot, bucket_entry};
 ghost use Rattle.am_merge.specs.Filings.{HasRoomAnew, IsListing, shown_cmp, keys_cmp, filing_cmp};
 ghost use Rattle.am_merge.specs.Shelves.{versions, IsShelf, IsKeyed, IsExpiryIndex, IsBucketIndex};
 
-use crate::counting::arrange;
+use crate::counting::{Counted, arrange};
 use crate::entry::{BucketEntry, ExpiryEntry, KeyEntry, bucket_number};
 use crate::shelf::Shelf;
 use am_version_order::Version;
@@ -130,8 +130,12 @@ fn count_expiries(list: &mut Vec<ExpiryEntry>, alloc: Global)
     if list.len() < MANY {
         return;
     }
-    if let Ok(numbers) = list.iter().map(expiry_number).collect::<Vec<u128>>(alloc) {
-        arrange(list, &numbers, alloc);
+    let counted = list.iter().enumerate().map(|(place, entry)| Counted {
+        number: expiry_number(entry),
+        place,
+    });
+    if let Ok(counted) = counted.collect::<Vec<Counted>>(alloc) {
+        arrange(list, counted, alloc);
     }
 }
 
@@ -152,12 +156,12 @@ fn count_buckets(list: &mut Vec<BucketEntry>, alloc: Global)
     if list.len() < MANY {
         return;
     }
-    if let Ok(numbers) = list
-        .iter()
-        .map(|entry| u128::from(entry.number))
-        .collect::<Vec<u128>>(alloc)
-    {
-        arrange(list, &numbers, alloc);
+    let counted = list.iter().enumerate().map(|(place, entry)| Counted {
+        number: u128::from(entry.number),
+        place,
+    });
+    if let Ok(counted) = counted.collect::<Vec<Counted>>(alloc) {
+        arrange(list, counted, alloc);
     }
 }
 
