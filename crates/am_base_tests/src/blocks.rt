@@ -96,11 +96,19 @@ impl Twins {
                 offset: *offset,
             };
             self.blocks.search_near(guess, &Number(number)) == place
-                && self.blocks.search_onward(guess, &Number(number)) == place
         }) && self.blocks.search_near(near_to(place), &Number(number)) == place
             && self.blocks.search_by(&Number(number), &Number(number)) == place
             && self.blocks.search_by(&Rough(number), &Number(number)) == place
             && self.blocks.search_by(&Number(1000), &Number(number)) == place
+    }
+
+    // A number is found in the same place onward from the start, the place itself, a place between and none.
+    fn finds_onward(&self, number: u32) -> bool {
+        let place = self.blocks.search(&Number(number));
+        self.blocks.search_onward(spot(0, 0), &Number(number)) == place
+            && self.blocks.search_onward(spot(3, 64), &Number(number)) == place
+            && self.blocks.search_onward(spot(900, 0), &Number(number)) == place
+            && self.blocks.search_onward(near_to(place), &Number(number)) == place
     }
 
     // The blocks have the items of the plain list from a number on, by whichever way they are read.
@@ -119,6 +127,10 @@ impl Twins {
             _ => false,
         }
     }
+}
+
+fn spot(block: usize, offset: usize) -> Spot {
+    Spot { block, offset }
 }
 
 // The place of what was found or missed.
@@ -167,7 +179,8 @@ fn run(
             twins.take(number);
         }
         if step % 16 == 0 {
-            agreed = agreed && twins.agree(number) && twins.agree(0) && twins.finds_anyhow(number);
+            agreed = agreed && twins.agree(number) && twins.agree(0);
+            agreed = agreed && twins.finds_anyhow(number) && twins.finds_onward(number);
         }
     }
     Ok(agreed)
