@@ -1,0 +1,301 @@
+#!/usr/bin/env python3
+"""Tries the wrong bodies of wrong/ and must-fail/ in batches: the prover must refuse each, by a clause of its function.
+
+    tests/wrong_bodies.py [--named] [CRATE ..]
+
+Of these crates, or of all that have some, the edits wrong/CRATE/*.edit are tried; with --named those of
+crates/CRATE/must-fail/ too, which `rt ci` tries one by one. An edit is in the form of must-fail's. Since an edit of a
+body leaves the contracts as they are, many functions are wrong in one check: a batch has one edit a function.
+The check runs on a copy of the repository, over what earlier checks of this checkout kept: check a crate first.
+
+Of each edit one of these is told:
+
+    by a clause     the search left a goal of a clause of the edited function open
+    by its proof    only what was written by hand no longer fits: an answer, or the invariant of a loop. Then a line
+                    '# CLAUSE: WORDS' of the edit says which words of a clause exclude the body; without it, it has failed
+    still proved    a clause is to be strengthened, or the edit means the same: it has failed
+    not tried       it can't be applied, or doesn't compile: it has failed
+
+The last line is 'wrong bodies: N passed, M failed'.
+"""
+
+import os
+import re
+import shutil
+import subprocess
+import sys
+import tempfile
+import time
+
+from tally import count, finish
+
+TOP = os.path.dirname(os.path.dirname(os.path.abspath(__file__)))
+PARTS = ["src", "specs", "proofs"]
+FUNCTION = re.compile(r"^( *)(?:pub(?:\([a-z]+\))? )?(?:final )?(?:const )?fn (\w+)")
+IMPL = re.compile(r"^ *impl\b(?:<.*?>(?= ))? (?:(\w+)(?:<.*>)? for )?&?(?:'\w+ )?(\w+)")
+TRAIT = re.compile(r"^ *(?:pub )?trait (\w+)")
+PLACE = re.compile(r"^(?:note: )?(?:\./)?((?:src|specs|proofs)/\S+?):(\d+):\d+: (.*)")
+GOAL = re.compile(r"\(`([^`]+)`\)")
+OPEN = re.compile(r"^fn (\S+): (.*)")
+
+
+class Edit:
+    """A wrong body: its crate, its name, the changes of one file each, and what it says of its clause."""
+
+    def __init__(self, crate, path):
+        self.crate, self.name = crate, os.path.basename(path)[: -len(".edit")]
+        self.changes, self.said = [], []
+        file = old = None
+        with open(path, encoding="utf-8") as lines:
+            for line in lines:
+                line = line.rstrip("\n")
+                if line.startswith("file: "):
+                    file = line[len("file: ") :].strip()
+                elif line.startswith("old: "):
+                    old = line[len("old: ") :]
+                elif line.startswith("new:"):
+                    self.changes.append((file, old, line[len("new: ") :]))
+                elif line.startswith("# "):
+                    self.said.append(line[2:])
+
+    def apply(self, texts):
+        """The texts with the edit made, or None where it can't be."""
+        texts = dict(texts)
+        for file, old, new in self.changes:
+            if texts.get(file, "").count(old) != 1:
+                return None
+            texts[file] = texts[file].replace(old, new)
+        return texts
+
+    def functions(self, texts):
+        """The functions that the edit changes: file, name, and the line at which each begins."""
+        found = set()
+        after = self.apply(texts)
+        for file in {file for file, _, _ in self.changes}:
+            before, then = texts[file].split("\n"), after[file].split("\n")
+            for number, (one, other) in enumerate(zip(before, then)):
+                if one != other:
+                    found.add((file, *function_at(before, number)))
+        return found
+
+
+def function_at(lines, number):
+    """The name of the function round a line, and the line where it begins; None where there is none."""
+    for at in range(number, -1, -1):
+        match = FUNCTION.match(lines[at])
+        if match and not lines[at].rstrip().endswith(";"):
+            return match[2], at
+    return None, number
+
+
+def path_of(crate, file, lines, name, begin):
+    """The path by which the prover names a function, as am_merge::held::Held::take."""
+    words = [crate, *file[len("src/") : -len(".rt")].split("/")]
+    if words[-1] in ("lib", "main"):
+        words.pop()
+    indent = len(FUNCTION.match(lines[begin])[1])
+    for at in range(begin, -1, -1) if indent else ():
+        line = lines[at]
+        if len(line) - len(line.lstrip(" ")) < indent:
+            match, trait = IMPL.match(line), TRAIT.match(line)
+            if match:
+                words.append(match[2] + (match[1] or ""))
+                break
+            if trait:
+                words.append(trait[1])
+                break
+    return "::".join([*words, name])
+
+
+def sources(crate):
+    """The texts of a crate's sources."""
+    texts, top = {}, f"{TOP}/crates/{crate}"
+    for at, _, names in os.walk(f"{top}/src"):
+        for name in names:
+            path = os.path.relpath(f"{at}/{name}", top)
+            with open(f"{top}/{path}", encoding="utf-8") as file:
+                texts[path] = file.read()
+    return texts
+
+
+def batches(edits, texts):
+    """The edits in batches of one a function, and those that can't be applied."""
+    left, made, bad = list(edits), [], []
+    while left:
+        batch, used, after, later = [], set(), texts, []
+        for edit in left:
+            alone = edit.apply(texts)
+            if alone is None:
+                bad.append(edit)
+                continue
+            functions = edit.functions(texts)
+            is_whole = any(name is None for _, name, _ in functions)
+            fits = edit.apply(after)
+            if fits is None or functions & used or is_whole and batch:
+                later.append(edit)
+                continue
+            batch.append(edit)
+            used |= functions
+            after = fits
+            if is_whole:
+                later += left[left.index(edit) + 1 :]
+                break
+        if batch:
+            made.append(batch)
+        left = [it for it in later if it not in bad]
+    return made, bad
+
+
+def copy_repository(room):
+    for name in ("crates.txt", "HANDLES"):
+        shutil.copy(f"{TOP}/{name}", room)
+    for crate in sorted(os.listdir(f"{TOP}/crates")):
+        for part in PARTS:
+            if os.path.isdir(f"{TOP}/crates/{crate}/{part}"):
+                shutil.copytree(f"{TOP}/crates/{crate}/{part}", f"{room}/crates/{crate}/{part}")
+
+
+def write_sources(room, crate, texts):
+    for path, text in texts.items():
+        with open(f"{room}/crates/{crate}/{path}", "w", encoding="utf-8") as file:
+            file.write(text)
+
+
+def check(room, crate):
+    ran = subprocess.run(
+        ["rt", "check"],
+        cwd=f"{room}/crates/{crate}",
+        stdin=subprocess.DEVNULL,
+        stdout=subprocess.PIPE,
+        stderr=subprocess.STDOUT,
+        encoding="utf-8",
+        errors="replace",
+    )
+    return ran.stdout.split("\n")
+
+
+def end_of(lines, begin):
+    """The line with which the function ends that begins at a line."""
+    indent = FUNCTION.match(lines[begin])[1]
+    for at in range(begin + 1, len(lines)):
+        if lines[at].startswith(indent + "}"):
+            return at
+    return len(lines)
+
+
+class Verdict:
+    """What a check says of one function."""
+
+    def __init__(self, said, path, file, span):
+        self.is_told, self.is_proved, self.goals, self.proofs = False, False, [], []
+        folder = "proofs/" + "/".join(path.split("::")[1:])
+        for line in said:
+            told, place = OPEN.match(line), PLACE.match(line)
+            # (what a loop's body or a closure does is told of functions of its own)
+            if told and (told[1] == path or told[1].startswith(path + "::")):
+                self.is_told = True
+                self.is_proved = told[2].startswith("proved")
+                opened = re.search(r"`search` did not prove (.*?)(?:; it calls|$)", told[2])
+                self.goals += re.findall(r"`([^`]+)`", opened[1]) if opened else []
+            elif place and place[1] == file and span[0] < int(place[2]) <= span[1] + 1:
+                self.goals += GOAL.findall(place[3])
+            elif place and (place[1] + "/").startswith(folder + "/") and "error" in place[3]:
+                self.proofs.append(f"{place[1]}:{place[2]}")
+
+    def clauses(self):
+        return sorted({it for it in self.goals if re.search(r"(^|-)(returns|clause|written)(-|$)", it) and "loop" not in it.split("-")[0]})
+
+    def others(self):
+        return sorted(set(self.goals) - set(self.clauses()))
+
+
+def tell(edit, holds, what):
+    said = f"; it says: {edit.said[0]}" if edit.said else ""
+    print(f"{'' if holds else 'FAILED '}{edit.crate}/{edit.name}: {what}{said}", flush=True)
+    count(holds)
+
+
+def judge(edit, said, texts, after):
+    """Tells what came of an edit of a batch; answers whether it was compiled at all."""
+    functions = sorted(it for it in edit.functions(texts) if it[1])
+    clauses, proofs, others, open_paths = [], [], [], []
+    for file, name, begin in functions:
+        lines = after[file].split("\n")
+        path = path_of(edit.crate, file, lines, name, begin)
+        verdict = Verdict(said, path, file, (begin, end_of(lines, begin)))
+        if verdict.is_told and not verdict.is_proved:
+            open_paths.append(path)
+        clauses += verdict.clauses()
+        proofs += verdict.proofs
+        others += verdict.others()
+    if clauses:
+        tell(edit, True, f"by a clause: {', '.join(clauses)}")
+    elif proofs or others:
+        tell(edit, bool(edit.said), f"by its proof: {', '.join([*proofs[:2], *others[:3]])}")
+    elif open_paths:
+        tell(edit, bool(edit.said), f"by its proof: {', '.join(open_paths)} is not proved")
+    else:
+        is_left = any(it.startswith("logic=not-proved") for it in said)
+        tell(edit, False, "still proved" if not is_left or functions else "refused elsewhere; see its log")
+
+
+def is_compiled(said):
+    return any(it.startswith("logic=") for it in said)
+
+
+def try_batch(room, crate, batch, texts):
+    after = texts
+    for edit in batch:
+        after = edit.apply(after)
+    write_sources(room, crate, after)
+    said = check(room, crate)
+    write_sources(room, crate, texts)
+    if is_compiled(said):
+        for edit in batch:
+            judge(edit, said, texts, after)
+    elif len(batch) > 1:
+        for edit in batch:
+            try_batch(room, crate, [edit], texts)
+    else:
+        first = next((it for it in said if "error" in it), said[-1])
+        tell(batch[0], False, f"not tried: {first[:200]}")
+
+
+def edits_of(crate, is_named):
+    folders = [f"{TOP}/wrong/{crate}"] + [f"{TOP}/crates/{crate}/must-fail"] * is_named
+    found = []
+    for folder in folders:
+        if os.path.isdir(folder):
+            found += [Edit(crate, f"{folder}/{it}") for it in sorted(os.listdir(folder)) if it.endswith(".edit")]
+    return found
+
+
+def try_crate(room, crate, is_named):
+    edits, texts = edits_of(crate, is_named), sources(crate)
+    made, bad = batches(edits, texts)
+    for edit in bad:
+        tell(edit, False, "not tried: an 'old:' text doesn't stand once in its file")
+    for batch in made:
+        begun = time.time()
+        try_batch(room, crate, batch, texts)
+        print(f"{crate}: {len(batch)} in {time.time() - begun:.0f} s", flush=True)
+
+
+def main():
+    words = sys.argv[1:]
+    is_named = "--named" in words
+    crates = [it for it in words if not it.startswith("-")] or [
+        it for it in sorted(os.listdir(f"{TOP}/crates")) if edits_of(it, is_named)
+    ]
+    if any(it.startswith("-") and it != "--named" for it in words) or any(not edits_of(it, True) for it in crates):
+        print(__doc__, file=sys.stderr)
+        return 2
+    with tempfile.TemporaryDirectory(prefix="wrong-bodies-") as room:
+        copy_repository(room)
+        for crate in crates:
+            try_crate(room, crate, is_named)
+    return finish("wrong bodies")
+
+
+if __name__ == "__main__":
+    sys.exit(main())
