@@ -1,5 +1,5 @@
 """What sweeping a held map takes, where nothing, ten or all of its versions have expired, asking for the next expiry, walking a
-bucket, and merging maps, of whose silences none or half are held, beside taking copies of them one by one.
+bucket, and merging as large a map, half of whose silences are held.
 
     python3 bench/held.py [--rounds N]
 
@@ -15,11 +15,11 @@ def main():
     rounds = building.rounds_wanted(__doc__, 5)
     with tempfile.TemporaryDirectory() as folder:
         ours = building.rows(building.ours("time_held", folder), rounds)
-    print("%-20s %9s %14s %14s %12s" % ("call", "silences", "expired, known", "ns", "each"))
+    print("%-12s %9s %7s %14s %12s" % ("call", "silences", "expired", "ns", "each"))
     for (key, answer), nanoseconds in ours.items():
         call, count, words = key.split()
         each = "%.0f" % (nanoseconds / int(answer)) if call != "next_expiry" and answer != "0" else ""
-        print("%-20s %9s %14s %14d %12s" % (call, count, words, nanoseconds, each))
+        print("%-12s %9s %7s %14d %12s" % (call, count, words, nanoseconds, each))
 
 
 if __name__ == "__main__":

@@ -185,13 +185,3 @@ module _ {T : Type 0} where
       ap (λ xs. xs ++ joined (take (length later - (b + 1)) (drop (b + 1) later))) front
       ∙ ap (λ xs. drop offset (get_or blocks b []) ++ joined xs) back
       ∙ sym (drop_place blocks b offset inside within)
-
-take_nothing : {X : Type 0} (n : ℕ) → take {A = X} n [] ≡ []
-take_nothing zero = refl
-take_nothing (suc n) = refl
-
--- so many elements, and then so many more
-pub take_both : {X : Type 0} (n m : ℕ) (xs : List X) → take n xs ++ take m (drop n xs) ≡ take (n + m) xs
-take_both zero m xs = let same : m ≡ zero + m = omega arith in ap (λ k. take k xs) same
-take_both (suc n) m [] = take_nothing m ∙ sym (take_nothing (suc n + m))
-take_both (suc n) m (x ∷ xs) = let same : suc (n + m) ≡ suc n + m = omega arith in ap (λ ys. x ∷ ys) (take_both n m xs) ∙ ap (λ k. take k (x ∷ xs)) same

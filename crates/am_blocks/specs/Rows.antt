@@ -1,5 +1,5 @@
 -- Lists of items, cut into blocks.
-use Rattle.std.specs.Prelude.{◌≡◌, ℕ, ◌+◌, ◌*◌, ◌<◌, ◌≤◌, List, [], length, refl}
+use Rattle.std.specs.Prelude.{◌≡◌, ℕ, ◌+◌, ◌<◌, ◌≤◌, List, [], length, refl}
 use Rattle.std.specs.List.{All, flat_map}
 use Rattle.std.specs.Coded.{Coded, code_by, coded×, coded_ℕ, coded_list}
 
@@ -40,8 +40,3 @@ module _ {T : Type 0} where
   pub record HasRoom (rows : Rows T) (n : ℕ) : Type 0 where
     pub spares : n ≤ rows.spare
     pub places : length rows.blocks + n ≤ rows.capacity
-
-  -- all items can be taken out and so many others put in without memory
-  pub record HasRoomForAll (rows : Rows T) (n : ℕ) : Type 0 where
-    pub spares : n ≤ rows.spare * 127
-    pub places : rows.spare ≤ rows.capacity

@@ -67,15 +67,6 @@ impl<T: Copy> Block<T> {
         self.items.remove(offset);
     }
 
-    /// Puts items into an empty block. It takes no memory.
-    pub fn fill(&mut self, items: &[T])
-        requires empty { self.old ≡ [] }
-        requires few { length items.now ≤ 128 }
-        ensures { self.new ≡ items.now }
-    {
-        let _copied = self.items.extend_from_slice(items);
-    }
-
     /// Moves the items from an offset on into an empty block. It takes no memory.
     pub fn cut(&mut self, offset: usize, upper: &mut Block<T>)
         requires full { length self.old ≤ 128 }

@@ -4,10 +4,10 @@ ghost use Rattle.std.specs.Prelude.{◌≡◌, ℕ, ◌+◌, [], length, drop, s
 ghost use Rattle.std.specs.List.{HoldsAt, insert, remove};
 ghost use Rattle.std.specs.declared.cmp.Ordering.TheVariants.{Less, Greater};
 
-use crate::block::{Block, FULL};
-use crate::parts::{fill, put, reserve_list, spread, take_out};
+use crate::block::Block;
+use crate::parts::{fill, put, take_out};
 use crate::probe::Probe;
-use crate::searches::{leading, leading_items, reach, search_block};
+use crate::searches::{leading, leading_items, search_block};
 use crate::spot::Spot;
 use crate::walk::Walk;
 use std::alloc::{AllocError, Global};
@@ -45,7 +45,7 @@ impl<T: Copy> Model for Blocks<T> {
 }
 
 impl<T: Copy> Blocks<T> {
-    ghost use Rattle.am_blocks.specs.Rows.{HasRoom, HasRoomForAll, entries};
+    ghost use Rattle.am_blocks.specs.Rows.{HasRoom, entries};
     ghost use Rattle.am_blocks.specs.Spots.{IsWithin, IsItem, place};
     ghost use Rattle.am_blocks.specs.Searches.{IsRising, IsFound, IsMissing};
 
@@ -79,30 +79,6 @@ impl<T: Copy> Blocks<T> {
             self.blocks.reserve(additional)?;
         }
         fill(&mut self.spares, additional, self.alloc)
-    }
-
-    /// Makes room, so that so many items can come in place of all that are there.
-    ///
-    /// # Errors
-    ///
-    /// Out of memory: the items stay as they are.
-    pub fn reserve_for_all(&mut self, count: usize) -> Result<(), AllocError>
-        ensures room { OnOk result (HasRoomForAll self.new count) }
-        ensures items { self.new.blocks ≡ self.old.blocks }
-    {
-        let blocks = count.div_ceil(FULL - 1).max(self.spares.len());
-        reserve_list(&mut self.blocks, blocks)?;
-        fill(&mut self.spares, blocks, self.alloc)
-    }
-
-    /// Puts these items in place of all. It takes no memory, and the empty blocks that are left go.
-    pub fn refill(&mut self, items: &[T])
-        requires { HasRoomForAll self.old (length items.now) }
-        ensures { entries self.new ≡ items.now }
-    {
-        self.blocks.clear();
-        spread(&mut self.blocks, &mut self.spares, items);
-        self.spares.clear();
     }
 
     /// Where an item is that is looked for, or else where it would go. It bisects.
@@ -146,37 +122,11 @@ impl<T: Copy> Blocks<T> {
         ensures missing { IfErr result (IsMissing (P.order probe.now) self.now) }
     {
         let block = leading(&self.blocks, hint).saturating_sub(1);
-        self.search_near(self.guess_in(block, hint), probe)
-    }
-
-    /// Where an item is, or else where it would go, as `search` has it. It looks near a spot, then onward from it in steps
-    /// that double, so that it takes the logarithm of how many items are between. Before the spot it bisects.
-    pub fn search_onward<P: Probe<T>>(&self, from: Spot, probe: &P) -> Result<Spot, Spot>
-        requires { IsRising (P.order probe.now) (entries self.now) }
-        ensures found { IfOk result (IsFound (P.order probe.now) self.now) }
-        ensures missing { IfErr result (IsMissing (P.order probe.now) self.now) }
-    {
-        match self.near(from, probe) {
-            Some(place) => place,
-            None => self.search_near(self.guess_onward(from.block, probe), probe),
-        }
-    }
-
-    /// A guess, from a block on.
-    fn guess_onward<P: Probe<T>>(&self, from: usize, probe: &P) -> Spot {
-        let blocks = &self.blocks[from.min(self.blocks.len())..];
-        let passed = self.blocks.len() - blocks.len();
-        let ahead = leading(&blocks[..reach(blocks, probe)], probe);
-        self.guess_in((passed + ahead).saturating_sub(1), probe)
-    }
-
-    /// A guess in a block: the last item that isn't behind what is looked for.
-    fn guess_in<P: Probe<T>>(&self, block: usize, probe: &P) -> Spot {
         let offset = match self.blocks.get(block) {
-            Some(block) => leading_items(block.as_slice(), probe).saturating_sub(1),
+            Some(block) => leading_items(block.as_slice(), hint).saturating_sub(1),
             None => 0,
         };
-        Spot { block, offset }
+        self.search_near(Spot { block, offset }, probe)
     }
 
     /// Where an item is, or else where it would go, where that is at the guess or next to it.

@@ -1,6 +1,6 @@
 //! The work on a list's blocks and on the empty ones that wait.
 
-ghost use Rattle.std.specs.Prelude.{◌≡◌, ◌+◌, ◌*◌, ◌<◌, ◌≤◌, [], length, slice_index_or, IsOk, OnOk, vec_len, vec_capacity};
+ghost use Rattle.std.specs.Prelude.{◌≡◌, ◌+◌, ◌<◌, ◌≤◌, [], length, slice_index_or, IsOk, OnOk, vec_len, vec_capacity};
 ghost use Rattle.std.specs.List.{insert, remove};
 ghost use Rattle.am_blocks.specs.Rows.{AreSound, AreEmpty, joined};
 ghost use Rattle.am_blocks.specs.Spots.{block_at, place_in};
@@ -20,7 +20,6 @@ pub fn fill<T: Copy>(
     ensures empty { AreEmpty spares.new.items }
     ensures count { OnOk result (count ≤ vec_len spares.new) }
     ensures kept { vec_len spares.old ≤ vec_len spares.new }
-    ensures exact { OnOk result (vec_len spares.old ≤ count → vec_len spares.new ≡ count) }
     // Where there are as many already, nothing is asked for.
     ensures succeeds { count ≤ vec_len spares.old → IsOk result }
     ensures had_enough { count ≤ vec_len spares.old → vec_len spares.new ≡ vec_len spares.old }
@@ -30,17 +29,6 @@ pub fn fill<T: Copy>(
     }
     for _made in spares.len()..count {
         spares.push(Block::new(alloc)?)?;
-    }
-    Ok(())
-}
-
-/// Makes room to list so many blocks.
-pub fn reserve_list<T: Copy>(blocks: &mut Vec<Block<T>>, count: usize) -> Result<(), AllocError>
-    ensures room { OnOk result (count ≤ vec_capacity blocks.new) }
-    ensures same { blocks.new.items ≡ blocks.old.items }
-{
-    if blocks.capacity() < count {
-        blocks.reserve(count - blocks.len())?;
     }
     Ok(())
 }
@@ -105,26 +93,6 @@ pub fn put<T: Copy>(blocks: &mut Vec<Block<T>>, spares: &mut Vec<Block<T>>, spot
     block.insert(spot.offset, item);
     if block.len() == FULL {
         cut(blocks, spares, spot.block, cut_offset(is_last, spot.offset));
-    }
-}
-
-/// Spreads items over spare blocks, each of which but the last is full but for one item.
-pub fn spread<T: Copy>(blocks: &mut Vec<Block<T>>, spares: &mut Vec<Block<T>>, items: &[T])
-    requires none { blocks.old.items ≡ [] }
-    requires empty { AreEmpty spares.old.items }
-    requires enough { length items.now ≤ vec_len spares.old * 127 }
-    requires room { vec_len spares.old ≤ vec_capacity blocks.old }
-    ensures sound { AreSound blocks.new.items }
-    ensures items { joined blocks.new.items ≡ items.now }
-    ensures empty { AreEmpty spares.new.items }
-{
-    let mut placed = 0;
-    while placed < items.len() {
-        let end = placed + (items.len() - placed).min(FULL - 1);
-        let mut block = spares.take_last();
-        block.fill(&items[placed..end]);
-        blocks.push_reserved(block);
-        placed = end;
     }
 }
 

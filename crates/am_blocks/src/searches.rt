@@ -32,19 +32,6 @@ pub fn leading<T: Copy, P: Probe<T>>(blocks: &[Block<T>], probe: &P) -> usize
     low
 }
 
-/// How many blocks to look at, from the first on, for the last one that begins with an item that isn't behind what is looked
-/// for. It doubles until it is past it, or takes all.
-pub fn reach<T: Copy, P: Probe<T>>(blocks: &[Block<T>], probe: &P) -> usize
-    requires { AreSound blocks.now }
-    ensures { result ≤ length blocks.now }
-{
-    let mut reach = blocks.len().min(1);
-    while reach < blocks.len() && !probe.compare(&blocks[reach].as_slice()[0]).is_gt() {
-        reach += reach.min(blocks.len() - reach);
-    }
-    reach
-}
-
 /// How many items of a block aren't behind what is looked for, where they rise.
 pub fn leading_items<T: Copy, P: Probe<T>>(items: &[T], probe: &P) -> usize
     ensures { result ≤ length items.now }

@@ -108,7 +108,7 @@ module _ {E Y : Type 0} (slot_of : E → ℕ) (entry : ℕ → Y → E) (slot_en
       ((λ same. let there = sound.0.there in let none : table (slot_of e) ≡ None = ap table same ∙ vacant in cc), vacant-apart table s vacant es sound.1)
 
   -- where all that is named has what the slot's has not, none has the slot
-  pub differs-apart : (table : ℕ → Option Y) (s : ℕ) (y : Y) (P : Y → Type 0) → table s ≡ Some y → (P y → ⊥) → (es : List E) → Sound table es → AllByRecursion P (listed table es) → Apart s es
+  differs-apart : (table : ℕ → Option Y) (s : ℕ) (y : Y) (P : Y → Type 0) → table s ≡ Some y → (P y → ⊥) → (es : List E) → Sound table es → AllByRecursion P (listed table es) → Apart s es
   differs-apart table s y P there never [] sound all = tt
   differs-apart table s y P there never (e ∷ es) sound all =
       let parts = subst (AllByRecursion P) (listed-more table e es sound.0.value sound.0.there) all in (
@@ -165,7 +165,7 @@ module _ {E Y : Type 0} (slot_of : E → ℕ) (entry : ℕ → Y → E) (slot_en
 
   -- ---- an index in the order of a key of what it names
   module _ {R : Type 0} (seen : Y → Version R) (cmp : R → R → Ordering) (keys : IsKeyOrder cmp) where
-    pub never_below : (y : Y) → cmp (seen y).key (seen y).key ≡ Less → ⊥
+    never_below : (y : Y) → cmp (seen y).key (seen y).key ≡ Less → ⊥
     never_below y less = let tie = tied_itself keys.total (seen y).key in cc
 
     module _ (table : ℕ → Option Y) (s : ℕ) (y : Y) (there : table s ≡ Some y) (es : List E) (index : IsIndex slot_of entry table es) (order : IsMap seen cmp (listed table es)) (i : ℕ) (e : E) (within : i < length es) (at : e ≡ get_or es i e) where

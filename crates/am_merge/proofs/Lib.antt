@@ -12,6 +12,3 @@ pub mod Firsts
 pub mod Buckets
 pub mod Walks
 pub mod Steps
-pub mod Keyings
-pub mod Filings
-pub mod Anew

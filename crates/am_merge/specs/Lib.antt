@@ -1,6 +1,5 @@
 pub mod Buckets
 pub mod Entries
-pub mod Filings
 pub mod Indexes
 pub mod Maps
 pub mod Places

@@ -79,11 +79,6 @@ module _ {K X : Type 0} (seen : X → Version K) where
       pub index : IsIndex key_slot (key_entry seen head_of) table es
       pub order : IsMap seen cmp (versions_of table es)
 
-    -- the index by key is that of the table
-    pub record IsKeyed (shelf : Shelf X) : Type 0 where
-      pub keys : IsKeyIndex (get shelf.table) (entries shelf.keys)
-      pub count : slab_len shelf.table ≡ length (entries shelf.keys)
-
     module _ (bucket_of : X → List ℕ) where
       -- the entries are those of the table's versions, by bucket
       pub record IsBucketIndex (table : ℕ → Option X) (es : List BucketEntry) : Type 0 where

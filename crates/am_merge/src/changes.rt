@@ -4,7 +4,7 @@ ghost use Rattle.std.specs.Prelude.{◌≡◌, ℕ, List, ◌+◌, ◌<◌, ◌�
 ghost use Rattle.std.specs.Prelude.{IfSome, IfNone, IsOk, OnOk, OnErr, IsTrue, IsPermutation, true, false, ◌↔◌, insert};
 ghost use Rattle.std.specs.Prelude.{slice_set};
 ghost use Rattle.am_merge.specs.Maps.{IsMap, IsJoin, HasTwice, replaces, swept};
-ghost use Rattle.am_merge.specs.Shelves.{versions, HasRooms, IsShelf, IsKeyed, IsKeySpot, IsGapSpot, IsExpiredAt};
+ghost use Rattle.am_merge.specs.Shelves.{versions, HasRooms, IsShelf, IsKeySpot, IsGapSpot, IsExpiredAt};
 ghost use Rattle.am_blocks.specs.Spots.{place};
 ghost use Rattle.am_merge.specs.Takings.{IsPut, new_keys, new_versions, taken_by};
 
@@ -18,8 +18,8 @@ use am_version_order::{Moment, Version};
 use std::alloc::{AllocError, Global};
 
 /// Whether a version is greater than the one at the spot, which has its key.
-pub fn is_greater<V: Version>(shelf: &Shelf<V>, spot: Spot, version: &V) -> bool
-    requires shelf { IsKeyed V.seen V.head_of V.Key.cmp shelf.now }
+fn is_greater<V: Version>(shelf: &Shelf<V>, spot: Spot, version: &V) -> bool
+    requires shelf { IsShelf V.seen V.head_of V.Key.cmp V.bucket_of shelf.now }
     requires spot { IsKeySpot V.seen V.Key.cmp shelf.now (V.seen version.now).key spot }
     ensures answer { result ≡ replaces V.seen V.Key.cmp (versions shelf.now) version.now }
     ensures kept { result ≡ false →
@@ -204,6 +204,37 @@ pub fn copy_shelf<V: Version>(held: &Shelf<V>, alloc: Global) -> Result<Shelf<V>
         append(&mut shelf, version.try_clone(alloc)?)?;
     }
     Ok(shelf)
+}
+
+/// Takes copies of another shelf's versions in the order of their keys, and says how many came to be held.
+pub fn merge_in<V: Version>(
+    shelf: &mut Shelf<V>,
+    other: &Shelf<V>,
+    alloc: Global,
+) -> Result<usize, MergeError>
+    requires shelf { IsShelf V.seen V.head_of V.Key.cmp V.bucket_of shelf.old }
+    requires other { IsShelf V.seen V.head_of V.Key.cmp V.bucket_of other.now }
+    ensures shelf { IsShelf V.seen V.head_of V.Key.cmp V.bucket_of shelf.new }
+    ensures joined { OnOk result
+        (IsJoin V.seen V.Key.cmp (versions shelf.old) (versions other.now) (versions shelf.new)) }
+    ensures count { IfOk result (λ changed.
+        changed ≡ count_by (replaces V.seen V.Key.cmp (versions shelf.old)) (versions other.now)) }
+    ensures within { IfErr result (λ e. e.taken < length (versions other.now)) }
+    ensures stopped { IfErr result (λ e.
+        IsJoin V.seen V.Key.cmp (versions shelf.old) (take e.taken (versions other.now)) (versions shelf.new)) }
+{
+    // Neither count below goes past this one, so no sum is too large.
+    let _size = other.table.len();
+    let mut changed = 0;
+    let mut taken = 0;
+    for version in walk_shelf(other) {
+        let Ok(more) = put_copy(shelf, version, alloc) else {
+            return Err(MergeError { taken });
+        };
+        changed += usize::from(more);
+        taken += 1;
+    }
+    Ok(changed)
 }
 
 /// The slot of the version that expires first, where it isn't live.

@@ -6,10 +6,10 @@ ghost use Rattle.std.specs.Option.{option_copied};
 ghost use Rattle.am_merge.specs.Maps.{IsMap, IsJoin, IsLeastExpiry, HasTwice, at, if_live, in_bucket, replaces, swept};
 
 use crate::changes::{
-    copy_shelf, drop_expired, needs, needs_after, order_by_key, put, put_new, shelve, taken_as,
+    copy_shelf, drop_expired, merge_in, needs, needs_after, order_by_key, put, put_new, shelve,
+    taken_as,
 };
 use crate::iter::{InBucket, Iter, walk_bucket, walk_shelf};
-use crate::merging::merge_in;
 use crate::shelf::{Shelf, empty_shelf, find, reserve, version_at};
 use am_version_order::{Moment, Version};
 use std::alloc::{AllocError, Global};

@@ -10,7 +10,7 @@ ghost use Rattle.am_merge.specs.Entries.{key_slot, expiry_slot, by_time, time_cm
 ghost use Rattle.am_merge.specs.Buckets.{bucket_slot, bucket_entry, bucket_order, bucket_cmp, by_bucket, number_of};
 ghost use Rattle.am_merge.specs.Indexes.{filed};
 ghost use Rattle.am_merge.specs.Places.{IsGapFor};
-ghost use Rattle.am_merge.specs.Shelves.{versions, HasRooms, HasRoomOver, IsSame, IsShelf, IsKeyed, IsAbsent, IsBucketIndex};
+ghost use Rattle.am_merge.specs.Shelves.{versions, HasRooms, HasRoomOver, IsSame, IsShelf, IsAbsent, IsBucketIndex};
 ghost use Rattle.am_merge.specs.Shelves.{IsExpiryIndex, IsKeySpot, IsGapSpot, IsSlotAt, IsWithout, HasSlot};
 
 use crate::entry::{
@@ -66,7 +66,7 @@ pub fn find<V: Version>(shelf: &Shelf<V>, key: &V::Key) -> Result<Spot, Spot>
 
 /// The version at a spot of the index by key.
 pub fn version_at<V: Version>(shelf: &Shelf<V>, spot: Spot) -> &V
-    requires shelf { IsKeyed V.seen V.head_of V.Key.cmp shelf.now }
+    requires shelf { IsShelf V.seen V.head_of V.Key.cmp V.bucket_of shelf.now }
     requires item { IsItem shelf.now.keys spot }
     ensures { result.now ≡ slice_index_or (versions shelf.now) (place shelf.now.keys spot) result.now }
 {

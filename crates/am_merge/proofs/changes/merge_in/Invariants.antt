@@ -1,7 +1,7 @@
 use Rattle.std.proofs.Common.{◌≡◌, ◌+◌, ◌≤◌, length, take, drop, count_by}
 use Rattle.am_merge.specs.Maps.{IsJoin, replaces}
 use Rattle.am_merge.specs.Shelves.{versions, IsShelf}
-use Rattle.am_merge.proofs.merging.merge_each.Given as goal
+use Rattle.am_merge.proofs.changes.merge_in.Given as goal
 
 abbrev pub invariant-loop-version : goal.invariant-loop-version
 invariant-loop-version g l =

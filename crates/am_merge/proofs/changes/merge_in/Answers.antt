@@ -3,7 +3,7 @@ use Rattle.am_merge.specs.Shelves.{versions}
 use Rattle.am_merge.proofs.Keys.{key_order}
 use Rattle.am_merge.proofs.Merges.{merge_more, count_more, at_rest}
 use Rattle.am_merge.proofs.Steps.{count_is}
-use Rattle.am_merge.proofs.merging.merge_keyed.Goals as goal
+use Rattle.am_merge.proofs.changes.merge_in.Goals as goal
 use mir.Val.{bool_byte}
 
 byte_is : (b : Bool) → bool_byte b ≡ cond b 1 0
@@ -25,18 +25,15 @@ loop-version-preserved g c =
     let long = ap length c.in-Some.ensures.steps in
     let next : c.loop-version.taken + 1 ≡ suc c.loop-version.taken = omega arith in
     record {
-      shelf = c.put_keyed.ensures.shelf;
+      shelf = c.put_copy.ensures.shelf;
       rest = rw next place.1.1;
       within = let within = so_far.within in omega arith;
-      joined = merge_more g.V.Version.seen g.V.Key.Ord.cmp keys (versions c.args.shelf.now) (versions c.loop-version.shelf) others c.loop-version.taken v c.requires.other.keys.order place.0 place.1.0 so_far.joined (versions c.put_keyed.new.shelf) put.joined;
+      joined = merge_more g.V.Version.seen g.V.Key.Ord.cmp keys (versions c.args.shelf.now) (versions c.loop-version.shelf) others c.loop-version.taken v c.requires.other.keys.order place.0 place.1.0 so_far.joined (versions c.put_copy.new.shelf) put.joined;
       count =
           let more = count_more g.V.Version.seen g.V.Key.Ord.cmp keys (versions c.args.shelf.now) (versions c.loop-version.shelf) others c.loop-version.taken v c.requires.other.keys.order place.0 place.1.0 so_far.joined in
           let one = c.from-changed.ensures ∙ byte_is c.in-Ok.more ∙ ap (λ b. cond b 1 0) c.in-Ok.ensures.answer in
           let before = so_far.count in
           omega arith;
-      grown = let before = so_far.grown in let more = c.put_keyed.ensures.grown in omega arith;
-      expiries = c.put_keyed.ensures.expiries ∙ so_far.expiries;
-      buckets = c.put_keyed.ensures.buckets ∙ so_far.buckets;
       few = let few = so_far.few in let small = at_most_one c.in-Ok.more in let byte = c.from-changed.ensures in omega arith;
     }
 
