@@ -183,6 +183,18 @@ def end_of(lines, begin):
     return len(lines)
 
 
+def goals_told(line):
+    """The goals that the line of a function names as left open by the search."""
+    told = OPEN.match(line)
+    opened = re.search(r"`search` did not prove (.*?)(?:; it calls|$)", told[2]) if told else None
+    return re.findall(r"`([^`]+)`", opened[1]) if opened else []
+
+
+def clause_goals(goals):
+    """Those of the goals that are clauses of what a function ensures."""
+    return sorted({it for it in goals if it.split("-")[0] == "returns"})
+
+
 class Verdict:
     """What a check says of one function."""
 
@@ -195,15 +207,14 @@ class Verdict:
             if told and (told[1] == path or told[1].startswith(path + "::")):
                 self.is_told = True
                 self.is_proved = told[2].startswith("proved")
-                opened = re.search(r"`search` did not prove (.*?)(?:; it calls|$)", told[2])
-                self.goals += re.findall(r"`([^`]+)`", opened[1]) if opened else []
+                self.goals += goals_told(line)
             elif place and place[1] == file and span[0] < int(place[2]) <= span[1] + 1:
                 self.goals += GOAL.findall(place[3])
             elif place and (place[1] + "/").startswith(folder + "/") and "error" in place[3]:
                 self.proofs.append(f"{place[1]}:{place[2]}")
 
     def clauses(self):
-        return sorted({it for it in self.goals if re.search(r"(^|-)(returns|clause|written)(-|$)", it) and "loop" not in it.split("-")[0]})
+        return clause_goals(self.goals)
 
     def others(self):
         return sorted(set(self.goals) - set(self.clauses()))
@@ -219,6 +230,10 @@ def judge(edit, said, texts, after):
     """Tells what came of an edit of a batch; answers whether it was compiled at all."""
     functions = sorted(it for it in edit.functions(texts) if it[1])
     clauses, proofs, others, open_paths = [], [], [], []
+    if not functions:
+        # (a constant, say: what its users no longer keep)
+        clauses = clause_goals([goal for line in said for goal in goals_told(line)])
+        open_paths = [OPEN.match(it)[1] for it in said if OPEN.match(it) and "no" in OPEN.match(it)[2].split()]
     for file, name, begin in functions:
         lines = after[file].split("\n")
         path = path_of(edit.crate, file, lines, name, begin)
@@ -235,8 +250,7 @@ def judge(edit, said, texts, after):
     elif open_paths:
         tell(edit, bool(edit.said), f"by its proof: {', '.join(open_paths)} is not proved")
     else:
-        is_left = any(it.startswith("logic=not-proved") for it in said)
-        tell(edit, False, "still proved" if not is_left or functions else "refused elsewhere; see its log")
+        tell(edit, False, "still proved")
 
 
 def is_compiled(said):
