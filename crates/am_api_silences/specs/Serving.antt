@@ -14,10 +14,10 @@ use Rattle.am_api_silences.specs.declared.serving.Fault.{Fault}
 use Rattle.am_api_silences.specs.declared.serving.Fault.TheVariants as faults
 use Rattle.am_api_silences.specs.declared.serving.Served.{Served}
 
--- what the reader gave: a request, or that it failed
-abbrev pub IsReadBy : Option (List ℕ) → Option (List ℕ) → Result Read ReadFault → Type 0
-IsReadBy old new (Ok read) = IsReceived old new read
-IsReadBy old new (Err fault) = StopsReading old new fault.at
+-- what the reader gave behind the bytes that had come first: a request, or that it failed
+abbrev pub IsReadBy : List ℕ → Option (List ℕ) → Option (List ℕ) → Result Read ReadFault → Type 0
+IsReadBy first old new (Ok read) = IsReceived first old new read
+IsReadBy first old new (Err fault) = StopsReading old new fault.at
 
 -- what is answered to what was read; nothing is where the input ended before its first byte
 abbrev pub IsAnswerTo : Read → Stand → ℕ → ℕ → Answered → Stand → Type 0
@@ -58,7 +58,7 @@ IsServed (Ok More) bits now old new before after served = IsSilent None old new 
 IsServed (Ok read) bits now old new before after served =
     (answered : Answered) × IsAnswerTo read old bits now answered new × IsHandedOn before after answered served
 
--- What is served of an input: what the reader gave, and what came of it.
-abbrev pub Serves : ℕ → ℕ → Option (List ℕ) → Option (List ℕ) → Stand → Stand → Option (List ℕ) → Option (List ℕ) → Served → Type 0
-Serves bits now input left old new before after served =
-    (read : Result Read ReadFault) × IsReadBy input left read × IsServed read bits now old new before after served
+-- What is served of an input, of which these bytes had come first: what the reader gave, and what came of it.
+abbrev pub Serves : ℕ → ℕ → List ℕ → Option (List ℕ) → Option (List ℕ) → Stand → Stand → Option (List ℕ) → Option (List ℕ) → Served → Type 0
+Serves bits now first input left old new before after served =
+    (read : Result Read ReadFault) × IsReadBy first input left read × IsServed read bits now old new before after served

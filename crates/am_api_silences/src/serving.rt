@@ -1,6 +1,6 @@
 //! Requests from any reader, answered to any writer.
 
-ghost use Rattle.std.specs.Prelude.{◌≤◌, Ok, Option, List, ℕ, length};
+ghost use Rattle.std.specs.Prelude.{◌≤◌, Ok, Option, List, [], ℕ, length};
 ghost use Rattle.am_http.specs.Receiving.{behind, most_bytes};
 ghost use Rattle.am_instance.specs.Stands.{Stand};
 ghost use Rattle.am_api_silences.specs.Replies.{HasStatus, bytes_of};
@@ -112,7 +112,7 @@ pub fn serve<R: io::Read, W: io::Write>(
     bits: u128,
     now: Moment,
 ) -> Served
-    ensures { Serves bits now (R.remaining reader.old) (R.remaining reader.new) instance.old instance.new (W.contents writer.old)
+    ensures { Serves bits now [] (R.remaining reader.old) (R.remaining reader.new) instance.old instance.new (W.contents writer.old)
         (W.contents writer.new) result }
 {
     match receive(alloc, reader) {
@@ -132,7 +132,7 @@ pub fn serve_behind<R: io::Read, W: io::Write>(
     now: Moment,
 ) -> Served
     requires { length first.now ≤ most_bytes }
-    ensures { Serves bits now (behind first.now (R.remaining reader.old)) (R.remaining reader.new) instance.old instance.new
+    ensures { Serves bits now first.now (behind first.now (R.remaining reader.old)) (R.remaining reader.new) instance.old instance.new
         (W.contents writer.old) (W.contents writer.new) result }
 {
     match receive_behind(alloc, first, reader) {

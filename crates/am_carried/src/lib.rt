@@ -10,5 +10,5 @@ mod version;
 
 pub use by_state::ByState;
 pub use reading::carried_by;
-pub use values::{held_are_values, versions_are_values};
+pub use values::held_are_values;
 pub use version::Carried;

@@ -1,19 +1,10 @@
-//! That versions which are kept are values of their type.
+//! That the versions of a map are values of their type.
 
 ghost use Rattle.std.specs.Prelude.{All};
 ghost use Rattle.am_merge.specs.Maps.{IsMap};
 
 use am_merge::Held;
 use am_version_order::Version;
-
-/// Says that versions are values of their type. It changes nothing.
-pub fn versions_are_values<V: Version>(versions: &[V])
-    ensures { All V.is_value versions.now }
-{
-    for version in versions {
-        let _content = version.canonical();
-    }
-}
 
 /// Says that the versions of a map are values of their type, and stand in the order of their keys, none of which comes
 /// twice. It changes nothing.

@@ -1,10 +1,14 @@
 //! A cluster, and what can be asked of it.
 
-ghost use Rattle.std.specs.Prelude.{◌≡◌, ◌≢◌, ◌↔◌, ℕ, [], Any, Err, IfOk, IsTrue, MatchOption, length, option_map};
+ghost use Rattle.std.specs.Prelude.{◌≡◌, ◌≢◌, ◌↔◌, ℕ, [], All, Any, Err, IfOk, IsTrue, MatchOption, length, option_map};
 ghost use Rattle.std.specs.Option.{option_copied};
 ghost use Rattle.am_instance.specs.Configs.{HasTwice, IsEmptyName, IsLongName};
 ghost use Rattle.am_instance.specs.declared.error.ConfigError.TheVariants as errors;
-ghost use Rattle.am_journal.specs.Reports.{AreTimely, IsCalmInBoth, IsLineOfFault};
+ghost use Rattle.am_silence.specs.Mesh.{IsMesh};
+ghost use Rattle.am_nflog.specs.Mesh.{IsMesh as IsLogMesh};
+ghost use Rattle.am_runs.specs.Steps.{delivered_in};
+ghost use Rattle.am_journal.specs.Reports.{AreRuns, AreTimely, IsCalmInBoth, IsLineOfFault};
+ghost use Rattle.am_journal.specs.Twins.{AreTwins};
 ghost use Rattle.am_cluster.specs.Beginnings.{AreNewborn, AreUnborn, newborns};
 ghost use Rattle.am_cluster.specs.Ties.{IsWorld};
 ghost use Rattle.am_cluster.specs.Worlds.{replica_at};
@@ -128,11 +132,17 @@ impl Cluster {
     }
 
     /// Says how the cluster hangs together: each member stands as its past in both runs tells, and each frame in flight
-    /// is one that a step sent. It does nothing.
+    /// is one that a step sent; both are runs, which tell of the same steps, each of which has a line; and what was
+    /// delivered in them are values. It does nothing.
     pub fn hangs_together(&self)
-        ensures { IsWorld self.now }
+        ensures world { IsWorld self.now }
+        ensures runs { AreRuns (length self.now.replicas) self.now.silences self.now.log }
+        ensures silences { All IsMesh (delivered_in self.now.silences) }
+        ensures log { All IsLogMesh (delivered_in self.now.log) }
+        ensures twins { AreTwins self.now.silences self.now.log }
+        ensures lines { length self.now.lines ≡ length self.now.silences }
     {
-        let _flights = &self.flights;
+        self.journal.hangs_together();
     }
 
     /// The frames in flight, by their numbers. It takes no memory.

@@ -22,7 +22,7 @@ use crate::error::ClusterError;
 use crate::flight::Flight;
 use crate::recording::{Coming, kind_of, write_answer};
 use crate::writing::Entry;
-use am_carried::{ByState, Carried, carried_by, held_are_values, versions_are_values};
+use am_carried::{ByState, Carried, carried_by, held_are_values};
 use am_instance::{Event, Instance, Outcome, Reply, StepError};
 use am_journal::{Journal, Mark};
 use am_record::laws::{
@@ -30,7 +30,7 @@ use am_record::laws::{
     values_are_delivered,
 };
 use am_runs::Source;
-use am_version_order::{Moment, Version};
+use am_version_order::{Moment, Version, versions_are_values};
 use std::alloc::{AllocError, Global};
 
 /// The versions that an event brings from a peer.

@@ -26,7 +26,7 @@ pub record EndsAs (served : Served) (ended : Ended) : Type 0 where
 pub record IsBegun (first bits now : ℕ) (input left : Option (List ℕ)) (old new : Stand) (before after : Option (List ℕ))
     (ended : Ended) : Type 0 where
   pub peer : first < 32 → IsHeard now input left old new (effects_of ended) ended.fault × (after ≡ before)
-  pub request : 32 ≤ first → (served : Served) × Serves bits now input left old new before after served × EndsAs served ended
+  pub request : 32 ≤ first → (served : Served) × Serves bits now (first ∷ []) input left old new before after served × EndsAs served ended
 
 -- nothing came: the input ended, or the first read failed
 pub record IsIdle (input left : Option (List ℕ)) (old new : Stand) (before after : Option (List ℕ)) (ended : Ended) : Type 0 where

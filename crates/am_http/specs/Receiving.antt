@@ -21,19 +21,27 @@ abbrev pub IsWantOfMemory : Read → Type 0
 IsWantOfMemory (Refused refusal) = line_seen refusal ≡ line_of Memory
 IsWantOfMemory _ = ⊥
 
--- The reader gave these bytes, where it says what it has; they are decided, or its input ended in them.
-pub record HasReceived (old new : Option (List ℕ)) (read : Read) : Type 0 where
+-- Nothing is read of what is decided: the bytes are those that had come first, or they are at most one piece of 4,096 bytes
+-- behind others, which leave the request open.
+abbrev pub IsJustRead : List ℕ → List ℕ → Type 0
+IsJustRead first came = (came ≡ first) ⊎ ((before : List ℕ) × (piece : List ℕ) × (came ≡ before ++ piece)
+    × (length piece ≤ 4096) × (length first ≤ length before) × IsUnfinished before)
+
+-- The reader gave these bytes behind those that had come first, where it says what it has; they are decided, or its input
+-- ended in them.
+pub record HasReceived (first : List ℕ) (old new : Option (List ℕ)) (read : Read) : Type 0 where
   pub came : List ℕ
   pub ended : Bool
   pub consumed : Consumes old new came
   pub at_end : IsTrue ended → IsAtEnd new
   pub few : length came ≤ most_bytes
+  pub just : IsJustRead first came
   pub answer : IsReadOf came ended read ⊎ IsWantOfMemory read
 
 -- The first request of the input, or why it is refused; where nothing is decided, the input ended before its first byte.
-abbrev pub IsReceived : Option (List ℕ) → Option (List ℕ) → Read → Type 0
-IsReceived old new More = Consumes old new [] × IsAtEnd new
-IsReceived old new read = HasReceived old new read
+abbrev pub IsReceived : List ℕ → Option (List ℕ) → Option (List ℕ) → Read → Type 0
+IsReceived first old new More = Consumes old new [] × IsAtEnd new
+IsReceived first old new read = HasReceived first old new read
 
 -- the reader failed when it had given so many bytes, which decide nothing
 pub record StopsReading (old new : Option (List ℕ)) (at : ℕ) : Type 0 where

@@ -1,8 +1,8 @@
 //! Requests from any reader.
 
-ghost use Rattle.std.specs.Prelude.{◌≡◌, ◌<◌, ◌≤◌, Err, IfOk, IfErr, length, vec_len};
+ghost use Rattle.std.specs.Prelude.{◌≡◌, ◌<◌, ◌≤◌, [], Err, IfOk, IfErr, length, vec_len};
 ghost use Rattle.am_http.specs.Pieces.{GrowsTo, IsUndecided};
-ghost use Rattle.am_http.specs.Requests.{IsUnfinished};
+ghost use Rattle.am_http.specs.Requests.{IsOpenBody, IsUnfinished};
 ghost use Rattle.am_http.specs.Receiving.{IsReceived, StopsReading, behind, most_bytes};
 
 use crate::cause::Cause;
@@ -30,7 +30,8 @@ const PIECE: usize = 4_096;
 
 /// Reads once, so that there are at most `most` bytes then, and answers whether any came.
 fn read_some<R: io::Read>(reader: &mut R, bytes: &mut Vec<u8>, most: usize) -> Result<bool, Stop>
-    requires { vec_len bytes.old < most }
+    requires room { vec_len bytes.old < most }
+    requires open { IsUnfinished bytes.old.items }
     ensures more { GrowsTo most (R.remaining reader.old) (R.remaining reader.new) bytes.old.items bytes.new.items result }
     ensures failed { result ≡ Err Stop.Read → bytes.new.items ≡ bytes.old.items }
 {
@@ -47,7 +48,7 @@ fn read_some<R: io::Read>(reader: &mut R, bytes: &mut Vec<u8>, most: usize) -> R
 
 /// Reads until there are `end` bytes, and answers whether they came.
 fn fill<R: io::Read>(reader: &mut R, bytes: &mut Vec<u8>, end: usize) -> Result<bool, Stop>
-    requires { vec_len bytes.old < end }
+    requires { IsOpenBody bytes.old.items end }
     ensures { GrowsTo end (R.remaining reader.old) (R.remaining reader.new) bytes.old.items bytes.new.items result }
 {
     while bytes.len() < end {
@@ -78,7 +79,7 @@ fn read_more<R: io::Read>(
 /// Reads a request behind bytes that came.
 fn read_on<R: io::Read>(alloc: Global, first: Vec<u8>, reader: &mut R) -> Result<Read, ReadFault>
     requires { length first.items ≤ most_bytes }
-    ensures read { IfOk result (IsReceived (behind first.items (R.remaining reader.old)) (R.remaining reader.new)) }
+    ensures read { IfOk result (IsReceived first.items (behind first.items (R.remaining reader.old)) (R.remaining reader.new)) }
     ensures stopped { IfErr result (λ e. StopsReading (behind first.items (R.remaining reader.old)) (R.remaining reader.new) e.at) }
 {
     let mut bytes = first;
@@ -109,7 +110,7 @@ pub fn receive_behind<R: io::Read>(
     reader: &mut R,
 ) -> Result<Read, ReadFault>
     requires { length first.now ≤ most_bytes }
-    ensures read { IfOk result (IsReceived (behind first.now (R.remaining reader.old)) (R.remaining reader.new)) }
+    ensures read { IfOk result (IsReceived first.now (behind first.now (R.remaining reader.old)) (R.remaining reader.new)) }
     ensures stopped { IfErr result (λ e. StopsReading (behind first.now (R.remaining reader.old)) (R.remaining reader.new) e.at) }
 {
     match first.to_vec(alloc) {
@@ -128,7 +129,7 @@ pub fn receive_behind<R: io::Read>(
 ///
 /// [`ReadFault`] at the first read that fails; it is not tried again.
 pub fn receive<R: io::Read>(alloc: Global, reader: &mut R) -> Result<Read, ReadFault>
-    ensures read { IfOk result (IsReceived (R.remaining reader.old) (R.remaining reader.new)) }
+    ensures read { IfOk result (IsReceived [] (R.remaining reader.old) (R.remaining reader.new)) }
     ensures stopped { IfErr result (λ e. StopsReading (R.remaining reader.old) (R.remaining reader.new) e.at) }
 {
     read_on(alloc, Vec::new(alloc), reader)

@@ -6,7 +6,7 @@ use Rattle.am_silence.specs.Mesh.{Mesh, mesh_version}
 use Rattle.am_nflog.specs.Mesh.{Mesh as LogMesh, mesh_version as entry_version}
 use Rattle.am_nflog.specs.Keys.{key_cmp}
 use Rattle.am_runs.specs.Steps.{Step}
-use Rattle.am_runs.specs.Runs.{IsPossible, IsCalmAt, IsFirstFault}
+use Rattle.am_runs.specs.Runs.{IsPossible, IsRun, IsCalmAt, IsFirstFault}
 use Rattle.am_runs.specs.Timely.{IsTimely}
 
 -- what can have happened to the silences after the steps before it
@@ -16,6 +16,10 @@ IsPossibleForSilences = IsPossible mesh_version (slice_cmp nat_cmp)
 -- and to the log
 abbrev pub IsPossibleForLog : ℕ → List (Step LogMesh) → Step LogMesh → Type 0
 IsPossibleForLog = IsPossible entry_version key_cmp
+
+-- both are runs of a cluster of so many members: each of their steps can have happened after those before it
+abbrev pub AreRuns : ℕ → List (Step Mesh) → List (Step LogMesh) → Type 0
+AreRuns members silences log = IsRun mesh_version (slice_cmp nat_cmp) members silences × IsRun entry_version key_cmp members log
 
 -- a member was calm in both runs, with each step so far
 abbrev pub IsCalmInBoth : ℕ → ℕ → List (Step Mesh) → List (Step LogMesh) → Type 0

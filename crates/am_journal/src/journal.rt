@@ -1,11 +1,13 @@
 //! What happened so far.
 
-ghost use Rattle.std.specs.Prelude.{◌≡◌, ◌++◌, ℕ, [], ◌∷◌, ◌+◌, ◌<◌, ◌≤◌, length, IsTrue, ◌↔◌, MatchOption, OnOk, OnErr};
+ghost use Rattle.std.specs.Prelude.{◌≡◌, ◌++◌, ℕ, [], ◌∷◌, ◌+◌, ◌<◌, ◌≤◌, length, IsTrue, ◌↔◌, MatchOption, OnOk, OnErr, All};
 ghost use Rattle.am_runs.specs.Members.{last_of, member_of};
 ghost use Rattle.am_runs.specs.Records.{step_of};
-ghost use Rattle.am_runs.specs.Steps.{delivered_by, flights_by, flights_of};
+ghost use Rattle.am_runs.specs.Steps.{delivered_by, delivered_in, flights_by, flights_of};
+ghost use Rattle.am_silence.specs.Mesh.{IsMesh};
+ghost use Rattle.am_nflog.specs.Mesh.{IsMesh as IsLogMesh};
 ghost use Rattle.am_journal.specs.Marks.{step_of_mark};
-ghost use Rattle.am_journal.specs.Reports.{AreTimely, IsCalmInBoth, IsLineOfFault, IsPossibleForLog, IsPossibleForSilences};
+ghost use Rattle.am_journal.specs.Reports.{AreRuns, AreTimely, IsCalmInBoth, IsLineOfFault, IsPossibleForLog, IsPossibleForSilences};
 ghost use Rattle.am_journal.specs.Twins.{AreTwins, IsTwin};
 
 use crate::laws::{marks_are_told_of_both, twins_tell_same};
@@ -80,6 +82,19 @@ impl Journal {
             lines: Vec::new(alloc),
             sendings: 0,
         }
+    }
+
+    /// Says how the record hangs together: both lists of steps are runs, which tell of the same steps, each of which has a
+    /// line, and what was delivered in them are values of their types. It does nothing.
+    pub fn hangs_together(&self)
+        ensures runs { AreRuns self.now.members self.now.silences self.now.log }
+        ensures silences { All IsMesh (delivered_in self.now.silences) }
+        ensures log { All IsLogMesh (delivered_in self.now.log) }
+        ensures twins { AreTwins self.now.silences self.now.log }
+        ensures lines { length self.now.lines ≡ length self.now.silences }
+    {
+        self.silences.hangs_together();
+        self.log.hangs_together();
     }
 
     /// Makes room for so many steps, which deliver at most so many versions in all, silences and entries together.

@@ -1,5 +1,5 @@
 -- What members hold, as their pasts tell it.
-use Rattle.std.proofs.Common.{ℕ, ◌≤◌, sym, subst}
+use Rattle.std.proofs.Common.{ℕ, ◌≡◌, ◌∙◌, ◌≤◌, ap, sym, subst}
 use Rattle.std.specs.declared.cmp.Ordering.{Ordering}
 use Rattle.am_version_order.specs.Versions.{Version}
 use Rattle.am_merge.specs.Maps.{at, if_live}
@@ -18,3 +18,9 @@ module _ {K X : Type 0} (seen : X → Version K) (cmp : K → K → Ordering) wh
   -- and the moments are one
   pub last_by : (member : Member X) (kept : Kept X) (now : ℕ) → HasGoneThrough seen cmp member.past kept → kept.last ≤ now → last_of member ≤ now
   last_by member kept now gone past = subst (λ last. last ≤ now) gone.last past
+
+  -- what two pasts show alike, the maps that they leave show alike
+  pub agree_of : (member other : Member X) (kept held : Kept X) (now : ℕ) (key : K) → HasGoneThrough seen cmp member.past kept → HasGoneThrough seen cmp other.past held →
+      if_live seen now (map_of seen cmp member.past key) ≡ if_live seen now (map_of seen cmp other.past key) →
+      if_live seen now (at seen cmp kept.held key) ≡ if_live seen now (at seen cmp held.held key)
+  agree_of member other kept held now key gone came same = ap (λ o. if_live seen now o) (gone.map key) ∙ (same ∙ sym (ap (λ o. if_live seen now o) (came.map key)))

@@ -1,8 +1,9 @@
 -- The bare sets of the members of a cluster.
-use Rattle.std.specs.Prelude.{◌≤◌, ℕ, List, length}
+use Rattle.std.specs.Prelude.{◌≡◌, ◌≤◌, ◌++◌, ◌∷◌, ℕ, List, Some, length}
 use Rattle.am_silence.specs.Mesh.{Mesh}
 use Rattle.am_nflog.specs.Mesh.{Mesh as LogMesh}
 use Rattle.am_runs.specs.Members.{member_of, set_of}
+use Rattle.am_runs.specs.Steps.{Step, moment}
 use Rattle.am_journal.specs.Reports.{IsCalmInBoth}
 use Rattle.am_cluster.specs.Worlds.{Replica, World}
 
@@ -18,3 +19,15 @@ entries_taken world place = set_of (member_of (length world.replicas) place worl
 pub record IsCalmBy (world : World) (place : ℕ) (replica : Replica) (now : ℕ) : Type 0 where
   pub calm : IsCalmInBoth (length world.replicas) place world.silences world.log
   pub past : replica.stand.last ≤ now
+
+-- a later cluster is one as it stood, to which a step of this moment came, and perhaps more
+pub record GoesOnAt (earlier later : World) (now : ℕ) : Type 0 where
+  pub members : length later.replicas ≡ length earlier.replicas
+  pub silences_step : Step Mesh
+  pub silences_rest : List (Step Mesh)
+  pub silences : later.silences ≡ earlier.silences ++ silences_step ∷ silences_rest
+  pub silences_moment : moment silences_step ≡ Some now
+  pub log_step : Step LogMesh
+  pub log_rest : List (Step LogMesh)
+  pub log : later.log ≡ earlier.log ++ log_step ∷ log_rest
+  pub log_moment : moment log_step ≡ Some now

@@ -158,10 +158,11 @@ module _ {K X : Type 0} (seen : X → Version K) (cmp : K → K → Ordering) wh
     stopped place = pushed (Stopped place) (tops_in seen cmp before) (λ q key. same_where (eqb place q) (tops_in seen cmp before q key))
 
   -- ---- what a run keeps
-  pub account_kept : (members : ℕ) (steps others : List (Step X)) (old new : Peaks) (standings newer : List Standing) (spare more : ℕ) → IsAccount seen cmp members steps old standings spare → others ≡ steps → new.heads.items ≡ old.heads.items → new.peaks.items ≡ old.peaks.items → entries new.order ≡ entries old.order → (AreStandings seen cmp standings steps → AreStandings seen cmp newer steps) → HasRowRoom new more → IsAccount seen cmp members others new newer more
-  account_kept members steps others old new standings newer spare more account same heads places order stands room =
-      subst (λ ss. IsAccount seen cmp members ss new newer more) (sym same) (record {
+  pub account_kept : (is_value : X → Type 0) (members : ℕ) (steps others : List (Step X)) (old new : Peaks) (standings newer : List Standing) (spare more : ℕ) → IsAccount seen cmp is_value members steps old standings spare → others ≡ steps → new.heads.items ≡ old.heads.items → new.peaks.items ≡ old.peaks.items → entries new.order ≡ entries old.order → (AreStandings seen cmp standings steps → AreStandings seen cmp newer steps) → HasRowRoom new more → IsAccount seen cmp is_value members others new newer more
+  account_kept is_value members steps others old new standings newer spare more account same heads places order stands room =
+      subst (λ ss. IsAccount seen cmp is_value members ss new newer more) (sym same) (record {
         run = account.run;
+        values = account.values;
         rows = rows_kept seen cmp (version_at steps) old new (tops_in seen cmp steps) heads places order account.rows;
         stands = stands account.stands;
         room = room;

@@ -1,6 +1,6 @@
 -- What a run keeps beside its steps.
 -- X is the type of versions, and `seen` is what the merge sees of one.
-use Rattle.std.specs.Prelude.{ℕ, List}
+use Rattle.std.specs.Prelude.{ℕ, List, All}
 use Rattle.std.specs.declared.cmp.Ordering.{Ordering}
 use Rattle.am_version_order.specs.Versions.{Version}
 use Rattle.am_runs.specs.declared.peaks.Peaks.{Peaks}
@@ -8,13 +8,14 @@ use Rattle.am_runs.specs.declared.standing.Standing.{Standing}
 use Rattle.am_runs.specs.Peaks.{version_at, ArePeaks, HasRowRoom, tops_in}
 use Rattle.am_runs.specs.Runs.{IsRun}
 use Rattle.am_runs.specs.Standings.{AreStandings}
-use Rattle.am_runs.specs.Steps.{Step}
+use Rattle.am_runs.specs.Steps.{Step, delivered_in}
 
--- the steps are a run, the greatest versions taken in them stand where the rows say, what stands of each member is so
--- after them, and for so many more versions there is room
-pub record IsAccount {K X : Type 0} (seen : X → Version K) (cmp : K → K
-    → Ordering) (members : ℕ) (steps : List (Step X)) (peaks : Peaks) (standings : List Standing) (spare : ℕ) : Type 0 where
+-- the steps are a run, what was delivered in them are values, the greatest versions taken in them stand where the rows say,
+-- what stands of each member is so after them, and for so many more versions there is room
+pub record IsAccount {K X : Type 0} (seen : X → Version K) (cmp : K → K → Ordering) (is_value : X → Type 0)
+    (members : ℕ) (steps : List (Step X)) (peaks : Peaks) (standings : List Standing) (spare : ℕ) : Type 0 where
   pub run : IsRun seen cmp members steps
+  pub values : All is_value (delivered_in steps)
   pub rows : ArePeaks seen cmp (version_at steps) peaks (tops_in seen cmp steps)
   pub stands : AreStandings seen cmp standings steps
   pub room : HasRowRoom peaks spare

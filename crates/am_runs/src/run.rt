@@ -1,10 +1,10 @@
 //! The record of a run.
 
-ghost use Rattle.std.specs.Prelude.{◌≡◌, ◌++◌, ℕ, [], ◌∷◌, ◌+◌, ◌<◌, ◌≤◌, length, map, MatchOption, IsTrue, ◌↔◌, OnOk};
+ghost use Rattle.std.specs.Prelude.{◌≡◌, ◌++◌, ℕ, [], ◌∷◌, ◌+◌, ◌<◌, ◌≤◌, length, map, MatchOption, IsTrue, ◌↔◌, OnOk, All};
 ghost use Rattle.am_runs.specs.Members.{last_of, member_of};
 ghost use Rattle.am_runs.specs.Records.{step_of};
-ghost use Rattle.am_runs.specs.Runs.{IsPossible, IsCalmAt, IsFirstFault};
-ghost use Rattle.am_runs.specs.Steps.{delivered_by};
+ghost use Rattle.am_runs.specs.Runs.{IsPossible, IsRun, IsCalmAt, IsFirstFault};
+ghost use Rattle.am_runs.specs.Steps.{delivered_by, delivered_in};
 ghost use Rattle.am_runs.specs.Timely.{IsTimely};
 
 use crate::calm::first_fault;
@@ -17,7 +17,7 @@ use crate::spread::is_timely;
 use crate::standing::{Standing, fill_first};
 use crate::step::Step;
 use crate::trails::{Trails, make_trails, no_trails};
-use am_version_order::{Interval, Moment, Version};
+use am_version_order::{Interval, Moment, Version, versions_are_values};
 use std::alloc::{AllocError, Global};
 use std::marker::Model;
 
@@ -62,7 +62,7 @@ impl<V: Version> Model for Run<V> {
       spare = run.spare;
     } };
 
-    ghost invariant = { λ run. IsAccount V.seen V.Key.cmp run.members
+    ghost invariant = { λ run. IsAccount V.seen V.Key.cmp V.is_value run.members
         (map step_of run.steps.items) run.peaks run.standings.items run.spare };
 }
 
@@ -94,6 +94,15 @@ impl<V: Version> Run<V> {
         ensures { map step_of result.now ≡ self.now.steps }
     {
         &self.steps
+    }
+
+    /// Says how the record hangs together: the steps are a run, and what was delivered in them are values of their type. It
+    /// does nothing.
+    pub fn hangs_together(&self)
+        ensures run { IsRun V.seen V.Key.cmp self.now.members self.now.steps }
+        ensures values { All V.is_value (delivered_in self.now.steps) }
+    {
+        let _steps = &self.steps;
     }
 
     /// Makes room for so many steps, which deliver at most so many versions in all. A save and a start deliver none, and
@@ -132,7 +141,9 @@ impl<V: Version> Run<V> {
     {
         one_step_more::<V>();
         let number = self.steps.len();
-        self.spare -= step.versions().len();
+        let versions = step.versions();
+        versions_are_values(versions);
+        self.spare -= versions.len();
         self.steps.push_reserved(step);
         write_down(
             &mut self.peaks,

@@ -4,8 +4,10 @@
 mod heads;
 pub mod laws;
 mod moment;
+mod values;
 mod version;
 
 pub use heads::head_of_text;
 pub use moment::{Interval, Moment};
+pub use values::versions_are_values;
 pub use version::Version;

@@ -1,4 +1,5 @@
 use Rattle.std.proofs.Common.{[], sym, subst, map}
+use Rattle.std.proofs.lemmas.List.Elements.{All-nil}
 use Rattle.am_runs.specs.Records.{step_of}
 use Rattle.am_runs.specs.Accounts.{IsAccount}
 use Rattle.am_runs.proofs.Cuts.{each_nil}
@@ -12,8 +13,9 @@ pub invariant_of-result : goal.invariant_of-result
 invariant_of-result g c =
     let seen = g.V.Version.seen in
     let cmp = g.V.Key.Ord.cmp in
-    subst (λ ss. IsAccount seen cmp c.args.members (map step_of ss) c.no_peaks.result c.new-2.result.items 0) (sym c.new.ensures.items) (record {
+    subst (λ ss. IsAccount seen cmp g.V.Version.is_value c.args.members (map step_of ss) c.no_peaks.result c.new-2.result.items 0) (sym c.new.ensures.items) (record {
       run = each_nil (IsPossible seen cmp c.args.members);
+      values = All-nil g.V.Version.is_value;
       rows = rows_none seen cmp c.no_peaks.result c.no_peaks.ensures.heads c.no_peaks.ensures.peaks c.no_peaks.ensures.order;
       stands = subst (λ ss. AreStandings seen cmp ss []) (sym c.new-2.ensures.items) (stands_none seen cmp);
       room = c.no_peaks.ensures.room;

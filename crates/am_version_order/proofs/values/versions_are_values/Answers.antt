@@ -1,7 +1,7 @@
 use Rattle.std.proofs.Common.{All, subst, arith}
 use Rattle.std.proofs.lemmas.List.{take_all}
 use Rattle.std.proofs.lemmas.List.Elements.{All-more}
-use Rattle.am_carried.proofs.values.versions_are_values.Goals as goal
+use Rattle.am_version_order.proofs.values.versions_are_values.Goals as goal
 
 pub loop-version-preserved : goal.loop-version-preserved
 loop-version-preserved g c =
