@@ -5,8 +5,9 @@ pub use am_instance::laws::{
     steps_show_the_bare_sets,
 };
 pub use am_replicas::{
-    first_is_told_after_a_spread, first_is_told_exactly, members_show_the_bare_sets,
-    members_with_equal_sets_mute_alike, members_with_equal_sets_reply_alike,
+    first_is_told_after_a_spread, first_is_told_exactly, first_is_told_where_old_ones_ended,
+    members_agree_on_what_is_old, members_show_the_bare_sets, members_with_equal_sets_mute_alike,
+    members_with_equal_sets_reply_alike,
 };
 pub use am_runs::laws::{
     calm_members_show_the_bare_set, nothing_shown_after_a_spread, nothing_shown_exactly,

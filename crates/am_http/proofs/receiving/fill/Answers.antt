@@ -7,8 +7,11 @@ use Rattle.am_http.proofs.receiving.fill.Goals as goal
 pub read_some-requires-clause-open : goal.read_some-requires-clause-open
 read_some-requires-clause-open g c =
     let grown = c.loop-reader.invariant.grown in
-    inr (c.args.end, stays_open c.args.bytes.now.items c.loop-reader.bytes.items grown.piece c.args.end c.requires grown.appended
-    (omega (arith, c.len.ensures, c.loop-reader-test.true, c.loop-reader.bytes.ok.0)))
+    inr (
+      c.args.end,
+      stays_open c.args.bytes.now.items c.loop-reader.bytes.items grown.piece c.args.end c.requires grown.appended
+          (omega (arith, c.len.ensures, c.loop-reader-test.true, c.loop-reader.bytes.ok.0)),
+    )
 
 pub returns-in_err-read_some : goal.returns-in_err-read_some
 returns-in_err-read_some g c =
@@ -30,6 +33,9 @@ loop-reader-preserved g c =
     }
 
 pub returns : goal.returns
-returns g c =
-    (c.loop-reader.invariant.grown, omega (arith, c.requires.wanting, c.loop-reader-test.false, c.len.ensures, c.loop-reader.bytes.ok.0),
-    c.loop-reader.invariant.within, c.loop-reader.invariant.just)
+returns g c = (
+  c.loop-reader.invariant.grown,
+  omega (arith, c.requires.wanting, c.loop-reader-test.false, c.len.ensures, c.loop-reader.bytes.ok.0),
+  c.loop-reader.invariant.within,
+  c.loop-reader.invariant.just,
+)
