@@ -17,7 +17,7 @@ import sys
 import tempfile
 
 from members import choose, run
-from samples import ENTRY, FIRST, ORDERS, ORDERS_OUTPUT, RESTARTED, RESTARTED_OUTPUT, SECOND, SETTLED, SETTLED_OUTPUT
+from samples import ENTRY, FIRST, ORDERS, ORDERS_OUTPUT, RESTARTED, RESTARTED_OUTPUT, SECOND
 from tally import compare, finish
 
 # Versions of two keys.
@@ -91,26 +91,9 @@ the end of --connections. A Tick is a greeting with a peer's name and the bytes 
   printf '\0\1b\4\0' >/dev/tcp/127.0.0.1/PORT
 """
 
-# A schedule of two members of which one forgets, and what is printed of it.
-FORGOTTEN = b"""cluster 100 15 a b
-sil m k 6 5 8 10 job x
-sil v k 3 5 90 100 job x
-at 7 a from b m
-at 12 a tick
-at 20 a from b v
-at 7 b from a v
-at 8 b from a m
-at 12 b tick
-at 21 a show
-at 21 b show
-"""
-
-FORGOTTEN_OUTPUT = b"""a shows 1 0
-a sil k active
-b shows 0 0
-uncalm a line 6
-calm b
-"""
+# The line behind the last of ORDERS, and how many bytes a schedule has at most.
+NEXT = ORDERS.count(b"\n") + 1
+MOST = 1 << 24
 
 INSTANCE_USAGE = (
     "\nUsage: am_tool instance --name <NAME> --listen <PORT> --sil <FILE> --nfl <FILE>\n"
@@ -146,18 +129,17 @@ CASES = [
     ([], ORDERS, 0, ORDERS_OUTPUT, ""),
     ([], b"", 1, b"", "am_tool: Schedule Cluster 1\n"),
     (["replay"], ORDERS, 0, ORDERS_OUTPUT, ""),
-    (["replay"], FORGOTTEN, 0, FORGOTTEN_OUTPUT, ""),
-    (["replay"], RESTARTED, 0, RESTARTED_OUTPUT, ""),
-    (["replay"], SETTLED, 0, SETTLED_OUTPUT, ""),
     (["replay"], b"cluster 1 1 a", 0, b"calm a\n", ""),
     # faults of a schedule, of which nothing is written
-    (["replay"], ORDERS + b"# \xff\n", 1, b"", "am_tool: Schedule NotUtf8 20\n"),
-    (["replay"], ORDERS + ORDERS, 1, b"", "am_tool: Schedule Cluster 20\n"),
-    (["replay"], ORDERS + b"at 46 a\n", 1, b"", "am_tool: Schedule Words 20\n"),
-    (["replay"], ORDERS + b"at 46s a show\n", 1, b"", "am_tool: Schedule Number 20\n"),
-    (["replay"], ORDERS + b"\nat 46 d show", 1, b"", "am_tool: Schedule Name 21\n"),
-    (["replay"], b"#" * (1 << 24), 1, b"", "am_tool: Schedule Cluster 2\n"),
-    (["replay"], b"#" * ((1 << 24) + 1), 1, b"", "am_tool: TooLarge\n"),
+    (["replay"], ORDERS + b"# \xff\n", 1, b"", f"am_tool: Schedule NotUtf8 {NEXT}\n"),
+    (["replay"], ORDERS + b"cluster 1 1 a\n", 1, b"", f"am_tool: Schedule Cluster {NEXT}\n"),
+    (["replay"], ORDERS + b"at 46 a\n", 1, b"", f"am_tool: Schedule Words {NEXT}\n"),
+    (["replay"], ORDERS + b"at 46s a show\n", 1, b"", f"am_tool: Schedule Number {NEXT}\n"),
+    (["replay"], ORDERS + b"\nat 46 d show", 1, b"", f"am_tool: Schedule Name {NEXT + 1}\n"),
+    # one of the most bytes is played, and one of a byte more is not, whatever the bytes say
+    (["replay"], ORDERS + b"#" * (MOST - len(ORDERS)), 0, ORDERS_OUTPUT, ""),
+    (["replay"], b"#" * MOST, 1, b"", "am_tool: Schedule Cluster 2\n"),
+    (["replay"], b"#" * (MOST + 1), 1, b"", "am_tool: TooLarge\n"),
     # both flags in both orders, parted by a blank or by `=`
     (FOLD, FIRST + SECOND, 0, SECOND, ""),
     (FOLD, SECOND + FIRST, 0, SECOND, ""),
@@ -391,7 +373,8 @@ def test_memory():
     compare("refused memory for a view", view, [refused, (0, b"sil a active\n", "")])
     replayed = outcomes_under_limits(["replay"], input=RESTARTED)
     compare("enough memory for a schedule", replayed[-1:], [(0, RESTARTED_OUTPUT, "")])
-    wants = {(4, b"", "am_tool: Memory\n"), *((4, b"", f"am_tool: Memory {line}\n") for line in range(18))}
+    lines = range(RESTARTED.count(b"\n") + 1)
+    wants = {(4, b"", "am_tool: Memory\n"), *((4, b"", f"am_tool: Memory {line}\n") for line in lines)}
     compare("refused memory for a schedule", [told for told in replayed[:-1] if told not in wants], [])
     many = FOLD + ["x"] * 20_000
     mistake = (2, b"", UNEXPECTED.format("x") + FOLD_USAGE)

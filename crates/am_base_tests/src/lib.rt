@@ -1,12 +1,13 @@
-//! The tests of am_version_order, am_blocks, am_collect and am_dedup see what is public of them, so they stand here,
-//! and no proof of those waits for them.
+//! Tests of what no case of text reaches: impls at types of a test's own, lists in blocks, inputs of 64 MiB, and random runs.
 #![tactic(auto)]
 
 #[cfg(test)]
-mod blocks;
+mod large_rows;
 #[cfg(test)]
-mod decisions;
+mod log_sizes;
 #[cfg(test)]
-mod keepers;
+mod run_notes;
 #[cfg(test)]
-mod moments;
+mod runs;
+#[cfg(test)]
+mod silence_sizes;

@@ -20,7 +20,11 @@ const DELTA_FROM_B: [u8; 45] = [
 /// The greeting of `a`, and a Tick.
 const TICK_OF_A: [u8; 5] = [0, 1, b'a', 4, 0];
 
-const GET_A: &[u8] = b"GET /api/v2/silence/a HTTP/1.1\r\n\r\n";
+const LIST: &[u8] = b"GET /api/v2/silences HTTP/1.1\r\n\r\n";
+
+/// The reply that lists that silence.
+const LISTED: &[u8] =
+    b"HTTP/1.1 200 OK\r\ncontent-type: application/json\r\ncontent-length: 252\r\nconnection: close\r\n\r\n[{\"comment\":\"\",\"createdBy\":\"\",\"endsAt\":\"1970-01-01T00:01:40.000Z\",\"id\":\"a\",\"matchers\":[{\"isEqual\":true,\"isRegex\":false,\"name\":\"job\",\"value\":\"x\"}],\"startsAt\":\"1970-01-01T00:00:10.000Z\",\"status\":{\"state\":\"active\"},\"updatedAt\":\"1970-01-01T00:00:10.000Z\"}]";
 
 /// How many frames are to be sent, and to whom the first one; whether a Tick was made; why the connection ended.
 type Told = (usize, Option<Place>, bool, Option<Fault>);
@@ -65,15 +69,13 @@ fn delivered(
     turned(rt.alloc(), rt, listener, instance, Duration::from_secs(30))
 }
 
-// What it replies to a client that waits for its reply before it closes: whether that is a good one about `a`.
+// What it replies to a client that waits for its reply before it closes: whether that is the list.
 fn replied(rt: &HostRuntime, instance: &mut Instance, listener: &TcpListener) -> io::Result<bool> {
-    let mut stream = client(rt, listener, GET_A)?;
+    let mut stream = client(rt, listener, LIST)?;
     let told = turned(rt.alloc(), rt, listener, instance, Duration::from_secs(30))?;
     let mut reply = [0u8; 4_096];
     let read = stream.read(&mut reply)?;
-    let reply = &reply[..read];
-    let begins = reply.starts_with(b"HTTP/1.1 200 OK\r\n");
-    Ok(begins && read > 100 && told == (0, None, false, None))
+    Ok(&reply[..read] == LISTED && told == (0, None, false, None))
 }
 
 // A peer and then a client, of one instance.

@@ -1,0 +1,285 @@
+#!/usr/bin/env python3
+"""Compares what the programs answer with the cases of the folder cases, which docs/CASES.md describes.
+
+    tests/cases.py [FILE ..]
+    tests/cases.py --program PATH [FILE ..]
+
+FILE is a cases/SUBJECT.txt or a cases/replay/NAME.schedule; all of them if none is given. Those of texts go to the programs
+that PROGRAMS names, which rt ci builds, and schedules to am_tool. With --program all go to PATH, another implementation:
+texts to its standard input, and schedules to that of `PATH replay`. Prints each difference with its file and line, and at the
+end how many cases passed.
+"""
+
+import argparse
+import glob
+import os
+import re
+import subprocess
+import sys
+
+from tally import compare, count, finish, give_up
+
+TOP = os.path.dirname(os.path.dirname(os.path.abspath(__file__)))
+
+CASES = f"{TOP}/crates/am_cases/out/am_cases"
+MEMBER_CASES = f"{TOP}/crates/am_member_cases/out/am_member_cases"
+TOOL = f"{TOP}/crates/am_tool/out/am_tool"
+
+# The program that answers each file of cases, by the file's name.
+PROGRAMS = {
+    "api": MEMBER_CASES,
+    "carried": MEMBER_CASES,
+    "clusters": MEMBER_CASES,
+    "connections": MEMBER_CASES,
+    "decisions": CASES,
+    "events": MEMBER_CASES,
+    "frames": CASES,
+    "instance": MEMBER_CASES,
+    "instance_large": MEMBER_CASES,
+    "json": CASES,
+    "log": CASES,
+    "maps": CASES,
+    "matchers": CASES,
+    "moments": CASES,
+    "plans": CASES,
+    "replays": MEMBER_CASES,
+    "requests": CASES,
+    "rows": CASES,
+    "schedules": CASES,
+    "silences": CASES,
+    "snapshots": CASES,
+    "views": CASES,
+    "wire": CASES,
+}
+
+# Files whose cases take inputs of many MiB.
+LARGE = {"instance_large"}
+
+# The file that a program is run on by rt ci, as both compilers build it: its cases stand in the crate's stdin, and what is
+# wanted of them in its stdout.
+STREAMS = {"am_cases": "decisions", "am_member_cases": "carried"}
+
+# How long a program may take for a file, in seconds.
+PATIENCE = 600
+
+# How many differences of a file are shown, and how many characters of a line.
+SHOWN = 20
+WIDTH = 300
+
+
+class Case:
+    """A line that is given to the program, and the lines that it is to answer, each with its number in the file."""
+
+    def __init__(self, line, words):
+        self.line, self.words, self.wanted = line, words, []
+
+
+class BadFile(Exception):
+    """A file that is not as docs/CASES.md says."""
+
+
+def lines_of(path):
+    """The lines of a file, each ended by a line feed, which the last may lack."""
+    with open(path, encoding="utf-8", newline="") as file:
+        text = file.read()
+    return parted(text)
+
+
+def parted(text):
+    lines = text.split("\n")
+    return lines[:-1] if lines[-1] == "" else lines
+
+
+def short(path):
+    """A path as it is told: from the top of the repository on."""
+    return os.path.relpath(path, TOP)
+
+
+def filled(text, fixtures, where):
+    """A text with each `$NAME` replaced by what it stands for."""
+
+    def value(match):
+        if match[1] not in fixtures:
+            raise BadFile(f"{where}: nothing is called ${match[1]}")
+        return fixtures[match[1]]
+
+    return re.sub(r"\$([A-Za-z0-9_]+)", value, text)
+
+
+def read_cases(path):
+    """The cases of a file."""
+    cases, fixtures, case = [], {}, None
+    for number, line in enumerate(lines_of(path), 1):
+        where = f"{short(path)}:{number}"
+        if line == "" or line.startswith("#"):
+            case = None
+        elif line.startswith("let "):
+            name, parted_by, text = line[len("let ") :].partition(" = ")
+            if not parted_by or not re.fullmatch(r"[A-Za-z0-9_]+", name) or name in fixtures:
+                raise BadFile(f"{where}: no `let NAME = TEXT` of a new name")
+            fixtures[name] = filled(text, fixtures, where)
+            case = None
+        elif line == ">" or line.startswith("> "):
+            case = Case(number, filled(line[len("> ") :], fixtures, where))
+            cases.append(case)
+        elif case is None:
+            raise BadFile(f"{where}: an answer without a case")
+        else:
+            case.wanted.append((number, filled(line, fixtures, where)))
+    return cases
+
+
+def answers(program, cases):
+    """What a program prints for each of the cases, as lines; and its status, or why it has none."""
+    given = "".join(f"{case.words}\n" for case in cases).encode()
+    try:
+        ran = subprocess.run([program], input=given, stdout=subprocess.PIPE, check=False, timeout=PATIENCE)
+    except (OSError, subprocess.TimeoutExpired) as error:
+        return [], str(error)
+    found = []
+    for line in parted(ran.stdout.decode("utf-8", "backslashreplace")):
+        if line.startswith("> "):
+            found.append([line])
+        elif found:
+            found[-1].append(line)
+        else:
+            found.append(["", line])
+    return found, ran.returncode
+
+
+def first_difference(case, found):
+    """The line of the first difference, what is wanted there and what was found, or None where all is as it is to be."""
+    wanted = [(case.line, f"> {case.words}"), *case.wanted]
+    for at in range(max(len(wanted), len(found))):
+        number, want = wanted[at] if at < len(wanted) else (wanted[-1][0], None)
+        find = found[at] if at < len(found) else None
+        if want != find:
+            return number, want, find
+    return None
+
+
+def told(line):
+    return "no line" if line is None else line[:WIDTH]
+
+
+def try_texts(path, program):
+    """Gives the cases of a file to a program, and counts each."""
+    try:
+        cases = read_cases(path)
+    except (BadFile, OSError, UnicodeDecodeError) as error:
+        print(error, flush=True)
+        count(False)
+        return
+    found, status = answers(program, cases)
+    shown = 0
+    for at, case in enumerate(cases):
+        difference = first_difference(case, found[at] if at < len(found) else [])
+        if not count(difference is None) and shown < SHOWN:
+            shown += 1
+            number, want, find = difference
+            print(f"{short(path)}:{number}: > {case.words[:WIDTH]}", flush=True)
+            print(f"  wanted {told(want)}\n  found  {told(find)}", flush=True)
+    compare(f"{short(path)}: how {program} ends, and how many cases it answers", (status, len(found)), (0, len(cases)))
+
+
+def read_or_nothing(path):
+    """The bytes of a file; none where there is no such file."""
+    try:
+        with open(path, "rb") as file:
+            return file.read()
+    except FileNotFoundError:
+        return b""
+
+
+def wanted_end(path):
+    """The status and the text on standard error that a file NAME.err has; where there is none, all went well."""
+    text = read_or_nothing(path)
+    if not text:
+        return 0, b""
+    *lines, last = text.splitlines(keepends=True)
+    return int(last.decode().split()[-1]), b"".join(lines)
+
+
+def try_schedule(path, program):
+    """Has a program play a schedule, and counts it."""
+    stem = path[: -len(".schedule")]
+    schedule, output = read_or_nothing(path), read_or_nothing(f"{stem}.out")
+    status, error = wanted_end(f"{stem}.err")
+    try:
+        ran = subprocess.run([program, "replay"], input=schedule, capture_output=True, check=False, timeout=PATIENCE)
+    except (OSError, subprocess.TimeoutExpired) as failed:
+        print(f"{short(path)}: {failed}", flush=True)
+        count(False)
+        return
+    if not count((ran.returncode, ran.stdout, ran.stderr) == (status, output, error)):
+        tell_replay(f"{short(stem)}.out", output, ran.stdout)
+        tell_replay(f"{short(stem)}.err", error + b"status %d\n" % status, ran.stderr + b"status %d\n" % ran.returncode)
+
+
+def tell_replay(name, wanted, found):
+    """Prints the first line at which two outputs differ, if they do."""
+    wanted, found = (parted(text.decode("utf-8", "backslashreplace")) for text in (wanted, found))
+    for at in range(max(len(wanted), len(found))):
+        want, find = (lines[at] if at < len(lines) else None for lines in (wanted, found))
+        if want != find:
+            print(f"{name}:{at + 1}:\n  wanted {told(want)}\n  found  {told(find)}", flush=True)
+            return
+
+
+def subject(path):
+    return os.path.splitext(os.path.basename(path))[0]
+
+
+def program_of(path):
+    """The program of this repository that a file is for, or None where none is."""
+    return TOOL if path.endswith(".schedule") else PROGRAMS.get(subject(path))
+
+
+def try_file(path, program):
+    if program is None:
+        print(f"{short(path)}: no program answers this file", flush=True)
+        count(False)
+    elif path.endswith(".schedule"):
+        try_schedule(path, program)
+    else:
+        try_texts(path, program)
+
+
+def check_all_are_there():
+    """Each subject has its file, and whatever stands beside a schedule has one, and an output."""
+    stems = {os.path.splitext(path)[0] for path in glob.glob(f"{TOP}/cases/replay/*")}
+    wanted = [f"{TOP}/cases/{name}.txt" for name in PROGRAMS] + [stem + end for stem in stems for end in (".schedule", ".out")]
+    compare("files that are missing", sorted(short(path) for path in wanted if not os.path.exists(path)), [])
+
+
+def check_streams():
+    """What rt ci runs the programs on is the cases of a file, and what it wants of them the answers there."""
+    for crate, name in STREAMS.items():
+        cases = read_cases(f"{TOP}/cases/{name}.txt")
+        given = "".join(f"{case.words}\n" for case in cases)
+        wanted = "".join(f"{line}\n" for case in cases for line in [f"> {case.words}", *(text for _, text in case.wanted)])
+        for file, text in (("stdin", given), ("stdout", wanted)):
+            path = f"{TOP}/crates/{crate}/{file}"
+            compare(f"{short(path)}, as cases/{name}.txt", read_or_nothing(path).decode(), text)
+
+
+def main():
+    words = argparse.ArgumentParser(description=__doc__, formatter_class=argparse.RawDescriptionHelpFormatter)
+    words.add_argument("--program", metavar="PATH", type=os.path.abspath, help="another implementation")
+    words.add_argument("files", metavar="FILE", nargs="*", type=os.path.abspath)
+    given = words.parse_args()
+    if not given.files:
+        given.files = sorted(glob.glob(f"{TOP}/cases/*.txt")) + sorted(glob.glob(f"{TOP}/cases/replay/*.schedule"))
+        check_all_are_there()
+        check_streams()
+    tried = [(path, given.program or program_of(path)) for path in given.files]
+    for program in sorted({program for _, program in tried if program}):
+        if not os.access(program, os.X_OK):
+            give_up("cases", f"{program} is not there: rt ci builds those of this repository")
+    for path, program in tried:
+        try_file(path, program)
+    finish("cases")
+
+
+if __name__ == "__main__":
+    sys.exit(main())
