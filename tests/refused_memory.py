@@ -132,23 +132,32 @@ MOST_OF_A_FILE = 1_500
 
 FRAME = re.compile(r"to \S+ ")
 UNSENT = re.compile(r"unsent (\d+) 0")
+TAKEN = re.compile(r"Memory \{ taken: (\d+) \}")
+
+
+def without_frames(lines):
+    return [line for line in lines if not FRAME.match(line)]
 
 
 def how_refused(lines, wanted):
     """What the lines of a case say of a request that was refused; None where they are not right."""
-    found, text = "".join(f"{line}\n" for line in lines), "".join(f"{line}\n" for line in wanted)
-    if found == text:
+    if lines == wanted:
         return "as wanted"
-    begun, memory, made_again = found.partition("! Memory\n")
+    found, text = "".join(f"{line}\n" for line in lines), "".join(f"{line}\n" for line in wanted)
+    begun, memory, again = found.partition("! Memory\n")
     if memory:
-        return "made again" if made_again == text and text.startswith(begun) else None
+        # a step says how many versions it took, and what is held then
+        told = TAKEN.search(begun)
+        begun = begun[: told.start()] if told else begun
+        if told and int(told[1]) > 0:
+            return "something stands" if without_frames(again.splitlines()) == without_frames(wanted) else None
+        return "made again" if again == text and text.startswith(begun) else None
     # a step whose frame found no memory stands, and the frame is counted
-    counted = [line for line in lines if UNSENT.fullmatch(line)]
-    frames = [line for line in wanted if FRAME.match(line)]
-    left = [line for line in lines if FRAME.match(line)]
-    others = [line for line in lines if line not in counted and not FRAME.match(line)]
-    if len(counted) == 1 and others == [line for line in wanted if not FRAME.match(line)]:
-        return "unsent" if len(frames) - len(left) == int(UNSENT.fullmatch(counted[0])[1]) > 0 else None
+    counted = [UNSENT.fullmatch(line) for line in lines if UNSENT.fullmatch(line)]
+    missing = len(wanted) - len(without_frames(wanted)) - (len(lines) - len(without_frames(lines)))
+    others = [line for line in without_frames(lines) if not UNSENT.fullmatch(line)]
+    if len(counted) == 1 and others == without_frames(wanted) and missing == int(counted[0][1]) > 0:
+        return "unsent"
     return None
 
 

@@ -82,7 +82,11 @@ fn spreading_act(mixed: u64, number: u64) -> Act {
         4 | 5 => Verb::Start,
         _ => Verb::Take,
     };
-    let place = if mixed / 16 % 8 == 0 || number % 2 == 0 { 0 } else { 1 };
+    let place = if mixed / 16 % 8 == 0 || number % 2 == 0 {
+        0
+    } else {
+        1
+    };
     (verb, place, 20 + number / 2)
 }
 

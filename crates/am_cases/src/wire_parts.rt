@@ -135,8 +135,7 @@ fn put_part(alloc: Global, out: &mut Vec<u8>, kind: &str, what: &str) -> Result<
         "dated" => put_dated(out, what),
         _ => {
             let (number, what) = words::first(what);
-            let number = words::number(number)? % (1 << 29);
-            put_field(alloc, out, kind, number as u32, what)
+            put_field(alloc, out, kind, words::number(number)?, what)
         }
     }
 }
@@ -145,9 +144,10 @@ fn put_field(
     alloc: Global,
     out: &mut Vec<u8>,
     kind: &str,
-    number: u32,
+    number: u64,
     what: &str,
 ) -> Result<(), Fault> {
+    let number = (number % (1 << 29)) as u32;
     match kind {
         "text" => Ok(write_text(out, number, what)?),
         "number" => Ok(write_number(out, number, words::number(what)?)?),

@@ -28,12 +28,7 @@ impl State {
 }
 
 /// Answers a case, unless its verb is of no case of an instance.
-pub fn answer(
-    rt: &HostRuntime,
-    verb: &str,
-    rest: &str,
-    state: &mut State,
-) -> Result<bool, Fault> {
+pub fn answer(rt: &HostRuntime, verb: &str, rest: &str, state: &mut State) -> Result<bool, Fault> {
     match verb {
         "new" => begin(rt, rest, state)?,
         "hold" => hold(rt, rest, state)?,

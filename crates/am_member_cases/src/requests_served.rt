@@ -79,7 +79,12 @@ fn once(rt: &HostRuntime, instance: &mut Instance, case: &Case<'_>) -> Result<()
 fn model(alloc: Global, instance: &Instance, case: &Case<'_>) -> Result<Vec<u8>, Fault> {
     let mut other = anew(alloc, instance)?;
     let mut writer = writer(alloc, &case.manner, 0);
-    let mut reader = reader(case, 1);
+    let k = if case.manner.each == Each::Front {
+        1
+    } else {
+        1_000_000
+    };
+    let mut reader = reader(case, k);
     run(
         alloc,
         &mut other,
@@ -92,20 +97,29 @@ fn model(alloc: Global, instance: &Instance, case: &Case<'_>) -> Result<Vec<u8>,
 }
 
 /// Makes a case in turn.
-fn in_turn(rt: &HostRuntime, instance: &Instance, case: &Case<'_>) -> Result<(), Fault> {
-    let mut smooth = *case;
-    if smooth.manner.each == Each::Read {
-        smooth.manner.each = Each::Once;
-    }
+fn in_turn(
+    rt: &HostRuntime,
+    instance: &Instance,
+    engine: Engine,
+    manner: &Manner,
+    bytes: &[u8],
+) -> Result<(), Fault> {
+    let smooth = case_of(engine, manner, bytes, &[]);
     let model = model(rt.alloc(), instance, &smooth)?;
     if !model.is_empty() {
         say_text(rt, &model)?;
     }
-    let case = Case {
-        model: &model,
-        ..*case
-    };
+    let case = case_of(engine, manner, bytes, &model);
     say_each(rt, instance, &case)
+}
+
+fn case_of<'a>(engine: Engine, manner: &Manner, bytes: &'a [u8], model: &'a [u8]) -> Case<'a> {
+    Case {
+        engine,
+        manner: *manner,
+        bytes,
+        model,
+    }
 }
 
 /// Makes a case.
@@ -116,15 +130,9 @@ fn made(
     manner: &Manner,
     bytes: &[u8],
 ) -> Result<(), Fault> {
-    let case = Case {
-        engine,
-        manner: *manner,
-        bytes,
-        model: &[],
-    };
     match manner.each {
-        Each::Once => once(rt, instance, &case),
-        _ => in_turn(rt, instance, &case),
+        Each::Once => once(rt, instance, &case_of(engine, manner, bytes, &[])),
+        _ => in_turn(rt, instance, engine, manner, bytes),
     }
 }
 

@@ -185,19 +185,18 @@ pub fn say_seen(rt: &HostRuntime, instance: &Instance, seen: &Seen) -> Result<()
         print!(rt; ", ticked")?;
     }
     if let Some(fault) = seen.fault {
-        say_fault(rt, fault)?;
+        say_fault(rt, &fault)?;
     }
     println!(rt; "")?;
     Ok(())
 }
 
 /// Prints a fault, with a comma before it.
-fn say_fault(rt: &HostRuntime, fault: Cause) -> Result<(), Fault> {
-    match fault {
-        Cause::Step(StepError::MomentBack { last }) => {
-            print!(rt; ", MomentBack with last ")?;
-            words::say_moment(rt, last)
-        }
-        fault => Ok(print!(rt; ", {fault:?}")?),
+fn say_fault(rt: &HostRuntime, fault: &Cause) -> Result<(), Fault> {
+    if let Cause::Step(StepError::MomentBack { last }) = fault {
+        print!(rt; ", MomentBack with last ")?;
+        return words::say_moment(rt, *last);
     }
+    print!(rt; ", {fault:?}")?;
+    Ok(())
 }

@@ -124,7 +124,12 @@ fn say_unsent(rt: &HostRuntime, unsent: Unsent) -> Result<(), Fault> {
     Ok(())
 }
 
-fn say_sending(rt: &HostRuntime, config: &Config, place: Place, frame: &Frame) -> Result<(), Fault> {
+fn say_sending(
+    rt: &HostRuntime,
+    config: &Config,
+    place: Place,
+    frame: &Frame,
+) -> Result<(), Fault> {
     let name = match config.members().get(place as usize) {
         Some(name) => name.as_str(),
         None => "nobody",
