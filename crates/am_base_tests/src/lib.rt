@@ -2,12 +2,22 @@
 #![tactic(auto)]
 
 #[cfg(test)]
+mod blocks;
+#[cfg(test)]
 mod large_rows;
 #[cfg(test)]
+mod lists;
+#[cfg(test)]
 mod log_sizes;
+#[cfg(test)]
+mod map_runs;
+#[cfg(test)]
+mod notes;
 #[cfg(test)]
 mod run_notes;
 #[cfg(test)]
 mod runs;
 #[cfg(test)]
 mod silence_sizes;
+#[cfg(test)]
+mod twins;

@@ -173,12 +173,7 @@ const POSTED: [PostRow; 4] = [
     (11, MOST - 76, Part::New, Ok(MOST)),
     (11, MOST - 75, Part::New, Err(SilenceError::TooLarge)),
     (10, MOST - 41, Part::Updated, Ok(MOST)),
-    (
-        10,
-        MOST - 40,
-        Part::Updated,
-        Err(SilenceError::TooLarge),
-    ),
+    (10, MOST - 40, Part::Updated, Err(SilenceError::TooLarge)),
 ];
 
 type Length = Result<Result<usize, SilenceError>, WireError>;

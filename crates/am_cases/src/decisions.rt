@@ -63,7 +63,11 @@ fn decided(
     resolved: &[u64],
     asked: &Asked,
 ) -> Result<Decision, Fault> {
-    let Asked { repeat, wanted, now } = *asked;
+    let Asked {
+        repeat,
+        wanted,
+        now,
+    } = *asked;
     if !notice.is_there {
         return Ok(decide(None, firing, resolved, repeat, wanted, now));
     }
@@ -79,7 +83,11 @@ fn decided_over(
     resolved: &[u64],
     asked: &Asked,
 ) -> Result<Decision, Fault> {
-    let Asked { repeat, wanted, now } = *asked;
+    let Asked {
+        repeat,
+        wanted,
+        now,
+    } = *asked;
     if !notice.is_there {
         return Ok(decide_over(None, firing, resolved, repeat, wanted, now));
     }

@@ -30,8 +30,16 @@ fn of_version(alloc: Global, filter: &mut Filter, words: &str) -> Result<bool, F
 
 /// Says whether a filter passes a silence, and whether its version.
 fn say_passes(rt: &HostRuntime, filter: &mut Filter, words: &str) -> Result<(), Fault> {
-    let silence = if of_silence(rt.alloc(), filter, words)? { "passes" } else { "no" };
-    let version = if of_version(rt.alloc(), filter, words)? { "passes" } else { "no" };
+    let silence = if of_silence(rt.alloc(), filter, words)? {
+        "passes"
+    } else {
+        "no"
+    };
+    let version = if of_version(rt.alloc(), filter, words)? {
+        "passes"
+    } else {
+        "no"
+    };
     println!(rt; "{silence}, its version {version}")?;
     Ok(())
 }

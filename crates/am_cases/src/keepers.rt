@@ -1,9 +1,8 @@
 //! Keepers of silences: maps with the moment of their last event.
 
 use crate::fault::Fault;
-use crate::maps::{self, dated};
-use crate::versions;
-use crate::{moments, words};
+use crate::maps::{self, date, undated};
+use crate::{moments, versions, words};
 use am_collect::{Keeper, KeeperError, Step};
 use am_merge::Held;
 use am_silence::MeshSilence;
@@ -33,7 +32,8 @@ fn say_refusal(rt: &HostRuntime, refusal: KeeperError) -> Result<(), Fault> {
 
 /// The step of words, and its moment.
 fn step_of(alloc: Global, text: &str) -> Result<(Step<MeshSilence>, Moment), Fault> {
-    let (words, now) = dated(text)?;
+    let words = undated(text);
+    let now = date(text)?;
     let (verb, words) = words::first(words);
     match verb {
         "collect" => Ok((Step::Collect, now)),
@@ -85,17 +85,24 @@ fn take_before(
 
 /// Takes two versions.
 fn take_pair(rt: &HostRuntime, keeper: &mut Keeper<MeshSilence>, text: &str) -> Result<(), Fault> {
-    let (words, now) = dated(text)?;
+    let words = undated(text);
+    let now = date(text)?;
     let Some((first, second)) = words.split_once(", ") else {
         return Err(Fault::Words);
     };
-    take_before(rt, keeper, versions::version(rt.alloc(), first)?, second, now)
+    take_before(
+        rt,
+        keeper,
+        versions::version(rt.alloc(), first)?,
+        second,
+        now,
+    )
 }
 
 /// Says what is in view of an identifier at a moment.
 fn view(rt: &HostRuntime, keeper: &Keeper<MeshSilence>, text: &str) -> Result<(), Fault> {
-    let (id, now) = dated(text)?;
-    let id = Text::copied(rt.alloc(), id)?;
+    let now = date(text)?;
+    let id = Text::copied(rt.alloc(), undated(text))?;
     versions::say_version(rt, keeper.view(&id, now))
 }
 
@@ -106,7 +113,7 @@ fn made(rt: &HostRuntime, keeper: &mut Keeper<MeshSilence>, text: &str) -> Resul
         "take" => step(rt, keeper, text),
         "step" => step(rt, keeper, rest),
         "pair" => take_pair(rt, keeper, rest),
-        "collect" => say(rt, &keeper.collect(dated(text)?.1)),
+        "collect" => say(rt, &keeper.collect(date(text)?)),
         "run" => run(rt, keeper, rest),
         "view" => view(rt, keeper, rest),
         "held" => versions::say_held(rt, keeper.held()),

@@ -78,13 +78,7 @@ fn key_words(text: &str) -> Result<(&str, &str, &str, u32), Fault> {
 
 fn key(alloc: Global, text: &str) -> Result<LogKey, Fault> {
     let (group, name, integration, index) = key_words(text)?;
-    Ok(LogKey::of_parts(
-        alloc,
-        group.as_bytes(),
-        name,
-        integration,
-        index,
-    )?)
+    Ok(LogKey::of_parts(alloc, group.as_bytes(), name, integration, index)?)
 }
 
 /// The hashes of a list parted by commas; none of an empty text.

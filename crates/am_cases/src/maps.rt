@@ -1,25 +1,33 @@
 //! Held maps of silences: what is taken, merged and dropped.
 
 use crate::fault::Fault;
-use crate::versions;
-use crate::{moments, words};
+use crate::{moments, versions, words};
 use am_merge::{FromVersionsError, Held};
 use am_silence::MeshSilence;
 use am_version_order::{Moment, Version};
 use am_wire::Text;
 use std::alloc::Global;
 
-/// What a text says, and the moment behind it.
-pub fn dated(text: &str) -> Result<(&str, Moment), Fault> {
+/// What stands before the moment of a text.
+pub fn undated(text: &str) -> &str {
     match text.split_once(" at ") {
-        Some((words, moment)) => Ok((words, moments::moment(moment)?)),
+        Some((words, _)) => words,
+        None => text,
+    }
+}
+
+/// The moment at the end of a text.
+pub fn date(text: &str) -> Result<Moment, Fault> {
+    match text.split_once(" at ") {
+        Some((_, moment)) => moments::moment(moment),
         None => Err(Fault::Words),
     }
 }
 
 /// Takes a version.
 fn take(rt: &HostRuntime, held: &mut Held<MeshSilence>, text: &str) -> Result<(), Fault> {
-    let (words, now) = dated(text)?;
+    let words = undated(text);
+    let now = date(text)?;
     let taken = versions::take(rt.alloc(), held, words, now)?;
     println!(rt; "{taken:?}")?;
     Ok(())
@@ -45,7 +53,8 @@ fn take_before(
 
 /// Takes two versions.
 fn take_pair(rt: &HostRuntime, held: &mut Held<MeshSilence>, text: &str) -> Result<(), Fault> {
-    let (words, now) = dated(text)?;
+    let words = undated(text);
+    let now = date(text)?;
     let Some((first, second)) = words.split_once(", ") else {
         return Err(Fault::Words);
     };
@@ -68,7 +77,8 @@ pub fn merge(
 
 /// Merges a map of versions at a moment.
 fn merge_at(rt: &HostRuntime, held: &mut Held<MeshSilence>, text: &str) -> Result<(), Fault> {
-    let (words, now) = dated(text)?;
+    let words = undated(text);
+    let now = date(text)?;
     merge(rt, held, words, now)
 }
 
@@ -97,7 +107,7 @@ fn step(rt: &HostRuntime, held: &mut Held<MeshSilence>, words: &str) -> Result<(
         "take" => take(rt, held, rest),
         "pair" => take_pair(rt, held, rest),
         "merge" => merge_at(rt, held, rest),
-        "sweep" => Ok(println!(rt; "{} went", held.sweep(dated(words)?.1))?),
+        "sweep" => Ok(println!(rt; "{} went", held.sweep(date(words)?))?),
         "get" => get(rt, held, rest),
         "bucket" => bucket(rt, held, rest),
         "expiry" => moments::say(rt, held.next_expiry()),

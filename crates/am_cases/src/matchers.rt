@@ -18,7 +18,11 @@ fn blank(rt: &HostRuntime, place: usize) -> Result<(), Fault> {
 /// Prints whether the matcher matches a value.
 fn print_match(rt: &HostRuntime, compiled: &mut Compiled, value: &str) -> Result<(), Fault> {
     let value = text(rt.alloc(), value)?;
-    let word = if compiled.matches(value.as_str())? { "yes" } else { "no" };
+    let word = if compiled.matches(value.as_str())? {
+        "yes"
+    } else {
+        "no"
+    };
     print!(rt; "{word}")?;
     Ok(())
 }
@@ -59,7 +63,12 @@ fn matches(rt: &HostRuntime, rest: &str) -> Result<(), Fault> {
 /// Says the parts that a compiled matcher keeps.
 fn say_kept(rt: &HostRuntime, compiled: &Compiled) -> Result<(), Fault> {
     let kept = compiled.matcher();
-    println!(rt; "{:?} {} {}", kept.kind, kept.name.as_str(), kept.pattern.as_str())?;
+    println!(rt;
+        "{:?} {} {}",
+        kept.kind,
+        kept.name.as_str(),
+        kept.pattern.as_str()
+    )?;
     Ok(())
 }
 
@@ -118,11 +127,7 @@ fn kept_verdicts(rt: &HostRuntime, rest: &str) -> Result<(), Fault> {
 }
 
 /// The verdict on a pattern that no other number has; that of an odd number is broken.
-fn numbered(
-    alloc: Global,
-    patterns: &mut PatternCache,
-    number: u64,
-) -> Result<Verdict, Fault> {
+fn numbered(alloc: Global, patterns: &mut PatternCache, number: u64) -> Result<Verdict, Fault> {
     let end = if number % 2 == 0 { "x" } else { "(" };
     let pattern = format!(in alloc; "{number}|{end}")?;
     Ok(pattern_verdict(alloc, patterns, pattern.as_str())?)

@@ -2,17 +2,18 @@
 
 use crate::fault::Fault;
 use crate::silences::bits;
-use crate::version_lines::{cut, matchers, moment, say_moment_behind, say_silence, span, version_of};
-use crate::words;
-use am_silence::{
-    MeshSilence, Plan, Posted, SilenceError, Verdict, plan_expire, plan_post,
+use crate::version_lines::{
+    cut, matchers, moment, say_moment_behind, say_silence, span, version_of,
 };
+use crate::words;
+use am_silence::{MeshSilence, Plan, Posted, SilenceError, Verdict, plan_expire, plan_post};
 use am_version_order::{Interval, Moment, Version};
 use am_wire::Text;
 use std::alloc::{AllocError, Global};
 
 /// Who posts, and with which comment.
 const AUTHOR: &str = "ops";
+
 const COMMENT: &str = "hi";
 
 /// The seconds for which an ended version is kept.

@@ -318,7 +318,11 @@ pub fn say_entry(rt: &HostRuntime, version: &MeshEntry) -> Result<(), Fault> {
         print!(rt; " hash ")?;
         say_pairs(rt, version.group_hash())?;
     }
-    let resolved = if version.resolved() { ", all resolved" } else { "" };
+    let resolved = if version.resolved() {
+        ", all resolved"
+    } else {
+        ""
+    };
     println!(rt; "{resolved}")?;
     Ok(())
 }

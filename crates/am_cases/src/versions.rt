@@ -164,7 +164,12 @@ pub fn held(alloc: Global, versions: &str) -> Result<Held<MeshSilence>, Fault> {
 pub fn print_version(rt: &HostRuntime, version: &MeshSilence) -> Result<(), Fault> {
     print!(rt; "{}", version.key().as_str())?;
     for matcher in version.matchers() {
-        print!(rt; " {}{}{}", matcher.name(), sign(matcher.kind()), matcher.pattern())?;
+        print!(rt;
+            " {}{}{}",
+            matcher.name(),
+            sign(matcher.kind()),
+            matcher.pattern()
+        )?;
     }
     moments::print(rt, " ", version.starts_at())?;
     moments::print(rt, "..", version.ends_at())?;

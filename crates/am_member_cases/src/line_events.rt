@@ -153,7 +153,9 @@ fn nanos(span: Interval) -> i128 {
     let (first, _) = Moment::LEAST.parts();
     let (last, nanos) = Moment::LEAST.capped_add(span).parts();
     let seconds = i128::from(last).saturating_sub(i128::from(first));
-    seconds.saturating_mul(1_000_000_000).saturating_add(i128::from(nanos))
+    seconds
+        .saturating_mul(1_000_000_000)
+        .saturating_add(i128::from(nanos))
 }
 
 fn say_group(

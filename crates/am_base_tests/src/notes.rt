@@ -1,0 +1,92 @@
+//! Versions of which the tests speak.
+
+ghost use Rattle.std.specs.Prelude.{◌≡◌};
+ghost use Rattle.std.proofs.Common.{refl, sym};
+ghost use Rattle.std.specs.declared.cmp.Ordering.TheVariants.{Equal};
+ghost use Rattle.std.specs.Cmp.{ranked};
+
+use am_version_order::{Moment, Version};
+use std::alloc::{AllocError, Global};
+
+/// Two bytes under a letter. The first one is the bucket, where it isn't 0.
+#[derive(Clone, Copy, Debug, PartialEq, Eq)]
+pub struct Note {
+    pub id: u8,
+    pub updated: Moment,
+    pub expires: Moment,
+    pub content: [u8; 2],
+}
+
+/// A note's letter, its update and its expiry in seconds, and its bytes.
+pub type Row = (u8, u32, u32, [u8; 2]);
+
+/// The moment of so many seconds since 1970.
+pub fn at(seconds: u32) -> Moment {
+    Moment::from_parts(i64::from(seconds), 0).unwrap_or(Moment::LEAST)
+}
+
+/// The note of a row.
+pub fn make_note((id, updated, expires, content): Row) -> Note {
+    Note {
+        id,
+        updated: at(updated),
+        expires: at(expires),
+        content,
+    }
+}
+
+impl Version for Note {
+    ghost use Rattle.std.specs.Prelude.{[], take, slice_index_or, if◌then◌else◌, ◌==◌};
+
+    type Key = u8;
+
+    ghost seen = { λ note. record { key = note.id; updated = note.updated; expires = note.expires; content = note.content } };
+
+    ghost bucket_of = { λ note. if slice_index_or note.content 0 0 == 0 then [] else take 1 note.content };
+
+    ghost head_of = { λ _. 0 };
+
+    ghost is_value = { λ _. Unit {0} };
+
+    fn key(&self) -> &u8 {
+        &self.id
+    }
+
+    fn head(_key: &u8) -> u64 {
+        0
+    }
+
+    fn try_key(&self, _alloc: Global) -> Result<u8, AllocError> {
+        Ok(self.id)
+    }
+
+    fn updated(&self) -> Moment {
+        self.updated
+    }
+
+    fn expires(&self) -> Moment {
+        self.expires
+    }
+
+    fn canonical(&self) -> &[u8] {
+        &self.content
+    }
+
+    fn bucket(&self) -> &[u8] {
+        if self.content[0] == 0 {
+            &[]
+        } else {
+            &self.content[..1]
+        }
+    }
+
+    fn try_clone(&self, _alloc: Global) -> Result<Self, AllocError> {
+        Ok(*self)
+    }
+
+    ghost exact_keys = { λ x y tie. ranked x y Equal (sym tie) };
+
+    ghost heads = { λ x y. refl };
+
+    ghost exact = { λ v w _ _ same i. record { id = (same i).key; updated = (same i).updated; expires = (same i).expires; content = (same i).content } };
+}
