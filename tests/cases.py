@@ -45,6 +45,7 @@ PROGRAMS = {
     "replays": MEMBER_CASES,
     "requests": CASES,
     "rows": CASES,
+    "rows_large": CASES,
     "schedules": CASES,
     "silences": CASES,
     "snapshots": CASES,
@@ -53,7 +54,7 @@ PROGRAMS = {
 }
 
 # Files whose cases take inputs of many MiB.
-LARGE = {"instance_large"}
+LARGE = {"instance_large", "rows_large"}
 
 # The file that a program is run on by rt ci, as both compilers build it: its cases stand in the crate's stdin, and what is
 # wanted of them in its stdout.

@@ -151,7 +151,8 @@ def how_refused(lines, wanted):
         begun = begun[: told.start()] if told else begun
         if told and int(told[1]) > 0:
             return "something stands" if without_frames(again.splitlines()) == without_frames(wanted) else None
-        return "made again" if again == text and text.startswith(begun) else None
+        # (a feeder is fed the same piece again, and goes on)
+        return "made again" if again == text and text.startswith(begun) or begun + again == text else None
     # a step whose frame found no memory stands, and the frame is counted
     counted = [UNSENT.fullmatch(line) for line in lines if UNSENT.fullmatch(line)]
     missing = len(wanted) - len(without_frames(wanted)) - (len(lines) - len(without_frames(lines)))
