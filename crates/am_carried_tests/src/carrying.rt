@@ -6,7 +6,7 @@ use am_gossip::{Feeder, Frame};
 use am_merge::Held;
 use am_nflog::MeshEntry;
 use am_silence::MeshSilence;
-use am_version_order::{Moment, Version};
+use am_version_order::{Moment, Version, versions_are_values};
 use std::alloc::Global;
 
 /// The one byte of an id or a group, and the second since 1970 at which a version of it was made.
