@@ -22,18 +22,27 @@ from tally import compare, count, finish, give_up
 TOP = os.path.dirname(os.path.dirname(os.path.abspath(__file__)))
 
 CASES = f"{TOP}/crates/am_cases/out/am_cases"
+MEMBER_CASES = f"{TOP}/crates/am_member_cases/out/am_member_cases"
 TOOL = f"{TOP}/crates/am_tool/out/am_tool"
 
 # The program that answers each file of cases, by the file's name.
 PROGRAMS = {
+    "api": MEMBER_CASES,
+    "carried": MEMBER_CASES,
+    "clusters": MEMBER_CASES,
+    "connections": MEMBER_CASES,
     "decisions": CASES,
+    "events": MEMBER_CASES,
     "frames": CASES,
+    "instance": MEMBER_CASES,
+    "instance_large": MEMBER_CASES,
     "json": CASES,
     "log": CASES,
     "maps": CASES,
     "matchers": CASES,
     "moments": CASES,
     "plans": CASES,
+    "replays": MEMBER_CASES,
     "requests": CASES,
     "rows": CASES,
     "rows_large": CASES,
@@ -44,9 +53,12 @@ PROGRAMS = {
     "wire": CASES,
 }
 
+# Files whose cases take inputs of many MiB.
+LARGE = {"instance_large", "rows_large"}
+
 # The file that a program is run on by rt ci, as both compilers build it: its cases stand in the crate's stdin, and what is
 # wanted of them in its stdout.
-STREAMS = {"am_cases": "decisions"}
+STREAMS = {"am_cases": "decisions", "am_member_cases": "carried"}
 
 # How long a program may take for a file, in seconds.
 PATIENCE = 600

@@ -3,12 +3,12 @@
 
     tests/refused_memory.py [PROGRAM]
 
-PROGRAM is crates/am_tool/out/am_tool if it isn't given; ./am_tool and rt ci build it, and rt ci builds am_refusals, whose
-rows are tried too. tests/memory.c is compiled and loaded before the C library; it counts the requests of a process, and
-refuses the nth, for each n from 1 until a run meets none. Each time the answer has to be Memory, what was there before has
-to stand, and a call that is made again has to answer as it does where nothing is refused. Prints each run that ends
-otherwise, how many requests each row makes, and at the end how many rows passed. What is wanted is written by hand, from
-docs/FORMATS.md; of the rows of am_refusals it stands in crates/am_refusals/stdout.
+PROGRAM is crates/am_tool/out/am_tool if it isn't given; ./am_tool build and rt ci build it. tests/memory.c is compiled and
+loaded before the C library; it counts the requests of a process, and refuses the nth, for each n from 1 until a run meets
+none. Of am_tool the answer has to be Memory each time, and what was there before has to stand. The programs that answer
+cases, which rt ci builds, are run on files of cases in the same way: a case that finds no memory says so, and is made once
+more over what stands then, and has to be answered as where nothing is refused. Prints each run that ends otherwise, how
+many requests each row makes, and at the end how many rows passed. What is wanted is written by hand, from docs/FORMATS.md.
 """
 
 import collections
@@ -23,14 +23,12 @@ import subprocess
 import sys
 import tempfile
 
+import cases as cases_of
 import members
 from members import LANES, TOP, Member, free_ports, outcome, parted, run, silent_peer
 from samples import ENTRY, FIRST, ORDERS, ORDERS_OUTPUT, RESTARTED, RESTARTED_OUTPUT, SECOND, SETTLED, SETTLED_OUTPUT, silence_of_job
 from tally import count, finish, give_up
 from wire import EMPTY_PUSH, TICK, delta, field, greeting, timestamp
-
-ROWS = f"{TOP}/crates/am_refusals/out/am_refusals"
-WANTED = f"{TOP}/crates/am_refusals/stdout"
 
 # What is on standard error where memory ran out.
 MEMORY = "am_tool: Memory\n"
@@ -125,72 +123,100 @@ class Lanes:
         return whole, zip(numbers, self.pool.map(lambda number: self.run(words, given, number), numbers))
 
 
-# ---- rows of calls
+# ---- files of cases
 
 
-# How many requests of a row are not needed, so that it answers all the same where they are refused: the member of
-# `requests` has no peer, so nobody misses the bytes of its four Deltas; and a list of filters is asked for again.
-NOT_NEEDED = {"requests": 6}
+# Requests that are refused at most of a file, evenly over all that it makes: an instance, a map or a reader is met by
+# each kind of case many times.
+MOST_OF_A_FILE = 1_500
 
-SENT = re.compile(r"sent (\d+) unsent (\d+) 0")
+FRAME = re.compile(r"to \S+ ")
+UNSENT = re.compile(r"unsent (\d+) 0")
+TAKEN = re.compile(r"Memory \{ taken: (\d+) \}")
+
+
+def without_frames(lines):
+    return [line for line in lines if not FRAME.match(line)]
 
 
 def how_refused(lines, wanted):
-    """What the lines of a row say of the request that was refused; None where they are not right."""
+    """What the lines of a case say of a request that was refused; None where they are not right."""
     if lines == wanted:
-        return "not needed"
-    place = next((i for i, (one, other) in enumerate(zip(lines, wanted)) if one != other), len(wanted))
-    if place >= len(lines):
-        return None
-    told, rest = lines[place], lines[place + 1 :]
-    if told in ("set-up: Memory", "Memory, as before") and rest == wanted[place:]:
-        return told
-    # the reply of a request whose step stands; or a step of a cluster, of which something was taken, that is made again
-    if told == "Memory, something stands" and rest in (wanted[place:], wanted[place + 1 :]):
-        return told
-    found, sent = SENT.fullmatch(told), SENT.fullmatch(wanted[place]) if place < len(wanted) else None
-    if found and sent and 0 < int(found[2]) and int(found[1]) + int(found[2]) == int(sent[1]) and sent[2] == "0":
-        frames = [line for line in wanted[place + 1 :] if " to " in line]
-        others = [line for line in wanted[place + 1 :] if " to " not in line]
-        left = [line for line in rest if " to " in line]
-        if [line for line in rest if " to " not in line] == others and len(frames) - len(left) in (0, int(found[2])):
-            return "unsent"
+        return "as wanted"
+    found, text = "".join(f"{line}\n" for line in lines), "".join(f"{line}\n" for line in wanted)
+    begun, memory, again = found.partition("! Memory\n")
+    if memory:
+        # a step says how many versions it took, and what is held then
+        told = TAKEN.search(begun)
+        begun = begun[: told.start()] if told else begun
+        if told and int(told[1]) > 0:
+            return "something stands" if without_frames(again.splitlines()) == without_frames(wanted) else None
+        # (a feeder is fed the same piece again, and goes on)
+        return "made again" if again == text and text.startswith(begun) or begun + again == text else None
+    # a step whose frame found no memory stands, and the frame is counted
+    counted = [UNSENT.fullmatch(line) for line in lines if UNSENT.fullmatch(line)]
+    missing = len(wanted) - len(without_frames(wanted)) - (len(lines) - len(without_frames(lines)))
+    others = [line for line in without_frames(lines) if not UNSENT.fullmatch(line)]
+    if len(counted) == 1 and others == without_frames(wanted) and missing == int(counted[0][1]) > 0:
+        return "unsent"
     return None
 
 
-def sections():
-    """The names of the rows, and the lines that each prints where nothing is refused."""
-    found = {}
-    with open(WANTED, encoding="utf-8") as file:
-        for line in file.read().splitlines():
-            if line.startswith("== "):
-                lines = found.setdefault(line[3:], [])
-            lines.append(line)
-    return found
+def answers_of(output):
+    """The lines that a program printed, by case; and whether it said before the first that its input found no memory."""
+    found, is_told = [], False
+    for line in output.decode().splitlines():
+        if line.startswith("> "):
+            found.append([line])
+        elif found:
+            found[-1].append(line)
+        else:
+            is_told = line == "! Memory"
+    return found, is_told
 
 
-def test_rows(lanes):
-    for name, wanted in sections().items():
-        whole, runs = lanes.all_of([ROWS], name.encode())
+def judge_cases(ran, cases):
+    """What a run of a file says of the request that was refused; None where it isn't right."""
+    found, is_told = answers_of(ran.output)
+    if (ran.status, len(found), ran.refused) != (0, len(cases), 1):
+        return None
+    kinds = {how_refused(lines[1:], [line for _, line in case.wanted]) for case, lines in zip(cases, found)}
+    kinds.discard("as wanted")
+    if None in kinds or len(kinds) + is_told > 1:
+        return None
+    return "made again" if is_told else next(iter(kinds), "not needed")
+
+
+def test_cases(lanes):
+    """Each file of cases that is not about large inputs, by its program."""
+    for name, program in sorted(cases_of.PROGRAMS.items()):
+        if name in cases_of.LARGE:
+            continue
+        cases = cases_of.read_cases(f"{TOP}/cases/{name}.txt")
+        given = "".join(f"{case.words}\n" for case in cases).encode()
+        whole = lanes.run([program], given, 0)
+        step = max(1, -(-whole.asked // MOST_OF_A_FILE))
+        numbers = range(1, whole.asked + 1, step)
         faults, kinds = [], collections.Counter()
-        if (whole.status, whole.output.decode().splitlines(), whole.refused) != (0, wanted, 0):
-            faults.append(f"nothing refused: {whole}")
-        for number, ran in runs:
-            lines = ran.output.decode().splitlines()
-            if number > whole.asked:
-                if ran != whole:
-                    faults.append(f"{number}: {ran}, and none was refused")
-                continue
-            kind = how_refused(lines, wanted) if ran.status == 0 and ran.refused == 1 and not ran.error else None
+        for number, ran in zip(numbers, lanes.pool.map(lambda n: lanes.run([program], given, n), numbers)):
+            kind = judge_cases(ran, cases)
             kinds[kind] += 1
             if kind is None:
-                faults.append(f"{number}: {ran}")
-        if kinds["not needed"] != NOT_NEEDED.get(name, 0):
-            faults.append(f"{kinds['not needed']} requests are not needed, and {NOT_NEEDED.get(name, 0)} were to be")
-        if not kinds["Memory, as before"]:
-            faults.append("no call of it was refused a request")
+                faults.append(f"{number}: {differing(ran, cases)}")
+        if not kinds["made again"]:
+            faults.append("no case of it was refused a request")
         said = ", ".join(f"{count} {kind}" for kind, count in sorted(kinds.items(), key=str))
-        settle(f"row {name}", faults, f"{whole.asked} requests: {said}")
+        settle(f"cases/{name}.txt", faults, f"{len(numbers)} of {whole.asked} requests: {said}")
+
+
+def differing(ran, cases):
+    """What is told of a run that isn't right: its first case that is answered otherwise."""
+    found, _ = answers_of(ran.output)
+    for case, lines in zip(cases, found):
+        wanted = [line for _, line in case.wanted]
+        if how_refused(lines[1:], wanted) is None:
+            return f"line {case.line}, wanted {wanted}, found {lines[1:]}"
+    return f"status {ran.status}, {len(found)} of {len(cases)} cases, {ran.refused} refused, {ran.error}"
 
 
 # ---- the program
@@ -367,11 +393,12 @@ def refused_rightly(reply, right, lines):
 
 def main():
     members.choose("refused memory", sys.argv[1:])
-    members.must_be_there("refused memory", ROWS)
+    for program in set(cases_of.PROGRAMS.values()):
+        members.must_be_there("refused memory", program)
     with tempfile.TemporaryDirectory() as folder:
         library = compiled(folder)
         lanes = Lanes(folder, library)
-        test_rows(lanes)
+        test_cases(lanes)
         test_jobs(lanes)
         for test in (test_starts, test_connections):
             place = f"{folder}/{test.__name__}"

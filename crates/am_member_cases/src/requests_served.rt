@@ -75,24 +75,37 @@ fn once(rt: &HostRuntime, instance: &mut Instance, case: &Case<'_>) -> Result<()
     once_over(rt, instance, case, &mut writer)
 }
 
-/// The reply of a new member, where nothing fails.
-fn model(alloc: Global, instance: &Instance, case: &Case<'_>) -> Result<Vec<u8>, Fault> {
-    let mut other = anew(alloc, instance)?;
-    let mut writer = writer(alloc, &case.manner, 0);
+/// Writes a reply.
+fn write_reply(
+    alloc: Global,
+    instance: &mut Instance,
+    case: &Case<'_>,
+    writer: &mut Brittle,
+) -> Result<(), Fault> {
     let k = if case.manner.each == Each::Front {
         1
     } else {
         1_000_000
     };
     let mut reader = reader(case, k);
-    run(
+    match run(
         alloc,
-        &mut other,
+        instance,
         case.engine,
         &mut reader,
-        &mut writer,
+        writer,
         &case.manner,
-    )?;
+    ) {
+        Ok(_) => Ok(()),
+        Err(fault) => Err(fault),
+    }
+}
+
+/// The reply of a new member, where nothing fails.
+fn model(alloc: Global, instance: &Instance, case: &Case<'_>) -> Result<Vec<u8>, Fault> {
+    let mut other = anew(alloc, instance)?;
+    let mut writer = writer(alloc, &case.manner, 0);
+    write_reply(alloc, &mut other, case, &mut writer)?;
     Ok(writer.taken)
 }
 
