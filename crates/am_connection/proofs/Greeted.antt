@@ -1,5 +1,5 @@
 -- Greetings that are read piece by piece.
-use Rattle.std.proofs.Common.{◌≡◌, ◌⊎◌, inl, inr, ℕ, ◌+◌, List, [], ◌∷◌, ◌++◌, length, take, drop, Option, Some, None, Result, Ok, Err, refl, sym, subst, ap, ◌∙◌, append-nil, length-append}
+use Rattle.std.proofs.Common.{◌≡◌, ◌≤◌, ◌⊎◌, inl, inr, ℕ, ◌+◌, List, [], ◌∷◌, ◌++◌, length, take, drop, Option, Some, None, Result, Ok, Err, refl, sym, subst, ap, ◌∙◌, arith, append-nil, length-append, length-take}
 use Rattle.std.proofs.KnownBytes.{Consumes-trans}
 use Rattle.std.proofs.lemmas.List.{drop-append-le}
 use Rattle.std.proofs.lemmas.Option.{none-some}
@@ -12,27 +12,30 @@ use Rattle.am_instance.specs.Configs.{Settings}
 use Rattle.am_instance.specs.Stands.{Stand}
 use Rattle.am_connection.specs.declared.error.Fault.{Fault}
 use Rattle.am_connection.specs.declared.error.Fault.TheVariants.{Read, Write, TooLarge, Frame as InFrame, UnknownName, Step}
-use Rattle.am_connection.specs.Incoming.{Effects, IsHeard, IsPeerOf, IsUngreeted, no_effects}
+use Rattle.am_connection.specs.Incoming.{Effects, IsHeard, IsPeerOf, IsUngreeted, most_bytes, no_effects}
 use Rattle.am_connection.specs.Hearing.{Greets, HearsPeer, IsPiece}
 
 -- there was no piece
 pub greets_fault : (config : Settings) (input mid_input left : Option (List ℕ)) (bytes buffer : List ℕ) (count : ℕ) (fault : Fault) →
-    Consumes input mid_input bytes → count ≡ length bytes → hello_of bytes ≡ Ok None → IsPiece count mid_input left buffer (Err fault) →
+    Consumes input mid_input bytes → length bytes ≤ most_bytes → count ≡ length bytes → hello_of bytes ≡ Ok None → IsPiece count mid_input left buffer (Err fault) →
     Greets config input left bytes (Err fault)
-greets_fault config input mid_input left bytes buffer count (Read at) consumed counted open_ piece =
-    (bytes, subst (λ (b : List ℕ). Consumes input left b) (append-nil bytes) (Consumes-trans input mid_input left bytes [] consumed piece.1), (open_, piece.0 ∙ counted))
-greets_fault config input mid_input left bytes buffer count TooLarge consumed counted open_ piece =
+greets_fault config input mid_input left bytes buffer count (Read at) consumed within counted open_ piece =
+    (bytes, subst (λ (b : List ℕ). Consumes input left b) (append-nil bytes) (Consumes-trans input mid_input left bytes [] consumed piece.1), (open_, piece.0 ∙ counted, within))
+greets_fault config input mid_input left bytes buffer count TooLarge consumed within counted open_ piece =
     (bytes ++ piece.1 ∷ [], Consumes-trans input mid_input left bytes (piece.1 ∷ []) consumed piece.2, (bytes, piece.1, refl, sym counted ∙ piece.0, open_))
-greets_fault config input mid_input left bytes buffer count (Write written) consumed counted open_ piece = absurd piece
-greets_fault config input mid_input left bytes buffer count (InFrame error) consumed counted open_ piece = absurd piece
-greets_fault config input mid_input left bytes buffer count UnknownName consumed counted open_ piece = absurd piece
-greets_fault config input mid_input left bytes buffer count (Step error) consumed counted open_ piece = absurd piece
+greets_fault config input mid_input left bytes buffer count (Write written) consumed within counted open_ piece = absurd piece
+greets_fault config input mid_input left bytes buffer count (InFrame error) consumed within counted open_ piece = absurd piece
+greets_fault config input mid_input left bytes buffer count UnknownName consumed within counted open_ piece = absurd piece
+greets_fault config input mid_input left bytes buffer count (Step error) consumed within counted open_ piece = absurd piece
 
 -- there was no memory for it
 pub greets_memory : (config : Settings) (input mid_input left : Option (List ℕ)) (bytes later buffer : List ℕ) (count read : ℕ) →
-    Consumes input mid_input bytes → IsPiece count mid_input left buffer (Ok read) → Greets config input left later (Err (InFrame Memory))
-greets_memory config input mid_input left bytes later buffer count read consumed piece =
-    (bytes ++ take read buffer, Consumes-trans input mid_input left bytes (take read buffer) consumed piece.0, inl refl)
+    Consumes input mid_input bytes → count ≡ length bytes → IsPiece count mid_input left buffer (Ok read) → Greets config input left later (Err (InFrame Memory))
+greets_memory config input mid_input left bytes later buffer count read consumed counted piece = (
+  bytes ++ take read buffer,
+  Consumes-trans input mid_input left bytes (take read buffer) consumed piece.0,
+  (inl refl, omega (arith, counted, piece.1, piece.2, length-take read buffer, length-append bytes (take read buffer))),
+)
 
 -- ---- a peer that was greeted
 
@@ -86,11 +89,11 @@ greets_peer config same input left bytes greeted place len is some h =
 
 -- there was no memory for the first byte
 pub no_room : (now : ℕ) (first : List ℕ) (left : Option (List ℕ)) (old : Stand) (effects : Effects) (fault : Option Fault) →
-    effects ≡ no_effects → fault ≡ Some (InFrame Memory) → IsHeard now (behind first left) left old old effects fault
-no_room now first left old effects fault nothing is = record {
+    length first ≤ most_bytes → effects ≡ no_effects → fault ≡ Some (InFrame Memory) → IsHeard now (behind first left) left old old effects fault
+no_room now first left old effects fault within nothing is = record {
   came = first;
   consumed = comes_first first left;
-  answer = inl (record { same = refl; nothing = nothing; ungreeted = subst (λ (f : Option Fault). IsUngreeted old.config first left f) (sym is) (inl refl) });
+  answer = inl (record { same = refl; nothing = nothing; ungreeted = subst (λ (f : Option Fault). IsUngreeted old.config first left f) (sym is) (inl refl, within) });
 }
   where
     comes_first : (first : List ℕ) (left : Option (List ℕ)) → Consumes (behind first left) left first

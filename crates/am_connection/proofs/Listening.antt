@@ -1,5 +1,5 @@
 -- Frames that come piece by piece.
-use Rattle.std.proofs.Common.{◌≡◌, inl, inr, ℕ, ◌+◌, List, [], ◌∷◌, ◌++◌, length, take, Option, Some, None, Result, Ok, Err, refl, sym, subst, ap, ◌∙◌, arith, append_assoc, append-nil, length-append, length-take}
+use Rattle.std.proofs.Common.{◌≡◌, inl, inr, ℕ, ◌+◌, ◌≤◌, List, [], ◌∷◌, ◌++◌, length, take, Option, Some, None, Result, Ok, Err, refl, sym, subst, ap, ◌∙◌, arith, append_assoc, append-nil, length-append, length-take}
 use Rattle.std.proofs.KnownBytes.{Consumes-trans}
 use Rattle.std.proofs.lemmas.Bool.{false≢true}
 use Rattle.std.proofs.lemmas.List.Elements.{All-nil}
@@ -12,7 +12,7 @@ use Rattle.am_gossip.proofs.Written.{stream_again}
 use Rattle.am_instance.specs.Stands.{Stand}
 use Rattle.am_connection.specs.declared.error.Fault.{Fault}
 use Rattle.am_connection.specs.declared.error.Fault.TheVariants.{Read, Write, TooLarge, Frame as InFrame, UnknownName, Step}
-use Rattle.am_connection.specs.Incoming.{Effects, EndsHearing, MakesAll, StopsAt, no_effects, result_of}
+use Rattle.am_connection.specs.Incoming.{Effects, EndsHearing, MakesAll, StopsAt, most_bytes, no_effects, result_of}
 use Rattle.am_connection.specs.Hearing.{HasHeard, Hears, HearsOn, HearsPeer, IsPiece, TakesPiece, fault_in}
 use Rattle.am_connection.proofs.Making.{all_append, stops_later}
 
@@ -61,39 +61,39 @@ hears_more sender now first count read fed buffer before after input mid_input l
 -- the input ended
 pub hears_end : (sender now first count read : ℕ) (fed buffer : List ℕ) (before : Option (List ℕ)) (input mid_input left : Option (List ℕ))
     (start : Stand) (nothing : Effects) (mid : Stand) (between : Effects) →
-    HearsOn sender now first count fed before input mid_input start nothing mid between → IsPiece count mid_input left buffer (Ok read) → read ≡ 0 →
+    count ≤ most_bytes → HearsOn sender now first count fed before input mid_input start nothing mid between → IsPiece count mid_input left buffer (Ok read) → read ≡ 0 →
     Hears sender now first fed input left start nothing mid between (Ok tt)
-hears_end sender now first count read fed buffer before input mid_input left start nothing mid between h piece none =
+hears_end sender now first count read fed buffer before input mid_input left start nothing mid between within h piece none =
     record {
       took = h.took;
       lost = [];
       consumed = Consumes-trans input mid_input left h.took [] h.consumed (subst (λ (n : ℕ). Consumes mid_input left (take n buffer)) none piece.0);
-      ending = (h.heard.made, refl, piece.3 none, subst (λ r. IsOk r) (sym h.heard.ending) refl);
+      ending = (h.heard.made, refl, piece.3 none, subst (λ r. IsOk r) (sym h.heard.ending) refl, omega (arith, within, h.counted));
     }
 
 -- there was no piece
 pub hears_fault : (sender now first count : ℕ) (fed buffer : List ℕ) (before : Option (List ℕ)) (input mid_input left : Option (List ℕ))
     (start : Stand) (nothing : Effects) (mid : Stand) (between : Effects) (fault : Fault) →
-    HearsOn sender now first count fed before input mid_input start nothing mid between → IsPiece count mid_input left buffer (Err fault) →
+    count ≤ most_bytes → HearsOn sender now first count fed before input mid_input start nothing mid between → IsPiece count mid_input left buffer (Err fault) →
     Hears sender now first fed input left start nothing mid between (Err fault)
-hears_fault sender now first count fed buffer before input mid_input left start nothing mid between (Read at) h piece =
+hears_fault sender now first count fed buffer before input mid_input left start nothing mid between (Read at) within h piece =
     record {
       took = h.took;
       lost = [];
       consumed = Consumes-trans input mid_input left h.took [] h.consumed piece.1;
-      ending = (h.heard.made, refl, piece.0 ∙ h.counted, subst (λ r. IsOk r) (sym h.heard.ending) refl);
+      ending = (h.heard.made, refl, piece.0 ∙ h.counted, subst (λ r. IsOk r) (sym h.heard.ending) refl, omega (arith, within, h.counted));
     }
-hears_fault sender now first count fed buffer before input mid_input left start nothing mid between TooLarge h piece =
+hears_fault sender now first count fed buffer before input mid_input left start nothing mid between TooLarge within h piece =
     record {
       took = h.took;
       lost = piece.1 ∷ [];
       consumed = Consumes-trans input mid_input left h.took (piece.1 ∷ []) h.consumed piece.2;
       ending = (h.heard.made, refl, sym h.counted ∙ piece.0, subst (λ r. IsOk r) (sym h.heard.ending) refl);
     }
-hears_fault sender now first count fed buffer before input mid_input left start nothing mid between (Write written) h piece = absurd piece
-hears_fault sender now first count fed buffer before input mid_input left start nothing mid between (InFrame error) h piece = absurd piece
-hears_fault sender now first count fed buffer before input mid_input left start nothing mid between UnknownName h piece = absurd piece
-hears_fault sender now first count fed buffer before input mid_input left start nothing mid between (Step error) h piece = absurd piece
+hears_fault sender now first count fed buffer before input mid_input left start nothing mid between (Write written) within h piece = absurd piece
+hears_fault sender now first count fed buffer before input mid_input left start nothing mid between (InFrame error) within h piece = absurd piece
+hears_fault sender now first count fed buffer before input mid_input left start nothing mid between UnknownName within h piece = absurd piece
+hears_fault sender now first count fed buffer before input mid_input left start nothing mid between (Step error) within h piece = absurd piece
 
 -- the stream behind what was taken, when a piece more came
 taken_on : (fed took piece rest : List ℕ) → (stream_of (fed ++ took)).ending ≡ Ok rest →
@@ -103,6 +103,12 @@ taken_on fed took piece rest is = ap stream_of (sym (append_assoc fed took piece
 -- what was consumed, with nothing lost
 none_lost : (input left : Option (List ℕ)) (bytes : List ℕ) → Consumes input left bytes → Consumes input left (bytes ++ [])
 none_lost input left bytes consumed = subst (λ (b : List ℕ). Consumes input left b) (sym (append-nil bytes)) consumed
+
+-- no more came than may, when a piece was read
+within_piece : (first count read : ℕ) (took buffer : List ℕ) → count ≡ first + length took → read ≤ length buffer → count + read ≤ most_bytes →
+    (first + length took + length (take read buffer) ≤ most_bytes) × (first + length (took ++ take read buffer) ≤ most_bytes)
+within_piece first count read took buffer counted all within =
+    (omega (arith, counted, all, within, length-take read buffer), omega (arith, counted, all, within, length-take read buffer, length-append took (take read buffer)))
 
 -- a piece ended the stream
 pub hears_stop : (sender now first count read : ℕ) (fed buffer : List ℕ) (before after : Option (List ℕ)) (input mid_input left : Option (List ℕ))
@@ -115,7 +121,7 @@ hears_stop sender now first count read fed buffer before after input mid_input l
       took = h.took;
       lost = take read buffer;
       consumed = Consumes-trans input mid_input left h.took (take read buffer) h.consumed piece.0;
-      ending = (rw (none.1, none.2) h.heard.made, inl none.0);
+      ending = (rw (none.1, none.2) h.heard.made, inl none.0, (within_piece first count read h.took buffer h.counted piece.1 piece.2).0);
     }
 hears_stop sender now first count read fed buffer before after input mid_input left start nothing mid between new effects (InFrame error) h piece (inr some) =
     let on = taken_on fed h.took (take read buffer) h.heard.rest h.heard.ending in
@@ -127,6 +133,7 @@ hears_stop sender now first count read fed buffer before after input mid_input l
         subst (λ (s : Stream). MakesAll sender now s.frames start nothing new effects) (sym on)
             (all_append sender now (stream_of (fed ++ h.took)).frames (stream_of (h.heard.rest ++ take read buffer)).frames start nothing mid between new effects h.heard.made some.0),
         inr (refl, ap (λ (s : Stream). s.ending) on ∙ some.1),
+        (within_piece first count read h.took buffer h.counted piece.1 piece.2).1,
       );
     }
 hears_stop sender now first count read fed buffer before after input mid_input left start nothing mid between new effects (Step error) h piece stop =
@@ -139,6 +146,7 @@ hears_stop sender now first count read fed buffer before after input mid_input l
         subst (λ (s : Stream). StopsAt sender now s.frames start nothing new effects error) (sym on)
             (stops_later sender now (stream_of (fed ++ h.took)).frames (stream_of (h.heard.rest ++ take read buffer)).frames start nothing mid between new effects error h.heard.made stop),
         refl,
+        (within_piece first count read h.took buffer h.counted piece.1 piece.2).1,
       );
     }
 hears_stop sender now first count read fed buffer before after input mid_input left start nothing mid between new effects (Read at) h piece stop = absurd stop
@@ -177,31 +185,39 @@ no_step sender now old new after same none = subst (λ (fs : List Frame). MakesA
 
 -- it ended the stream
 pub peer_stops : (sender now len : ℕ) (piece : List ℕ) (waiting : Option (List ℕ)) (input : Option (List ℕ)) (old : Stand) (before : Effects) (new : Stand) (effects : Effects) (fault : Fault) →
-    before ≡ no_effects → TakesPiece sender now (stream_of ([] ++ piece)) waiting old before new effects (Err fault) → HearsPeer sender now len piece input input old new effects (Some fault)
-peer_stops sender now len piece waiting input old before new effects (InFrame error) nothing (inl none) =
-    record { gave = []; consumed = none_before input; took = []; lost = piece; parts = append-nil piece; ending = (no_step sender now old new effects none.1 (none.2 ∙ nothing), inl none.0) }
-peer_stops sender now len piece waiting input old before new effects (InFrame error) nothing (inr some) =
+    len + length piece ≤ most_bytes → before ≡ no_effects → TakesPiece sender now (stream_of ([] ++ piece)) waiting old before new effects (Err fault) →
+    HearsPeer sender now len piece input input old new effects (Some fault)
+peer_stops sender now len piece waiting input old before new effects (InFrame error) within nothing (inl none) =
+    record {
+      gave = [];
+      consumed = none_before input;
+      took = [];
+      lost = piece;
+      parts = append-nil piece;
+      ending = (no_step sender now old new effects none.1 (none.2 ∙ nothing), inl none.0, omega (arith, within));
+    }
+peer_stops sender now len piece waiting input old before new effects (InFrame error) within nothing (inr some) =
     record {
       gave = [];
       consumed = none_before input;
       took = piece;
       lost = [];
       parts = refl;
-      ending = (subst (λ (e : Effects). MakesAll sender now (stream_of piece).frames old e new effects) nothing some.0, inr (refl, some.1));
+      ending = (subst (λ (e : Effects). MakesAll sender now (stream_of piece).frames old e new effects) nothing some.0, inr (refl, some.1), omega (arith, within));
     }
-peer_stops sender now len piece waiting input old before new effects (Step error) nothing stop =
+peer_stops sender now len piece waiting input old before new effects (Step error) within nothing stop =
     record {
       gave = [];
       consumed = none_before input;
       took = piece;
       lost = [];
       parts = refl;
-      ending = (subst (λ (e : Effects). StopsAt sender now (stream_of piece).frames old e new effects error) nothing stop, refl);
+      ending = (subst (λ (e : Effects). StopsAt sender now (stream_of piece).frames old e new effects error) nothing stop, refl, within);
     }
-peer_stops sender now len piece waiting input old before new effects (Read at) nothing stop = absurd stop
-peer_stops sender now len piece waiting input old before new effects TooLarge nothing stop = absurd stop
-peer_stops sender now len piece waiting input old before new effects (Write written) nothing stop = absurd stop
-peer_stops sender now len piece waiting input old before new effects UnknownName nothing stop = absurd stop
+peer_stops sender now len piece waiting input old before new effects (Read at) within nothing stop = absurd stop
+peer_stops sender now len piece waiting input old before new effects TooLarge within nothing stop = absurd stop
+peer_stops sender now len piece waiting input old before new effects (Write written) within nothing stop = absurd stop
+peer_stops sender now len piece waiting input old before new effects UnknownName within nothing stop = absurd stop
 
 -- others came behind it
 pub peer_hears : (sender now len first : ℕ) (piece : List ℕ) (input left : Option (List ℕ)) (old new : Stand) (effects : Effects) (result : Result Unit Fault) →

@@ -1,5 +1,5 @@
 -- What comes of a peer's connection: the steps of the frames behind its greeting, and why it ended.
-use Rattle.std.specs.Prelude.{◌≡◌, ◌⊎◌, ℕ, ◌+◌, ◌^◌, ◌-◌, min, Bool, true, false, ◌||◌, List, [], ◌∷◌, ◌++◌, length}
+use Rattle.std.specs.Prelude.{◌≡◌, ◌⊎◌, ℕ, ◌+◌, ◌≤◌, ◌^◌, ◌-◌, min, Bool, true, false, ◌||◌, List, [], ◌∷◌, ◌++◌, length}
 use Rattle.std.specs.Prelude.{drop, Option, Some, None, Result, Ok, Err, slice_get, IsOk}
 use Rattle.std.specs.Io.KnownBytes.{Consumes, IsAtEnd}
 use Rattle.am_gossip.specs.declared.error.FrameError.{FrameError}
@@ -85,19 +85,21 @@ pub record StopsAt (sender now : ℕ) (frames : List Frame) (old : Stand) (befor
 abbrev pub most_bytes : ℕ
 most_bytes = 134217728
 
--- Why hearing ended, where `lost` came behind what was taken: the input ended, a read failed, there was a byte too many, the
--- stream was at fault, or memory ran out for it, or a step was refused.
+-- Why hearing ended, where `lost` came behind the `count` bytes that were taken: the input ended, a read failed, there was a
+-- byte too many, the stream was at fault, or memory ran out for it, or a step was refused. Whatever it was, no more came than a
+-- connection may have, and the one byte too many that is told.
 abbrev pub EndsHearing : ℕ → ℕ → ℕ → Stream → List ℕ → Option (List ℕ) → Stand → Effects → Stand → Effects → Result Unit Fault → Type 0
 EndsHearing sender now count stream lost left old before new after (Ok _) =
-    MakesAll sender now stream.frames old before new after × (lost ≡ []) × IsAtEnd left × IsOk stream.ending
+    MakesAll sender now stream.frames old before new after × (lost ≡ []) × IsAtEnd left × IsOk stream.ending × (count ≤ most_bytes)
 EndsHearing sender now count stream lost left old before new after (Err (Read at)) =
-    MakesAll sender now stream.frames old before new after × (lost ≡ []) × (at ≡ count) × IsOk stream.ending
+    MakesAll sender now stream.frames old before new after × (lost ≡ []) × (at ≡ count) × IsOk stream.ending × (count ≤ most_bytes)
 EndsHearing sender now count stream lost left old before new after (Err TooLarge) =
     MakesAll sender now stream.frames old before new after × (length lost ≡ 1) × (count ≡ most_bytes) × IsOk stream.ending
 EndsHearing sender now count stream lost left old before new after (Err (InFrame error)) =
     MakesAll sender now stream.frames old before new after × ((error ≡ Memory) ⊎ ((lost ≡ []) × (stream.ending ≡ Err error)))
+    × (count + length lost ≤ most_bytes)
 EndsHearing sender now count stream lost left old before new after (Err (Step error)) =
-    StopsAt sender now stream.frames old before new after error × (lost ≡ [])
+    StopsAt sender now stream.frames old before new after error × (lost ≡ []) × (count ≤ most_bytes)
 EndsHearing sender now count stream lost left old before new after (Err _) = ⊥
 
 -- ---- a whole connection of a peer
@@ -118,14 +120,14 @@ result_of None = Ok tt
 result_of (Some fault) = Err fault
 
 -- No frame was read: the input ended in the greeting, a read failed there, a byte too many came while it was still open, the
--- greeting is at fault or names no peer, or memory ran out for it.
+-- greeting is at fault or names no peer, or memory ran out for it. No more came than a connection may have, and that one byte.
 abbrev pub IsUngreeted : Settings → List ℕ → Option (List ℕ) → Option Fault → Type 0
-IsUngreeted config came left None = (hello_of came ≡ Ok None) × IsAtEnd left
-IsUngreeted config came left (Some (Read at)) = (hello_of came ≡ Ok None) × (at ≡ length came)
+IsUngreeted config came left None = (hello_of came ≡ Ok None) × IsAtEnd left × (length came ≤ most_bytes)
+IsUngreeted config came left (Some (Read at)) = (hello_of came ≡ Ok None) × (at ≡ length came) × (length came ≤ most_bytes)
 IsUngreeted config came left (Some TooLarge) =
     (front : List ℕ) × (byte : ℕ) × (came ≡ front ++ byte ∷ []) × (length front ≡ most_bytes) × (hello_of front ≡ Ok None)
-IsUngreeted config came left (Some (InFrame error)) = (error ≡ Memory) ⊎ (hello_of came ≡ Err error)
-IsUngreeted config came left (Some UnknownName) = NamesNobody config (hello_of came)
+IsUngreeted config came left (Some (InFrame error)) = ((error ≡ Memory) ⊎ (hello_of came ≡ Err error)) × (length came ≤ most_bytes)
+IsUngreeted config came left (Some UnknownName) = NamesNobody config (hello_of came) × (length came ≤ most_bytes)
 IsUngreeted config came left (Some _) = ⊥
 
 -- A peer spoke: the bytes begin with its greeting, behind which the steps of its frames were made.

@@ -9,11 +9,11 @@ loop-read-init g c = (c.requires, refl, λ fed start nothing h. hears_nothing _ 
 pub returns-in_err-read : goal.returns-in_err-read
 returns-in_err-read g c = λ fed start nothing h.
     let p = err_from_is_err_and c.from_residual.result c.from_residual.ensures.1 in
-    rw (p.1, p.2) (hears_fault _ _ _ _ _ c.read_piece.new.piece _ _ _ _ _ _ _ _ _ (c.loop-read.invariant.2 fed start nothing h) c.in_err-read.ensures)
+    rw (p.1, p.2) (hears_fault _ _ _ _ _ c.read_piece.new.piece _ _ _ _ _ _ _ _ _ c.loop-read.invariant.0 (c.loop-read.invariant.2 fed start nothing h) c.in_err-read.ensures)
 
 pub returns-then-read-eq0 : goal.returns-then-read-eq0
 returns-then-read-eq0 g c = λ fed start nothing h.
-    hears_end _ _ _ _ _ _ _ _ _ _ _ _ _ _ _ (c.loop-read.invariant.2 fed start nothing h) c.in_ok-read.ensures c.if-read-eq0.true
+    hears_end _ _ _ _ _ _ _ _ _ _ _ _ _ _ _ c.loop-read.invariant.0 (c.loop-read.invariant.2 fed start nothing h) c.in_ok-read.ensures c.if-read-eq0.true
 
 pub returns-in_err-take_piece : goal.returns-in_err-take_piece
 returns-in_err-take_piece g c = λ fed start nothing h.
