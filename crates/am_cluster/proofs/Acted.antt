@@ -1,5 +1,5 @@
 -- What is known of the step of an instance, for writing it down.
-use Rattle.std.proofs.Common.{◌≡◌, ◌⊎◌, inl, inr, ℕ, Bool, true, false, cond, eqb, ltb, List, [], Result, Ok, Err, sym, subst, length, not, IfOk, ◌<◌}
+use Rattle.std.proofs.Common.{◌≡◌, ◌⊎◌, inl, inr, ℕ, Bool, true, false, cond, eqb, ltb, List, [], Result, Ok, Err, sym, subst, length, not, IfOk, ◌<◌, ◌∙◌}
 use Rattle.std.specs.Prelude.{All, Contains, IfSome, None}
 use Rattle.std.proofs.lemmas.List.Elements.{All-nil, All-weaker, All-contains, All-contains_itself}
 use Rattle.std.proofs.lemmas.Bool.{and_parts, eqb-false, ltb-true, not-true}
@@ -19,7 +19,7 @@ use Rattle.am_instance.specs.Deliveries.{first_fault, rows_in, parts_of}
 use Rattle.am_instance.specs.Laws.{HasMaps}
 use Rattle.am_instance.specs.Replies.{IsNothing}
 use Rattle.am_instance.specs.Stands.{Stand}
-use Rattle.am_instance.specs.Steps.{delivers}
+use Rattle.am_instance.specs.Steps.{delivers, fault_of}
 use Rattle.am_instance.specs.OneStep.{IsStep}
 use Rattle.am_runs.specs.declared.step.Source.{Source}
 use Rattle.am_carried.specs.Contents.{IsValue}
@@ -27,8 +27,17 @@ use Rattle.am_record.specs.Recorded.{AreInFlight, AreValues}
 use Rattle.am_cluster.specs.declared.error.ClusterError.{ClusterError}
 use Rattle.am_cluster.specs.declared.recording.Kind.TheVariants as kinds
 use Rattle.am_cluster.specs.Events.{IsTold, drops}
-use Rattle.am_cluster.specs.Recording.{brings_or_makes}
+use Rattle.am_cluster.specs.Recording.{IsNoFault, brings_or_makes}
 use Rattle.am_cluster.specs.Ties.{CanFly}
+
+-- an event that has no fault isn't refused for one
+pub no_fault : (before stand : Stand) (event : Event) (now : ℕ) (answer : Result Outcome StepError) → ((settings : Settings) → fault_of settings now event ≡ None) →
+    IsStep before event now answer stand → IsNoFault answer
+no_fault before stand event now (Ok outcome) sound step = tt
+no_fault before stand event now (Err (MomentBack last)) sound step = tt
+no_fault before stand event now (Err UnknownPeer) sound step = tt
+no_fault before stand event now (Err (Memory taken)) sound step = tt
+no_fault before stand event now (Err (FrameFault fault)) sound step = absurd (let is = sym (sound before.config) ∙ step.refused.2 in cc)
 
 -- what holds of every outcome holds of the answer
 pub on_ok : (P : Outcome → Type 0) (before stand : Stand) (event : Event) (now : ℕ) (answer : Result Outcome StepError) →

@@ -1,6 +1,6 @@
 -- What a frame does, put together of its parts.
 use Rattle.std.proofs.Common.{◌≡◌, ℕ, List, ◌++◌, false, take, ap, refl, sym, subst, ◌∙◌, append-nil, inl, inr, arith}
-use Rattle.std.specs.Prelude.{Ok, Err, option_map}
+use Rattle.std.specs.Prelude.{None, Ok, Err, option_map}
 use Rattle.am_gossip.specs.declared.frame.Frame.{Frame as GossipFrame}
 use Rattle.am_gossip.specs.declared.frame.Part.{Part}
 use Rattle.am_gossip.specs.Answers.{frame_fault}
@@ -29,12 +29,13 @@ judged_arrival old sender parts now (MomentBack last) none = none
 judged_arrival old sender parts now UnknownPeer none = none
 
 -- memory ran out in the midst
-pub stopped_arrival : (old new : Stand) (sender : ℕ) (parts : List Part) (now taken : ℕ) → StopsDelivering now (before_fault (rows_in parts)) old new 0 taken → IsArrival old sender parts now (Err (Memory taken)) new
-stopped_arrival old new sender parts now taken stop =
+pub stopped_arrival : (old new : Stand) (sender : ℕ) (parts : List Part) (now taken : ℕ) → first_fault (rows_in parts) ≡ None →
+    StopsDelivering now (before_fault (rows_in parts)) old new 0 taken → IsArrival old sender parts now (Err (Memory taken)) new
+stopped_arrival old new sender parts now taken sound stop =
     let within = stop.within in
     let counted = stop.counted in
     let same : stop.number ≡ taken = omega (arith, counted) in
-    (inr (omega (arith, within, counted)), subst (λ (n : ℕ). Delivers now (take n (before_fault (rows_in parts))) old new) same stop.delivered)
+    (inr (ap (option_map frame_fault) sound, omega (arith, within, counted)), subst (λ (n : ℕ). Delivers now (take n (before_fault (rows_in parts))) old new) same stop.delivered)
 
 -- a frame whose rows were refused, or that memory stopped
 pub refused_frame : (old new : Stand) (sender : ℕ) (frame : GossipFrame) (now : ℕ) (e : StepError) → IsArrival old sender (parts_of frame) now (Err e) new → IsWork old (events.Frame sender frame) now (Err e) new
@@ -43,7 +44,7 @@ refused_frame old new sender frame now (Memory taken) stop = record {
   last = stop.1.last;
   silences = stop.1.silences;
   log = stop.1.log;
-  answer = stop.0;
+  answer = (stop.0, refl);
 }
 refused_frame old new sender frame now (Frame fault) is = subst (λ stand. IsWork old (events.Frame sender frame) now (Err (Frame fault)) stand) (sym is.1) (record {
   config = refl;

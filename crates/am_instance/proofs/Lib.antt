@@ -11,6 +11,7 @@ pub mod HereWorks
 pub mod RequestWorks
 pub mod NoticeWorks
 pub mod Passing
+pub mod Stepping
 pub mod Histories
 pub mod Alike
 pub mod Muted

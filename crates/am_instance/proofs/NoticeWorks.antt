@@ -36,7 +36,7 @@ module _ (old : Stand) (group_key : List ℕ) (receiver : Receiver) (firing reso
       (e ≡ wire_errors.TooLarge → (now < expiry repeat old.config.retention now) × (most < length (writes_mesh_entry (made_entry group_key receiver firing resolved repeat old.config.retention now)))) →
       IsWork old (events.Notified group_key receiver firing resolved repeat) now (Err (step_fault e)) old
   note_refused e (inl is) large = subst (λ x. IsWork old (events.Notified group_key receiver firing resolved repeat) now (Err (step_fault x)) old) (sym is)
-      (memory_work old old (events.Notified group_key receiver firing resolved repeat) now refl)
+      (memory_work old old (events.Notified group_key receiver firing resolved repeat) now refl refl)
   note_refused e (inr is) large = subst (λ x. IsWork old (events.Notified group_key receiver firing resolved repeat) now (Err (step_fault x)) old) (sym is) (record {
     config = refl;
     last = refl;
@@ -54,7 +54,7 @@ module _ (old : Stand) (group_key : List ℕ) (receiver : Receiver) (firing reso
       now < expiry repeat old.config.retention now → ¬ ((now < expiry repeat old.config.retention now) × (most < length (writes_mesh_entry (made_entry group_key receiver firing resolved repeat old.config.retention now)))) →
       IfOk result (λ outcome. IsLoggedHere old e now outcome new) → IfErr result (λ x. x ≡ Memory 0) → OnErr result (new ≡ old) →
       IsWork old (events.Notified group_key receiver firing resolved repeat) now result new
-  note_done new e (Err x) is comes fits put memory unchanged = stopped_work old new (events.Notified group_key receiver firing resolved repeat) now x memory unchanged
+  note_done new e (Err x) is comes fits put memory unchanged = stopped_work old new (events.Notified group_key receiver firing resolved repeat) now x memory unchanged refl
   note_done new e (Ok outcome) is comes fits put memory unchanged =
       let entry = made_entry group_key receiver firing resolved repeat old.config.retention now in
       let small : length (writes_mesh_entry entry) ≤ most = le_of (most) (length (writes_mesh_entry entry)) (λ large. fits (comes, large)) in

@@ -63,11 +63,11 @@ post_done old new posted bits now plan (Ok outcome) plans put memory unchanged =
       answer = subst (λ r. RefusedOr r (IsDone (planned (posted_over now old.silences posted.id) (post_of posted now bits old.config.retention))) outcome.reply outcome.made) (sym plans.2)
           (subst (λ p. IsDone p outcome.reply outcome.made) plans.3 (record { answer = put.answer; copies = put.made }));
     })
-post_done old new posted bits now plan (Err e) plans put memory unchanged = stopped_work old new (events.Request (requests.Post posted bits)) now e memory unchanged
+post_done old new posted bits now plan (Err e) plans put memory unchanged = stopped_work old new (events.Request (requests.Post posted bits)) now e memory unchanged refl
 
 -- a post that was refused
 pub post_refused : (old : Stand) (posted : Posted) (bits now : ℕ) (error : SilenceError) (result : Result Outcome StepError) → IsPlanned old posted bits now (Err error) →
-    IfOk result (IsTurnedAway error) → IfErr result (λ e. e ≡ Memory 0) → IsWork old (events.Request (requests.Post posted bits)) now result old
+    IfOk result (IsTurnedAway error) → IfErr result (λ e. (e ≡ Memory 0) × (error ≡ silence_errors.Memory)) → IsWork old (events.Request (requests.Post posted bits)) now result old
 post_refused old posted bits now error (Ok outcome) plans away memory =
     let why = plans away.other in
     quiet_work old (events.Request (requests.Post posted bits)) now outcome refl refl refl refl away.unsent away.nothing (record {
@@ -76,7 +76,7 @@ post_refused old posted bits now error (Ok outcome) plans away memory =
       answer = subst (λ r. RefusedOr r (IsDone (planned (posted_over now old.silences posted.id) (post_of posted now bits old.config.retention))) outcome.reply outcome.made) (sym why.2)
           (record { answer = away.answer; nothing = away.nothing });
     })
-post_refused old posted bits now error (Err e) plans away memory = stopped_work old old (events.Request (requests.Post posted bits)) now e memory refl
+post_refused old posted bits now error (Err e) plans away memory = stopped_work old old (events.Request (requests.Post posted bits)) now e memory.0 refl refl
 
 -- a silence that was ended
 pub delete_done : (old new : Stand) (id : List ℕ) (now : ℕ) (held : Option Mesh) (v : Mesh) (result : Result Outcome StepError) → held ≡ silence_in_view now old.silences id →
@@ -90,12 +90,14 @@ delete_done old new id now held v (Ok outcome) is ended accepted put memory unch
     (subst (λ r. RefusedOr r (IsEnded (ended_of held now old.config.retention)) outcome.reply outcome.made) (sym accepted)
     (subst (λ o. IsEnded o outcome.reply outcome.made) (sym ended) (record { answer = put.answer; copies = put.made }))))
 delete_done old new id now held v (Err e) is ended accepted put memory unchanged = stopped_work old new (events.Request (requests.Delete id)) now e memory unchanged
+    (ap (λ h. end_refusal h now old.config.retention) (sym is) ∙ accepted)
 
 pub delete_refused : (old : Stand) (id : List ℕ) (now : ℕ) (held : Option Mesh) (error : SilenceError) (result : Result Outcome StepError) → held ≡ silence_in_view now old.silences id →
-    (error ≢ silence_errors.Memory → end_refusal held now old.config.retention ≡ Some error) →
-    IfOk result (IsTurnedAway error) → IfErr result (λ e. e ≡ Memory 0) → IsWork old (events.Request (requests.Delete id)) now result old
-delete_refused old id now held error (Ok outcome) is refused away memory =
+    (error ≢ silence_errors.Memory → end_refusal held now old.config.retention ≡ Some error) → (error ≡ silence_errors.Memory → end_refusal held now old.config.retention ≡ None) →
+    IfOk result (IsTurnedAway error) → IfErr result (λ e. (e ≡ Memory 0) × (error ≡ silence_errors.Memory)) → IsWork old (events.Request (requests.Delete id)) now result old
+delete_refused old id now held error (Ok outcome) is refused none away memory =
     quiet_work old (events.Request (requests.Delete id)) now outcome refl refl refl refl away.unsent away.nothing
     (subst (λ h. RefusedOr (end_refusal h now old.config.retention) (IsEnded (ended_of h now old.config.retention)) outcome.reply outcome.made) is
     (subst (λ r. RefusedOr r (IsEnded (ended_of held now old.config.retention)) outcome.reply outcome.made) (sym (refused away.other)) (record { answer = away.answer; nothing = away.nothing })))
-delete_refused old id now held error (Err e) is refused away memory = stopped_work old old (events.Request (requests.Delete id)) now e memory refl
+delete_refused old id now held error (Err e) is refused none away memory = stopped_work old old (events.Request (requests.Delete id)) now e memory.0 refl
+    (ap (λ h. end_refusal h now old.config.retention) (sym is) ∙ none memory.1)

@@ -22,7 +22,7 @@ use Rattle.am_instance.specs.Stands.{Stand, silence_at, entry_at}
 use Rattle.am_instance.specs.Changes.{changed_of}
 use Rattle.am_instance.specs.Sendings.{Sends, deltas_to, nothing_sent, sent_by}
 use Rattle.am_instance.specs.Replies.{IsReply, IsNothing, AreMade, listed}
-use Rattle.am_instance.specs.Steps.{IsWork, AreSwept, Delivers, brought, collects, delivers, fault_of, last_wanted, made_here, origin, step_events, wanted, deltas_here}
+use Rattle.am_instance.specs.Steps.{IsWork, AreSwept, Delivers, brought, collects, delivers, fault_of, last_wanted, made_here, refused_anyway, origin, step_events, wanted, deltas_here}
 use Rattle.am_instance.proofs.Arrivals.{delivers_none}
 
 pub made_nothing : (made : Made) → IsNothing made → made_here made ≡ []
@@ -82,18 +82,18 @@ made_work old new event now outcome ds stays brings last own sound is delivered 
     (subst (λ xs. Sends xs nothing_sent (sent_by outcome)) whole sent) reply
 
 -- memory ran out before anything was taken
-pub memory_work : (old new : Stand) (event : Event) (now : ℕ) → new ≡ old → IsWork old event now (Err (Memory 0)) new
-memory_work old new event now same = subst (λ stand. IsWork old event now (Err (Memory 0)) stand) (sym same) (record {
+pub memory_work : (old new : Stand) (event : Event) (now : ℕ) → new ≡ old → refused_anyway old event now ≡ None → IsWork old event now (Err (Memory 0)) new
+memory_work old new event now same wanting = subst (λ stand. IsWork old event now (Err (Memory 0)) stand) (sym same) (record {
   config = refl;
   last = refl;
   silences = refl;
   log = refl;
-  answer = inl refl;
+  answer = (inl refl, wanting);
 })
 
 -- memory ran out, or something else did not
-pub stopped_work : (old new : Stand) (event : Event) (now : ℕ) (e : StepError) → e ≡ Memory 0 → new ≡ old → IsWork old event now (Err e) new
-stopped_work old new event now e is same = subst (λ error. IsWork old event now (Err error) new) (sym is) (memory_work old new event now same)
+pub stopped_work : (old new : Stand) (event : Event) (now : ℕ) (e : StepError) → e ≡ Memory 0 → new ≡ old → refused_anyway old event now ≡ None → IsWork old event now (Err e) new
+stopped_work old new event now e is same wanting = subst (λ error. IsWork old event now (Err error) new) (sym is) (memory_work old new event now same wanting)
 
 nothing_wanted : (old new : Stand) (event : Event) (now : ℕ) (made : Made) → brought event ≡ [] → last_wanted event new ≡ [] → IsNothing made → wanted old event now made new ≡ []
 nothing_wanted old new event now made brings last nothing =

@@ -1,4 +1,4 @@
--- All that the contract of a step says, for contracts that speak of several steps.
+-- The contract of a step, which contracts cite that speak of several.
 use Rattle.std.specs.Prelude.{◌≡◌, ℕ, true, OnOk, IfOk, IfErr, Result}
 use Rattle.am_instance.specs.declared.event.Event.{Event}
 use Rattle.am_instance.specs.declared.error.StepError.{StepError}
@@ -11,12 +11,21 @@ use Rattle.am_instance.specs.Steps.{AreSwept, IsAccepted, IsRefusal, IsRefused, 
 
 -- one step, as `Instance::step` makes it
 pub record IsStep (old : Stand) (event : Event) (now : ℕ) (result : Result Outcome StepError) (new : Stand) : Type 0 where
+  -- it is answered only where no cause of a refusal stands, memory aside
   pub accepted : OnOk result (IsAccepted old event now)
+  -- it is refused by the first cause that stands
   pub refused : IfErr result (IsRefusal old event now)
+  -- a refusal for another cause than memory changes nothing
   pub unchanged : IsRefused result → new ≡ old
+  -- the configuration stays
   pub config : new.config ≡ old.config
+  -- to the silences it is its moment, and then each version that it delivers, in order; or a collection
   pub silences : AreSilencesLeftBy (kept_silences old) (step_events to_silences event now result) (kept_silences new)
+  -- to the log likewise
   pub log : IsLogLeftBy (kept_log old) (step_events to_log event now result) (kept_log new)
+  -- a collection leaves just what is live of both
   pub swept : OnOk result (collects event ≡ true → AreSwept now old new)
+  -- each frame that is wanted is handed out, or counted under the cause why it isn't
   pub sent : IfOk result (λ outcome. Sends (wanted old event now outcome.made new) nothing_sent (sent_by outcome))
+  -- the reply is that to the event, and so are the versions made here
   pub reply : IfOk result (λ outcome. IsReply old event now outcome.reply outcome.made)

@@ -56,6 +56,11 @@ silence_in_view now silences id = if_live mesh_version now (silence_at silences 
 abbrev pub entry_in_view : ℕ → List LogMesh → LogKey → Option LogMesh
 entry_in_view now log key = if_live entry_version now (entry_at log key)
 
+-- why a silence is refused that is asked for
+abbrev pub not_found : Option Mesh → Option SilenceError
+not_found None = Some NotFound
+not_found (Some v) = None
+
 -- the silence, or the refusal where there is none
 abbrev pub found_reply : ℕ → Option Mesh → Reply → Type 0
 found_reply now None reply = reply ≡ replies.Refused NotFound

@@ -22,6 +22,7 @@ use Rattle.am_collect.specs.Events.{Event as MapEvent, Events, after_all}
 use Rattle.am_collect.specs.Events.Event.{Collected}
 use Rattle.am_instance.specs.declared.event.Event.{Event}
 use Rattle.am_instance.specs.declared.event.Event.TheVariants as events
+use Rattle.am_instance.specs.declared.event.Request.TheVariants as requests
 use Rattle.am_instance.specs.declared.error.StepError.{StepError}
 use Rattle.am_instance.specs.declared.error.StepError.TheVariants.{MomentBack, UnknownPeer, Frame, Memory}
 use Rattle.am_instance.specs.declared.reply.Made.{Made}
@@ -32,7 +33,7 @@ use Rattle.am_instance.specs.Deliveries.{Delivery, events_at, to_silences, to_lo
 use Rattle.am_instance.specs.Deliveries.Delivery.{OfSilence, OfEntry}
 use Rattle.am_instance.specs.Changes.{changes, changed_of, silences_after, log_after}
 use Rattle.am_instance.specs.Sendings.{Sent, Sends, deltas_to, nothing_sent, sent_by, whole_state}
-use Rattle.am_instance.specs.Replies.{IsReply, IsNothing, AreMade, listed, posted_over}
+use Rattle.am_instance.specs.Replies.{IsReply, IsNothing, AreMade, listed, not_found, posted_over, silence_in_view}
 use Rattle.am_instance.specs.declared.reply.Reply.{Reply}
 use Rattle.am_instance.specs.declared.reply.Reply.TheVariants as replies
 use Rattle.am_merge.specs.declared.held.Taken.{Taken}
@@ -44,7 +45,7 @@ use Rattle.am_silence.specs.declared.error.SilenceError.{SilenceError}
 use Rattle.am_silence.specs.declared.error.SilenceError.TheVariants as silence_errors
 use Rattle.am_silence.specs.Ids.{id_text}
 use Rattle.am_silence.specs.Plans.{post_of, planned}
-use Rattle.am_silence.specs.Refusals.{refusal}
+use Rattle.am_silence.specs.Refusals.{refusal, end_refusal}
 use Rattle.am_matcher.specs.Matching.{IsVerdict}
 
 -- ---- when a step is refused
@@ -80,14 +81,28 @@ pub record IsAccepted (old : Stand) (event : Event) (now : ℕ) : Type 0 where
   pub known : knows_peer old.config (peer_of event) ≡ true
   pub sound : fault_of old.config now event ≡ None
 
--- The cause of a refusal stands, and none that comes before it. Memory may run out before the fault of a frame is found.
+-- Why a request is refused, where no memory is needed to find that out: the silence that is asked for is not in view, or the
+-- one that is to be ended can't be ended so. (What a post is refused for takes memory to find.)
+abbrev pub refused_anyway : Stand → Event → ℕ → Option SilenceError
+refused_anyway stand (events.Request (requests.Get id)) now = not_found (silence_in_view now stand.silences id)
+refused_anyway stand (events.Request (requests.Delete id)) now =
+    end_refusal (silence_in_view now stand.silences id) now stand.config.retention
+refused_anyway stand _ now = None
+
+-- Memory ran out before anything was taken; or once some of what was brought was taken, and not all of it, in which there is
+-- no fault.
+abbrev pub RunsOut : Option FrameError → List Delivery → ℕ → Type 0
+RunsOut fault ds taken = (taken ≡ 0) ⊎ ((fault ≡ None) × (taken < length ds))
+
+-- The cause of a refusal stands, and none that comes before it. Memory may run out before the fault of a frame is found, but
+-- not where a request is refused anyway.
 abbrev pub IsRefusal : Stand → Event → ℕ → StepError → Type 0
 IsRefusal old event now (MomentBack last) = (last ≡ old.last) × (now < old.last)
 IsRefusal old event now UnknownPeer = (old.last ≤ now) × (knows_peer old.config (peer_of event) ≡ false)
 IsRefusal old event now (Frame fault) = (old.last ≤ now) × (knows_peer old.config (peer_of event) ≡ true)
     × (fault_of old.config now event ≡ Some fault)
 IsRefusal old event now (Memory taken) = (old.last ≤ now) × (knows_peer old.config (peer_of event) ≡ true)
-    × ((taken ≡ 0) ⊎ (taken < length (brought event)))
+    × RunsOut (fault_of old.config now event) (brought event) taken × (refused_anyway old event now ≡ None)
 
 -- ---- what a step delivers
 
@@ -199,7 +214,7 @@ IsArrival old sender parts now (Ok sent) new =
 IsArrival old sender parts now (Err (Frame e)) new = (option_map frame_fault (first_fault (rows_in parts)) ≡ Some e) × (new ≡ old)
 IsArrival old sender parts now (Err (Memory taken)) new =
     let ds = before_fault (rows_in parts) in
-    ((taken ≡ 0) ⊎ (taken < length ds)) × Delivers now (take taken ds) old new
+    RunsOut (option_map frame_fault (first_fault (rows_in parts))) ds taken × Delivers now (take taken ds) old new
 IsArrival old sender parts now (Err _) new = ⊥
 
 -- what is answered, where no cause of a refusal stands
@@ -213,7 +228,8 @@ pub record IsOutcome (old : Stand) (event : Event) (now : ℕ) (outcome : Outcom
 abbrev pub IsAnswered : Stand → Event → ℕ → Result Outcome StepError → Stand → Type 0
 IsAnswered old event now (Ok outcome) new = IsOutcome old event now outcome new
 IsAnswered old event now (Err (Frame fault)) new = (fault_of old.config now event ≡ Some fault) × (new ≡ old)
-IsAnswered old event now (Err (Memory taken)) new = (taken ≡ 0) ⊎ (taken < length (brought event))
+IsAnswered old event now (Err (Memory taken)) new =
+    RunsOut (fault_of old.config now event) (brought event) taken × (refused_anyway old event now ≡ None)
 IsAnswered old event now (Err _) new = ⊥
 
 -- what an event does, but for the moment

@@ -1,14 +1,10 @@
 //! An instance, and its step.
 
-ghost use Rattle.std.specs.Prelude.{◌≡◌, ◌+◌, ◌*◌, ◌≤◌, true, OnOk, IfOk, IfErr};
+ghost use Rattle.std.specs.Prelude.{◌≡◌, ◌+◌, ◌*◌, ◌≤◌, OnOk, IfErr};
 ghost use Rattle.std.specs.Option.{SomeIff};
 ghost use Rattle.am_version_order.specs.Moments.{greatest};
-ghost use Rattle.am_instance.specs.Deliveries.{to_silences, to_log};
-ghost use Rattle.am_instance.specs.Stands.{AreSilencesLeftBy, IsLogLeftBy, kept_silences, kept_log};
-ghost use Rattle.am_instance.specs.Sendings.{Sends, nothing_sent, sent_by};
-ghost use Rattle.am_instance.specs.Replies.{IsReply};
-ghost use Rattle.am_instance.specs.Steps.{AreSwept, IsAccepted, IsAdmitted, IsRefusal, IsRefused, IsUnadmitted, IsWork};
-ghost use Rattle.am_instance.specs.Steps.{collects, counts, peer_of, step_events, wanted};
+ghost use Rattle.am_instance.specs.OneStep.{IsStep};
+ghost use Rattle.am_instance.specs.Steps.{IsAdmitted, IsUnadmitted, IsWork, counts, peer_of};
 
 use crate::config::Config;
 use crate::error::StepError;
@@ -123,18 +119,7 @@ impl Instance {
     /// The first [`StepError`] that applies, in their order; memory may run out before the fault of a frame is found.
     /// What is refused changes nothing, but where memory ran out: then the moment counts, and what was taken stands.
     pub fn step(&mut self, event: Event, now: Moment) -> Result<Outcome, StepError>
-        ensures accepted { OnOk result (IsAccepted self.old event now) }
-        ensures refused { IfErr result (IsRefusal self.old event now) }
-        ensures unchanged { IsRefused result → self.new ≡ self.old }
-        ensures config { self.new.config ≡ self.old.config }
-
-        // What the step is to each map: the versions that it delivers are joined in, in order, or all that isn't live goes.
-        ensures silences { AreSilencesLeftBy (kept_silences self.old) (step_events to_silences event now result) (kept_silences self.new) }
-        ensures log { IsLogLeftBy (kept_log self.old) (step_events to_log event now result) (kept_log self.new) }
-        ensures swept { OnOk result (collects event ≡ true → AreSwept now self.old self.new) }
-
-        ensures sent { IfOk result (λ outcome. Sends (wanted self.old event now outcome.made self.new) nothing_sent (sent_by outcome)) }
-        ensures reply { IfOk result (λ outcome. IsReply self.old event now outcome.reply outcome.made) }
+        ensures { IsStep self.old event now result self.new }
     {
         self.admit(&event, now)?;
         let answer = self.work(event, now);

@@ -3,6 +3,7 @@
 ghost use Rattle.std.specs.Prelude.{◌≡◌, [], ◌∷◌, is_some, OnErr, IfOk, IfErr};
 ghost use Rattle.std.specs.Option.{option_copied};
 ghost use Rattle.am_silence.specs.Plans.{versions};
+ghost use Rattle.am_silence.specs.declared.error.SilenceError.TheVariants as silence_errors;
 ghost use Rattle.am_matcher.specs.Matching.{IsVerdict};
 ghost use Rattle.am_instance.specs.Stands.{silence_at};
 ghost use Rattle.am_instance.specs.declared.error.StepError.TheVariants as errors;
@@ -80,7 +81,7 @@ impl Instance {
     /// Answers why a request is refused.
     fn turn_away(&self, error: SilenceError) -> Result<Outcome, StepError>
         ensures refused { IfOk result (IsTurnedAway error) }
-        ensures memory { IfErr result (λ e. e ≡ errors.Memory 0) }
+        ensures memory { IfErr result (λ e. (e ≡ errors.Memory 0) × (error ≡ silence_errors.Memory)) }
     {
         match error {
             SilenceError::Memory => Err(StepError::Memory { taken: 0 }),

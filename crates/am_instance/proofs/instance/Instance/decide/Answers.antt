@@ -14,7 +14,7 @@ logged_once (Some m) = refl
 pub returns-in_err-key : goal.returns-in_err-key
 returns-in_err-key c =
     let p = err_from_is_err_and c.from_residual.result c.from_residual.ensures.1 in
-    rw p.1 (stopped_work c.args.self.now c.args.self.now _ c.args.now _ p.2 refl)
+    rw p.1 (stopped_work c.args.self.now c.args.self.now _ c.args.now _ p.2 refl refl)
 
 pub returns : goal.returns
 returns c =

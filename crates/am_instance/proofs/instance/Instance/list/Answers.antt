@@ -6,7 +6,7 @@ use Rattle.am_instance.proofs.instance.Instance.list.Goals as goal
 pub returns-in_err-rows : goal.returns-in_err-rows
 returns-in_err-rows c =
     let p = err_from_is_err_and c.from_residual.result c.from_residual.ensures.1 in
-    rw p.1 (stopped_work c.args.self.now c.args.self.now _ c.args.now _ p.2 refl)
+    rw p.1 (stopped_work c.args.self.now c.args.self.now _ c.args.now _ p.2 refl refl)
 
 pub returns : goal.returns
 returns c =

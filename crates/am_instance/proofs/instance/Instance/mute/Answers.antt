@@ -6,7 +6,7 @@ use Rattle.am_instance.proofs.instance.Instance.mute.Goals as goal
 pub returns-in_err-muted : goal.returns-in_err-muted
 returns-in_err-muted c =
     let p = err_from_is_err_and c.from_residual.result c.from_residual.ensures.1 in
-    rw p.1 (stopped_work _ _ _ c.args.now _ p.2 c.self.view_is)
+    rw p.1 (stopped_work _ _ _ c.args.now _ p.2 c.self.view_is refl)
 
 pub returns : goal.returns
 returns c =

@@ -8,12 +8,12 @@ use Rattle.am_instance.proofs.instance.Instance.show.Goals as goal
 pub returns-in_err-silences : goal.returns-in_err-silences
 returns-in_err-silences c =
     let p = err_from_is_err_and c.from_residual.result c.from_residual.ensures.1 in
-    rw p.1 (stopped_work c.args.self.now c.args.self.now _ c.args.now _ p.2 refl)
+    rw p.1 (stopped_work c.args.self.now c.args.self.now _ c.args.now _ p.2 refl refl)
 
 pub returns-in_err-log : goal.returns-in_err-log
 returns-in_err-log c =
     let p = err_from_is_err_and c.from_residual-in_err-log.result c.from_residual-in_err-log.ensures.1 in
-    rw p.1 (stopped_work c.args.self.now c.args.self.now _ c.args.now _ p.2 refl)
+    rw p.1 (stopped_work c.args.self.now c.args.self.now _ c.args.now _ p.2 refl refl)
 
 pub returns : goal.returns
 returns c =

@@ -1,14 +1,20 @@
-use Rattle.std.proofs.Common.{refl, ap, sym, ◌∙◌}
+use Rattle.std.proofs.Common.{sym, subst, ◌∙◌}
+use Rattle.std.proofs.lemmas.Result.{err_from_is_err_and}
 use Rattle.am_instance.specs.Stands.{Stand}
-use Rattle.am_instance.proofs.Passing.{silences_left, log_left}
+use Rattle.am_instance.specs.OneStep.{IsStep}
+use Rattle.am_instance.proofs.Stepping.{unadmitted_step, refused_step, counted_step}
 use Rattle.am_instance.proofs.instance.Instance.step.Goals as goal
 
-pub returns-then-counts-clause-silences : goal.returns-then-counts-clause-silences
-returns-then-counts-clause-silences c =
-    silences_left c.args.self.now c.work-answer.new.self c.args.event c.args.now c.work-answer.result c.in_ok-admit.ensures.admitted.forward c.work-answer.ensures (sym c.counts.ensures ∙ c.if-counts.true) _ refl
-    (ap (λ (s : Stand). s.silences) c.self.view_is)
+pub returns-in_err-admit : goal.returns-in_err-admit
+returns-in_err-admit c =
+    let p = err_from_is_err_and c.from_residual.result c.from_residual.ensures.1 in
+    rw (p.1, p.2) (unadmitted_step c.args.self.now c.args.event c.args.now _ c.in_err-admit.ensures.refused)
 
-pub returns-then-counts-clause-log : goal.returns-then-counts-clause-log
-returns-then-counts-clause-log c =
-    log_left c.args.self.now c.work-answer.new.self c.args.event c.args.now c.work-answer.result c.in_ok-admit.ensures.admitted.forward c.work-answer.ensures (sym c.counts.ensures ∙ c.if-counts.true) _ refl
-    (ap (λ (s : Stand). s.log) c.self.view_is)
+pub returns-then-counts : goal.returns-then-counts
+returns-then-counts c =
+    subst (λ (s : Stand). IsStep c.args.self.now c.args.event c.args.now c.work-answer.result (record s { last = c.args.now })) (sym c.self.view_is)
+    (counted_step c.args.self.now c.work-answer.new.self c.args.event c.args.now c.work-answer.result c.in_ok-admit.ensures.admitted c.work-answer.ensures
+    (sym c.counts.ensures ∙ c.if-counts.true))
+
+pub returns-else-counts : goal.returns-else-counts
+returns-else-counts c = refused_step c.args.self.now c.work-answer.new.self c.args.event c.args.now c.work-answer.result c.in_ok-admit.ensures.admitted c.work-answer.ensures (sym c.counts.ensures ∙ c.if-counts.false)

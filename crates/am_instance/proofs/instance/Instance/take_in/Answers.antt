@@ -13,4 +13,4 @@ returns-in-Ok c =
     (c.in_ok-judge_parts.ensures.sound, c.in-Ok.ensures.delivered, sent)
 
 pub returns-in-Err : goal.returns-in-Err
-returns-in-Err c = stopped_arrival c.args.self.now c.take_parts.new.self c.args.sender c.args.parts.now c.args.now c.take_parts.new.taken c.in-Err.ensures.stopped
+returns-in-Err c = stopped_arrival c.args.self.now c.take_parts.new.self c.args.sender c.args.parts.now c.args.now c.take_parts.new.taken c.in_ok-judge_parts.ensures.sound c.in-Err.ensures.stopped
