@@ -8,11 +8,12 @@ use Rattle.am_gossip.specs.declared.error.FrameError.TheVariants.{Memory}
 use Rattle.am_gossip.specs.Hellos.{hello_of}
 use Rattle.am_gossip.proofs.Greeted.{hello_found, hello_more}
 use Rattle.am_http.specs.Receiving.{behind}
-use Rattle.am_instance.specs.Configs.{Settings}
+use Rattle.am_instance.specs.Configs.{AreMembers, Settings}
+use Rattle.am_instance.proofs.Names.{one_place}
 use Rattle.am_instance.specs.Stands.{Stand}
 use Rattle.am_connection.specs.declared.error.Fault.{Fault}
 use Rattle.am_connection.specs.declared.error.Fault.TheVariants.{Read, Write, TooLarge, Frame as InFrame, UnknownName, Step}
-use Rattle.am_connection.specs.Incoming.{Effects, IsHeard, IsPeerOf, IsUngreeted, most_bytes, no_effects}
+use Rattle.am_connection.specs.Incoming.{Effects, IsHeard, IsOnlyPeerOf, IsPeerOf, IsUngreeted, most_bytes, no_effects}
 use Rattle.am_connection.specs.Hearing.{Greets, HearsPeer, IsPiece}
 
 -- there was no piece
@@ -39,6 +40,11 @@ greets_memory config input mid_input left bytes later buffer count read consumed
 
 -- ---- a peer that was greeted
 
+-- no other peer has its name
+pub only_peer : (config : Settings) (name : List ℕ) (place : ℕ) → AreMembers config.members config.place → IsPeerOf config name place → IsOnlyPeerOf config name place
+only_peer config name place members found =
+    record { found = found; alone = λ other peer. one_place config.members members.order name other place peer.named found.named }
+
 abbrev or_else : {A B : Type 0} → A → Result A B → A
 or_else other (Ok x) = x
 or_else other (Err e) = other
@@ -53,7 +59,7 @@ still_greets bytes later name len greeting (inr open_) = absurd (none-some _ (ok
 
 -- what came behind its greeting
 pub speaks : (now : ℕ) (input mid_input left : Option (List ℕ)) (old new : Stand) (bytes name : List ℕ) (len place : ℕ) (effects : Effects) (fault : Option Fault) →
-    Consumes input mid_input bytes → hello_of bytes ≡ Ok (Some (name, len)) → IsPeerOf old.config name place →
+    Consumes input mid_input bytes → hello_of bytes ≡ Ok (Some (name, len)) → IsOnlyPeerOf old.config name place →
     HearsPeer place now len (drop len bytes) mid_input left old new effects fault → IsHeard now input left old new effects fault
 speaks now input mid_input left old new bytes name len place effects fault consumed greeting peer h =
     let within = (hello_found bytes name len greeting).0 in

@@ -1,3 +1,4 @@
 pub mod Making
 pub mod Listening
 pub mod Greeted
+pub mod Names

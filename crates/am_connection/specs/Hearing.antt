@@ -9,7 +9,7 @@ use Rattle.am_instance.specs.Configs.{Settings}
 use Rattle.am_instance.specs.Stands.{Stand}
 use Rattle.am_connection.specs.declared.error.Fault.{Fault}
 use Rattle.am_connection.specs.declared.error.Fault.TheVariants.{Read, TooLarge, Frame as InFrame, UnknownName, Step}
-use Rattle.am_connection.specs.Incoming.{Effects, EndsHearing, IsPeerOf, IsUngreeted, MakesAll, StopsAt, most_bytes, no_effects, result_of}
+use Rattle.am_connection.specs.Incoming.{Effects, EndsHearing, IsOnlyPeerOf, IsPeerOf, IsUngreeted, MakesAll, StopsAt, most_bytes, no_effects, result_of}
 
 -- What a read gives behind `count` bytes, of which there may be so many: the front of the piece, which is empty at the end of
 -- the input alone; or why there is none.
@@ -61,7 +61,7 @@ fault_in (Err fault) = Some fault
 
 -- what a greeting of this name and length is read as: the place of its peer, or that there is none
 abbrev pub IsNamed : Settings → List ℕ → ℕ → Result (Option (ℕ × ℕ)) Fault → Type 0
-IsNamed config name len (Ok (Some greeted)) = IsPeerOf config name greeted.0 × (greeted.1 ≡ len)
+IsNamed config name len (Ok (Some greeted)) = IsOnlyPeerOf config name greeted.0 × (greeted.1 ≡ len)
 IsNamed config name len (Err UnknownName) = (place : ℕ) → ¬ IsPeerOf config name place
 IsNamed config name len _ = ⊥
 
@@ -69,7 +69,7 @@ IsNamed config name len _ = ⊥
 abbrev pub Greets : Settings → Option (List ℕ) → Option (List ℕ) → List ℕ → Result (Option (ℕ × ℕ)) Fault → Type 0
 Greets config input left bytes (Ok (Some greeted)) =
     Consumes input left bytes × (length bytes ≤ most_bytes) × (name : List ℕ) × (hello_of bytes ≡ Ok (Some (name, greeted.1)))
-    × IsPeerOf config name greeted.0
+    × IsOnlyPeerOf config name greeted.0
 Greets config input left bytes (Ok None) = Consumes input left bytes × IsUngreeted config bytes left None
 Greets config input left bytes (Err fault) = (came : List ℕ) × Consumes input left came × IsUngreeted config came left (Some fault)
 

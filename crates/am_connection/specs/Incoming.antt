@@ -109,6 +109,11 @@ pub record IsPeerOf (config : Settings) (name : List ℕ) (place : ℕ) : Type 0
   pub named : slice_get config.members place ≡ Some name
   pub peer : is_peer config place ≡ true
 
+-- the place of the one peer of this name
+pub record IsOnlyPeerOf (config : Settings) (name : List ℕ) (place : ℕ) : Type 0 where
+  pub found : IsPeerOf config name place
+  pub alone : (other : ℕ) → IsPeerOf config name other → other ≡ place
+
 -- a greeting is read whose name is that of no peer
 abbrev pub NamesNobody : Settings → Result (Option (List ℕ × ℕ)) FrameError → Type 0
 NamesNobody config (Ok (Some greeting)) = (place : ℕ) → ¬ IsPeerOf config greeting.0 place
@@ -137,7 +142,7 @@ pub record Speaks (config : Settings) (now : ℕ) (came : List ℕ) (left : Opti
   pub len : ℕ
   pub greeting : hello_of came ≡ Ok (Some (name, len))
   pub place : ℕ
-  pub peer : IsPeerOf config name place
+  pub peer : IsOnlyPeerOf config name place
   pub took : List ℕ
   pub lost : List ℕ
   pub parts : drop len came ≡ took ++ lost

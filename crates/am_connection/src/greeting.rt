@@ -2,7 +2,7 @@
 
 ghost use Rattle.std.specs.Prelude.{◌≡◌, ◌↔◌, ◌≤◌, ℕ, Some, None, length, slice_get, IfSome, IsTrue};
 ghost use Rattle.am_http.specs.Receiving.{behind};
-ghost use Rattle.am_connection.specs.Incoming.{IsPeerOf, most_bytes};
+ghost use Rattle.am_connection.specs.Incoming.{IsOnlyPeerOf, IsPeerOf, most_bytes};
 ghost use Rattle.am_connection.specs.Hearing.{Greets, IsNamed};
 
 use crate::error::Fault;
@@ -33,7 +33,7 @@ fn is_peer_of(config: &Config, place: usize, name: &str) -> bool
 
 /// The place of the peer of this name.
 fn peer_named(config: &Config, name: &str) -> Option<Place>
-    ensures found { IfSome result (IsPeerOf config.now name.now) }
+    ensures found { IfSome result (IsOnlyPeerOf config.now name.now) }
     ensures none { result ≡ None → (place : ℕ) → ¬ IsPeerOf config.now name.now place }
 {
     for place in 0..config.members().len() {

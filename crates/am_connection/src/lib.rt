@@ -7,6 +7,7 @@ mod error;
 mod gathered;
 mod greeting;
 mod hearing;
+pub mod laws;
 mod reading;
 mod sending;
 mod serving;

@@ -1,5 +1,5 @@
 -- The members of a cluster, as one of them is told of them.
-use Rattle.std.specs.Prelude.{ℕ, ◌≡◌, ◌<◌, Bool, not, ◌&&◌, ◌==◌, nat_lt, List, [], ◌∷◌, length, filter, IsPermutation}
+use Rattle.std.specs.Prelude.{ℕ, ◌≡◌, ◌<◌, ◌≤◌, Bool, not, ◌&&◌, ◌==◌, nat_lt, List, [], ◌∷◌, length, filter, All, IsPermutation}
 use Rattle.std.specs.List.{AllByRecursion, range_with_len}
 use Rattle.std.specs.Ordering.{nat_cmp}
 use Rattle.std.specs.Cmp.Lexicographic.{slice_cmp}
@@ -47,3 +47,14 @@ IsEmptyName name = length name ≡ 0
 -- a name of more than 255 bytes
 abbrev pub IsLongName : List ℕ → Type 0
 IsLongName name = 255 < length name
+
+-- a name of 1 to 255 bytes
+abbrev pub IsMemberName : List ℕ → Type 0
+IsMemberName name = (0 < length name) × (length name ≤ 255)
+
+-- What holds of every configuration: these are the names of its members, and one of them stands at the own place.
+pub record AreMembers (names : List (List ℕ)) (own : ℕ) : Type 0 where
+  -- none comes twice
+  pub order : AreInOrder names
+  pub sized : All IsMemberName names
+  pub there : own < length names

@@ -4,7 +4,7 @@ ghost use Rattle.std.specs.Prelude.{◌≡◌, ◌≢◌, ◌+◌, ◌*◌, ◌<
 ghost use Rattle.std.specs.Prelude.{insert, slice_get, false, IsTrue, IfOk, OnOk, OnErr, IfSome, IsPermutation};
 ghost use Rattle.std.specs.Option.{SomeIff};
 ghost use Rattle.am_version_order.specs.Moments.{greatest};
-ghost use Rattle.am_instance.specs.Configs.{AreInOrder, HasTwice, IsEmptyName, IsLongName, is_peer};
+ghost use Rattle.am_instance.specs.Configs.{AreInOrder, AreMembers, HasTwice, IsEmptyName, IsLongName, is_peer};
 ghost use Rattle.am_instance.specs.declared.error.ConfigError.TheVariants as errors;
 
 use crate::error::ConfigError;
@@ -141,14 +141,13 @@ impl Drop for Config {
 }
 
 impl Model for Config {
-    ghost use Rattle.std.specs.Prelude.{◌≡◌, ◌<◌, length};
-    ghost use Rattle.am_instance.specs.Configs.{Settings};
+    ghost use Rattle.am_instance.specs.Configs.{AreMembers, Settings};
 
     ghost Value = { Settings };
 
     ghost view = { λ c. record { members = c.members.items; place = c.place; retention = c.retention; peer_timeout = c.peer_timeout } };
 
-    ghost invariant = { λ c. c.place < length c.members.items };
+    ghost invariant = { λ c. AreMembers c.members.items c.place };
 }
 
 impl Config {
@@ -221,9 +220,10 @@ impl Config {
         Ok(config)
     }
 
-    /// The names of all members, in the order of their bytes.
+    /// The names of all members, in the order of their bytes: no two are the same, and each has 1 to 255 bytes.
     pub fn members(&self) -> &[Text]
-        ensures { result.now ≡ self.now.members }
+        ensures names { result.now ≡ self.now.members }
+        ensures sound { AreMembers self.now.members self.now.place }
     {
         self.members.as_slice()
     }

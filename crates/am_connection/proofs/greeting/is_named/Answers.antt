@@ -7,7 +7,7 @@ use Rattle.am_connection.proofs.greeting.is_named.Goals as goal
 
 pub returns-in-Some : goal.returns-in-Some
 returns-in-Some c =
-    let looked = rw c.members.ensures at c.in-Some.ensures.lookup in
+    let looked = rw c.members.ensures.names at c.in-Some.ensures.lookup in
     let bytes = c.as_str.ensures.bytes in
     Decides-like c.eq.result
     (λ same. slice_get_read _ _ _ _ refl looked.3.0 (sym same ∙ (bytes ∙ looked.3.1 _)))
@@ -16,5 +16,5 @@ returns-in-Some c =
 
 pub returns-in-None : goal.returns-in-None
 returns-in-None c =
-    let looked = rw c.members.ensures at c.in-None.ensures.lookup in
+    let looked = rw c.members.ensures.names at c.in-None.ensures.lookup in
     (λ yes. absurd (false≢true yes), λ there. absurd (none-some _ (sym (slice_get_past c.args.config.now.members c.args.place looked.3) ∙ there)))
