@@ -15,3 +15,4 @@ pub mod Stepping
 pub mod Histories
 pub mod Alike
 pub mod Muted
+pub mod Bare

@@ -41,6 +41,19 @@ same_active now one other same =
     let live = λ (m : Mesh). is_live now (mesh_version m) in
     sym (filter_within live (is_active now) (active_in_view now) one) ∙ (ap (filter (is_active now)) same ∙ filter_within live (is_active now) (active_in_view now) other)
 
+-- who mutes is found among those in view
+pub muted_in_view : (labels : List Label) (now : ℕ) (silences : List Mesh) (ids broken : List (List ℕ)) → AreMuted labels now silences ids broken →
+    AreMuted labels now (swept mesh_version now silences) ids broken
+muted_in_view labels now silences ids broken muted =
+    let live = λ (m : Mesh). is_live now (mesh_version m) in
+    record {
+      judged = muted.judged;
+      all_active = muted.all_active ∙ sym (filter_within live (is_active now) (active_in_view now) silences);
+      are_judged = muted.are_judged;
+      ids_are = muted.ids_are;
+      broken_are = muted.broken_are;
+    }
+
 module _ (labels : List Label) (now : ℕ) where
   -- a silence that isn't broken mutes by its matchers
   mutes_by : (j : Judged) → j.broken ≡ false → match_all j.silence.silence.matchers labels ≡ true → is_muting labels j ≡ true

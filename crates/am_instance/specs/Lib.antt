@@ -7,3 +7,4 @@ pub mod Replies
 pub mod Steps
 pub mod OneStep
 pub mod Laws
+pub mod Bare

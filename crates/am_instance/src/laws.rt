@@ -4,8 +4,8 @@ ghost use Rattle.std.specs.Prelude.{◌≡◌, ◌≤◌, ℕ, List, [], All, Co
 ghost use Rattle.std.specs.List.{flat_map};
 ghost use Rattle.std.specs.Ordering.{nat_cmp};
 ghost use Rattle.std.specs.Cmp.Lexicographic.{slice_cmp};
-ghost use Rattle.am_silence.specs.Mesh.{IsMesh, mesh_version};
-ghost use Rattle.am_nflog.specs.Mesh.{IsMesh as IsLogMesh, mesh_version as entry_version};
+ghost use Rattle.am_silence.specs.Mesh.{IsMesh, Mesh, mesh_version};
+ghost use Rattle.am_nflog.specs.Mesh.{IsMesh as IsLogMesh, Mesh as LogMesh, mesh_version as entry_version};
 ghost use Rattle.am_nflog.specs.Keys.{key_cmp};
 ghost use Rattle.am_nflog.specs.LogKeys.{LogKey};
 ghost use Rattle.am_gossip.specs.Streams.{fed_in, stream_of};
@@ -22,6 +22,7 @@ ghost use Rattle.am_instance.specs.declared.reply.Made.{Made};
 ghost use Rattle.am_instance.specs.declared.reply.Reply.{Reply};
 ghost use Rattle.am_instance.specs.Replies.{IsReply, silence_in_view, entry_in_view};
 ghost use Rattle.am_instance.specs.Laws.{AreCalmSteps, AreMade, Happened, HasMaps, ShowSame, all_entries, all_silences};
+ghost use Rattle.am_instance.specs.Bare.{IsBareReply, IsView, asks_shown};
 ghost use Rattle.am_instance.specs.Laws.{asks_views, events_of_stream, run_events};
 
 use am_collect::laws::{calm_events_show_the_bare_set, calm_keepers_agree};
@@ -85,6 +86,37 @@ pub fn equal_views_mute_alike()
         (id : List ℕ) → Contains ids id → ¬ Contains broken_too id → Contains others id }
 {
     equal_views_are_one::<MeshSilence>();
+}
+
+/// A map that shows of each key what a bare set shows of it has, of its live versions, the view of that set.
+fn live_versions_are_the_view<V: Version>()
+    ensures { (map set : List V) (now : ℕ) → IsMap V.seen V.Key.cmp map →
+        ((key : V.Key) → IsViewAt V.seen set now key (if_live V.seen now (at V.seen V.Key.cmp map key))) →
+        IsView V.seen V.Key.cmp set now (swept V.seen now map) }
+{}
+
+/// An instance that shows of each identifier and of each key of the log what bare sets show replies to what is answered from
+/// what is shown as those sets say.
+pub fn what_is_shown_replies()
+    ensures { (stand : Stand) (silences : List Mesh) (log : List LogMesh) (event : Event) (now : ℕ) (reply : Reply) (made : Made) →
+        HasMaps stand → ((id : List ℕ) → IsViewAt mesh_version silences now id (silence_in_view now stand.silences id)) →
+        ((key : LogKey) → IsViewAt entry_version log now key (entry_in_view now stand.log key)) →
+        asks_shown event ≡ true → IsReply stand event now reply made → IsBareReply silences log event now reply }
+{
+    live_versions_are_the_view::<MeshSilence>();
+    live_versions_are_the_view::<MeshEntry>();
+}
+
+/// After calm steps from any maps and moment, the reply to a list, a single silence, a decision, both views and the mutes of
+/// an alert is, at every moment from the last step on, the one that the bare sets give of all versions that the instance
+/// began with or that were delivered.
+pub fn calm_steps_reply_as_the_bare_sets()
+    ensures { (start new : Stand) (steps : List Happened) (event : Event) (now : ℕ) (reply : Reply) (made : Made) →
+        AreCalmSteps start steps new → HasMaps new → new.last ≤ now → asks_shown event ≡ true → IsReply new event now reply made →
+        IsBareReply (all_silences start steps) (all_entries start steps) event now reply }
+{
+    steps_show_the_bare_sets();
+    what_is_shown_replies();
 }
 
 /// The frames of a peer's stream are the same events, wherever it was cut.

@@ -8,6 +8,6 @@ mod shown;
 pub use first::{first_is_told_after_a_spread, first_is_told_exactly};
 pub use later::{first_is_told_where_old_ones_ended, members_agree_on_what_is_old};
 pub use shown::{
-    members_show_the_bare_sets, members_with_equal_sets_mute_alike,
+    members_reply_as_the_bare_sets, members_show_the_bare_sets, members_with_equal_sets_mute_alike,
     members_with_equal_sets_reply_alike,
 };

@@ -11,6 +11,7 @@ ghost use Rattle.am_collect.specs.Events.{HaveSame};
 ghost use Rattle.am_instance.specs.declared.event.Event.{Event};
 ghost use Rattle.am_instance.specs.declared.reply.Made.{Made};
 ghost use Rattle.am_instance.specs.declared.reply.Reply.{Reply};
+ghost use Rattle.am_instance.specs.Bare.{IsBareReply, asks_shown};
 ghost use Rattle.am_instance.specs.Laws.{HasMaps, asks_views};
 ghost use Rattle.am_instance.specs.Replies.{IsReply, entry_in_view, silence_in_view};
 ghost use Rattle.am_cluster.specs.Lives.{OfMember};
@@ -18,7 +19,7 @@ ghost use Rattle.am_replicas.specs.Replicas.{IsCalmBy, entries_taken, silences_t
 
 use am_carried::held_are_values;
 use am_cluster::Cluster;
-use am_instance::laws::{equal_views_mute_alike, equal_views_reply_alike};
+use am_instance::laws::{equal_views_mute_alike, equal_views_reply_alike, what_is_shown_replies};
 use am_instance::{Instance, Place};
 use am_nflog::MeshEntry;
 use am_runs::laws::calm_members_show_the_bare_set;
@@ -59,6 +60,19 @@ fn member_has_maps(cluster: &Cluster, place: Place)
     if let Some(instance) = cluster.instance(place) {
         instance_has_maps(instance);
     }
+}
+
+/// After any steps of a cluster, a member that was calm replies to a list, a single silence, a decision, both views and the
+/// mutes of an alert, at every moment from its last one on, as the bare sets say of all versions that were delivered to it.
+pub fn members_reply_as_the_bare_sets(cluster: &Cluster, place: Place)
+    ensures { (now : ℕ) (event : Event) (reply : Reply) (made : Made) →
+        OfMember cluster.now place (λ replica. IsCalmBy cluster.now place replica now →
+        asks_shown event ≡ true → IsReply replica.stand event now reply made →
+        IsBareReply (silences_taken cluster.now place) (entries_taken cluster.now place) event now reply) }
+{
+    members_show_the_bare_sets(cluster);
+    member_has_maps(cluster, place);
+    what_is_shown_replies();
 }
 
 /// Two calm members, of one cluster or of two, to which the same versions were delivered, in any order and however often,
