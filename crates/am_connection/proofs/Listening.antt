@@ -133,7 +133,7 @@ hears_stop sender now first count read fed buffer before after input mid_input l
         subst (λ (s : Stream). MakesAll sender now s.frames start nothing new effects) (sym on)
             (all_append sender now (stream_of (fed ++ h.took)).frames (stream_of (h.heard.rest ++ take read buffer)).frames start nothing mid between new effects h.heard.made some.0),
         inr (refl, ap (λ (s : Stream). s.ending) on ∙ some.1),
-        (within_piece first count read h.took buffer h.counted piece.1 piece.2).1,
+        omega (arith, (within_piece first count read h.took buffer h.counted piece.1 piece.2).1),
       );
     }
 hears_stop sender now first count read fed buffer before after input mid_input left start nothing mid between new effects (Step error) h piece stop =
