@@ -1,4 +1,4 @@
-use Rattle.std.proofs.Common.{subst}
+use Rattle.std.proofs.Common.{refl, subst}
 use Rattle.std.proofs.lemmas.Result.{err_from_is_err_and}
 use Rattle.am_instance.specs.declared.event.Event.TheVariants as events
 use Rattle.am_instance.specs.declared.event.Request.TheVariants as requests
@@ -10,7 +10,7 @@ use Rattle.am_instance.proofs.instance.Instance.post.Goals as goal
 pub returns-in_err-verdict : goal.returns-in_err-verdict
 returns-in_err-verdict c =
     let p = err_from_is_err_and c.from_residual.result c.from_residual.ensures.1 in
-    rw p.1 (stopped_work _ _ _ c.args.now _ p.2 c.in_err-verdict.ensures.same refl)
+    rw p.1 (stopped_work _ _ (events.Request (requests.Post c.args.posted c.args.bits)) c.args.now _ p.2 c.in_err-verdict.ensures.same refl)
 
 pub returns-in-Ok : goal.returns-in-Ok
 returns-in-Ok c =
