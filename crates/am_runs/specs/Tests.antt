@@ -1,15 +1,15 @@
 -- The questions about a run, as tests that go over its steps.
 -- X is the type of versions, and `seen` is what the merge sees of one.
-use Rattle.std.specs.Prelude.{◌≡◌, ℕ, ◌+◌, ◌-◌, ◌<◌, ◌≤◌, All, length, List, [], ◌∷◌, Bool, true, false, not, ◌&&◌}
+use Rattle.std.specs.Prelude.{◌≡◌, ℕ, ◌+◌, ◌-◌, ◌<◌, length, List, [], ◌∷◌, Bool, true, false, not, ◌&&◌}
 use Rattle.std.specs.Prelude.{◌||◌, ◌==◌, max, Option, Some, None, if◌then◌else◌, nat_lt, nat_le}
-use Rattle.std.specs.List.{list_all, list_any}
+use Rattle.std.specs.List.{list_any}
 use Rattle.std.specs.declared.cmp.Ordering.{Ordering}
 use Rattle.std.specs.Ordering.{eq_by_cmp}
 use Rattle.am_version_order.specs.Versions.{Version, is_below, is_live}
 use Rattle.am_merge.specs.Maps.{greater_of, at}
 use Rattle.am_runs.specs.declared.step.Source.{Source}
 use Rattle.am_runs.specs.declared.step.Source.TheVariants.{Made, Written, Arrived, Lent}
-use Rattle.am_runs.specs.Steps.{Step, EachStep, clock_after, delivered_in, is_at, flights_by, moment}
+use Rattle.am_runs.specs.Steps.{Step, EachStep, clock_after, is_at, flights_by, moment}
 use Rattle.am_runs.specs.Steps.Step.{Took, Ticked, Back, Refused, Saved, Stopped, Started}
 
 -- ---- whether a member runs
@@ -253,10 +253,3 @@ module _ {K X : Type 0} (seen : X → Version K) (cmp : K → K → Ordering) wh
   abbrev pub ComesToAll : ℕ → ℕ → List (Step X) → X → Type 0
   ComesToAll spread members steps v = (q : ℕ) → q < members
       → comes spread q v (record { runs = true; has = false; saved = false }) steps ≡ true
-
-  -- each test of a timely run answers yes
-  pub record PassesAll (spread flight members : ℕ) (steps : List (Step X)) : Type 0 where
-    pub onward : are_onward 0 steps ≡ true
-    pub lasting : All (λ v. ((seen v).updated + spread) + flight ≤ (seen v).expires) (delivered_in steps)
-    pub swift : list_all (is_swift flight steps) steps ≡ true
-    pub come : All (ComesToAll spread members steps) (delivered_in steps)

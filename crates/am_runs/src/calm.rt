@@ -1,12 +1,13 @@
 //! Whether what a member took came in time.
 
-ghost use Rattle.std.specs.Prelude.{◌≡◌, [], ◌∷◌, map, IsTrue, ◌↔◌, true, MatchOption};
+ghost use Rattle.std.specs.Prelude.{◌≡◌, ℕ, [], ◌∷◌, map, IsTrue, ◌↔◌, true, MatchOption};
 ghost use Rattle.std.specs.Option.{option_copied};
 ghost use Rattle.std.specs.Ordering.{eq_by_cmp};
 ghost use Rattle.am_version_order.specs.Versions.{is_below};
 ghost use Rattle.am_merge.specs.Maps.{greater_of, at};
 ghost use Rattle.am_runs.specs.Records.{step_of, lasts_seen, tops_seen};
-ghost use Rattle.am_runs.specs.Steps.{EachStep, IsFirstWithout};
+ghost use Rattle.am_runs.specs.Runs.{IsRun, IsCalmAt, IsFirstFault};
+ghost use Rattle.am_runs.specs.Steps.{EachStep};
 ghost use Rattle.am_runs.specs.Tests.{has_reached, in_time, later, lasts_after, lasts_from, top_among, top_in};
 ghost use Rattle.am_runs.specs.Tests.{tops_after, tops_from, last_in, comes_in_time, StaysCalm};
 
@@ -228,10 +229,11 @@ fn stays_calm<V: Version>(member: usize, before: &[Step<V>], step: &Step<V>) -> 
     }
 }
 
-/// The number of the first step, counted from 0, with which a calm member doesn't stay so.
+/// The number of the first step of a run, counted from 0, with which a member isn't calm, or `None` where it is calm.
 pub fn first_fault<V: Version>(member: usize, steps: &[Step<V>]) -> Option<usize>
-    ensures { MatchOption result (EachStep (map step_of steps.now) (StaysCalm V.seen V.Key.cmp member))
-        (IsFirstWithout (map step_of steps.now) (StaysCalm V.seen V.Key.cmp member)) }
+    ensures { (members : ℕ) → IsRun V.seen V.Key.cmp members (map step_of steps.now)
+        → MatchOption result (IsCalmAt V.seen members member (map step_of steps.now))
+        (IsFirstFault V.seen members member (map step_of steps.now)) }
 {
     for place in 0..steps.len() {
         if !stays_calm(member, &steps[..place], &steps[place]) {

@@ -5,7 +5,9 @@ ghost use Rattle.std.specs.List.{list_all, list_any};
 ghost use Rattle.am_runs.specs.Records.{step_of, watch_seen};
 ghost use Rattle.am_runs.specs.Steps.{clock_after, delivered_by, delivered_in, moment};
 ghost use Rattle.am_runs.specs.Tests.{is_onward, are_onward, sent_in, sent_at, flies_short, is_swift, is_wanting};
-ghost use Rattle.am_runs.specs.Tests.{counts_for, watched, watch_after, comes, ComesToAll, PassesAll};
+ghost use Rattle.am_runs.specs.Tests.{counts_for, watched, watch_after, comes, ComesToAll};
+ghost use Rattle.am_runs.specs.Runs.{IsRun};
+ghost use Rattle.am_runs.specs.Timely.{IsTimely};
 
 use crate::calm::{has_key, is_below};
 use crate::spans::{both_end_by, ends_by, is_within};
@@ -258,14 +260,15 @@ pub fn all_come_to_all<V: Version>(spread: Interval, members: usize, steps: &[St
     true
 }
 
-/// Whether a run keeps a spread and a flight time, where the steps are a run.
+/// Whether a run of so many members keeps a spread and a flight time.
 pub fn is_timely<V: Version>(
     spread: Interval,
     flight: Interval,
     members: usize,
     steps: &[Step<V>],
 ) -> bool
-    ensures { IsTrue result ↔ PassesAll V.seen V.Key.cmp spread flight members (map step_of steps.now) }
+    ensures { IsRun V.seen V.Key.cmp members (map step_of steps.now)
+        → IsTrue result ↔ IsTimely V.seen spread flight members (map step_of steps.now) }
 {
     if !are_onward(steps) {
         return false;

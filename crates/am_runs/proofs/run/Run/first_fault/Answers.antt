@@ -17,5 +17,4 @@ returns-in-Some g c =
 pub returns-in-None : goal.returns-in-None
 returns-in-None g c =
     rw (← c.self.view_is)
-    (fault_told g.V.Version.seen g.V.Key.Ord.cmp (key_order g.met.V.Key.Ord.total g.met.V.Version.exact_keys) c.self.inside.members c.args.place (map step_of c.self.inside.steps.items) c.first_fault.result c.self.invariant.run
-    (rw c.deref-in-None.ensures.value at c.first_fault.ensures))
+    ((rw c.deref-in-None.ensures.value at c.first_fault.ensures) c.self.inside.members c.self.invariant.run)
