@@ -1,10 +1,11 @@
 -- When a frame was sent, looked for from a place back.
-use Rattle.std.proofs.Common.{◌≡◌, slice_get, Some, ℕ, ◌+◌, ◌-◌, ◌<◌, ◌≤◌, Bool, ◌&&◌, cond, List, [], ◌∷◌, ◌++◌, sym, ap, ◌∙◌, subst, arith, map, take, drop, get_or, length, length-append, suc, drop-cons}
+use Rattle.std.proofs.Common.{◌≡◌, slice_get, Some, ℕ, ◌+◌, ◌-◌, ◌<◌, ◌≤◌, Bool, ◌&&◌, cond, List, [], ◌∷◌, ◌++◌, sym, ap, ◌∙◌, subst, arith, map, take, drop, get_or, length, length-append, zero, suc, drop-cons}
 use Rattle.std.specs.List.{list_all}
+use Rattle.std.specs.List.Sorted.{IsNonDecreasingBy}
 use Rattle.std.proofs.lemmas.Bool.{lt-ltb, le-ltb}
 use Rattle.std.proofs.lemmas.List.{map-append, take_more}
-use Rattle.std.proofs.lemmas.Option.{slice_get_within, get_or_from_slice_get}
-use Rattle.am_runs.specs.Steps.{Step, moment, flights_by, flights_of}
+use Rattle.std.proofs.lemmas.Option.{slice_get_within, slice_get-get_or, get_or_from_slice_get}
+use Rattle.am_runs.specs.Steps.{Step, AreCounts, moment, flights_by, flights_of}
 use Rattle.am_runs.specs.Tests.{sent_in}
 use Rattle.am_runs.proofs.Cuts.{cut_at}
 use Rattle.am_runs.proofs.Pasts.{flights_of-push}
@@ -37,3 +38,23 @@ module _ {A X : Type 0} (f : A → Step X) (steps : List A) where
   all_on p n s within is =
       let next : suc n ≡ n + 1 = omega arith in
       ap (λ ss. list_all p (map f ss)) (drop-cons steps n s within ∙ ap (λ y. y ∷ drop (suc n) steps) (sym is) ∙ ap (λ m. s ∷ drop m steps) next)
+
+-- ---- counts rise
+
+module _ {X : Type 0} where
+  flights_rise : (steps : List (Step X)) (i j : ℕ) → i ≤ j → length (flights_of (take i steps)) ≤ length (flights_of (take j steps))
+  flights_rise steps zero j le = omega arith
+  flights_rise steps (suc i) zero le = absurd (omega arith)
+  flights_rise [] (suc i) (suc j) le = omega arith
+  flights_rise (s ∷ steps) (suc i) (suc j) le =
+      let rise = flights_rise steps i j (omega arith) in
+      let one = length-append (flights_by s) (flights_of (take i steps)) in
+      let other = length-append (flights_by s) (flights_of (take j steps)) in
+      omega (arith, rise, one, other)
+
+  pub counts_rise : (counts : List ℕ) (steps : List (Step X)) → AreCounts counts steps → IsNonDecreasingBy (λ n. n) counts
+  counts_rise counts steps are i j d le within =
+      let one = are i (get_or counts i d) (slice_get-get_or counts i d (omega arith)) in
+      let other = are j (get_or counts j d) (slice_get-get_or counts j d within) in
+      let rise = flights_rise steps i j le in
+      omega (arith, one, other, rise)

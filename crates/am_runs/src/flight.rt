@@ -1,7 +1,7 @@
 //! Whether frames arrived in time, each looked for by how many were sent before each step.
 
-ghost use Rattle.std.specs.Prelude.{◌≡◌, IsTrue, map};
-ghost use Rattle.std.specs.List.{list_all};
+ghost use Rattle.std.specs.Prelude.{◌≡◌, ◌<◌, ◌≤◌, IsTrue, map, length};
+ghost use Rattle.std.specs.List.{list_all, AllWithin};
 ghost use Rattle.am_runs.specs.Records.{step_of};
 ghost use Rattle.am_runs.specs.Steps.{AreCounts};
 ghost use Rattle.am_runs.specs.Tests.{is_swift, sent_at, sent_in};
@@ -30,13 +30,24 @@ fn are_counts<V>(steps: &[Step<V>], counts: &[usize]) -> bool
     true
 }
 
+/// How many of the counts are no more than a number: the step before which the last of them was noted sent the frame of
+/// this number, if one of the steps that were counted did.
+fn counts_up_to<V>(steps: &[Step<V>], counts: &[usize], number: usize) -> usize
+    requires { AreCounts counts.now (map step_of steps.now) }
+    ensures bound { result ≤ length counts.now }
+    ensures up_to { AllWithin (λ count. count ≤ number) counts.now 0 result }
+    ensures above { AllWithin (λ count. number < count) counts.now result (length counts.now) }
+{
+    let _steps = steps;
+    counts.partition_point(|count| *count <= number)
+}
+
 /// When the frame of this number was sent.
 fn sent_with<V>(steps: &[Step<V>], counts: &[usize], number: usize) -> Option<Moment>
     requires { AreCounts counts.now (map step_of steps.now) }
     ensures { result ≡ sent_in number (map step_of steps.now) }
 {
-    let behind = counts.partition_point(|count| *count <= number);
-    let place = behind.saturating_sub(1);
+    let place = counts_up_to(steps, counts, number).saturating_sub(1);
     match (counts.get(place), steps.get(place)) {
         (Some(count), Some(step)) if *count <= number && number - *count < step.sendings() => {
             step.moment()
