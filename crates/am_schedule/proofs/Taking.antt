@@ -1,6 +1,6 @@
 -- A line that is taken, and what stands before the next one.
 use Rattle.std.proofs.Common.{◌≡◌, ◌≢◌, ℕ, Bool, true, false, List, [], ◌∷◌, ◌++◌, Option, Some, None, Result, Ok, Err, refl, sym, ap, ◌∙◌, rules}
-use Rattle.std.specs.Prelude.{IfOk, IfErr, is_none, ◌&&◌, codes, if◌then◌else◌}
+use Rattle.std.specs.Prelude.{IfOk, IfErr, is_none, is_some, ◌&&◌, ◌==◌, length, codes, if◌then◌else◌}
 use Rattle.std.specs.Str.{bytes_eq, is_utf8}
 use Rattle.std.proofs.lemmas.List.{append-nil}
 use Rattle.std.proofs.lemmas.Slice.Eq.{bytes_eq-Decides}
@@ -8,7 +8,9 @@ use Rattle.am_schedule.specs.declared.error.FaultKind.{FaultKind}
 use Rattle.am_schedule.specs.declared.error.FaultKind.TheVariants as faults
 use Rattle.am_schedule.specs.declared.cluster.ClusterLine.{ClusterLine}
 use Rattle.am_schedule.specs.declared.form.VersionForm.{VersionForm}
+use Rattle.am_schedule.specs.declared.form.Verb.{Verb}
 use Rattle.am_schedule.specs.declared.form.LineForm.{LineForm}
+use Rattle.am_schedule.specs.declared.form.LineForm.TheVariants as forms
 use Rattle.am_schedule.specs.declared.form.Form.TheVariants.{Cluster, Version, Other}
 use Rattle.am_schedule.specs.declared.step.VersionLine.{VersionLine}
 use Rattle.am_schedule.specs.declared.step.Line.{Line}
@@ -16,13 +18,13 @@ use Rattle.am_schedule.specs.declared.reader.Reader.{Reader}
 use Rattle.am_schedule.specs.Words.{word_at, words_of}
 use Rattle.am_schedule.specs.Places.{has_word}
 use Rattle.am_schedule.specs.Tables.{value_in}
-use Rattle.am_schedule.specs.Forms.{form_in}
+use Rattle.am_schedule.specs.Forms.{verb_in, form_in, has_line_form}
 use Rattle.am_schedule.specs.Labels.{is_label}
 use Rattle.am_schedule.specs.VersionLines.{version_in}
-use Rattle.am_schedule.specs.StepLines.{line_in}
+use Rattle.am_schedule.specs.StepLines.{deliver_in, settle_in, member_line_in, at_line_in, line_in}
 use Rattle.am_schedule.specs.Clusters.{cluster_in}
-use Rattle.am_schedule.specs.Schedules.{value_of, first_value, words_in, labelled, version_by, cluster_of, version_of, definition_in, said_in, meaning, is_passed_over, numbered}
-use Rattle.am_schedule.specs.Readings.{or_else}
+use Rattle.am_schedule.specs.Schedules.{value_of, first_value, words_in, labelled, version_by, cluster_of, version_of, definition_in, said_in, meaning, is_passed_over, has_form, is_formed, numbered}
+use Rattle.am_schedule.specs.Readings.{◌>>=◌, or_fault, or_else}
 use Rattle.am_schedule.specs.Readers.{Stands, Took}
 
 -- ---- one line more
@@ -191,3 +193,47 @@ pub all_faults : (line : List ℕ) (words : List (List ℕ)) (old : Reader) (r :
     → IfErr r (λ kind. (before : List (List ℕ)) → Stands before old → kind ≢ faults.Memory → meaning before line ≡ Err kind)
 all_faults line words old (Ok u) utf8 kept is wrong = wrong
 all_faults line words old (Err kind) utf8 kept is wrong = λ before stands other. words_meaning before line old utf8 kept stands ∙ rw is (wrong other)
+
+-- a line for which memory is taken
+pub all_formed : (line : List ℕ) (words : List (List ℕ)) (old : Reader) (r : Result (Unit {0}) FaultKind) → is_utf8 line ≡ true → words_in line ≡ words
+    → IfErr r (λ kind. kind ≡ faults.Memory → has_form old.cluster words ≡ true)
+    → IfErr r (λ kind. (before : List (List ℕ)) → Stands before old → kind ≡ faults.Memory → is_formed before line ≡ true)
+unfolding is_formed
+all_formed line words old (Ok u) utf8 is formed = formed
+all_formed line words old (Err kind) utf8 is formed = λ before stands memory. rw (utf8, ← stands.cluster, is) (formed memory)
+
+-- ---- a line that is read is formed
+
+when : {A : Type 0} (test : Bool) (read : Result A FaultKind) (kind : FaultKind) (value : A) → (if test then read else Err kind) ≡ Ok value → test ≡ true
+when true read kind value is = refl
+when false read kind value is = absurd cc
+
+known : (verb : Option Verb) (read : Verb → Result Line FaultKind) (line : Line) → or_fault faults.Words verb >>= read ≡ Ok line → is_some verb ≡ true
+known (Some verb) read line is = refl
+known None read line is = absurd cc
+
+at_formed : (delivers settles : Bool) (names : List (List ℕ)) (version : List ℕ → Option VersionLine) (words : List (List ℕ)) (line : Line)
+    → (if delivers then deliver_in words else if settles then settle_in words else member_line_in names version words) ≡ Ok line
+    → (if delivers then length words == 4 else if settles then length words == 3 else is_some (verb_in words)) ≡ true
+unfolding deliver_in settle_in member_line_in
+at_formed true settles names version words line is = when _ _ _ _ is
+at_formed false true names version words line is = when _ _ _ _ is
+at_formed false false names version words line is = known (verb_in words) _ line is
+
+pub read_formed : (names : List (List ℕ)) (version : List ℕ → Option VersionLine) (form : LineForm) (words : List (List ℕ)) (line : Line)
+    → line_in names version form words ≡ Ok line → has_line_form form words ≡ true
+unfolding line_in at_line_in
+read_formed names version forms.At words line is = at_formed _ _ names version words line is
+read_formed names version forms.Stop words line is = refl
+read_formed names version forms.Save words line is = refl
+read_formed names version forms.Lose words line is = refl
+read_formed names version forms.Timely words line is = refl
+read_formed names version forms.Frames words line is = refl
+
+pub other_formed : (cluster : Option ClusterLine) (found : ClusterLine) (form : LineForm) (words : List (List ℕ)) → cluster ≡ Some found
+    → form_in words ≡ Some (Other form) → has_line_form form words ≡ true → has_form cluster words ≡ true
+other_formed cluster found form words some is formed = rw (some, is) formed
+
+pub whatever_is_told : {A : Type 0} (told : Result A FaultKind) (P : Type 0) → P → IfErr told (λ kind. kind ≡ faults.Memory → P)
+whatever_is_told (Ok value) P holds = tt
+whatever_is_told (Err kind) P holds = λ memory. holds

@@ -26,7 +26,7 @@ use Rattle.am_schedule.specs.Lists.{values, pair_in, pairs_in, is_equals}
 use Rattle.am_schedule.specs.Slots.{moment, whole_moment, interval, number, bits, hashes, yes_or_no, identifier}
 use Rattle.am_schedule.specs.Forms.{verb_in, form_in}
 use Rattle.am_schedule.specs.VersionLines.{silence_in, log_in, version_in}
-use Rattle.am_schedule.specs.StepLines.{event_in, member_line_in, deliver_in, settle_in, at_line_in, line_in}
+use Rattle.am_schedule.specs.StepLines.{event_in, event_line_in, member_line_in, deliver_in, settle_in, at_line_in, line_in}
 use Rattle.am_schedule.specs.Clusters.{is_name}
 use Rattle.am_schedule.specs.Schedules.{definition_in, said_in, labelled}
 use Rattle.am_schedule.specs.Written.{word_of, pair_word, event_words, written_version, IsSince1970, IsMember, is_writable_pair, ArePairs, IsWritableEvent, IsWritableLine, IsWritableVersion}
@@ -151,7 +151,7 @@ no_settle name is = is_false _ (right_true _ _ (right_true _ _ is))
 member_line_read : (cluster : ClusterLine) (version : List ℕ → Option VersionLine) (labels : List (List ℕ)) (at : ℕ) (name : List ℕ) (event : Event)
     → IsWritableLine cluster.names version labels (kinds.Step (actions.Event at name event))
     → said_in (Some cluster) version (codes "at" ∷ word_of moment at ∷ name ∷ event_words labels event) ≡ Ok (Some (kinds.Step (actions.Event at name event)))
-unfolding form_in line_in at_line_in member_line_in word_at
+unfolding form_in line_in at_line_in member_line_in event_line_in word_at
 member_line_read cluster version labels at name event is =
     let deliver = no_deliver name is.1.0 in
     let settle = no_settle name is.1.0 in

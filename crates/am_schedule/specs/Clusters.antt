@@ -33,7 +33,10 @@ cluster_parts words = do
   names ← or_fault Cluster (names_in (drop 3 words))
   Ok (record { names = names; retention = retention; peer_timeout = peer_timeout })
 
+-- whether a line has the verb of a cluster, and as many words as that wants
+abbrev pub has_cluster_form : List (List ℕ) → Bool
+has_cluster_form words = has_word 0 (codes "cluster") words && (nat_le 4 (length words) && nat_le (length words) 19)
+
 -- the cluster of a line
 unfoldable pub cluster_in : List (List ℕ) → Result ClusterLine FaultKind
-cluster_in words = if has_word 0 (codes "cluster") words && (nat_le 4 (length words) && nat_le (length words) 19)
-    then cluster_parts words else Err Cluster
+cluster_in words = if has_cluster_form words then cluster_parts words else Err Cluster

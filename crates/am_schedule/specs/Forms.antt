@@ -1,7 +1,8 @@
 -- The forms of lines: which verb a line has, where it has as many words as that wants.
-use Rattle.std.specs.Prelude.{ℕ, Bool, List, [], ◌∷◌, Option, find, ◌&&◌, codes}
+use Rattle.std.specs.Prelude.{ℕ, Bool, true, false, List, [], ◌∷◌, length, Option, Some, None, is_some, find, ◌==◌, ◌&&◌, codes, if◌then◌else◌}
 use Rattle.am_schedule.specs.declared.form.Verb.{Verb}
 use Rattle.am_schedule.specs.declared.form.VersionForm.TheVariants as versions
+use Rattle.am_schedule.specs.declared.form.LineForm.{LineForm}
 use Rattle.am_schedule.specs.declared.form.LineForm.TheVariants as lines
 use Rattle.am_schedule.specs.declared.form.Form.{Form}
 use Rattle.am_schedule.specs.declared.form.Form.TheVariants.{Cluster, Version, Other}
@@ -16,6 +17,17 @@ has_verb verb words = has_word 3 (verb_word verb) words && has_count 4 (event_ro
 -- the verb behind a member's name
 unfoldable pub verb_in : List (List ℕ) → Option Verb
 verb_in words = find (λ verb. has_verb verb words) all_verbs
+
+-- whether a line behind `at` has a known verb, and as many words as that wants
+abbrev pub has_at_form : List (List ℕ) → Bool
+has_at_form words =
+    if has_word 2 (codes "deliver") words then length words == 4 else
+    if has_word 2 (codes "settle") words then length words == 3 else is_some (verb_in words)
+
+-- whether a line of a form has as many words as its verb wants, where the form leaves that open
+abbrev pub has_line_form : LineForm → List (List ℕ) → Bool
+has_line_form lines.At words = has_at_form words
+has_line_form form words = true
 
 -- whether a line is of a form, by its first word and the number of its words
 abbrev pub is_of : Form → List (List ℕ) → Bool
@@ -38,3 +50,10 @@ all_forms =
 -- The form of a line. What stands behind `at` is told later, and a second cluster line is wrong whatever it holds.
 unfoldable pub form_in : List (List ℕ) → Option Form
 form_in words = find (λ form. is_of form words) all_forms
+
+-- whether a line behind the cluster's has a known verb, and as many words as that wants
+abbrev pub has_form_by : Option Form → List (List ℕ) → Bool
+has_form_by None words = false
+has_form_by (Some Cluster) words = false
+has_form_by (Some (Version form)) words = true
+has_form_by (Some (Other form)) words = has_line_form form words

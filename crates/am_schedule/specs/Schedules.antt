@@ -16,11 +16,11 @@ use Rattle.am_schedule.specs.declared.schedule.Schedule.{Schedule}
 use Rattle.am_schedule.specs.Readings.{◌>>=◌, or_fault, or_else}
 use Rattle.am_schedule.specs.Words.{words_of, word_at}
 use Rattle.am_schedule.specs.Places.{has_word}
-use Rattle.am_schedule.specs.Forms.{form_in}
+use Rattle.am_schedule.specs.Forms.{form_in, has_form_by}
 use Rattle.am_schedule.specs.Labels.{is_label}
 use Rattle.am_schedule.specs.VersionLines.{version_in}
 use Rattle.am_schedule.specs.StepLines.{line_in}
-use Rattle.am_schedule.specs.Clusters.{cluster_in}
+use Rattle.am_schedule.specs.Clusters.{has_cluster_form, cluster_in}
 
 -- the parts before and behind each line feed; a text that ends in one has no part behind it
 abbrev pub unless_empty : List ℕ → List (List ℕ)
@@ -102,6 +102,15 @@ meaning before line =
     then (if is_passed_over line then Ok None else said_in (cluster_of before) (version_of before) (words_in line))
     else Err faults.NotUtf8
 
+-- whether a line that isn't passed over has a known verb, and as many words as that wants; the first one is the cluster's
+abbrev pub has_form : Option ClusterLine → List (List ℕ) → Bool
+has_form None words = has_cluster_form words
+has_form (Some cluster) words = has_form_by (form_in words) words
+
+-- whether a line is a text with a known verb and as many words as that wants: memory is taken for no other line
+unfoldable pub is_formed : List (List ℕ) → List ℕ → Bool
+is_formed before line = is_utf8 line && has_form (cluster_of before) (words_in line)
+
 -- what each line says
 abbrev pub meanings : List (List ℕ) → List (List ℕ) → List (Result (Option Line) FaultKind)
 meanings before [] = []
@@ -127,6 +136,15 @@ pub record IsReached (text : List ℕ) (number : ℕ) : Type 0 where
   pub parts : lines_of text ≡ before ++ line ∷ behind
   pub counted : number ≡ length before + 1
   pub sound : AreSound before
+
+-- a line of the text by its number, whose bytes, verb and number of words are right
+pub record IsFormedAt (text : List ℕ) (number : ℕ) : Type 0 where
+  pub before : List (List ℕ)
+  pub line : List ℕ
+  pub behind : List (List ℕ)
+  pub parts : lines_of text ≡ before ++ line ∷ behind
+  pub counted : number ≡ length before + 1
+  pub formed : is_formed before line ≡ true
 
 -- what is said, with the numbers of the lines
 abbrev pub numbered : ℕ → List (Result (Option Line) FaultKind) → List (Line × ℕ)

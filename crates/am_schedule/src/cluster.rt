@@ -1,18 +1,19 @@
 //! The cluster line.
 
-ghost use Rattle.std.specs.Prelude.{◌≡◌, ℕ, ◌≤◌, List, length, map, IsTrue};
-ghost use Rattle.am_schedule.specs.declared.error.FaultKind.TheVariants.{Cluster};
+ghost use Rattle.std.specs.Prelude.{◌≡◌, ℕ, ◌≤◌, List, length, map, IsTrue, IfErr};
+ghost use Rattle.am_schedule.specs.declared.error.FaultKind.TheVariants.{Cluster, Memory};
 ghost use Rattle.am_schedule.specs.Readings.{GivesUnlessMemory, or_fault};
 ghost use Rattle.std.specs.List.{list_any};
 ghost use Rattle.std.specs.Str.{bytes_eq};
 ghost use Rattle.am_schedule.specs.Numbers.{seconds_in};
+ghost use Rattle.am_schedule.specs.Words.{words_of};
 ghost use Rattle.am_schedule.specs.Places.{read_at};
-ghost use Rattle.am_schedule.specs.Clusters.{is_name, names_in, as_cluster, cluster_parts, cluster_in};
+ghost use Rattle.am_schedule.specs.Clusters.{is_name, names_in, as_cluster, cluster_parts, has_cluster_form, cluster_in};
 
 use crate::error::FaultKind;
 use crate::items::Items;
 use crate::places::seconds_at;
-use crate::word::{Word, behind, word_at};
+use crate::word::{Word, behind, split_words, word_count, word_of};
 use am_version_order::Interval;
 use std::alloc::Global;
 
@@ -94,11 +95,14 @@ fn cluster_seconds(words: &[&str], place: usize) -> Result<Interval, FaultKind>
 
 /// `cluster RETENTION TIMEOUT NAME ..`
 #[tactic(auto, unfolding(crate::specs::Clusters::cluster_in))]
-pub(crate) fn cluster_line(alloc: Global, words: &[&str]) -> Result<ClusterLine, FaultKind>
-    ensures { GivesUnlessMemory result (cluster_in (map (λ w. w.now) words.now)) }
+pub(crate) fn cluster_line(alloc: Global, line: &str) -> Result<ClusterLine, FaultKind>
+    ensures value { GivesUnlessMemory result (cluster_in (words_of line.now)) }
+    ensures formed { IfErr result (λ kind. kind ≡ Memory → IsTrue (has_cluster_form (words_of line.now))) }
 {
-    if word_at(words, 0) != "cluster" || words.len() < 4 || words.len() > 19 {
+    let count = word_count(line);
+    if word_of(line, 0) != "cluster" || count < 4 || count > 19 {
         return Err(FaultKind::Cluster);
     }
-    cluster_parts(alloc, words)
+    let words = split_words(alloc, line)?;
+    cluster_parts(alloc, &words)
 }

@@ -1,9 +1,10 @@
-//! The forms of lines: which verb a line has, and how many words.
+//! The forms of lines: which verb a line has, and how many words. They are told without taking memory.
 
-ghost use Rattle.std.specs.Prelude.{◌≡◌, ℕ, List, map};
+ghost use Rattle.std.specs.Prelude.{◌≡◌};
+ghost use Rattle.am_schedule.specs.Words.{words_of};
 ghost use Rattle.am_schedule.specs.Forms.{verb_in, form_in};
 
-use crate::word::word_at;
+use crate::word::{word_count, word_of};
 
 /// What a line asks of a member.
 #[derive(Clone, Copy, Debug, PartialEq, Eq)]
@@ -22,10 +23,10 @@ pub(crate) enum Verb {
 
 /// The verb behind a member's name, where the line has as many words as it wants.
 #[tactic(auto, unfolding(crate::specs::Forms::verb_in))]
-pub(crate) fn verb_of(words: &[&str]) -> Option<Verb>
-    ensures { result ≡ verb_in (map (λ w. w.now) words.now) }
+pub(crate) fn verb_of(line: &str) -> Option<Verb>
+    ensures { result ≡ verb_in (words_of line.now) }
 {
-    match (word_at(words, 3), words.len()) {
+    match (word_of(line, 3), word_count(line)) {
         ("from", 6..) => Some(Verb::From),
         ("post", 10) => Some(Verb::Post),
         ("expire", 5) => Some(Verb::Expire),
@@ -68,10 +69,10 @@ pub(crate) enum Form {
 
 /// The form of a line, where it has as many words as that wants.
 #[tactic(auto, unfolding(crate::specs::Forms::form_in))]
-pub(crate) fn form_of(words: &[&str]) -> Option<Form>
-    ensures { result ≡ form_in (map (λ w. w.now) words.now) }
+pub(crate) fn form_of(line: &str) -> Option<Form>
+    ensures { result ≡ form_in (words_of line.now) }
 {
-    match (word_at(words, 0), words.len()) {
+    match (word_of(line, 0), word_count(line)) {
         ("cluster", _) => Some(Form::Cluster),
         ("sil", 9) => Some(Form::Version(VersionForm::Silence)),
         ("nfl", 8) => Some(Form::Version(VersionForm::Log)),

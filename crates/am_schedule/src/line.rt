@@ -1,42 +1,67 @@
 //! The lines that are steps, and the other lines behind the cluster's.
 
-ghost use Rattle.std.specs.Prelude.{◌≡◌, ℕ, List, map};
+ghost use Rattle.std.specs.Prelude.{◌≡◌, ◌==◌, ℕ, List, map, length, is_some, IsTrue, IfErr};
+ghost use Rattle.am_schedule.specs.declared.error.FaultKind.TheVariants.{Memory};
 ghost use Rattle.am_schedule.specs.Readings.{GivesUnlessMemory};
 ghost use Rattle.am_schedule.specs.Tables.{value_in};
-ghost use Rattle.am_schedule.specs.StepLines.{deliver_in, settle_in, member_line_in, at_line_in, line_in};
+ghost use Rattle.am_schedule.specs.Words.{words_of};
+ghost use Rattle.am_schedule.specs.Forms.{verb_in, has_at_form, has_line_form};
+ghost use Rattle.am_schedule.specs.StepLines.{deliver_in, settle_in, event_line_in, member_line_in, at_line_in, line_in};
 
 use crate::error::FaultKind;
 use crate::events::event;
-use crate::form::{LineForm, verb_of};
-use crate::places::{count_at, member_at, moment_at, seconds_at};
+use crate::form::{LineForm, Verb, verb_of};
+use crate::lists::member;
+use crate::numbers::count;
+use crate::places::{member_at, moment_at};
 use crate::step::{Action, Line, Step, VersionLine};
-use crate::word::{Word, word_at};
+use crate::times::{moment, seconds};
+use crate::word::{Word, in_place, split_words, word_count, word_of};
 use std::alloc::Global;
 use std::collections::BTreeMap;
 
 /// `at T deliver N`
 #[tactic(auto, unfolding(crate::specs::StepLines::deliver_in))]
-fn deliver_line(words: &[&str]) -> Result<Line, FaultKind>
-    ensures { result ≡ deliver_in (map (λ w. w.now) words.now) }
+fn deliver_line(text: &str) -> Result<Line, FaultKind>
+    ensures value { result ≡ deliver_in (words_of text.now) }
+    ensures formed { IfErr result (λ kind. kind ≡ Memory → IsTrue (length (words_of text.now) == 4)) }
 {
-    if words.len() != 4 {
+    if word_count(text) != 4 {
         return Err(FaultKind::Words);
     }
-    let at = moment_at(words, 1)?;
-    let frame = count_at(words, 3)?;
+    let at = in_place(moment(word_of(text, 1)), word_of(text, 1))?;
+    let frame = in_place(count(word_of(text, 3)), word_of(text, 3))?;
     Ok(Line::Step(Step::new(Action::Deliver { at, frame })))
 }
 
 /// `at T settle`
 #[tactic(auto, unfolding(crate::specs::StepLines::settle_in))]
-fn settle_line(words: &[&str]) -> Result<Line, FaultKind>
-    ensures { result ≡ settle_in (map (λ w. w.now) words.now) }
+fn settle_line(text: &str) -> Result<Line, FaultKind>
+    ensures value { result ≡ settle_in (words_of text.now) }
+    ensures formed { IfErr result (λ kind. kind ≡ Memory → IsTrue (length (words_of text.now) == 3)) }
 {
-    if words.len() != 3 {
+    if word_count(text) != 3 {
         return Err(FaultKind::Words);
     }
-    let at = moment_at(words, 1)?;
+    let at = in_place(moment(word_of(text, 1)), word_of(text, 1))?;
     Ok(Line::Settle(at))
+}
+
+/// `at T NAME ..`, by the verb
+#[tactic(auto, unfolding(crate::specs::StepLines::event_line_in))]
+fn event_line(
+    alloc: Global,
+    names: &[Word],
+    versions: &BTreeMap<&str, VersionLine>,
+    verb: Verb,
+    words: &[&str],
+) -> Result<Line, FaultKind>
+    ensures { GivesUnlessMemory result (event_line_in names.now (value_in versions.now) verb (map (λ w. w.now) words.now)) }
+{
+    let at = moment_at(words, 1)?;
+    let name = member_at(alloc, names, words, 2)?;
+    let event = event(alloc, names, versions, verb, words)?;
+    Ok(Line::Step(Step::new(Action::Event { at, name, event })))
 }
 
 /// `at T NAME ..`
@@ -45,15 +70,14 @@ fn member_line(
     alloc: Global,
     names: &[Word],
     versions: &BTreeMap<&str, VersionLine>,
-    words: &[&str],
+    text: &str,
 ) -> Result<Line, FaultKind>
-    ensures { GivesUnlessMemory result (member_line_in names.now (value_in versions.now) (map (λ w. w.now) words.now)) }
+    ensures value { GivesUnlessMemory result (member_line_in names.now (value_in versions.now) (words_of text.now)) }
+    ensures formed { IfErr result (λ kind. kind ≡ Memory → IsTrue (is_some (verb_in (words_of text.now)))) }
 {
-    let verb = verb_of(words).ok_or(FaultKind::Words)?;
-    let at = moment_at(words, 1)?;
-    let name = member_at(alloc, names, words, 2)?;
-    let event = event(alloc, names, versions, verb, words)?;
-    Ok(Line::Step(Step::new(Action::Event { at, name, event })))
+    let verb = verb_of(text).ok_or(FaultKind::Words)?;
+    let words = split_words(alloc, text)?;
+    event_line(alloc, names, versions, verb, &words)
 }
 
 /// A line behind `at`: no member is called `deliver` or `settle`.
@@ -62,14 +86,15 @@ fn at_line(
     alloc: Global,
     names: &[Word],
     versions: &BTreeMap<&str, VersionLine>,
-    words: &[&str],
+    text: &str,
 ) -> Result<Line, FaultKind>
-    ensures { GivesUnlessMemory result (at_line_in names.now (value_in versions.now) (map (λ w. w.now) words.now)) }
+    ensures value { GivesUnlessMemory result (at_line_in names.now (value_in versions.now) (words_of text.now)) }
+    ensures formed { IfErr result (λ kind. kind ≡ Memory → IsTrue (has_at_form (words_of text.now))) }
 {
-    match word_at(words, 2) {
-        "deliver" => deliver_line(words),
-        "settle" => settle_line(words),
-        _ => member_line(alloc, names, versions, words),
+    match word_of(text, 2) {
+        "deliver" => deliver_line(text),
+        "settle" => settle_line(text),
+        _ => member_line(alloc, names, versions, text),
     }
 }
 
@@ -80,27 +105,28 @@ pub(crate) fn line(
     names: &[Word],
     versions: &BTreeMap<&str, VersionLine>,
     form: LineForm,
-    words: &[&str],
+    text: &str,
 ) -> Result<Line, FaultKind>
-    ensures { GivesUnlessMemory result (line_in names.now (value_in versions.now) form (map (λ w. w.now) words.now)) }
+    ensures value { GivesUnlessMemory result (line_in names.now (value_in versions.now) form (words_of text.now)) }
+    ensures formed { IfErr result (λ kind. kind ≡ Memory → IsTrue (has_line_form form (words_of text.now))) }
 {
     match form {
-        LineForm::At => at_line(alloc, names, versions, words),
+        LineForm::At => at_line(alloc, names, versions, text),
         LineForm::Stop => {
-            let name = member_at(alloc, names, words, 1)?;
+            let name = member(alloc, names, word_of(text, 1))?;
             Ok(Line::Step(Step::new(Action::Stop { name })))
         }
         LineForm::Save => {
-            let name = member_at(alloc, names, words, 1)?;
+            let name = member(alloc, names, word_of(text, 1))?;
             Ok(Line::Step(Step::new(Action::Save { name })))
         }
         LineForm::Lose => {
-            let frame = count_at(words, 1)?;
+            let frame = in_place(count(word_of(text, 1)), word_of(text, 1))?;
             Ok(Line::Step(Step::new(Action::Lose { frame })))
         }
         LineForm::Timely => {
-            let spread = seconds_at(words, 1)?;
-            let flight = seconds_at(words, 2)?;
+            let spread = in_place(seconds(word_of(text, 1)), word_of(text, 1))?;
+            let flight = in_place(seconds(word_of(text, 2)), word_of(text, 2))?;
             Ok(Line::Timely(spread, flight))
         }
         LineForm::Frames => Ok(Line::Frames),

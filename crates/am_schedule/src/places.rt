@@ -2,7 +2,7 @@
 
 ghost use Rattle.std.specs.Prelude.{◌≡◌, ℕ, List, map};
 ghost use Rattle.am_schedule.specs.Readings.{GivesUnlessMemory};
-ghost use Rattle.am_schedule.specs.Numbers.{count_in, seconds_in, bits_in};
+ghost use Rattle.am_schedule.specs.Numbers.{seconds_in, bits_in};
 ghost use Rattle.am_schedule.specs.Times.{moment_in, whole_moment_in};
 ghost use Rattle.am_schedule.specs.Lists.{hashes_in, yes_or_no_in};
 ghost use Rattle.am_schedule.specs.Places.{read_at, text_at, member_at};
@@ -10,18 +10,11 @@ ghost use Rattle.am_schedule.specs.Places.{read_at, text_at, member_at};
 use crate::error::FaultKind;
 use crate::hash_list::HashList;
 use crate::lists::{hashes, member, yes_or_no};
-use crate::numbers::{bits, count};
+use crate::numbers::bits;
 use crate::times::{moment, seconds, whole_moment};
 use crate::word::{Word, in_place, word_at};
 use am_version_order::{Interval, Moment};
 use std::alloc::Global;
-
-pub(crate) fn count_at(words: &[&str], place: usize) -> Result<u64, FaultKind>
-    ensures { result ≡ read_at count_in place (map (λ w. w.now) words.now) }
-{
-    let word = word_at(words, place);
-    in_place(count(word), word)
-}
 
 pub(crate) fn seconds_at(words: &[&str], place: usize) -> Result<Interval, FaultKind>
     ensures { result ≡ read_at seconds_in place (map (λ w. w.now) words.now) }

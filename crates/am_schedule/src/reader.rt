@@ -1,11 +1,12 @@
 //! Reading a schedule line by line.
 
-ghost use Rattle.std.specs.Prelude.{◌≡◌, ◌≢◌, ℕ, List, [], ◌∷◌, ◌++◌, map, Option, Some, None, Ok, Err, IfOk, IfErr};
+ghost use Rattle.std.specs.Prelude.{◌≡◌, ◌≢◌, ℕ, List, [], ◌∷◌, ◌++◌, Option, Some, None, Ok, Err, IfOk, IfErr, IsTrue, true};
 ghost use Rattle.am_schedule.specs.declared.error.FaultKind.TheVariants.{Memory};
 ghost use Rattle.am_schedule.specs.declared.step.Line.{Line};
 ghost use Rattle.am_schedule.specs.Readings.{GivesUnlessMemory};
 ghost use Rattle.am_schedule.specs.Tables.{value_in};
-ghost use Rattle.am_schedule.specs.Schedules.{definition_in, said_in, meaning, is_passed_over, numbered};
+ghost use Rattle.am_schedule.specs.Words.{words_of};
+ghost use Rattle.am_schedule.specs.Schedules.{definition_in, said_in, meaning, is_passed_over, has_form, is_formed, numbered};
 
 use crate::cluster::{ClusterLine, cluster_line};
 use crate::error::FaultKind;
@@ -14,7 +15,7 @@ use crate::line::line;
 use crate::step::{Line, VersionLine};
 use crate::table::{empty_table, look_up, set_value};
 use crate::versions::version_line;
-use crate::word::{MAX_WORD, split_words, word_at};
+use crate::word::{MAX_WORD, split_words, word_of};
 use std::alloc::Global;
 use std::collections::BTreeMap;
 
@@ -34,15 +35,16 @@ fn definition(
     alloc: Global,
     versions: &BTreeMap<&str, VersionLine>,
     form: VersionForm,
-    words: &[&str],
+    line: &str,
 ) -> Result<VersionLine, FaultKind>
-    ensures { GivesUnlessMemory result (definition_in (value_in versions.now) form (map (λ w. w.now) words.now)) }
+    ensures { GivesUnlessMemory result (definition_in (value_in versions.now) form (words_of line.now)) }
 {
-    let label = word_at(words, 1);
+    let label = word_of(line, 1);
     if label.is_empty() || label.len() > MAX_WORD || look_up(versions, label).is_some() {
         return Err(FaultKind::Name);
     }
-    version_line(alloc, form, words)
+    let words = split_words(alloc, line)?;
+    version_line(alloc, form, &words)
 }
 
 /// What the lines that were read say.
@@ -68,27 +70,28 @@ impl<'a> Reader<'a> {
         }
     }
 
-    /// Takes the words of a line that isn't passed over.
-    fn take_words(&mut self, alloc: Global, number: u64, words: &[&'a str]) -> Result<(), FaultKind>
+    /// Takes a line that isn't passed over. Its verb and the number of its words are judged before memory is taken.
+    fn take_words(&mut self, alloc: Global, number: u64, text: &'a str) -> Result<(), FaultKind>
         ensures taken { IfOk result (λ _. (said : Option Line)
-            × (said_in self.old.cluster (value_in self.old.versions) (map (λ w. w.now) words.now) ≡ Ok said)
-            × Took number (map (λ w. w.now) words.now) said self.old self.new) }
+            × (said_in self.old.cluster (value_in self.old.versions) (words_of text.now) ≡ Ok said)
+            × Took number (words_of text.now) said self.old self.new) }
         ensures fault { IfErr result (λ kind. kind ≢ Memory →
-            said_in self.old.cluster (value_in self.old.versions) (map (λ w. w.now) words.now) ≡ Err kind) }
+            said_in self.old.cluster (value_in self.old.versions) (words_of text.now) ≡ Err kind) }
+        ensures formed { IfErr result (λ kind. kind ≡ Memory → IsTrue (has_form self.old.cluster (words_of text.now))) }
     {
         let Some(cluster) = &self.cluster else {
-            self.cluster = Some(cluster_line(alloc, words)?);
+            self.cluster = Some(cluster_line(alloc, text)?);
             return Ok(());
         };
-        match form_of(words) {
+        match form_of(text) {
             None => return Err(FaultKind::Words),
             Some(Form::Cluster) => return Err(FaultKind::Cluster),
             Some(Form::Version(form)) => {
-                let version = definition(alloc, &self.versions, form, words)?;
-                set_value(&mut self.versions, word_at(words, 1), version)?;
+                let version = definition(alloc, &self.versions, form, text)?;
+                set_value(&mut self.versions, word_of(text, 1), version)?;
             }
             Some(Form::Other(form)) => {
-                let line = line(alloc, cluster.names.as_slice(), &self.versions, form, words)?;
+                let line = line(alloc, cluster.names.as_slice(), &self.versions, form, text)?;
                 self.lines.push((line, number))?;
             }
         }
@@ -102,6 +105,8 @@ impl<'a> Reader<'a> {
             × (self.new.lines.items ≡ self.old.lines.items ++ numbered number (Ok said ∷ []))) }
         ensures fault { IfErr result (λ kind. (before : List (List ℕ)) → Stands before self.old → kind ≢ Memory →
             meaning before line.now ≡ Err kind) }
+        ensures formed { IfErr result (λ kind. (before : List (List ℕ)) → Stands before self.old → kind ≡ Memory →
+            is_formed before line.now ≡ true) }
     {
         let Ok(line) = str::from_utf8(line) else {
             return Err(FaultKind::NotUtf8);
@@ -109,7 +114,6 @@ impl<'a> Reader<'a> {
         if is_passed_over(line) {
             return Ok(());
         }
-        let words = split_words(alloc, line)?;
-        self.take_words(alloc, number, &words)
+        self.take_words(alloc, number, line)
     }
 }

@@ -2,7 +2,7 @@
 
 ghost use Rattle.std.specs.Prelude.{◌≡◌, ◌≢◌, ◌+◌, ◌<◌, ◌^◌, ℕ, List, Ok, Err, IfOk, IfErr};
 ghost use Rattle.am_schedule.specs.declared.error.FaultKind.TheVariants.{Memory};
-ghost use Rattle.am_schedule.specs.Schedules.{schedule_of, whole, IsReached};
+ghost use Rattle.am_schedule.specs.Schedules.{schedule_of, whole, IsReached, IsFormedAt};
 
 use crate::cluster::ClusterLine;
 use crate::error::{FaultKind, ScheduleError};
@@ -42,11 +42,12 @@ impl Drop for Schedule {
 /// # Errors
 ///
 /// The first line at fault, and what is wrong with it. `Memory` where memory runs out, with the line that is read
-/// then; no line before that is at fault.
+/// then: it is UTF-8, its verb is known and has as many words as it wants, and no line before it is at fault.
 pub fn parse(alloc: Global, text: &[u8]) -> Result<Schedule, ScheduleError>
     ensures read { IfOk result (λ schedule. schedule_of text.now ≡ Ok schedule) }
     ensures fault { IfErr result (λ error. error.kind ≢ Memory → schedule_of text.now ≡ Err error) }
     ensures memory { IfErr result (λ error. error.kind ≡ Memory → IsReached text.now error.line) }
+    ensures formed { IfErr result (λ error. error.kind ≡ Memory → IsFormedAt text.now error.line) }
 {
     let mut reader = Reader::new(alloc);
     let mut rest = text;

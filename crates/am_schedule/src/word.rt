@@ -81,6 +81,20 @@ pub(crate) fn split_words(alloc: Global, line: &str) -> Result<Vec<&str>, AllocE
     split_at(alloc, line, ' ')
 }
 
+/// How many words a line has. It takes no memory.
+pub(crate) fn word_count(line: &str) -> usize
+    ensures { result ≡ length (words_of line.now) }
+{
+    line.split(' ').count()
+}
+
+/// The word at a place of a line, or the empty text behind the last one. It takes no memory.
+pub(crate) fn word_of(line: &str, place: usize) -> &str
+    ensures { result.now ≡ word_at place (words_of line.now) }
+{
+    line.split(' ').nth(place).unwrap_or("")
+}
+
 /// The word at a place, or the empty text behind the last one.
 #[tactic(auto, unfolding(crate::specs::Words::word_at))]
 pub(crate) fn word_at<'a>(words: &[&'a str], place: usize) -> &'a str
