@@ -1,0 +1,75 @@
+//! Matchers in words: a label's name, a sign and a pattern, as `job=x`. In the pattern `\n` is a line feed.
+
+use crate::fault::Fault;
+use am_silence::{MatcherIter, MatcherKind, MatcherRef, Matchers};
+use std::alloc::Global;
+
+/// The signs of matchers: of those that stand in a word the first here is meant.
+const SIGNS: [(&str, MatcherKind); 4] = [
+    ("=~", MatcherKind::Regexp),
+    ("!~", MatcherKind::NotRegexp),
+    ("!=", MatcherKind::NotEqual),
+    ("=", MatcherKind::Equal),
+];
+
+fn sign(kind: MatcherKind) -> &'static str {
+    match kind {
+        MatcherKind::Regexp => "=~",
+        MatcherKind::NotRegexp => "!~",
+        MatcherKind::NotEqual => "!=",
+        MatcherKind::Equal => "=",
+    }
+}
+
+/// The kind, name and pattern of a word that is a matcher. No sign stands in the pattern.
+pub fn matcher_parts(word: &str) -> Option<(MatcherKind, &str, &str)> {
+    for (sign, kind) in SIGNS {
+        if let Some((name, pattern)) = word.split_once(sign) {
+            return Some((kind, name, pattern));
+        }
+    }
+    None
+}
+
+/// A text in which `\n` is a line feed; `""` is the empty one.
+pub fn value(alloc: Global, word: &str) -> Result<String, Fault> {
+    let word = if word == "\"\"" { "" } else { word };
+    Ok(word.replace(alloc, "\\n", "\n")?)
+}
+
+/// Puts the matcher of a word at the end, if it is one.
+fn push(alloc: Global, matchers: &mut Matchers, word: &str) -> Result<(), Fault> {
+    if let Some((kind, name, pattern)) = matcher_parts(word) {
+        let pattern = value(alloc, pattern)?;
+        matchers.push(alloc, &MatcherRef::new(kind, name, pattern.as_str()))?;
+    }
+    Ok(())
+}
+
+/// The matchers among the words.
+pub fn matchers(alloc: Global, words: &str) -> Result<Matchers, Fault> {
+    let mut matchers = Matchers::none(alloc);
+    for word in words.split(' ') {
+        push(alloc, &mut matchers, word)?;
+    }
+    Ok(matchers)
+}
+
+/// Prints a text, and a matcher behind it.
+pub fn print_matcher(
+    rt: &HostRuntime,
+    before: &str,
+    matcher: &MatcherRef<'_>,
+) -> Result<(), Fault> {
+    let (name, sign, pattern) = (matcher.name(), sign(matcher.kind()), matcher.pattern());
+    print!(rt; "{before}{name}{sign}{pattern}")?;
+    Ok(())
+}
+
+/// Prints matchers, a blank before each.
+pub fn print_matchers(rt: &HostRuntime, matchers: MatcherIter<'_>) -> Result<(), Fault> {
+    for matcher in matchers {
+        print_matcher(rt, " ", &matcher)?;
+    }
+    Ok(())
+}

@@ -1,0 +1,408 @@
+//! Calls over readers and writers, made once, or many times: with each read or write failing in turn, over each front of
+//! the input, or in pieces of each size.
+
+use crate::fakes::{Brittle, Pieces, Stop};
+use crate::fault::Fault;
+use crate::words::{parts, size};
+use std::alloc::Global;
+
+/// What is tried in turn.
+#[derive(Clone, Copy, PartialEq, Eq)]
+pub enum Each {
+    /// Nothing: the call is made once.
+    Once,
+    /// Each read fails.
+    Read,
+    /// Each write stops so.
+    Write(Stop),
+    /// The input ends after each number of its bytes.
+    Front,
+    /// A read gives at most 1, 2, .. 50 bytes.
+    Size,
+}
+
+/// How a call is made.
+#[derive(Clone, Copy)]
+pub struct How {
+    /// The most bytes that a read gives.
+    pub gives: usize,
+    /// The most bytes that a write takes.
+    pub takes: usize,
+    pub each: Each,
+    /// A call that failed is made once more, over the same reader and writer.
+    pub again: bool,
+}
+
+impl How {
+    /// Once, all in one piece.
+    pub const fn plain() -> How {
+        How {
+            gives: usize::MAX,
+            takes: usize::MAX,
+            each: Each::Once,
+            again: false,
+        }
+    }
+
+    /// Applies a phrase.
+    pub fn apply(&mut self, phrase: &str) -> Result<(), Fault> {
+        match phrase {
+            "each read fails" => self.each = Each::Read,
+            "each write fails" => self.each = Each::Write(Stop::Fails),
+            "each write takes nothing" => self.each = Each::Write(Stop::TakesNothing),
+            "each front" => self.each = Each::Front,
+            "each size of pieces" => self.each = Each::Size,
+            "again" => self.again = true,
+            _ => return self.apply_size(phrase),
+        }
+        Ok(())
+    }
+
+    /// Applies `in pieces of N`, of reads and writes, or `writes of N`.
+    fn apply_size(&mut self, phrase: &str) -> Result<(), Fault> {
+        if let Some(word) = phrase.strip_prefix("in pieces of ") {
+            self.gives = size(word)?;
+            self.takes = self.gives;
+        } else if let Some(word) = phrase.strip_prefix("writes of ") {
+            self.takes = size(word)?;
+        } else {
+            return Err(Fault::Words);
+        }
+        Ok(())
+    }
+}
+
+/// How the words before `: ` say that a call is made: phrases, parted by `, `.
+pub fn how_of(phrases: &str) -> Result<How, Fault> {
+    let mut how = How::plain();
+    for phrase in phrases.split(", ") {
+        how.apply(phrase)?;
+    }
+    Ok(how)
+}
+
+/// What a call is answered, without the number of bytes that a failed read or write is told with; and that number.
+#[derive(Clone, Copy)]
+pub struct Answered<A> {
+    pub answer: A,
+    pub told: Option<u64>,
+}
+
+/// A call over a reader and a writer.
+pub trait Call {
+    type Answer: Copy + PartialEq;
+
+    /// Makes the call.
+    fn make(
+        &self,
+        alloc: Global,
+        reader: &mut Pieces<'_>,
+        writer: &mut Brittle,
+    ) -> Result<Answered<Self::Answer>, Fault>;
+
+    /// Prints an answer, without the number that is told.
+    fn print(&self, rt: &HostRuntime, answer: &Self::Answer) -> Result<(), Fault>;
+}
+
+/// For how many bytes a writer has room from the start on, so that it needs no memory later.
+const ROOM: usize = 80_000;
+
+/// A writer that stops at a call (0: at none).
+pub fn writer(alloc: Global, how: &How, stops_at: usize) -> Result<Brittle, Fault> {
+    let stop = match how.each {
+        Each::Write(stop) => stop,
+        _ => Stop::Fails,
+    };
+    Ok(Brittle {
+        taken: Vec::with_capacity(alloc, ROOM)?,
+        step: how.takes,
+        calls: 0,
+        stops_at,
+        stop,
+    })
+}
+
+/// The reader of a try.
+fn reader<'a>(input: &'a [u8], how: &How, number: usize) -> Pieces<'a> {
+    match how.each {
+        Each::Read => Pieces::new(input, how.gives, number),
+        Each::Front => Pieces::new(&input[..number.min(input.len())], how.gives, 0),
+        Each::Size => Pieces::new(input, number, 0),
+        _ => Pieces::new(input, how.gives, 0),
+    }
+}
+
+/// What went out.
+#[derive(Clone, Copy, PartialEq, Eq)]
+enum Out {
+    Nothing,
+    /// All that goes out where nothing fails.
+    All,
+    /// The first bytes of that.
+    Front(usize),
+    Other(usize),
+}
+
+/// How the number that is told stands to what came or went out.
+#[derive(Clone, Copy, PartialEq, Eq)]
+enum Place {
+    Untold,
+    /// It is as many bytes as came before the read that failed, or went out before the write that failed.
+    Right,
+    Wrong(u64),
+}
+
+/// What came of a try.
+#[derive(Clone, Copy, PartialEq)]
+struct Row<A> {
+    answer: A,
+    place: Place,
+    /// How many reads or writes came after the one that failed.
+    later: usize,
+    out: Out,
+    again: Option<A>,
+}
+
+/// Tries in a row of which the same came, and their numbers.
+#[derive(Clone, Copy)]
+struct Spell<A> {
+    row: Row<A>,
+    from: usize,
+    to: usize,
+}
+
+/// What of the whole went out.
+fn out_of(taken: &[u8], whole: &[u8]) -> Out {
+    match (taken.len(), whole.starts_with(taken)) {
+        (0, _) => Out::Nothing,
+        (size, true) if size == whole.len() => Out::All,
+        (size, true) => Out::Front(size),
+        (size, false) => Out::Other(size),
+    }
+}
+
+/// How a number that is told stands to the number of bytes that is right.
+fn place_of(told: Option<u64>, right: usize) -> Place {
+    match told {
+        None => Place::Untold,
+        Some(number) if number == right as u64 => Place::Right,
+        Some(number) => Place::Wrong(number),
+    }
+}
+
+/// How many calls came after the one that was to fail; none where it didn't come to that.
+fn later(how: &How, reads: usize, writes: usize, number: usize) -> Option<usize> {
+    match how.each {
+        Each::Read => reads.checked_sub(number),
+        Each::Write(_) => writes.checked_sub(number),
+        _ => Some(0),
+    }
+}
+
+/// Makes a call once more, if that is asked.
+fn again<C: Call>(
+    alloc: Global,
+    call: &C,
+    how: &How,
+    reader: &mut Pieces<'_>,
+    writer: &mut Brittle,
+) -> Result<Option<C::Answer>, Fault> {
+    if !how.again {
+        return Ok(None);
+    }
+    let answered = call.make(alloc, reader, writer)?;
+    Ok(Some(answered.answer))
+}
+
+/// Makes a try over this reader and writer; none where the read or the write that was to fail isn't made.
+fn tried_over<C: Call>(
+    alloc: Global,
+    call: &C,
+    how: &How,
+    number: usize,
+    whole: &[u8],
+    reader: &mut Pieces<'_>,
+    writer: &mut Brittle,
+) -> Result<Option<Row<C::Answer>>, Fault> {
+    let size = reader.left.len();
+    let answered = call.make(alloc, reader, writer)?;
+    let Some(later) = later(how, reader.calls, writer.calls, number) else {
+        return Ok(None);
+    };
+    let out = out_of(writer.taken.as_slice(), whole);
+    let right = match how.each {
+        Each::Write(_) => writer.taken.len(),
+        _ => size.saturating_sub(reader.left.len()),
+    };
+    let place = place_of(answered.told, right);
+    let again = again(alloc, call, how, reader, writer)?;
+    Ok(Some(Row {
+        answer: answered.answer,
+        place,
+        later,
+        out,
+        again,
+    }))
+}
+
+/// Makes a try.
+fn tried<C: Call>(
+    alloc: Global,
+    call: &C,
+    input: &[u8],
+    how: &How,
+    number: usize,
+    whole: &[u8],
+) -> Result<Option<Row<C::Answer>>, Fault> {
+    let stops_at = match how.each {
+        Each::Write(_) => number,
+        _ => 0,
+    };
+    let mut reader = reader(input, how, number);
+    let mut writer = writer(alloc, how, stops_at)?;
+    tried_over(alloc, call, how, number, whole, &mut reader, &mut writer)
+}
+
+/// Prints what went out, where it isn't what a failed write leaves.
+fn print_out(rt: &HostRuntime, place: Place, out: Out) -> Result<(), Fault> {
+    match out {
+        Out::Nothing => {}
+        Out::All => print!(rt; ", all out")?,
+        Out::Front(_) if place != Place::Untold => {}
+        Out::Front(size) => print!(rt; ", the first {size} bytes out")?,
+        Out::Other(size) => print!(rt; ", {size} other bytes out")?,
+    }
+    Ok(())
+}
+
+/// Prints what came of a try.
+fn say_row<C: Call>(rt: &HostRuntime, call: &C, row: &Row<C::Answer>) -> Result<(), Fault> {
+    call.print(rt, &row.answer)?;
+    match row.place {
+        Place::Untold => {}
+        Place::Right => print!(rt; " where it failed")?,
+        Place::Wrong(number) => print!(rt; " at {number}")?,
+    }
+    if row.later > 0 {
+        print!(rt; ", tried again")?;
+    }
+    print_out(rt, row.place, row.out)?;
+    if let Some(again) = &row.again {
+        print!(rt; ", then ")?;
+        call.print(rt, again)?;
+    }
+    println!(rt; "")?;
+    Ok(())
+}
+
+/// The word for what is tried in turn.
+fn name(each: Each) -> &'static str {
+    match each {
+        Each::Once => "once",
+        Each::Read => "read",
+        Each::Write(_) => "write",
+        Each::Front => "front",
+        Each::Size => "pieces of",
+    }
+}
+
+/// Prints the numbers of a spell, and what came of it.
+fn say_spell<C: Call>(
+    rt: &HostRuntime,
+    call: &C,
+    each: Each,
+    spell: &Spell<C::Answer>,
+) -> Result<(), Fault> {
+    print!(rt; "{} {}", name(each), spell.from)?;
+    if spell.from != spell.to {
+        print!(rt; " to {}", spell.to)?;
+    }
+    print!(rt; ": ")?;
+    say_row(rt, call, &spell.row)
+}
+
+/// The spell with one more try, where the same came of it; else it is printed, and the try begins another.
+fn joined<C: Call>(
+    rt: &HostRuntime,
+    call: &C,
+    each: Each,
+    spell: Option<Spell<C::Answer>>,
+    number: usize,
+    row: &Row<C::Answer>,
+) -> Result<Spell<C::Answer>, Fault> {
+    if let Some(spell) = spell {
+        if spell.row == *row {
+            return Ok(Spell {
+                to: number,
+                ..spell
+            });
+        }
+        say_spell(rt, call, each, &spell)?;
+    }
+    Ok(Spell {
+        row: *row,
+        from: number,
+        to: number,
+    })
+}
+
+/// The first number of a try, and the one behind the last.
+fn numbers(each: Each, input: &[u8]) -> (usize, usize) {
+    match each {
+        Each::Once => (1, 2),
+        Each::Read | Each::Write(_) => (1, 100_000),
+        Each::Front => (0, input.len().saturating_add(1)),
+        Each::Size => (1, 51),
+    }
+}
+
+/// Makes all tries, and prints what came of them. `whole` is what goes out where nothing fails.
+fn say_each<C: Call>(
+    rt: &HostRuntime,
+    call: &C,
+    input: &[u8],
+    how: &How,
+    whole: &[u8],
+) -> Result<(), Fault> {
+    let mut spell = None;
+    let (first, end) = numbers(how.each, input);
+    for number in first..end {
+        match tried(rt.alloc(), call, input, how, number, whole)? {
+            Some(row) => spell = Some(joined(rt, call, how.each, spell, number, &row)?),
+            None => break,
+        }
+    }
+    match spell {
+        Some(spell) => say_spell(rt, call, how.each, &spell),
+        None => Ok(()),
+    }
+}
+
+/// Makes a call with nothing failing, and then the tries that are asked. Prints what it is answered and what came of each
+/// try, and hands on how often the reader and the writer were called, what was left, and what went out.
+pub fn make<C: Call>(
+    rt: &HostRuntime,
+    call: &C,
+    input: &[u8],
+    how: &How,
+    writer: &mut Brittle,
+) -> Result<Calls, Fault> {
+    let mut reader = Pieces::new(input, how.gives, 0);
+    let answered = call.make(rt.alloc(), &mut reader, writer)?;
+    if how.each != Each::Once {
+        say_each(rt, call, input, how, writer.taken.as_slice())?;
+    }
+    call.print(rt, &answered.answer)?;
+    println!(rt; "")?;
+    Ok(Calls {
+        reads: reader.calls,
+        left: reader.left.len(),
+    })
+}
+
+/// How often a reader was called, and how many bytes it had left.
+#[derive(Clone, Copy)]
+pub struct Calls {
+    pub reads: usize,
+    pub left: usize,
+}
