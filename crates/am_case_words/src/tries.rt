@@ -143,20 +143,14 @@ enum Out {
     Other(usize),
 }
 
-/// How the number that is told stands to what came or went out.
-#[derive(Clone, Copy, PartialEq, Eq)]
-enum Place {
-    Untold,
-    /// It is as many bytes as came before the read that failed, or went out before the write that failed.
-    Right,
-    Wrong(u64),
-}
-
 /// What came of a try.
 #[derive(Clone, Copy, PartialEq)]
 struct Row<A> {
     answer: A,
-    place: Place,
+    /// A number of bytes is told.
+    is_told: bool,
+    /// That number, where it isn't how many came before the read that failed, or went out before the write that failed.
+    wrong: Option<u64>,
     /// How many reads or writes came after the one that failed.
     later: usize,
     out: Out,
@@ -181,15 +175,6 @@ fn out_of(taken: &[u8], whole: &[u8]) -> Out {
     }
 }
 
-/// How a number that is told stands to the number of bytes that is right.
-fn place_of(told: Option<u64>, right: usize) -> Place {
-    match told {
-        None => Place::Untold,
-        Some(number) if number == right as u64 => Place::Right,
-        Some(number) => Place::Wrong(number),
-    }
-}
-
 /// How many calls came after the one that was to fail; none where it didn't come to that.
 fn later(how: &How, reads: usize, writes: usize, number: usize) -> Option<usize> {
     match how.each {
@@ -197,21 +182,6 @@ fn later(how: &How, reads: usize, writes: usize, number: usize) -> Option<usize>
         Each::Write(_) => writes.checked_sub(number),
         _ => Some(0),
     }
-}
-
-/// Makes a call once more, if that is asked.
-fn again<C: Call>(
-    alloc: Global,
-    call: &C,
-    how: &How,
-    reader: &mut Pieces<'_>,
-    writer: &mut Brittle,
-) -> Result<Option<C::Answer>, Fault> {
-    if !how.again {
-        return Ok(None);
-    }
-    let answered = call.make(alloc, reader, writer)?;
-    Ok(Some(answered.answer))
 }
 
 /// Makes a try over this reader and writer; none where the read or the write that was to fail isn't made.
@@ -225,20 +195,27 @@ fn tried_over<C: Call>(
     writer: &mut Brittle,
 ) -> Result<Option<Row<C::Answer>>, Fault> {
     let size = reader.left.len();
-    let answered = call.make(alloc, reader, writer)?;
+    let Answered { answer, told } = call.make(alloc, reader, writer)?;
     let Some(later) = later(how, reader.calls, writer.calls, number) else {
         return Ok(None);
     };
-    let out = out_of(writer.taken.as_slice(), whole);
     let right = match how.each {
         Each::Write(_) => writer.taken.len(),
         _ => size.saturating_sub(reader.left.len()),
     };
-    let place = place_of(answered.told, right);
-    let again = again(alloc, call, how, reader, writer)?;
+    let out = match out_of(writer.taken.as_slice(), whole) {
+        Out::Front(_) if told.is_some() => Out::Nothing,
+        out => out,
+    };
+    let again = if how.again {
+        Some(call.make(alloc, reader, writer)?.answer)
+    } else {
+        None
+    };
     Ok(Some(Row {
-        answer: answered.answer,
-        place,
+        answer,
+        is_told: told.is_some(),
+        wrong: told.filter(|number| *number != right as u64),
         later,
         out,
         again,
@@ -263,30 +240,23 @@ fn tried<C: Call>(
     tried_over(alloc, call, how, number, whole, &mut reader, &mut writer)
 }
 
-/// Prints what went out, where it isn't what a failed write leaves.
-fn print_out(rt: &HostRuntime, place: Place, out: Out) -> Result<(), Fault> {
-    match out {
-        Out::Nothing => {}
-        Out::All => print!(rt; ", all out")?,
-        Out::Front(_) if place != Place::Untold => {}
-        Out::Front(size) => print!(rt; ", the first {size} bytes out")?,
-        Out::Other(size) => print!(rt; ", {size} other bytes out")?,
-    }
-    Ok(())
-}
-
-/// Prints what came of a try.
+/// Says what came of a try.
 fn say_row<C: Call>(rt: &HostRuntime, call: &C, row: &Row<C::Answer>) -> Result<(), Fault> {
     call.print(rt, &row.answer)?;
-    match row.place {
-        Place::Untold => {}
-        Place::Right => print!(rt; " where it failed")?,
-        Place::Wrong(number) => print!(rt; " at {number}")?,
+    match row.wrong {
+        Some(number) => print!(rt; " at {number}")?,
+        None if row.is_told => print!(rt; " where it failed")?,
+        None => {}
     }
     if row.later > 0 {
         print!(rt; ", tried again")?;
     }
-    print_out(rt, row.place, row.out)?;
+    match row.out {
+        Out::Nothing => {}
+        Out::All => print!(rt; ", all out")?,
+        Out::Front(size) => print!(rt; ", the first {size} bytes out")?,
+        Out::Other(size) => print!(rt; ", {size} other bytes out")?,
+    }
     if let Some(again) = &row.again {
         print!(rt; ", then ")?;
         call.print(rt, again)?;
@@ -378,8 +348,15 @@ fn say_each<C: Call>(
     }
 }
 
-/// Makes a call with nothing failing, and then the tries that are asked. Prints what it is answered and what came of each
-/// try, and hands on how often the reader and the writer were called, what was left, and what went out.
+/// How often a reader was called, and how many bytes it had left.
+#[derive(Clone, Copy)]
+pub struct Calls {
+    pub reads: usize,
+    pub left: usize,
+}
+
+/// Makes a call with nothing failing, and the tries that are asked. Says what came of each try, and then what the call is
+/// answered where nothing fails.
 pub fn make<C: Call>(
     rt: &HostRuntime,
     call: &C,
@@ -398,11 +375,4 @@ pub fn make<C: Call>(
         reads: reader.calls,
         left: reader.left.len(),
     })
-}
-
-/// How often a reader was called, and how many bytes it had left.
-#[derive(Clone, Copy)]
-pub struct Calls {
-    pub reads: usize,
-    pub left: usize,
 }

@@ -1,22 +1,22 @@
 //! Whether a group is notified, and when an instance is due.
 
-use crate::fault::Fault;
-use crate::words::behind;
-use crate::{moments, words};
-use am_dedup::{Decision, decide, decide_over, due};
+use crate::moments::say_if_any;
+use am_case_words::fault::Fault;
+use am_case_words::moments::{moment, moment_behind, seconds};
+use am_case_words::words::{behind, number, numbers, parts};
+use am_dedup::{decide as decision, decide_over, due};
 use am_nflog::{Bytes, Entry, Hashes, LogKey, MeshEntry};
 use am_version_order::{Interval, Moment};
 use std::alloc::Global;
 
-/// The hashes of a list, as `1,2`, or `-` for none.
-fn hashes(alloc: Global, list: &str) -> Result<Vec<u64>, Fault> {
-    let mut hashes = Vec::new(alloc);
-    for word in list.split(',') {
-        if word != "-" {
-            hashes.push(words::number(word)?)?;
-        }
-    }
-    Ok(hashes)
+/// What a decision is made on, beside the entry.
+#[derive(Clone, Copy)]
+struct Asked<'a> {
+    firing: &'a [u64],
+    resolved: &'a [u64],
+    repeat: Interval,
+    wanted: bool,
+    now: Moment,
 }
 
 /// The entry of a group that was notified at a moment, with these hashes as firing and nothing resolved.
@@ -33,129 +33,73 @@ fn entry(alloc: Global, firing: &[u64], timestamp: Moment) -> Result<Entry, Faul
     })
 }
 
-/// The version of that entry.
-fn version(alloc: Global, firing: &[u64], timestamp: Moment) -> Result<MeshEntry, Fault> {
-    let entry = entry(alloc, firing, timestamp)?;
-    MeshEntry::new(alloc, entry, timestamp).map_err(|_| Fault::Memory)
-}
-
-/// What a decision is made on, beside the entry and the hashes.
-#[derive(Clone, Copy)]
-struct Asked {
-    repeat: Interval,
-    wanted: bool,
-    now: Moment,
-}
-
-/// What the group's entry is.
-#[derive(Clone, Copy)]
-struct Notice<'a> {
-    is_there: bool,
-    listed: &'a [u64],
-    timestamp: Moment,
-}
-
-/// The decision over the entry.
-fn decided(
-    alloc: Global,
-    notice: &Notice<'_>,
-    firing: &[u64],
-    resolved: &[u64],
-    asked: &Asked,
-) -> Result<Decision, Fault> {
-    let Asked {
-        repeat,
-        wanted,
-        now,
-    } = *asked;
-    if !notice.is_there {
-        return Ok(decide(None, firing, resolved, repeat, wanted, now));
-    }
-    let entry = entry(alloc, notice.listed, notice.timestamp)?;
-    Ok(decide(Some(&entry), firing, resolved, repeat, wanted, now))
-}
-
-/// The decision over the entry's version.
-fn decided_over(
-    alloc: Global,
-    notice: &Notice<'_>,
-    firing: &[u64],
-    resolved: &[u64],
-    asked: &Asked,
-) -> Result<Decision, Fault> {
-    let Asked {
-        repeat,
-        wanted,
-        now,
-    } = *asked;
-    if !notice.is_there {
-        return Ok(decide_over(None, firing, resolved, repeat, wanted, now));
-    }
-    let version = version(alloc, notice.listed, notice.timestamp)?;
-    Ok(decide_over(Some(&version), firing, resolved, repeat, wanted, now))
-}
-
 /// Says the decision over an entry and over its version.
-fn say_decided(
+fn say_decisions(
     rt: &HostRuntime,
-    notice: &Notice<'_>,
-    firing: &[u64],
-    resolved: &[u64],
-    asked: &Asked,
+    entry: Option<&Entry>,
+    version: Option<&MeshEntry>,
+    asked: &Asked<'_>,
 ) -> Result<(), Fault> {
-    let decision = decided(rt.alloc(), notice, firing, resolved, asked)?;
-    let over = decided_over(rt.alloc(), notice, firing, resolved, asked)?;
-    println!(rt; "{decision:?}, over its version {over:?}")?;
-    Ok(())
+    let Asked {
+        firing,
+        resolved,
+        repeat,
+        wanted,
+        now,
+    } = *asked;
+    let decision = decision(entry, firing, resolved, repeat, wanted, now);
+    let over = decide_over(version, firing, resolved, repeat, wanted, now);
+    Ok(println!(rt; "{decision:?}, over its version {over:?}")?)
 }
 
-/// What is asked in words.
-fn read_asked(words: &str) -> Result<Asked, Fault> {
-    Ok(Asked {
-        repeat: moments::seconds(behind(words, " repeat ").unwrap_or("60"))?,
-        wanted: behind(words, " wanted ") != Some("no"),
-        now: moments::moment(behind(words, " at ").unwrap_or("-"))?,
-    })
-}
-
-/// A step, whose firing hashes are read.
-fn step_firing(
+/// Says the decisions over the entry of these hashes and this moment, and over its version.
+fn say_over(
     rt: &HostRuntime,
-    notice: &Notice<'_>,
-    firing: &[u64],
-    words: &str,
+    listed: &[u64],
+    timestamp: Moment,
+    asked: &Asked<'_>,
 ) -> Result<(), Fault> {
-    let asked = read_asked(words)?;
-    let resolved = hashes(rt.alloc(), behind(words, " resolved ").unwrap_or("-"))?;
-    say_decided(rt, notice, firing, resolved.as_slice(), &asked)
+    let entry = entry(rt.alloc(), listed, timestamp)?;
+    say_over_both(rt, &entry, asked)
 }
 
-/// A step.
-fn step(rt: &HostRuntime, notice: &Notice<'_>, words: &str) -> Result<(), Fault> {
-    let firing = hashes(rt.alloc(), behind(words, "firing ").unwrap_or("-"))?;
-    step_firing(rt, notice, firing.as_slice(), words)
+fn say_over_both(rt: &HostRuntime, entry: &Entry, asked: &Asked<'_>) -> Result<(), Fault> {
+    let version = MeshEntry::new(rt.alloc(), entry.try_clone(rt.alloc())?, entry.timestamp)?;
+    say_decisions(rt, Some(entry), Some(&version), asked)
 }
 
-/// The steps over an entry.
-fn steps(rt: &HostRuntime, notice: &Notice<'_>, text: &str) -> Result<(), Fault> {
-    for words in text.split("; ") {
-        step(rt, notice, words)?;
+/// Asks over the words of an entry, `no entry` or `listed LIST at MOMENT`.
+fn ask(rt: &HostRuntime, words: &str, asked: &Asked<'_>) -> Result<(), Fault> {
+    if words == "no entry" {
+        return say_decisions(rt, None, None, asked);
     }
-    Ok(())
+    let listed = numbers(rt.alloc(), behind(words, "listed ").unwrap_or("-"))?;
+    say_over(
+        rt,
+        listed.as_slice(),
+        moment_behind(words, " at ", "-")?,
+        asked,
+    )
 }
 
-/// An entry, `no entry` or `listed LIST at T`, and what is asked of it.
-fn ask(rt: &HostRuntime, rest: &str) -> Result<(), Fault> {
-    let Some((entry, text)) = rest.split_once("; ") else {
-        return Err(Fault::Words);
+/// Asks with these firing hashes.
+fn ask_firing(rt: &HostRuntime, entry: &str, firing: &[u64], words: &str) -> Result<(), Fault> {
+    let resolved = numbers(rt.alloc(), behind(words, " resolved ").unwrap_or("-"))?;
+    let asked = Asked {
+        firing,
+        resolved: resolved.as_slice(),
+        repeat: seconds(behind(words, " repeat ").unwrap_or("60"))?,
+        wanted: behind(words, " wanted ") != Some("no"),
+        now: moment_behind(words, " at ", "-")?,
     };
-    let listed = hashes(rt.alloc(), behind(entry, "listed ").unwrap_or("-"))?;
-    let notice = Notice {
-        is_there: entry != "no entry",
-        listed: listed.as_slice(),
-        timestamp: moments::moment(behind(entry, " at ").unwrap_or("0"))?,
-    };
-    steps(rt, &notice, text)
+    ask(rt, entry, &asked)
+}
+
+/// `decide ENTRY; firing LIST resolved LIST wanted no repeat SECONDS at MOMENT`.
+pub fn decide(rt: &HostRuntime, rest: &str) -> Result<(), Fault> {
+    let (entry, words) = parts(rest, "; ")?;
+    let firing = numbers(rt.alloc(), behind(words, "firing ").unwrap_or("-"))?;
+    ask_firing(rt, entry, firing.as_slice(), words)
 }
 
 /// The most hashes of a long list.
@@ -174,54 +118,52 @@ fn spread(hashes: &mut [u64], places: u64, step: u64) {
 }
 
 /// The number behind a name.
-fn number(words: &str, name: &str) -> Result<usize, Fault> {
-    match behind(words, name) {
-        Some(word) => word.parse::<usize>().map_err(|_| Fault::Words),
-        None => Err(Fault::Words),
-    }
+fn number_behind(words: &str, name: &str) -> Result<u64, Fault> {
+    number(behind(words, name).unwrap_or("-"))
 }
 
 /// Fills the firing hashes of a long list, of which one may be missing in the entry.
 fn fill(firing: &mut [u64], words: &str) -> Result<(), Fault> {
-    let listed = number(words, "listed ")? as u64;
-    spread(firing, listed, number(words, "step ")? as u64);
-    if let Ok(place) = number(words, "unlisted ") {
-        if let Some(hash) = firing.get_mut(place) {
+    let listed = number_behind(words, "listed ")?;
+    spread(firing, listed, number_behind(words, "step ")?);
+    if let Ok(place) = number_behind(words, "unlisted ") {
+        if let Some(hash) = firing.get_mut((place % MOST as u64) as usize) {
             *hash = nth(listed);
         }
     }
     Ok(())
 }
 
-/// Says the decision over long lists.
-fn long(rt: &HostRuntime, words: &str) -> Result<(), Fault> {
+/// The first hashes, as many as a word behind a name says.
+fn first_of<'a>(hashes: &'a [u64], words: &str, name: &str) -> Result<&'a [u64], Fault> {
+    let count = number_behind(words, name)?.min(hashes.len() as u64);
+    Ok(&hashes[..count as usize])
+}
+
+/// `decide-long listed N firing N step N unlisted PLACE`: the decisions over long lists, 60 s after they were told.
+pub fn decide_long(rt: &HostRuntime, words: &str) -> Result<(), Fault> {
     let mut listed = [0; MOST];
     spread(&mut listed, MOST as u64, 1);
     let mut firing = [0; MOST];
     fill(&mut firing, words)?;
-    let notice = Notice {
-        is_there: true,
-        listed: &listed[..number(words, "listed ")?.min(MOST)],
-        timestamp: moments::moment("100")?,
+    let asked = Asked {
+        firing: first_of(&firing, words, "firing ")?,
+        resolved: &[],
+        repeat: seconds("60")?,
+        wanted: true,
+        now: moment("160")?,
     };
-    let firing = &firing[..number(words, "firing ")?.min(MOST)];
-    say_decided(rt, &notice, firing, &[], &read_asked("firing 1 at 160")?)
+    say_over(
+        rt,
+        first_of(&listed, words, "listed ")?,
+        moment("100")?,
+        &asked,
+    )
 }
 
-/// Says when an instance is due.
-fn say_due(rt: &HostRuntime, words: &str) -> Result<(), Fault> {
-    let start = moments::moment(behind(words, "start ").unwrap_or("-"))?;
-    let timeout = moments::seconds(behind(words, " timeout ").unwrap_or("-"))?;
-    let position = words::number(behind(words, " place ").unwrap_or("-"))?;
-    moments::say(rt, due(start, position, timeout))
-}
-
-pub fn answer(rt: &HostRuntime, verb: &str, rest: &str) -> Result<bool, Fault> {
-    match verb {
-        "decide" => ask(rt, rest)?,
-        "decide-long" => long(rt, rest)?,
-        "due" => say_due(rt, rest)?,
-        _ => return Ok(false),
-    }
-    Ok(true)
+/// `due start MOMENT place N timeout SECONDS`: when an instance is due.
+pub fn say_due(rt: &HostRuntime, words: &str) -> Result<(), Fault> {
+    let start = moment_behind(words, "start ", "-")?;
+    let timeout = seconds(behind(words, " timeout ").unwrap_or("-"))?;
+    say_if_any(rt, due(start, number_behind(words, " place ")?, timeout))
 }

@@ -1,29 +1,23 @@
 //! Frames as they are read, in any cut.
 
-use crate::fault::Fault;
-use crate::{frames_written, words};
-use am_gossip::{Fed, Feeder, Frame, FrameError, Part};
+use am_case_words::fault::{Fault, say_refusal};
+use am_case_words::words::{bytes, cut, number, parts};
+use am_gossip::{
+    Fed, Feeder, Frame, FrameError, FrameKind, Part, StateKey, append_frame, read_hello,
+};
 
-/// `feed PIECE | PIECE ..` feeds a stream.
-pub fn answer(rt: &HostRuntime, verb: &str, rest: &str) -> Result<bool, Fault> {
-    if verb != "feed" {
-        return Ok(false);
+/// `feed PIECE | PIECE ..` feeds a stream in these pieces, `feed cut each: STREAM` in two, cut at each place in turn, and
+/// `feed and write again: STREAM` writes the frames again.
+pub fn feed(rt: &HostRuntime, rest: &str) -> Result<(), Fault> {
+    let (how, pairs) = cut(rest, ": ");
+    if pairs.is_empty() {
+        return feed_pieces(rt, rest);
     }
-    feed(rt, rest)?;
-    Ok(true)
-}
-
-fn feed(rt: &HostRuntime, rest: &str) -> Result<(), Fault> {
-    match rest.split_once(':') {
-        None => feed_pieces(rt, rest),
-        Some((how, pairs)) => {
-            let bytes = words::bytes(rt.alloc(), pairs)?;
-            match how {
-                "cut each" => cut_each(rt, bytes.as_slice()),
-                "and write again, cut each" => frames_written::again(rt, bytes.as_slice()),
-                _ => Err(Fault::Words),
-            }
-        }
+    let bytes = bytes(rt.alloc(), pairs)?;
+    match how {
+        "cut each" => cut_each(rt, bytes.as_slice()),
+        "and write again" => write_again(rt, bytes.as_slice()),
+        _ => Err(Fault::Words),
     }
 }
 
@@ -31,18 +25,18 @@ fn feed(rt: &HostRuntime, rest: &str) -> Result<(), Fault> {
 fn feed_pieces(rt: &HostRuntime, pieces: &str) -> Result<(), Fault> {
     let mut feeder = Feeder::new(rt.alloc());
     for pairs in pieces.split('|') {
-        feed_pairs(rt, &mut feeder, pairs)?;
+        feed_pairs(rt, &mut feeder, pairs.trim())?;
     }
     Ok(())
 }
 
 fn feed_pairs(rt: &HostRuntime, feeder: &mut Feeder, pairs: &str) -> Result<(), Fault> {
-    let piece = words::bytes(rt.alloc(), pairs)?;
+    let piece = bytes(rt.alloc(), pairs)?;
     feed_piece(rt, feeder, piece.as_slice())
 }
 
 /// Feeds a piece; where no memory is there for it, says so, and feeds it once more, to the feeder as it then is.
-pub fn fed(rt: &HostRuntime, feeder: &mut Feeder, piece: &[u8]) -> Result<Fed, FrameError> {
+fn fed(rt: &HostRuntime, feeder: &mut Feeder, piece: &[u8]) -> Result<Fed, FrameError> {
     match feeder.feed(piece) {
         Err(FrameError::Memory) => {
             let _ = println!(rt; "! Memory");
@@ -56,22 +50,21 @@ pub fn fed(rt: &HostRuntime, feeder: &mut Feeder, piece: &[u8]) -> Result<Fed, F
 fn feed_piece(rt: &HostRuntime, feeder: &mut Feeder, piece: &[u8]) -> Result<(), Fault> {
     match fed(rt, feeder, piece) {
         Ok(fed) => {
-            say_fed(rt, &fed)?;
+            print_fed(rt, &fed)?;
             print!(rt; "{} wait", feeder.waiting())?;
             if fed.fault.is_some() {
-                say_end(rt, feeder)?;
+                print_end(rt, feeder)?;
             }
             Ok(println!(rt; "")?)
         }
-        Err(FrameError::Memory) => Err(Fault::Memory),
-        Err(fault) => Ok(println!(rt; "{fault:?}")?),
+        Err(fault) => say_refusal(rt, fault, FrameError::Memory),
     }
 }
 
-/// Says what is answered behind a fault, to a Tick and to an empty piece.
-fn say_end(rt: &HostRuntime, feeder: &mut Feeder) -> Result<(), Fault> {
-    for tick in [[0x04, 0x00].as_slice(), [].as_slice()] {
-        match feeder.feed(tick) {
+/// Prints what is answered behind a fault, to a Tick and to an empty piece.
+fn print_end(rt: &HostRuntime, feeder: &mut Feeder) -> Result<(), Fault> {
+    for piece in [[0x04, 0x00].as_slice(), [].as_slice()] {
+        match feeder.feed(piece) {
             Err(fault) => print!(rt; ", {fault:?}")?,
             Ok(_) => print!(rt; ", read on")?,
         }
@@ -79,9 +72,9 @@ fn say_end(rt: &HostRuntime, feeder: &mut Feeder) -> Result<(), Fault> {
     Ok(())
 }
 
-fn say_fed(rt: &HostRuntime, fed: &Fed) -> Result<(), Fault> {
+fn print_fed(rt: &HostRuntime, fed: &Fed) -> Result<(), Fault> {
     for frame in &fed.frames {
-        say_frame(rt, frame)?;
+        print_frame(rt, frame)?;
         print!(rt; ", ")?;
     }
     if let Some(fault) = fed.fault {
@@ -90,26 +83,26 @@ fn say_fed(rt: &HostRuntime, fed: &Fed) -> Result<(), Fault> {
     Ok(())
 }
 
-fn say_frame(rt: &HostRuntime, frame: &Frame) -> Result<(), Fault> {
-    let kind = frame.kind();
-    print!(rt; "{kind:?}")?;
+fn print_frame(rt: &HostRuntime, frame: &Frame) -> Result<(), Fault> {
+    print!(rt; "{:?}", frame.kind())?;
     match frame {
         Frame::Tick => Ok(()),
-        Frame::Delta(part) => say_part(rt, part),
-        Frame::Push(state) | Frame::Pull(state) => say_parts(rt, state.parts()),
+        Frame::Delta(part) => print_part(rt, part),
+        Frame::Push(state) | Frame::Pull(state) => print_parts(rt, state.parts()),
     }
 }
 
-pub fn say_parts(rt: &HostRuntime, parts: &[Part]) -> Result<(), Fault> {
+/// Prints parts, with ` +` between them.
+pub fn print_parts(rt: &HostRuntime, parts: &[Part]) -> Result<(), Fault> {
     for (place, part) in parts.iter().enumerate() {
         let plus = if place == 0 { "" } else { " +" };
         print!(rt; "{plus}")?;
-        say_part(rt, part)?;
+        print_part(rt, part)?;
     }
     Ok(())
 }
 
-fn say_part(rt: &HostRuntime, part: &Part) -> Result<(), Fault> {
+fn print_part(rt: &HostRuntime, part: &Part) -> Result<(), Fault> {
     print!(rt; " {}", part.key.as_str())?;
     for byte in part.bytes.as_slice() {
         print!(rt; " {byte:02x}")?;
@@ -119,8 +112,8 @@ fn say_part(rt: &HostRuntime, part: &Part) -> Result<(), Fault> {
 
 /// Feeds the stream in two pieces, with two lines for each place of the cut.
 fn cut_each(rt: &HostRuntime, bytes: &[u8]) -> Result<(), Fault> {
-    for cut in 0..=bytes.len() {
-        let (front, rest) = bytes.split_at(cut);
+    for place in 0..=bytes.len() {
+        let (front, rest) = bytes.split_at(place);
         feed_two(rt, front, rest)?;
     }
     Ok(())
@@ -130,4 +123,92 @@ fn feed_two(rt: &HostRuntime, front: &[u8], rest: &[u8]) -> Result<(), Fault> {
     let mut feeder = Feeder::new(rt.alloc());
     feed_piece(rt, &mut feeder, front)?;
     feed_piece(rt, &mut feeder, rest)
+}
+
+/// Feeds the stream in two pieces, cut at each place in turn, and then byte by byte, and writes the frames again: says
+/// how often that gives the same bytes, of which those of the first piece are written or wait.
+fn write_again(rt: &HostRuntime, bytes: &[u8]) -> Result<(), Fault> {
+    let mut same = 0usize;
+    for place in 0..=bytes.len() {
+        if is_same(rt, bytes, place, usize::MAX)? {
+            same = same.saturating_add(1);
+        }
+    }
+    let is_same = is_same(rt, bytes, 0, 1)?;
+    Ok(println!(rt; "the same at {same} cuts, byte by byte {is_same}")?)
+}
+
+fn is_same(rt: &HostRuntime, bytes: &[u8], place: usize, step: usize) -> Result<bool, Fault> {
+    let mut out = Vec::new(rt.alloc());
+    let (front, rest) = bytes.split_at(place.min(bytes.len()));
+    let is_whole = write_pieces(rt, front, rest, step, &mut out)?;
+    Ok(is_whole && out.as_slice() == bytes)
+}
+
+/// Feeds a front and the rest, that in pieces, and writes the frames; whether of the front what isn't written waits, and in
+/// the end nothing does.
+fn write_pieces(
+    rt: &HostRuntime,
+    front: &[u8],
+    rest: &[u8],
+    step: usize,
+    out: &mut Vec<u8>,
+) -> Result<bool, Fault> {
+    let mut feeder = Feeder::new(rt.alloc());
+    write_piece(rt, &mut feeder, front, out)?;
+    let is_whole = out.len().checked_add(feeder.waiting()) == Some(front.len());
+    for piece in rest.chunks(step.max(1)) {
+        write_piece(rt, &mut feeder, piece, out)?;
+    }
+    Ok(is_whole && feeder.waiting() == 0)
+}
+
+/// Writes the frames that a piece brings behind the bytes.
+fn write_piece(
+    rt: &HostRuntime,
+    feeder: &mut Feeder,
+    piece: &[u8],
+    out: &mut Vec<u8>,
+) -> Result<(), Fault> {
+    let fed = fed(rt, feeder, piece).map_err(fault_of)?;
+    for frame in &fed.frames {
+        append_frame(out, frame).map_err(fault_of)?;
+    }
+    Ok(())
+}
+
+fn fault_of(fault: FrameError) -> Fault {
+    match fault {
+        FrameError::Memory => Fault::Memory,
+        _ => Fault::Words,
+    }
+}
+
+/// `hello BYTES` reads a greeting.
+pub fn hello(rt: &HostRuntime, pairs: &str) -> Result<(), Fault> {
+    let bytes = bytes(rt.alloc(), pairs)?;
+    match read_hello(bytes.as_slice()) {
+        Ok(Some((name, len))) => println!(rt; "{name} in {len}")?,
+        Ok(None) => println!(rt; "more is wanted")?,
+        Err(fault) => println!(rt; "{fault:?}")?,
+    }
+    Ok(())
+}
+
+/// `kind CODE`: the kind of a first byte, its own first byte, and the limit of its payloads.
+pub fn kind(rt: &HostRuntime, code: &str) -> Result<(), Fault> {
+    match FrameKind::from_code((number(code)? % 256) as u8) {
+        Some(kind) => println!(rt; "{kind:?} {}, at most {}", kind.code(), kind.limit())?,
+        None => println!(rt; "none")?,
+    }
+    Ok(())
+}
+
+/// `key WORD`: the state of a key.
+pub fn key(rt: &HostRuntime, text: &str) -> Result<(), Fault> {
+    match StateKey::from_text(text) {
+        Some(key) => println!(rt; "{key:?} {}", key.as_str())?,
+        None => println!(rt; "none")?,
+    }
+    Ok(())
 }

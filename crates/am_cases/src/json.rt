@@ -1,34 +1,48 @@
-//! Silences in JSON: what is shown, and what is posted.
+//! Moments and silences in JSON: what is shown, and what is posted.
 
-use crate::fault::Fault;
-use crate::version_lines::{cut, say_matchers, say_moment_behind, version_of};
-use crate::words;
+use am_case_words::fault::{Fault, say_refusal};
+use am_case_words::matchers::print_matchers;
+use am_case_words::moments::{moment, print_moment, say_moment};
+use am_case_words::texts::unescaped;
+use am_case_words::versions::version;
+use am_case_words::words::first;
+use am_moment_text::{read_moment, write_moment};
 use am_silence::{MeshSilence, Posted, State};
 use am_silence_json::{
     BodyError, read_post, write_error, write_posted, write_silence, write_silences,
 };
 use std::alloc::{AllocError, Global};
 
-pub fn answer(rt: &HostRuntime, verb: &str, rest: &str) -> Result<bool, Fault> {
-    if verb != "json" {
-        return Ok(false);
+/// `moment-text read TEXT` and `moment-text written 10.0005`.
+pub fn moment_text(rt: &HostRuntime, rest: &str) -> Result<(), Fault> {
+    match first(rest) {
+        ("read", text) => match read_moment(text) {
+            Some(moment) => say_moment(rt, "", moment),
+            None => Ok(println!(rt; "none")?),
+        },
+        ("written", word) => Ok(println!(rt; "{}", write_moment(moment(word)?).as_str())?),
+        _ => Err(Fault::Words),
     }
-    match words::first(rest) {
-        ("shows", row) => shows(rt, rt.alloc(), row)?,
-        ("lists", rows) => lists(rt, rt.alloc(), rows)?,
-        ("posted", id) => say_body(rt, write_posted(Vec::new(rt.alloc()), id))?,
-        ("fault", text) => say_body(rt, write_error(Vec::new(rt.alloc()), text))?,
-        ("post", body) => post(rt, rt.alloc(), body)?,
-        _ => return Ok(false),
+}
+
+/// `json shows STATE SILENCE`, `json lists STATE SILENCE, ..`, `json posted ID`, `json fault TEXT` and `json post BODY`.
+pub fn json(rt: &HostRuntime, rest: &str) -> Result<(), Fault> {
+    match first(rest) {
+        ("shows", row) => shows(rt, row),
+        ("lists", rows) => lists(rt, rows),
+        ("posted", id) => say_body(rt, write_posted(Vec::new(rt.alloc()), id)),
+        ("fault", text) => say_body(rt, write_error(Vec::new(rt.alloc()), text)),
+        ("post", body) => post(rt, body),
+        _ => Err(Fault::Words),
     }
-    Ok(true)
 }
 
 fn say_body(rt: &HostRuntime, body: Result<Vec<u8>, AllocError>) -> Result<(), Fault> {
     let body = body?;
-    let text = str::from_utf8(body.as_slice()).map_err(|_| Fault::Words)?;
-    println!(rt; "{text}")?;
-    Ok(())
+    match str::from_utf8(body.as_slice()) {
+        Ok(text) => Ok(println!(rt; "{text}")?),
+        Err(_) => Err(Fault::Words),
+    }
 }
 
 fn state(word: &str) -> Result<State, Fault> {
@@ -41,72 +55,57 @@ fn state(word: &str) -> Result<State, Fault> {
 }
 
 /// A silence in its state: `active a job=x ..`.
-fn shows(rt: &HostRuntime, alloc: Global, row: &str) -> Result<(), Fault> {
-    let (word, line) = words::first(row);
+fn shows(rt: &HostRuntime, row: &str) -> Result<(), Fault> {
+    let (word, words) = first(row);
     let state = state(word)?;
-    let version = version_of(alloc, line)?;
-    say_body(rt, write_silence(Vec::new(alloc), &version, state))
+    let version = version(rt.alloc(), words)?;
+    say_body(rt, write_silence(Vec::new(rt.alloc()), &version, state))
 }
 
-/// Silences in their states, parted by semicolons.
-fn rows_of(alloc: Global, text: &str) -> Result<Vec<(MeshSilence, State)>, Fault> {
-    let mut rows = Vec::new(alloc);
-    for row in text.split(';') {
-        let (word, line) = words::first(row.trim_ascii());
-        if !word.is_empty() {
-            let state = state(word)?;
-            rows.push((version_of(alloc, line)?, state))?;
+/// Puts a silence in its state at the end.
+fn push(alloc: Global, rows: &mut Vec<(MeshSilence, State)>, row: &str) -> Result<(), Fault> {
+    let (word, words) = first(row);
+    let state = state(word)?;
+    Ok(rows.push((version(alloc, words)?, state))?)
+}
+
+fn lists(rt: &HostRuntime, text: &str) -> Result<(), Fault> {
+    let mut rows = Vec::new(rt.alloc());
+    for row in text.split(", ") {
+        if !row.is_empty() {
+            push(rt.alloc(), &mut rows, row)?;
         }
     }
-    Ok(rows)
+    say_body(rt, write_silences(Vec::new(rt.alloc()), rows.as_slice()))
 }
 
-fn lists(rt: &HostRuntime, alloc: Global, text: &str) -> Result<(), Fault> {
-    let rows = rows_of(alloc, text)?;
-    say_body(rt, write_silences(Vec::new(alloc), rows.as_slice()))
-}
-
-/// What is posted by a body, as text or behind `bytes` as bytes.
-fn post(rt: &HostRuntime, alloc: Global, body: &str) -> Result<(), Fault> {
-    match body.strip_prefix("bytes ") {
-        Some(hex) => {
-            let bytes = words::bytes(alloc, hex)?;
-            post_of(rt, alloc, bytes.as_slice())
-        }
-        None => post_of(rt, alloc, body.as_bytes()),
-    }
-}
-
-fn post_of(rt: &HostRuntime, alloc: Global, body: &[u8]) -> Result<(), Fault> {
-    match read_post(alloc, body) {
+/// What is posted by a body, a text with escapes.
+fn post(rt: &HostRuntime, body: &str) -> Result<(), Fault> {
+    let body = unescaped(rt.alloc(), body)?;
+    match read_post(rt.alloc(), body.as_slice()) {
         Ok(posted) => say_posted(rt, &posted),
         Err(fault) => say_fault(rt, fault),
     }
 }
 
-/// Prints what is posted, as `- job=x 10..100 by "ops" saying "hi"`.
+/// Says what is posted, as `- job=x 10..100 by "ops" saying "hi"`.
 fn say_posted(rt: &HostRuntime, posted: &Posted) -> Result<(), Fault> {
     let id = match &posted.id {
         Some(id) => id.as_str(),
         None => "-",
     };
     let (author, comment) = (posted.created_by.as_str(), posted.comment.as_str());
-    print!(rt; "{id} ")?;
-    say_matchers(rt, posted.matchers.iter())?;
-    say_moment_behind(rt, " ", posted.starts_at)?;
-    say_moment_behind(rt, "..", posted.ends_at)?;
-    println!(rt; " by \"{author}\" saying \"{comment}\"")?;
-    Ok(())
+    print!(rt; "{id}")?;
+    print_matchers(rt, posted.matchers.iter())?;
+    print_moment(rt, " ", posted.starts_at)?;
+    print_moment(rt, "..", posted.ends_at)?;
+    Ok(println!(rt; " by \"{author}\" saying \"{comment}\"")?)
 }
 
-/// Prints why a body is refused, and how the key at fault is spelled.
+/// Says why a body is refused, and how the key at fault is spelled.
 fn say_fault(rt: &HostRuntime, fault: BodyError) -> Result<(), Fault> {
     match fault {
-        BodyError::Memory => Err(Fault::Memory),
-        BodyError::Wrong(key) => {
-            let text = key.text();
-            Ok(println!(rt; "{fault:?}: {text}")?)
-        }
-        BodyError::BadJson => Ok(println!(rt; "{fault:?}")?),
+        BodyError::Wrong(key) => Ok(println!(rt; "{fault:?}: {}", key.text())?),
+        _ => say_refusal(rt, fault, BodyError::Memory),
     }
 }

@@ -1,135 +1,122 @@
-//! Answers cases: reads them from standard input, a line each, and prints each with its answer below it.
+//! Answers cases of what stands below an instance (docs/CASES.md).
 #![tactic(auto)]
 
 mod decisions;
-mod fakes;
-mod fault;
-mod filters;
 mod frames;
 mod frames_written;
-mod greetings;
-mod in_pieces;
 mod json;
-mod keepers;
-mod lines;
 mod log;
 mod maps;
 mod matchers;
-mod moment_texts;
 mod moments;
 mod mutes;
 mod plans;
 mod replies;
 mod requests;
-mod schedules;
-mod silences;
+mod rows;
 mod snapshots;
-mod texts;
-mod timestamps;
-mod version_lines;
 mod versions;
 mod views;
 mod wire;
-mod wire_parts;
-mod wire_texts;
-mod words;
+mod written;
 
-use fault::Fault;
-use std::alloc::Global;
-use std::io::Read;
+use am_case_words::fault::Fault;
+use am_case_words::transcript::{Answers, run};
 use std::process::ExitCode;
 
-/// Says what a case is answered.
-fn answer(rt: &HostRuntime, line: &str) -> Result<(), Fault> {
-    let (verb, rest) = words::first(line);
-    let is_known = wire::answer(rt, verb, rest)?
-        || wire_parts::answer(rt, verb, rest)?
-        || wire_texts::answer(rt, verb, rest)?
-        || timestamps::answer(rt, verb, rest)?
-        || frames::answer(rt, verb, rest)?
-        || frames_written::answer(rt, verb, rest)?
-        || greetings::answer(rt, verb, rest)?
-        || silences::answer(rt, verb, rest)?
-        || plans::answer(rt, verb, rest)?
-        || log::answer(rt, verb, rest)?
-        || json::answer(rt, verb, rest)?
-        || moment_texts::answer(rt, verb, rest)?
-        || matchers::answer(rt, verb, rest)?
-        || filters::answer(rt, verb, rest)?
-        || mutes::answer(rt, verb, rest)?
-        || decisions::answer(rt, verb, rest)?
-        || maps::answer(rt, verb, rest)?
-        || keepers::answer(rt, verb, rest)?
-        || moments::answer(rt, verb, rest)?
-        || requests::answer(rt, verb, rest)?
-        || replies::answer(rt, verb, rest)?
-        || snapshots::answer(rt, verb, rest)?
-        || views::answer(rt, verb, rest)?
-        || lines::answer(rt, verb, rest)?
-        || schedules::answer(rt, verb, rest)?;
-    if is_known { Ok(()) } else { Err(Fault::Words) }
-}
+/// The cases of this program. Nothing goes on from one to the next.
+struct Cases;
 
-/// Prints a case and its answer; where no memory is there for it, says so, and makes it once more.
-fn case(rt: &HostRuntime, line: &str) -> Result<(), Fault> {
-    println!(rt; "> {line}")?;
-    let answered = match answer(rt, line) {
-        Err(Fault::Memory) => {
-            println!(rt; "! Memory")?;
-            answer(rt, line)
+impl Answers for Cases {
+    fn answer(&mut self, rt: &HostRuntime, verb: &str, rest: &str) -> Result<(), Fault> {
+        match verb {
+            "sil" => versions::of_silences(rt, rest),
+            "nfl" => versions::of_log(rt, rest),
+            "matcher" => versions::matcher(rt, rest),
+            "matchers" => versions::matchers_copied(rt, rest),
+            "fresh" => versions::fresh(rt, rest),
+            "hashes" => versions::hashes_copied(rt, rest),
+            "receiver" => versions::receiver(rt, rest),
+            "notified" => log::notified(rt, rest),
+            "held" => plans::held(rt, rest),
+            "moment" => moments::of_parts(rt, rest),
+            "parts" => moments::say_parts(rt, rest),
+            "order" => moments::say_order(rt, rest),
+            "interval" => moments::say_interval(rt, rest),
+            "sum" => moments::say_sum(rt, rest),
+            "sums" => moments::say_sums(rt, rest),
+            _ => of_bytes(rt, verb, rest),
         }
-        other => other,
-    };
-    match answered {
-        Err(Fault::Output) => Err(Fault::Output),
-        Err(fault) => Ok(println!(rt; "! {fault:?}")?),
-        Ok(()) => Ok(()),
     }
 }
 
-/// Reads standard input to its end.
-fn input(rt: &HostRuntime, alloc: Global) -> Result<Vec<u8>, Fault> {
-    let mut text = Vec::new(alloc);
-    let mut piece = [0; 4096];
-    for _ in 0..u64::MAX {
-        let count = rt.stdin().read(&mut piece)?.min(4096);
-        if count == 0 {
-            break;
-        }
-        append(rt, &mut text, &piece[..count])?;
+/// Cases of bytes on the wire, and of rows.
+fn of_bytes(rt: &HostRuntime, verb: &str, rest: &str) -> Result<(), Fault> {
+    match verb {
+        "wire" => wire::wire(rt, rest),
+        "put" => written::put(rt, rest),
+        "dated-size" => written::say_size(rt, rest),
+        "compare" => written::compare(rt, rest),
+        "keep-text" => written::keep_text(rt, rest),
+        "keep-bytes" => written::keep_bytes(rt, rest),
+        "feed" => frames::feed(rt, rest),
+        "hello" => frames::hello(rt, rest),
+        "kind" => frames::kind(rt, rest),
+        "key" => frames::key(rt, rest),
+        "frame" => frames_written::frame(rt, rest),
+        "full-state" => frames_written::full_state(rt, rest),
+        "timestamps" => rows::timestamps(rt, rest),
+        "load" | "take_row" | "save" | "copy" | "fold" => snapshots::row(rt, verb, rest),
+        "show" => snapshots::show(rt, rest),
+        "view" => snapshots::view(rt, rest),
+        "send" => snapshots::send_to(rt, rest),
+        _ => of_maps(rt, verb, rest),
     }
-    Ok(text)
 }
 
-/// Appends a piece; where no memory is there, says so, and tries once more.
-fn append(rt: &HostRuntime, text: &mut Vec<u8>, piece: &[u8]) -> Result<(), Fault> {
-    if text.extend_from_slice(piece).is_err() {
-        println!(rt; "! Memory")?;
-        text.extend_from_slice(piece)?;
+/// Cases of maps, matchers and decisions.
+fn of_maps(rt: &HostRuntime, verb: &str, rest: &str) -> Result<(), Fault> {
+    match verb {
+        "map" => maps::map(rt, rest),
+        "versions" => maps::map_of(rt, rest),
+        "keeper" => maps::keeper(rt, rest),
+        "keeper-start" => maps::keeper_start(rt, rest),
+        "matches" => matchers::matches(rt, rest),
+        "compiled" => matchers::compiled(rt, rest),
+        "verdicts" => matchers::verdicts(rt, rest),
+        "many-verdicts" => matchers::many_verdicts(rt, rest),
+        "filter" => mutes::filter(rt, rest),
+        "mutes" => mutes::mutes(rt, rest),
+        "decide" => decisions::decide(rt, rest),
+        "decide-long" => decisions::decide_long(rt, rest),
+        "due" => decisions::say_due(rt, rest),
+        _ => of_texts(rt, verb, rest),
     }
-    Ok(())
 }
 
-/// Answers each line of the text.
-fn cases(rt: &HostRuntime, text: &str) -> Result<(), Fault> {
-    for line in text.lines() {
-        case(rt, line)?;
+/// Cases of texts.
+fn of_texts(rt: &HostRuntime, verb: &str, rest: &str) -> Result<(), Fault> {
+    match verb {
+        "json" => json::json(rt, rest),
+        "moment-text" => json::moment_text(rt, rest),
+        "request" => requests::request(rt, rest),
+        "fronts" => requests::fronts(rt, rest),
+        "receive" => requests::receive_from(rt, rest),
+        "call" => replies::call(rt, rest),
+        "filters" => replies::filters(rt, rest),
+        "refusals" => replies::refusals(rt),
+        "reply" => replies::reply(rt, rest),
+        "word" => views::word(rt, rest),
+        "numbers" => views::numbers_word(rt, rest),
+        "texts" => views::texts_word(rt, rest),
+        "calm" => views::calm(rt, rest),
+        "pull" => views::pull(rt, rest),
+        "refused" => views::refused(rt),
+        "schedule" => views::schedule(rt, rest),
+        _ => Err(Fault::Words),
     }
-    Ok(())
-}
-
-/// Answers all cases of standard input.
-fn run(rt: &HostRuntime) -> Result<(), Fault> {
-    let text = input(rt, rt.alloc())?;
-    let Ok(lines) = str::from_utf8(text.as_slice()) else {
-        return Err(Fault::Words);
-    };
-    cases(rt, lines)
 }
 
 fn main(rt: HostRuntime) -> ExitCode {
-    match run(&rt) {
-        Ok(()) => ExitCode::SUCCESS,
-        Err(_) => ExitCode::FAILURE,
-    }
+    run(&rt, &mut Cases)
 }

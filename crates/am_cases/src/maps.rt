@@ -1,123 +1,21 @@
-//! Held maps of silences: what is taken, merged and dropped.
+//! Held maps of silences, and keepers, which are maps with the moment of their last event.
 
-use crate::fault::Fault;
-use crate::{moments, versions, words};
+use crate::moments::say_if_any;
+use am_case_words::fault::{Fault, say_refusal};
+use am_case_words::maps::{held, say_held, take};
+use am_case_words::moments::{moment, say_moment};
+use am_case_words::versions;
+use am_case_words::words::{bytes, first, parts};
+use am_collect::{Keeper, KeeperError, Step};
 use am_merge::{FromVersionsError, Held};
 use am_silence::MeshSilence;
 use am_version_order::{Moment, Version};
 use am_wire::Text;
 use std::alloc::Global;
+use std::fmt::Debug;
 
-/// What stands before the moment of a text.
-pub fn undated(text: &str) -> &str {
-    match text.split_once(" at ") {
-        Some((words, _)) => words,
-        None => text,
-    }
-}
-
-/// The moment at the end of a text.
-pub fn date(text: &str) -> Result<Moment, Fault> {
-    match text.split_once(" at ") {
-        Some((_, moment)) => moments::moment(moment),
-        None => Err(Fault::Words),
-    }
-}
-
-/// Takes a version.
-fn take(rt: &HostRuntime, held: &mut Held<MeshSilence>, text: &str) -> Result<(), Fault> {
-    let words = undated(text);
-    let now = date(text)?;
-    let taken = versions::take(rt.alloc(), held, words, now)?;
-    println!(rt; "{taken:?}")?;
-    Ok(())
-}
-
-/// Takes a version, and behind it another one.
-fn take_before(
-    rt: &HostRuntime,
-    held: &mut Held<MeshSilence>,
-    first: MeshSilence,
-    words: &str,
-    now: Moment,
-) -> Result<(), Fault> {
-    match versions::version(rt.alloc(), words) {
-        Ok(second) => {
-            let taken = held.take_pair(first, second, now)?;
-            println!(rt; "{taken:?}")?;
-            Ok(())
-        }
-        Err(fault) => Err(fault),
-    }
-}
-
-/// Takes two versions.
-fn take_pair(rt: &HostRuntime, held: &mut Held<MeshSilence>, text: &str) -> Result<(), Fault> {
-    let words = undated(text);
-    let now = date(text)?;
-    let Some((first, second)) = words.split_once(", ") else {
-        return Err(Fault::Words);
-    };
-    take_before(rt, held, versions::version(rt.alloc(), first)?, second, now)
-}
-
-/// Merges a map of versions, and says how many identifiers have another version.
-pub fn merge(
-    rt: &HostRuntime,
-    held: &mut Held<MeshSilence>,
-    words: &str,
-    now: Moment,
-) -> Result<(), Fault> {
-    let other = versions::held(rt.alloc(), words)?;
-    match held.merge(&other, now) {
-        Ok(changed) => Ok(println!(rt; "{changed} changed")?),
-        Err(_) => Err(Fault::Memory),
-    }
-}
-
-/// Merges a map of versions at a moment.
-fn merge_at(rt: &HostRuntime, held: &mut Held<MeshSilence>, text: &str) -> Result<(), Fault> {
-    let words = undated(text);
-    let now = date(text)?;
-    merge(rt, held, words, now)
-}
-
-/// Says the version of an identifier.
-pub fn get(rt: &HostRuntime, held: &Held<MeshSilence>, id: &str) -> Result<(), Fault> {
-    let id = Text::copied(rt.alloc(), id)?;
-    versions::say_version(rt, held.get(&id))
-}
-
-/// Says the identifiers in a bucket.
-fn bucket(rt: &HostRuntime, held: &Held<MeshSilence>, bytes: &str) -> Result<(), Fault> {
-    let bytes = words::bytes(rt.alloc(), bytes)?;
-    let mut count: usize = 0;
-    for version in held.in_bucket(bytes.as_slice()) {
-        print!(rt; "{} ", version.key().as_str())?;
-        count = count.saturating_add(1);
-    }
-    println!(rt; "({count})")?;
-    Ok(())
-}
-
-/// A step on a map.
-fn step(rt: &HostRuntime, held: &mut Held<MeshSilence>, words: &str) -> Result<(), Fault> {
-    let (verb, rest) = words::first(words);
-    match verb {
-        "take" => take(rt, held, rest),
-        "pair" => take_pair(rt, held, rest),
-        "merge" => merge_at(rt, held, rest),
-        "sweep" => Ok(println!(rt; "{} went", held.sweep(date(words)?))?),
-        "get" => get(rt, held, rest),
-        "bucket" => bucket(rt, held, rest),
-        "expiry" => moments::say(rt, held.next_expiry()),
-        "held" => versions::say_held(rt, held),
-        _ => Err(Fault::Words),
-    }
-}
-
-/// Steps on an empty map.
-fn steps(rt: &HostRuntime, text: &str) -> Result<(), Fault> {
+/// `map STEP; STEP ..`: steps on an empty map.
+pub fn map(rt: &HostRuntime, text: &str) -> Result<(), Fault> {
     let mut held = Held::new(rt.alloc());
     for words in text.split("; ") {
         step(rt, &mut held, words)?;
@@ -125,35 +23,228 @@ fn steps(rt: &HostRuntime, text: &str) -> Result<(), Fault> {
     Ok(())
 }
 
-/// Puts the version of these words at the end.
-fn push(alloc: Global, list: &mut Vec<MeshSilence>, words: &str) -> Result<(), Fault> {
-    list.push(versions::version(alloc, words)?)?;
+/// A step on a map.
+fn step(rt: &HostRuntime, held: &mut Held<MeshSilence>, text: &str) -> Result<(), Fault> {
+    match first(text) {
+        ("get", id) => versions::say_if_any(rt, held.get(&Text::copied(rt.alloc(), id)?)),
+        ("bucket", pairs) => say_bucket(rt, held, pairs),
+        ("expiry", _) => say_if_any(rt, held.next_expiry()),
+        ("held", _) => say_held(rt, held),
+        (verb, rest) => {
+            let (words, word) = parts(rest, "at ")?;
+            step_at(rt, held, verb, words.trim_end(), moment(word)?)
+        }
+    }
+}
+
+/// A step on a map at a moment.
+fn step_at(
+    rt: &HostRuntime,
+    held: &mut Held<MeshSilence>,
+    verb: &str,
+    words: &str,
+    now: Moment,
+) -> Result<(), Fault> {
+    match verb {
+        "take" => Ok(println!(rt; "{:?}", take(rt.alloc(), held, words, now)?)?),
+        "pair" => take_pair(rt, held, words, now),
+        "merge" => merge(rt, held, words, now),
+        "sweep" => Ok(println!(rt; "{} went", held.sweep(now))?),
+        _ => Err(Fault::Words),
+    }
+}
+
+fn version(alloc: Global, words: &str) -> Result<MeshSilence, Fault> {
+    versions::version(alloc, words)
+}
+
+/// Takes two versions.
+fn take_pair(
+    rt: &HostRuntime,
+    held: &mut Held<MeshSilence>,
+    words: &str,
+    now: Moment,
+) -> Result<(), Fault> {
+    let (one, other) = parts(words, ", ")?;
+    let one = version(rt.alloc(), one)?;
+    take_before(rt, held, one, other, now)
+}
+
+/// Takes a version, and behind it another one.
+fn take_before(
+    rt: &HostRuntime,
+    held: &mut Held<MeshSilence>,
+    one: MeshSilence,
+    other: &str,
+    now: Moment,
+) -> Result<(), Fault> {
+    match version(rt.alloc(), other) {
+        Ok(other) => Ok(println!(rt; "{:?}", held.take_pair(one, other, now)?)?),
+        Err(fault) => Err(fault),
+    }
+}
+
+/// Merges a map of versions, and says how many identifiers have another version.
+fn merge(
+    rt: &HostRuntime,
+    map: &mut Held<MeshSilence>,
+    words: &str,
+    now: Moment,
+) -> Result<(), Fault> {
+    let other = held(rt.alloc(), words)?;
+    match map.merge(&other, now) {
+        Ok(changed) => Ok(println!(rt; "{changed} changed")?),
+        Err(_) => Err(Fault::Memory),
+    }
+}
+
+/// Says the identifiers in a bucket.
+fn say_bucket(rt: &HostRuntime, held: &Held<MeshSilence>, pairs: &str) -> Result<(), Fault> {
+    let bytes = bytes(rt.alloc(), pairs)?;
+    let mut count: usize = 0;
+    for version in held.in_bucket(bytes.as_slice()) {
+        print!(rt; "{} ", version.key().as_str())?;
+        count = count.saturating_add(1);
+    }
+    Ok(println!(rt; "({count})")?)
+}
+
+/// `versions SILENCE, ..`: what map a list of versions makes.
+pub fn map_of(rt: &HostRuntime, text: &str) -> Result<(), Fault> {
+    match Held::<MeshSilence>::from_versions(rt.alloc(), versions::versions(rt.alloc(), text)?) {
+        Ok(held) => say_held(rt, &held),
+        Err(fault) => say_refusal(rt, fault, FromVersionsError::Memory),
+    }
+}
+
+/// Says what a call on a keeper answered, or why it was refused.
+fn say<T: Debug>(rt: &HostRuntime, answered: &Result<T, KeeperError>) -> Result<(), Fault> {
+    match answered {
+        Ok(answer) => Ok(println!(rt; "{answer:?}")?),
+        Err(refusal) => say_keeper_error(rt, *refusal),
+    }
+}
+
+fn say_keeper_error(rt: &HostRuntime, refusal: KeeperError) -> Result<(), Fault> {
+    match refusal {
+        KeeperError::MomentBack { last } => say_moment(rt, "MomentBack ", last),
+        _ => say_refusal(rt, refusal, KeeperError::Memory),
+    }
+}
+
+/// The step of words, `take SILENCE at MOMENT` or `collect at MOMENT`, and its moment.
+fn step_of(alloc: Global, text: &str) -> Result<(Step<MeshSilence>, Moment), Fault> {
+    let (words, word) = parts(text, " at ")?;
+    let now = moment(word)?;
+    match first(words) {
+        ("collect", _) => Ok((Step::Collect, now)),
+        ("take", words) => Ok((Step::Take(version(alloc, words)?), now)),
+        _ => Err(Fault::Words),
+    }
+}
+
+/// The steps of words.
+fn steps_of(alloc: Global, text: &str) -> Result<Vec<(Step<MeshSilence>, Moment)>, Fault> {
+    let mut steps = Vec::new(alloc);
+    for words in text.split(", ") {
+        steps.push(step_of(alloc, words)?)?;
+    }
+    Ok(steps)
+}
+
+/// Makes a step of a keeper.
+fn keep(rt: &HostRuntime, keeper: &mut Keeper<MeshSilence>, text: &str) -> Result<(), Fault> {
+    let (step, now) = step_of(rt.alloc(), text)?;
+    say(rt, &keeper.step(step, now))
+}
+
+/// Runs steps, and says where they stop.
+fn run(rt: &HostRuntime, keeper: &mut Keeper<MeshSilence>, text: &str) -> Result<(), Fault> {
+    let steps = steps_of(rt.alloc(), text)?;
+    match keeper.run(&steps) {
+        Ok(()) => Ok(println!(rt; "done")?),
+        Err((place, refusal)) => {
+            print!(rt; "stops at {place}: ")?;
+            say_keeper_error(rt, refusal)
+        }
+    }
+}
+
+/// Takes two versions.
+fn keep_pair(rt: &HostRuntime, keeper: &mut Keeper<MeshSilence>, text: &str) -> Result<(), Fault> {
+    let (words, word) = parts(text, " at ")?;
+    let now = moment(word)?;
+    let (one, other) = parts(words, ", ")?;
+    let one = version(rt.alloc(), one)?;
+    keep_before(rt, keeper, one, other, now)
+}
+
+/// Takes a version, and behind it another one.
+fn keep_before(
+    rt: &HostRuntime,
+    keeper: &mut Keeper<MeshSilence>,
+    one: MeshSilence,
+    other: &str,
+    now: Moment,
+) -> Result<(), Fault> {
+    match version(rt.alloc(), other) {
+        Ok(other) => say(rt, &keeper.take_pair(one, other, now)),
+        Err(fault) => Err(fault),
+    }
+}
+
+/// Says what is in view of an identifier at a moment.
+fn view(rt: &HostRuntime, keeper: &Keeper<MeshSilence>, text: &str) -> Result<(), Fault> {
+    let (id, word) = parts(text, " at ")?;
+    let now = moment(word)?;
+    let id = Text::copied(rt.alloc(), id)?;
+    versions::say_if_any(rt, keeper.view(&id, now))
+}
+
+/// Makes what words say of a keeper.
+fn made(rt: &HostRuntime, keeper: &mut Keeper<MeshSilence>, text: &str) -> Result<(), Fault> {
+    match first(text) {
+        ("take", _) => keep(rt, keeper, text),
+        ("step", rest) => keep(rt, keeper, rest),
+        ("collect", rest) => say(rt, &keeper.collect(moment(first(rest).1)?)),
+        ("pair", rest) => keep_pair(rt, keeper, rest),
+        ("run", rest) => run(rt, keeper, rest),
+        ("view", rest) => view(rt, keeper, rest),
+        ("held", _) => say_held(rt, keeper.held()),
+        _ => Err(Fault::Words),
+    }
+}
+
+/// `keeper MOMENT SILENCE, .. merged with SILENCE, ..; STEP; ..`: a keeper of a map, and its steps.
+pub fn keeper(rt: &HostRuntime, rest: &str) -> Result<(), Fault> {
+    let (map, text) = parts(rest, "; ")?;
+    let (word, words) = first(map);
+    let now = moment(word)?;
+    let mut keeper = Keeper::of(map_at(rt, words, now)?, now);
+    for words in text.split("; ") {
+        made(rt, &mut keeper, words)?;
+    }
     Ok(())
 }
 
-/// A list of versions.
-pub fn list(alloc: Global, text: &str) -> Result<Vec<MeshSilence>, Fault> {
-    let mut list = Vec::new(alloc);
-    for words in text.split(", ") {
-        push(alloc, &mut list, words)?;
-    }
-    Ok(list)
-}
-
-/// Says what map a list of versions makes.
-fn made(rt: &HostRuntime, text: &str) -> Result<(), Fault> {
-    match Held::from_versions(rt.alloc(), list(rt.alloc(), text)?) {
-        Ok(held) => versions::say_held(rt, &held),
-        Err(FromVersionsError::Memory) => Err(Fault::Memory),
-        Err(fault) => Ok(println!(rt; "{fault:?}")?),
+/// The map of versions, into which a map of others is merged where words say so.
+fn map_at(rt: &HostRuntime, words: &str, now: Moment) -> Result<Held<MeshSilence>, Fault> {
+    match words.split_once(" merged with ") {
+        None => held(rt.alloc(), words),
+        Some((words, others)) => {
+            let mut map = held(rt.alloc(), words)?;
+            merge(rt, &mut map, others, now)?;
+            Ok(map)
+        }
     }
 }
 
-pub fn answer(rt: &HostRuntime, verb: &str, rest: &str) -> Result<bool, Fault> {
-    match verb {
-        "map" => steps(rt, rest)?,
-        "versions" => made(rt, rest)?,
-        _ => return Ok(false),
+/// `keeper-start MOMENT SILENCE, ..`: a keeper that starts with a list of versions, and what it holds.
+pub fn keeper_start(rt: &HostRuntime, rest: &str) -> Result<(), Fault> {
+    let (word, words) = first(rest);
+    let now = moment(word)?;
+    match Keeper::<MeshSilence>::start(rt.alloc(), versions::versions(rt.alloc(), words)?, now) {
+        Ok(keeper) => say_held(rt, keeper.held()),
+        Err(refusal) => say_keeper_error(rt, refusal),
     }
-    Ok(true)
 }

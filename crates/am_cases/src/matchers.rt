@@ -1,147 +1,106 @@
 //! What matchers say of values, and the verdicts on them.
 
-use crate::fault::Fault;
-use crate::versions::{self, text};
-use crate::words;
+use am_case_words::fault::{Fault, say_refusal};
+use am_case_words::matchers::{matcher_parts, matchers, value};
+use am_case_words::words::{first, number};
 use am_matcher::{BuildError, Compiled, PatternCache, verdict};
-use am_silence::{MatcherKind, MatcherRef, Matchers, Verdict};
+use am_silence::{Matcher, MatcherKind, MatcherRef, Matchers, Verdict};
 use std::alloc::{AllocError, Global};
 
-/// Prints a blank before all but the first.
-fn blank(rt: &HostRuntime, place: usize) -> Result<(), Fault> {
-    if place > 0 {
-        print!(rt; " ")?;
-    }
-    Ok(())
-}
-
-/// Prints whether the matcher matches a value.
-fn print_match(rt: &HostRuntime, compiled: &mut Compiled, value: &str) -> Result<(), Fault> {
-    let value = text(rt.alloc(), value)?;
-    let word = if compiled.matches(value.as_str())? {
-        "yes"
-    } else {
-        "no"
+/// The matcher of a word.
+fn matcher(alloc: Global, word: &str) -> Result<Matcher, Fault> {
+    let Some((kind, name, pattern)) = matcher_parts(word) else {
+        return Err(Fault::Words);
     };
-    print!(rt; "{word}")?;
-    Ok(())
-}
-
-/// Says for each of the values whether the matcher matches it.
-fn say_matches(rt: &HostRuntime, compiled: &mut Compiled, values: &str) -> Result<(), Fault> {
-    for (place, value) in values.split(' ').enumerate() {
-        blank(rt, place)?;
-        print_match(rt, compiled, value)?;
-    }
-    println!(rt; "")?;
-    Ok(())
-}
-
-/// Says why there is no matcher.
-fn say_refusal(rt: &HostRuntime, refusal: BuildError) -> Result<(), Fault> {
-    match refusal {
-        BuildError::Memory => Err(Fault::Memory),
-        BuildError::BadPattern => Ok(println!(rt; "BadPattern")?),
-    }
+    let pattern = value(alloc, pattern)?;
+    Ok(MatcherRef::new(kind, name, pattern.as_str()).copied(alloc)?)
 }
 
 /// The compiled matcher of a word.
 fn build(alloc: Global, word: &str) -> Result<Result<Compiled, BuildError>, Fault> {
-    let matcher = versions::matcher(alloc, word)?;
+    let matcher = matcher(alloc, word)?;
     Ok(Compiled::build(alloc, &matcher))
 }
 
-/// A matcher, and values.
-fn matches(rt: &HostRuntime, rest: &str) -> Result<(), Fault> {
-    let (word, values) = words::first(rest);
+/// `matches MATCHER VALUE ..`: whether the matcher matches each of the values.
+pub fn matches(rt: &HostRuntime, rest: &str) -> Result<(), Fault> {
+    let (word, values) = first(rest);
     match build(rt.alloc(), word)? {
         Ok(mut compiled) => say_matches(rt, &mut compiled, values),
-        Err(refusal) => say_refusal(rt, refusal),
+        Err(refusal) => say_refusal(rt, refusal, BuildError::Memory),
     }
 }
 
-/// Says the parts that a compiled matcher keeps.
-fn say_kept(rt: &HostRuntime, compiled: &Compiled) -> Result<(), Fault> {
-    let kept = compiled.matcher();
-    println!(rt;
-        "{:?} {} {}",
-        kept.kind,
-        kept.name.as_str(),
-        kept.pattern.as_str()
-    )?;
-    Ok(())
+fn say_matches(rt: &HostRuntime, compiled: &mut Compiled, values: &str) -> Result<(), Fault> {
+    for (place, word) in values.split(' ').enumerate() {
+        let blank = if place == 0 { "" } else { " " };
+        let is_matched = is_matched(rt.alloc(), compiled, word)?;
+        print!(rt; "{blank}{is_matched}")?;
+    }
+    Ok(println!(rt; "")?)
 }
 
-/// A matcher whose parts are told.
-fn compiled(rt: &HostRuntime, word: &str) -> Result<(), Fault> {
+fn is_matched(alloc: Global, compiled: &mut Compiled, word: &str) -> Result<bool, Fault> {
+    let value = value(alloc, word)?;
+    Ok(compiled.matches(value.as_str())?)
+}
+
+/// `compiled MATCHER`: the parts that a compiled matcher keeps.
+pub fn compiled(rt: &HostRuntime, word: &str) -> Result<(), Fault> {
     match build(rt.alloc(), word)? {
-        Ok(compiled) => say_kept(rt, &compiled),
-        Err(refusal) => say_refusal(rt, refusal),
+        Ok(compiled) => say_parts(rt, compiled.matcher()),
+        Err(refusal) => say_refusal(rt, refusal, BuildError::Memory),
     }
 }
 
-/// The verdict on the matchers of words, of a cache where there is one.
-fn verdict_on(
-    alloc: Global,
-    patterns: Option<&mut PatternCache>,
-    words: &str,
-) -> Result<Verdict, Fault> {
-    let matchers = versions::matchers(alloc, words)?;
-    Ok(match patterns {
-        Some(patterns) => patterns.verdict(&matchers)?,
-        None => verdict(alloc, &matchers)?,
-    })
+fn say_parts(rt: &HostRuntime, matcher: &Matcher) -> Result<(), Fault> {
+    let (kind, name, pattern) = (
+        matcher.kind,
+        matcher.name.as_str(),
+        matcher.pattern.as_str(),
+    );
+    Ok(println!(rt; "{kind:?} {name} {pattern}")?)
 }
 
-/// Says the verdicts on lists of matchers, each by itself.
-fn verdicts(rt: &HostRuntime, rest: &str) -> Result<(), Fault> {
-    for (place, words) in rest.split("; ").enumerate() {
-        blank(rt, place)?;
-        let verdict = verdict_on(rt.alloc(), None, words)?;
-        print!(rt; "{verdict:?}")?;
+/// `verdicts LIST; LIST ..`: the verdict on each list of matchers by itself, and then by one cache, twice.
+pub fn verdicts(rt: &HostRuntime, lists: &str) -> Result<(), Fault> {
+    for (place, words) in lists.split("; ").enumerate() {
+        let blank = if place == 0 { "" } else { " " };
+        let verdict = verdict_alone(rt.alloc(), words)?;
+        print!(rt; "{blank}{verdict:?}")?;
     }
     println!(rt; "")?;
-    Ok(())
+    let mut patterns = PatternCache::new(rt.alloc());
+    say_kept(rt, &mut patterns, lists)?;
+    say_kept(rt, &mut patterns, lists)
 }
 
 /// Says the verdicts of a cache.
-fn say_kept_verdicts(
-    rt: &HostRuntime,
-    patterns: &mut PatternCache,
-    rest: &str,
-) -> Result<(), Fault> {
-    for (place, words) in rest.split("; ").enumerate() {
-        blank(rt, place)?;
-        let verdict = verdict_on(rt.alloc(), Some(patterns), words)?;
-        print!(rt; "{verdict:?}")?;
+fn say_kept(rt: &HostRuntime, patterns: &mut PatternCache, lists: &str) -> Result<(), Fault> {
+    print!(rt; "kept")?;
+    for words in lists.split("; ") {
+        let verdict = verdict_kept(rt.alloc(), patterns, words)?;
+        print!(rt; " {verdict:?}")?;
     }
-    println!(rt; "")?;
-    Ok(())
+    Ok(println!(rt; "")?)
 }
 
-/// Says the verdicts of one cache, twice.
-fn kept_verdicts(rt: &HostRuntime, rest: &str) -> Result<(), Fault> {
+fn verdict_alone(alloc: Global, words: &str) -> Result<Verdict, Fault> {
+    let matchers = matchers(alloc, words)?;
+    Ok(verdict(alloc, &matchers)?)
+}
+
+fn verdict_kept(alloc: Global, patterns: &mut PatternCache, words: &str) -> Result<Verdict, Fault> {
+    let matchers = matchers(alloc, words)?;
+    Ok(patterns.verdict(&matchers)?)
+}
+
+/// `many-verdicts COUNT`: asks one cache twice of so many patterns.
+pub fn many_verdicts(rt: &HostRuntime, rest: &str) -> Result<(), Fault> {
+    let count = number(rest)?;
     let mut patterns = PatternCache::new(rt.alloc());
-    say_kept_verdicts(rt, &mut patterns, rest)?;
-    say_kept_verdicts(rt, &mut patterns, rest)
-}
-
-/// The verdict on a pattern that no other number has; that of an odd number is broken.
-fn numbered(alloc: Global, patterns: &mut PatternCache, number: u64) -> Result<Verdict, Fault> {
-    let end = if number % 2 == 0 { "x" } else { "(" };
-    let pattern = format!(in alloc; "{number}|{end}")?;
-    Ok(pattern_verdict(alloc, patterns, pattern.as_str())?)
-}
-
-/// The verdict on one pattern.
-fn pattern_verdict(
-    alloc: Global,
-    patterns: &mut PatternCache,
-    pattern: &str,
-) -> Result<Verdict, AllocError> {
-    let mut matchers = Matchers::none(alloc);
-    matchers.push(alloc, &MatcherRef::new(MatcherKind::Regexp, "", pattern))?;
-    patterns.verdict(&matchers)
+    say_many(rt, &mut patterns, count)?;
+    say_many(rt, &mut patterns, count)
 }
 
 /// Says how many of so many patterns are fine and even, and how many bad and odd.
@@ -155,26 +114,23 @@ fn say_many(rt: &HostRuntime, patterns: &mut PatternCache, count: u64) -> Result
             _ => {}
         }
     }
-    println!(rt; "{fine} Fine, {bad} Bad")?;
-    Ok(())
+    Ok(println!(rt; "{fine} Fine, {bad} Bad")?)
 }
 
-/// Asks one cache twice of so many patterns.
-fn many(rt: &HostRuntime, rest: &str) -> Result<(), Fault> {
-    let count = words::number(rest)?;
-    let mut patterns = PatternCache::new(rt.alloc());
-    say_many(rt, &mut patterns, count)?;
-    say_many(rt, &mut patterns, count)
+/// The verdict on a pattern that no other number has; that of an odd number is broken.
+fn numbered(alloc: Global, patterns: &mut PatternCache, number: u64) -> Result<Verdict, Fault> {
+    let end = if number % 2 == 0 { "x" } else { "(" };
+    let pattern = format!(in alloc; "{number}|{end}")?;
+    Ok(of_pattern(alloc, patterns, pattern.as_str())?)
 }
 
-pub fn answer(rt: &HostRuntime, verb: &str, rest: &str) -> Result<bool, Fault> {
-    match verb {
-        "matches" => matches(rt, rest)?,
-        "compiled" => compiled(rt, rest)?,
-        "verdicts" => verdicts(rt, rest)?,
-        "kept-verdicts" => kept_verdicts(rt, rest)?,
-        "many-verdicts" => many(rt, rest)?,
-        _ => return Ok(false),
-    }
-    Ok(true)
+/// The verdict on one pattern.
+fn of_pattern(
+    alloc: Global,
+    patterns: &mut PatternCache,
+    pattern: &str,
+) -> Result<Verdict, AllocError> {
+    let mut matchers = Matchers::none(alloc);
+    matchers.push(alloc, &MatcherRef::new(MatcherKind::Regexp, "", pattern))?;
+    patterns.verdict(&matchers)
 }

@@ -1,20 +1,94 @@
-//! Which silences mute an alert.
+//! Which silences a filter passes, and which mute an alert.
 
-use crate::fault::Fault;
-use crate::versions::{self, text};
-use crate::{moments, words};
-use am_matcher::{Ids, Label, Labels, Mutes, PatternCache, mutes};
+use am_case_words::fault::{Fault, say_refusal};
+use am_case_words::maps::held;
+use am_case_words::matchers::value;
+use am_case_words::moments::moment;
+use am_case_words::silences::silence;
+use am_case_words::texts::unescaped;
+use am_case_words::versions::version;
+use am_case_words::words::{first, parts};
+use am_matcher::{Filter, FilterError, Ids, Label, Labels, Mutes, PatternCache, mutes as muting};
 use am_merge::Held;
 use am_silence::MeshSilence;
+use am_version_order::Moment;
 use am_wire::Text;
 use std::alloc::Global;
 
-/// The label of a word, as `job=x`.
-fn label(alloc: Global, word: &str) -> Result<Label, Fault> {
-    let Some((name, value)) = word.split_once('=') else {
+/// `filter [TEXT] of SILENCE`: whether a filter, given with escapes, passes a silence, and whether its version.
+pub fn filter(rt: &HostRuntime, rest: &str) -> Result<(), Fault> {
+    let Some((text, words)) = rest.rsplit_once("] of ") else {
         return Err(Fault::Words);
     };
-    let value = text(alloc, value)?;
+    let bytes = unescaped(rt.alloc(), text.strip_prefix('[').unwrap_or(text))?;
+    match str::from_utf8(bytes.as_slice()) {
+        Ok(text) => ask(rt, text, words),
+        Err(_) => Err(Fault::Words),
+    }
+}
+
+fn ask(rt: &HostRuntime, text: &str, words: &str) -> Result<(), Fault> {
+    match Filter::parse(rt.alloc(), text) {
+        Ok(mut filter) => say_passes(rt, &mut filter, words),
+        Err(refusal) => say_refusal(rt, refusal, FilterError::Memory),
+    }
+}
+
+fn say_passes(rt: &HostRuntime, filter: &mut Filter, words: &str) -> Result<(), Fault> {
+    let (first, second) = (
+        passes(rt.alloc(), filter, words)?,
+        passes_version(rt.alloc(), filter, words)?,
+    );
+    Ok(println!(rt; "{first}, its version {second}")?)
+}
+
+fn passes(alloc: Global, filter: &mut Filter, words: &str) -> Result<bool, Fault> {
+    let silence = silence(alloc, words)?;
+    Ok(filter.passes(&silence)?)
+}
+
+fn passes_version(alloc: Global, filter: &mut Filter, words: &str) -> Result<bool, Fault> {
+    let version = version::<MeshSilence>(alloc, words)?;
+    Ok(filter.passes_version(&version)?)
+}
+
+/// `mutes SILENCE, ..; at MOMENT LABEL ..; ..`: which silences mute labels at moments. A step may also be `forget`, for all
+/// patterns that are kept.
+pub fn mutes(rt: &HostRuntime, rest: &str) -> Result<(), Fault> {
+    let (silences, text) = parts(rest, "; ")?;
+    let held = held(rt.alloc(), silences)?;
+    steps(rt, &held, text)
+}
+
+fn steps(rt: &HostRuntime, held: &Held<MeshSilence>, text: &str) -> Result<(), Fault> {
+    let mut patterns = PatternCache::new(rt.alloc());
+    for words in text.split("; ") {
+        step(rt, &mut patterns, held, words)?;
+    }
+    Ok(())
+}
+
+fn step(
+    rt: &HostRuntime,
+    patterns: &mut PatternCache,
+    held: &Held<MeshSilence>,
+    words: &str,
+) -> Result<(), Fault> {
+    let (verb, rest) = first(words);
+    if verb == "forget" {
+        patterns.drop_unused(&Held::new(rt.alloc()));
+        return Ok(println!(rt; "forgotten")?);
+    }
+    let (word, names) = first(rest);
+    let now = moment(word)?;
+    let labels = labels(rt.alloc(), names)?;
+    say_three(rt, patterns, held, &labels, now)
+}
+
+/// The label of a word, as `job=x`.
+fn label(alloc: Global, word: &str) -> Result<Label, Fault> {
+    let (name, word) = parts(word, "=")?;
+    let value = value(alloc, word)?;
     Ok(Label {
         name: Text::copied(alloc, name)?,
         value: Text::new(value),
@@ -32,108 +106,37 @@ fn labels(alloc: Global, words: &str) -> Result<Labels, Fault> {
     Ok(Labels::new(labels))
 }
 
-/// Prints identifiers, parted by commas.
-fn print_ids(rt: &HostRuntime, ids: &Ids) -> Result<(), Fault> {
-    if ids.as_slice().is_empty() {
-        print!(rt; "-")?;
-    }
-    for (place, id) in ids.as_slice().iter().enumerate() {
-        let before = if place == 0 { "" } else { "," };
-        print!(rt; "{before}{}", id.as_str())?;
-    }
-    Ok(())
-}
-
-/// Prints what mutes.
-fn print_mutes(rt: &HostRuntime, mutes: &Mutes) -> Result<(), Fault> {
-    print_ids(rt, &mutes.ids)?;
-    print!(rt; " broken ")?;
-    print_ids(rt, &mutes.broken)
-}
-
-/// Prints what mutes labels, with patterns compiled for the call alone.
-fn print_alone(
-    rt: &HostRuntime,
-    held: &Held<MeshSilence>,
-    labels: &Labels,
-    moment: &str,
-) -> Result<(), Fault> {
-    let now = moments::moment(moment)?;
-    let answered = mutes(rt.alloc(), held, labels, now)?;
-    print_mutes(rt, &answered)
-}
-
-/// Prints what mutes labels, with kept patterns.
-fn print_kept(
-    rt: &HostRuntime,
-    patterns: &mut PatternCache,
-    held: &Held<MeshSilence>,
-    labels: &Labels,
-    moment: &str,
-) -> Result<(), Fault> {
-    let now = moments::moment(moment)?;
-    let answered = patterns.mutes(held, labels, now)?;
-    print_mutes(rt, &answered)
-}
-
 /// Says what mutes labels by itself, of a cache, and of the cache once it dropped what the silences don't have.
 fn say_three(
     rt: &HostRuntime,
     patterns: &mut PatternCache,
     held: &Held<MeshSilence>,
     labels: &Labels,
-    moment: &str,
+    now: Moment,
 ) -> Result<(), Fault> {
-    print_alone(rt, held, labels, moment)?;
+    print_mutes(rt, &muting(rt.alloc(), held, labels, now)?)?;
     print!(rt; "; kept ")?;
-    print_kept(rt, patterns, held, labels, moment)?;
+    print_mutes(rt, &patterns.mutes(held, labels, now)?)?;
     patterns.drop_unused(held);
     print!(rt; "; again ")?;
-    print_kept(rt, patterns, held, labels, moment)?;
-    println!(rt; "")?;
-    Ok(())
+    print_mutes(rt, &patterns.mutes(held, labels, now)?)?;
+    Ok(println!(rt; "")?)
 }
 
-/// A step: labels at a moment, or `forget` all patterns.
-fn step(
-    rt: &HostRuntime,
-    patterns: &mut PatternCache,
-    held: &Held<MeshSilence>,
-    words: &str,
-) -> Result<(), Fault> {
-    let (verb, rest) = words::first(words);
-    if verb == "forget" {
-        patterns.drop_unused(&Held::new(rt.alloc()));
-        println!(rt; "forgotten")?;
-        return Ok(());
+fn print_mutes(rt: &HostRuntime, mutes: &Mutes) -> Result<(), Fault> {
+    print_ids(rt, &mutes.ids)?;
+    print!(rt; " broken ")?;
+    print_ids(rt, &mutes.broken)
+}
+
+/// Prints identifiers, parted by commas, or `-` for none.
+fn print_ids(rt: &HostRuntime, ids: &Ids) -> Result<(), Fault> {
+    if ids.as_slice().is_empty() {
+        print!(rt; "-")?;
     }
-    let (moment, names) = words::first(rest);
-    let labels = labels(rt.alloc(), names)?;
-    say_three(rt, patterns, held, &labels, moment)
-}
-
-/// The steps over a map.
-fn steps(rt: &HostRuntime, held: &Held<MeshSilence>, text: &str) -> Result<(), Fault> {
-    let mut patterns = PatternCache::new(rt.alloc());
-    for words in text.split("; ") {
-        step(rt, &mut patterns, held, words)?;
+    for (place, id) in ids.as_slice().iter().enumerate() {
+        let comma = if place == 0 { "" } else { "," };
+        print!(rt; "{comma}{}", id.as_str())?;
     }
     Ok(())
-}
-
-/// Silences, and labels at moments.
-fn ask(rt: &HostRuntime, rest: &str) -> Result<(), Fault> {
-    let Some((silences, text)) = rest.split_once("; ") else {
-        return Err(Fault::Words);
-    };
-    let held = versions::held(rt.alloc(), silences)?;
-    steps(rt, &held, text)
-}
-
-pub fn answer(rt: &HostRuntime, verb: &str, rest: &str) -> Result<bool, Fault> {
-    match verb {
-        "mutes" => ask(rt, rest)?,
-        _ => return Ok(false),
-    }
-    Ok(true)
 }

@@ -1,97 +1,70 @@
 //! What posts and ends of silences make.
 
-use crate::fault::Fault;
-use crate::silences::bits;
-use crate::version_lines::{
-    cut, matchers, moment, say_moment_behind, say_silence, span, version_of,
-};
-use crate::words;
+use crate::versions::bits;
+use am_case_words::fault::{Fault, say_refusal};
+use am_case_words::matchers::matchers;
+use am_case_words::moments::{moment, say_moment, seconds, span};
+use am_case_words::silences::span_word;
+use am_case_words::versions::{say, version};
+use am_case_words::words::{cut, first, parts};
 use am_silence::{MeshSilence, Plan, Posted, SilenceError, Verdict, plan_expire, plan_post};
-use am_version_order::{Interval, Moment, Version};
+use am_version_order::{Moment, Version};
 use am_wire::Text;
 use std::alloc::{AllocError, Global};
 
-/// Who posts, and with which comment.
+/// Who posts, with which comment, and for how many seconds an ended version is kept.
 const AUTHOR: &str = "ops";
 
 const COMMENT: &str = "hi";
 
-/// The seconds for which an ended version is kept.
-const RETENTION: u64 = 100;
-
-fn retention() -> Result<Interval, Fault> {
-    Interval::from_seconds(RETENTION).ok_or(Fault::Words)
-}
+const RETENTION: &str = "100";
 
 /// `held VERSION; post ..` or `held none; end at 20`.
-pub fn answer(rt: &HostRuntime, verb: &str, rest: &str) -> Result<bool, Fault> {
-    if verb != "held" {
-        return Ok(false);
+pub fn held(rt: &HostRuntime, rest: &str) -> Result<(), Fault> {
+    let (words, step) = parts(rest, "; ")?;
+    if words == "none" {
+        return over(rt, None, step);
     }
-    match cut(rest, "; ") {
-        ("none", step) => over(rt, None, step)?,
-        (line, step) => over_held(rt, rt.alloc(), line, step)?,
-    }
-    Ok(true)
-}
-
-fn over_held(rt: &HostRuntime, alloc: Global, line: &str, step: &str) -> Result<(), Fault> {
-    let held = version_of(alloc, line)?;
+    let held = version(rt.alloc(), words)?;
     over(rt, Some(&held), step)
 }
 
 fn over(rt: &HostRuntime, held: Option<&MeshSilence>, step: &str) -> Result<(), Fault> {
-    match words::first(step) {
-        ("post", rest) => match post_words(rt.alloc(), rest) {
-            Ok(words) => post(rt, rt.alloc(), held, &words),
-            Err(fault) => Err(fault),
-        },
-        ("end", rest) => end(rt, rt.alloc(), held, rest),
+    match first(step) {
+        ("post", rest) => post(rt, held, rest),
+        ("end", rest) => end(rt, held, rest),
         _ => Err(Fault::Words),
     }
 }
 
-/// The parts of a post.
+/// When a post is made, and what else is known.
 #[derive(Clone, Copy)]
-struct PostWords<'a> {
-    id: &'a str,
-    matchers: &'a str,
-    starts_at: Moment,
-    ends_at: Moment,
+struct PostNotes {
     now: Moment,
     verdict: Verdict,
     id_held: bool,
     bits: u128,
 }
 
-/// The parts of `a job=x 10..100 at 20`, and behind that perhaps `, bad pattern`, `, all match empty`, `, bits ..` and
-/// `, fresh id held`.
-fn post_words(alloc: Global, text: &str) -> Result<PostWords<'_>, Fault> {
-    let (post, notes) = cut(text, ", ");
-    let (post, now) = cut(post, " at ");
-    let (id, post) = words::first(post);
-    let (matchers, moments) = words::first(post);
-    let (starts_at, ends_at) = span(moments)?;
-    let mut words = PostWords {
-        id,
-        matchers,
-        starts_at,
-        ends_at,
+/// The moment, and behind it perhaps `, bad pattern`, `, all match empty`, `, bits ..` and `, fresh id held`.
+fn known(alloc: Global, text: &str) -> Result<PostNotes, Fault> {
+    let (now, notes) = cut(text, ", ");
+    let mut known = PostNotes {
         now: moment(now)?,
         verdict: Verdict::Fine,
         id_held: false,
         bits: 0,
     };
-    for note in notes.split(',') {
-        match note.trim_ascii() {
+    for note in notes.split(", ") {
+        match note {
             "" => {}
-            "bad pattern" => words.verdict = Verdict::Bad,
-            "all match empty" => words.verdict = Verdict::AllEmpty,
-            "fresh id held" => words.id_held = true,
-            other => words.bits = bits(alloc, other.strip_prefix("bits ").unwrap_or(other))?,
+            "bad pattern" => known.verdict = Verdict::Bad,
+            "all match empty" => known.verdict = Verdict::AllEmpty,
+            "fresh id held" => known.id_held = true,
+            _ => known.bits = bits(alloc, note.strip_prefix("bits ").unwrap_or(note))?,
         }
     }
-    Ok(words)
+    Ok(known)
 }
 
 fn posted_id(alloc: Global, id: &str) -> Result<Option<Text>, AllocError> {
@@ -101,40 +74,38 @@ fn posted_id(alloc: Global, id: &str) -> Result<Option<Text>, AllocError> {
     }
 }
 
-/// What is posted.
-fn posted(alloc: Global, words: &PostWords<'_>) -> Result<Posted, Fault> {
-    let matchers = matchers(alloc, words.matchers)?;
+/// What is posted by words such as `a job=x 10..100`.
+fn posted(alloc: Global, words: &str) -> Result<Posted, Fault> {
+    let (starts_at, ends_at) = span(span_word(words))?;
+    let matchers = matchers(alloc, words)?;
     Ok(Posted {
-        id: posted_id(alloc, words.id)?,
+        id: posted_id(alloc, first(words).0)?,
         matchers,
-        starts_at: words.starts_at,
-        ends_at: words.ends_at,
+        starts_at,
+        ends_at,
         created_by: Text::copied(alloc, AUTHOR)?,
         comment: Text::copied(alloc, COMMENT)?,
     })
 }
 
-fn post(
-    rt: &HostRuntime,
-    alloc: Global,
-    held: Option<&MeshSilence>,
-    words: &PostWords<'_>,
-) -> Result<(), Fault> {
-    let retention = retention()?;
-    let posted = posted(alloc, words)?;
+fn post(rt: &HostRuntime, held: Option<&MeshSilence>, rest: &str) -> Result<(), Fault> {
+    let (words, notes) = parts(rest, " at ")?;
+    let known = known(rt.alloc(), notes)?;
+    let retention = seconds(RETENTION)?;
+    let posted = posted(rt.alloc(), words)?;
     let planned = plan_post(
-        alloc,
+        rt.alloc(),
         held,
         posted,
-        words.verdict,
-        words.now,
-        words.bits,
-        words.id_held,
+        known.verdict,
+        known.now,
+        known.bits,
+        known.id_held,
         retention,
     );
     match planned {
         Ok(plan) => say_plan(rt, held, &plan),
-        Err(error) => say_refusal(rt, error),
+        Err(error) => say_error(rt, error),
     }
 }
 
@@ -151,47 +122,34 @@ fn say_plan(rt: &HostRuntime, held: Option<&MeshSilence>, plan: &Plan) -> Result
 
 fn say_made(rt: &HostRuntime, word: &str, version: &MeshSilence) -> Result<(), Fault> {
     print!(rt; "{word} ")?;
-    say_silence(rt, version)
+    say(rt, version)
 }
 
-/// Prints a version that ends what is held, and how it compares with that.
+/// Says a version that ends what is held, and how it compares with that.
 fn say_ended(
     rt: &HostRuntime,
     held: Option<&MeshSilence>,
     version: &MeshSilence,
 ) -> Result<(), Fault> {
-    match held {
-        Some(held) => {
-            let order = version.compare(held);
-            print!(rt; "{order:?} than held: ")?;
-        }
-        None => {}
+    if let Some(held) = held {
+        print!(rt; "{:?} than held: ", version.compare(held))?;
     }
     say_made(rt, "end", version)
 }
 
-/// Prints why nothing was made.
-fn say_refusal(rt: &HostRuntime, error: SilenceError) -> Result<(), Fault> {
+/// Says why nothing was made.
+fn say_error(rt: &HostRuntime, error: SilenceError) -> Result<(), Fault> {
     match error {
-        SilenceError::Memory => Err(Fault::Memory),
-        SilenceError::Newer { held } => {
-            say_moment_behind(rt, "Newer, of ", held)?;
-            Ok(println!(rt; "")?)
-        }
-        _ => Ok(println!(rt; "{error:?}")?),
+        SilenceError::Newer { held } => say_moment(rt, "Newer, of ", held),
+        _ => say_refusal(rt, error, SilenceError::Memory),
     }
 }
 
-/// The end of what is held.
-fn end(
-    rt: &HostRuntime,
-    alloc: Global,
-    held: Option<&MeshSilence>,
-    rest: &str,
-) -> Result<(), Fault> {
+/// The end of what is held, `at` a moment.
+fn end(rt: &HostRuntime, held: Option<&MeshSilence>, rest: &str) -> Result<(), Fault> {
     let now = moment(rest.strip_prefix("at ").unwrap_or(rest))?;
-    match plan_expire(alloc, held, now, retention()?) {
+    match plan_expire(rt.alloc(), held, now, seconds(RETENTION)?) {
         Ok(version) => say_ended(rt, held, &version),
-        Err(error) => say_refusal(rt, error),
+        Err(error) => say_error(rt, error),
     }
 }

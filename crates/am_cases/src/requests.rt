@@ -1,21 +1,12 @@
 //! Requests in bytes that came, and from readers.
 
-use crate::fault::Fault;
-use crate::in_pieces::{self, Failing, Told};
-use crate::{fakes, texts};
-use am_http::{Read, ReadFault, Request, read_request, receive};
+use am_case_words::fakes::{Brittle, Pieces};
+use am_case_words::fault::Fault;
+use am_case_words::texts::{print_text, spelled};
+use am_case_words::tries::{Answered, Call, Each, How, how_of, make, writer};
+use am_case_words::words::parts;
+use am_http::{Read, Request, read_request, receive};
 use std::alloc::Global;
-
-/// Requests in bytes that came: `request`, `fronts` for each front of one; and from a reader: `receive`.
-pub fn answer(rt: &HostRuntime, verb: &str, rest: &str) -> Result<bool, Fault> {
-    match verb {
-        "request" => say_request(rt, &texts::spelled(rt.alloc(), rest)?)?,
-        "fronts" => say_fronts(rt, &texts::spelled(rt.alloc(), rest)?)?,
-        "receive" => say_received(rt, rest)?,
-        _ => return Ok(false),
-    }
-    Ok(true)
-}
 
 /// What was read: a status with what it says, or words for what has none.
 #[derive(Clone, Copy, PartialEq, Eq)]
@@ -41,128 +32,141 @@ fn seen_in(alloc: Global, bytes: &[u8], ended: bool) -> Result<Seen, Fault> {
     seen_of(&read)
 }
 
-/// Prints what a read comes to, with the parts of a request.
-fn say_read(rt: &HostRuntime, read: &Read) -> Result<(), Fault> {
-    match read {
-        Read::Whole(request) => say_whole(rt, request),
-        _ => say_seen(rt, seen_of(read)?, "\n"),
-    }
-}
-
-fn say_whole(rt: &HostRuntime, request: &Request) -> Result<(), Fault> {
-    let (method, target) = (request.method.as_str(), request.target.as_str());
-    print!(rt; "{method} {target} body [")?;
-    texts::say(rt, &request.body)?;
-    println!(rt; "]")?;
-    Ok(())
-}
-
-fn say_seen(rt: &HostRuntime, seen: Seen, end: &str) -> Result<(), Fault> {
+fn print_seen(rt: &HostRuntime, seen: Seen) -> Result<(), Fault> {
     if seen.status != 0 {
         print!(rt; "{} ", seen.status)?;
     }
-    print!(rt; "{}{end}", seen.text)?;
+    Ok(print!(rt; "{}", seen.text)?)
+}
+
+/// Says what a read comes to, with the parts of a request.
+fn say_read(rt: &HostRuntime, read: &Read) -> Result<(), Fault> {
+    match read {
+        Read::Whole(request) => print_request(rt, request)?,
+        _ => print_seen(rt, seen_of(read)?)?,
+    }
+    Ok(println!(rt; "")?)
+}
+
+fn print_request(rt: &HostRuntime, request: &Request) -> Result<(), Fault> {
+    let (method, target) = (request.method.as_str(), request.target.as_str());
+    print!(rt; "{method} {target} body [")?;
+    print_text(rt, &request.body)?;
+    Ok(print!(rt; "]")?)
+}
+
+/// `request TEXT`: what bytes come to behind which more may come, and where the input ended if that is something else.
+pub fn request(rt: &HostRuntime, text: &str) -> Result<(), Fault> {
+    let bytes = spelled(rt.alloc(), text)?;
+    let ended = seen_in(rt.alloc(), bytes.as_slice(), true)?;
+    let open = say_open(rt, bytes.as_slice())?;
+    if open != ended {
+        print!(rt; "at the end: ")?;
+        print_seen(rt, ended)?;
+        println!(rt; "")?;
+    }
     Ok(())
 }
 
-/// Prints what bytes come to behind which more may come, and where the input ended if that is something else.
-fn say_request(rt: &HostRuntime, bytes: &[u8]) -> Result<(), Fault> {
+fn say_open(rt: &HostRuntime, bytes: &[u8]) -> Result<Seen, Fault> {
     let read = read_request(rt.alloc(), bytes, false);
     say_read(rt, &read)?;
-    let ended = seen_in(rt.alloc(), bytes, true)?;
-    if seen_of(&read)? != ended {
-        print!(rt; "at the end: ")?;
-        say_seen(rt, ended, "\n")?;
-    }
-    Ok(())
+    seen_of(&read)
 }
 
-/// Prints what the fronts of bytes come to, from each size on at which that changes.
-fn say_fronts(rt: &HostRuntime, bytes: &[u8]) -> Result<(), Fault> {
-    let mut last = None;
-    for size in 0..=bytes.len() {
-        let front = &bytes[..size];
-        let open = seen_in(rt.alloc(), front, false)?;
-        let both = (open, seen_in(rt.alloc(), front, true)?);
-        if last != Some(both) {
-            print!(rt; "from {size} bytes: ")?;
-            say_seen(rt, both.0, "; at the end: ")?;
-            say_seen(rt, both.1, "\n")?;
-        }
-        last = Some(both);
-    }
-    Ok(())
-}
+/// Bytes that came, behind which more may come, and where the input ended.
+#[derive(Clone, Copy)]
+struct Front;
 
-/// Prints what a reader gives, as the words before the text say.
-fn say_received(rt: &HostRuntime, rest: &str) -> Result<(), Fault> {
-    let (pieces, text) = in_pieces::of(rest)?;
-    let bytes = texts::spelled(rt.alloc(), text)?;
-    match pieces.failing {
-        Failing::None => say_received_of(rt, &bytes, pieces.step),
-        Failing::EachRead => say_failed(rt, &bytes, pieces.step),
-        Failing::EachFront => say_received_fronts(rt, &bytes, pieces.step),
-        _ => Err(Fault::Words),
+impl Call for Front {
+    type Answer = (Seen, Seen);
+
+    fn make(
+        &self,
+        alloc: Global,
+        reader: &mut Pieces<'_>,
+        _writer: &mut Brittle,
+    ) -> Result<Answered<(Seen, Seen)>, Fault> {
+        let open = seen_in(alloc, reader.left, false)?;
+        let ended = seen_in(alloc, reader.left, true)?;
+        Ok(Answered {
+            answer: (open, ended),
+            told: None,
+        })
+    }
+
+    fn print(&self, rt: &HostRuntime, answer: &(Seen, Seen)) -> Result<(), Fault> {
+        print_seen(rt, answer.0)?;
+        print!(rt; "; at the end: ")?;
+        print_seen(rt, answer.1)
     }
 }
 
-fn say_received_of(rt: &HostRuntime, bytes: &[u8], step: usize) -> Result<(), Fault> {
-    let mut reader = fakes::Pieces::new(bytes, step, 0);
-    let Ok(read) = receive(rt.alloc(), &mut reader) else {
-        return Err(Fault::Words);
+/// `fronts TEXT`: what the fronts of bytes come to.
+pub fn fronts(rt: &HostRuntime, text: &str) -> Result<(), Fault> {
+    let bytes = spelled(rt.alloc(), text)?;
+    let how = How {
+        each: Each::Front,
+        ..How::plain()
     };
-    say_read(rt, &read)?;
-    println!(rt; "calls {}, left {}", reader.calls, reader.left.len())?;
+    tried(rt, &Front, bytes.as_slice(), &how)
+}
+
+/// A request that is read from a reader.
+#[derive(Clone, Copy)]
+struct Receiving;
+
+impl Call for Receiving {
+    type Answer = Option<Seen>;
+
+    fn make(
+        &self,
+        alloc: Global,
+        reader: &mut Pieces<'_>,
+        _writer: &mut Brittle,
+    ) -> Result<Answered<Option<Seen>>, Fault> {
+        match receive(alloc, reader) {
+            Ok(read) => Ok(Answered {
+                answer: Some(seen_of(&read)?),
+                told: None,
+            }),
+            Err(fault) => Ok(Answered {
+                answer: None,
+                told: Some(fault.at as u64),
+            }),
+        }
+    }
+
+    fn print(&self, rt: &HostRuntime, answer: &Option<Seen>) -> Result<(), Fault> {
+        match answer {
+            Some(seen) => print_seen(rt, *seen),
+            None => Ok(print!(rt; "Read")?),
+        }
+    }
+}
+
+fn tried<C: Call>(rt: &HostRuntime, call: &C, bytes: &[u8], how: &How) -> Result<(), Fault> {
+    let mut writer = writer(rt.alloc(), how, 0)?;
+    let _ = make(rt, call, bytes, how, &mut writer)?;
     Ok(())
 }
 
-/// Prints what is told where each read of a request fails, up to the one that isn't made.
-fn say_failed(rt: &HostRuntime, bytes: &[u8], step: usize) -> Result<(), Fault> {
-    let mut rows = Vec::with_capacity(rt.alloc(), bytes.len().saturating_add(1))?;
-    for k in 1..=bytes.len().saturating_add(1) {
-        match failed_at(rt.alloc(), bytes, step, k)? {
-            Some(told) => rows.push(told)?,
-            None => break,
-        }
+/// `receive HOW: TEXT`: what a reader gives.
+pub fn receive_from(rt: &HostRuntime, rest: &str) -> Result<(), Fault> {
+    let (how, text) = parts(rest, ": ")?;
+    let how = how_of(how)?;
+    let bytes = spelled(rt.alloc(), text)?;
+    match how.each {
+        Each::Once => say_received(rt, Pieces::new(bytes.as_slice(), how.gives, 0)),
+        _ => tried(rt, &Receiving, bytes.as_slice(), &how),
     }
-    in_pieces::say_reads(rt, &rows)
 }
 
-fn failed_at(alloc: Global, bytes: &[u8], step: usize, k: usize) -> Result<Option<Told>, Fault> {
-    let mut reader = fakes::Pieces::new(bytes, step, k);
-    let ReadFault { at } = match receive(alloc, &mut reader) {
-        Err(fault) => fault,
-        Ok(read) => {
-            let _ = seen_of(&read)?;
-            return Ok(None);
-        }
-    };
-    Ok(Some(Told {
-        at: at as u64,
-        passed: bytes.len().saturating_sub(reader.left.len()),
-        calls: reader.calls,
-        again: 0,
-    }))
-}
-
-/// Prints what readers of the fronts give, from each size on at which that changes.
-fn say_received_fronts(rt: &HostRuntime, bytes: &[u8], step: usize) -> Result<(), Fault> {
-    let mut last = None;
-    for size in 0..=bytes.len() {
-        let came = came_of(rt.alloc(), &bytes[..size], step)?;
-        if last != Some(came) {
-            print!(rt; "from {size} bytes: ")?;
-            say_seen(rt, came, "\n")?;
-        }
-        last = Some(came);
+/// Says what a reader gives, and how it stands then.
+fn say_received(rt: &HostRuntime, mut reader: Pieces<'_>) -> Result<(), Fault> {
+    match receive(rt.alloc(), &mut reader) {
+        Ok(read) => say_read(rt, &read)?,
+        Err(_) => return Err(Fault::Words),
     }
-    Ok(())
-}
-
-fn came_of(alloc: Global, bytes: &[u8], step: usize) -> Result<Seen, Fault> {
-    let mut reader = fakes::Pieces::new(bytes, step, 0);
-    match receive(alloc, &mut reader) {
-        Ok(read) => seen_of(&read),
-        Err(_) => Err(Fault::Words),
-    }
+    Ok(println!(rt; "calls {}, left {}", reader.calls, reader.left.len())?)
 }

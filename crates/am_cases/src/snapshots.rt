@@ -1,134 +1,132 @@
-//! Rows that are saved, loaded, taken and folded.
+//! Rows that are saved, loaded, taken, folded and shown, and bytes that are sent: calls over readers and writers.
 
-use crate::fakes::{self, Brittle};
-use crate::fault::Fault;
-use crate::in_pieces::{self, Failing, Pieces, Told, Writes};
-use crate::{texts, words};
+use am_case_words::fakes::{Brittle, Pieces};
+use am_case_words::fault::Fault;
+use am_case_words::moments::moment;
+use am_case_words::texts::say_text;
+use am_case_words::tries::{Answered, Call, How, how_of, make, writer};
+use am_case_words::words::{bytes, cut, first, parts, say_bytes};
+use am_http::{WriteFault, send};
 use am_merge::Held;
 use am_nflog::MeshEntry;
 use am_silence::MeshSilence;
 use am_snapshot::laws::what_is_saved_is_loaded;
 use am_snapshot::{FoldError, SnapshotError, fold, load, save, take_row};
 use am_version_order::{Moment, Version};
-use am_wire::{Message, Messages, WireError};
+use am_view::{show_log, show_silences, write_view};
+use am_wire::Message;
 use std::alloc::Global;
-use std::io::Read;
 
-/// Rows of silences, `sil`, and of the log, `nfl`, that are loaded, `load`; taken, `take_row`; loaded and saved, `save`, or
-/// copied and saved, `copy`; folded, `fold`; read one by one, `messages`; and one version that is taken and swept, `take`.
-pub fn answer(rt: &HostRuntime, verb: &str, rest: &str) -> Result<bool, Fault> {
-    match verb {
-        "load" => say_job(rt, Engine::Load, rest)?,
-        "take_row" => say_job(rt, Engine::TakeRow, rest)?,
-        "save" => say_job(rt, Engine::Save, rest)?,
-        "copy" => say_job(rt, Engine::Copy, rest)?,
-        "fold" => say_job(rt, Engine::Fold, rest)?,
-        "messages" => say_messages(rt, rest)?,
-        "take" => say_taken(rt, rest)?,
-        _ => return Ok(false),
-    }
-    Ok(true)
-}
-
+/// What is done.
 #[derive(Clone, Copy)]
-enum Engine {
+enum Job<'a> {
     Load,
     TakeRow,
     Save,
     Copy,
     Fold,
+    /// The row is shown at a moment.
+    Show(Moment),
+    /// The row, and one of the log, are viewed by a member at a moment.
+    View(&'a View<'a>),
+    Send,
 }
 
-/// A row that something is done with.
+/// What a view is of, beside silences.
 #[derive(Clone, Copy)]
-struct Job<'a> {
-    engine: Engine,
+struct View<'a> {
+    name: Option<&'a str>,
+    now: Moment,
+    log: &'a [u8],
+}
+
+/// Something that is done with a row of silences or of the log.
+#[derive(Clone, Copy)]
+struct Calling<'a> {
+    job: Job<'a>,
     is_log: bool,
-    row: &'a [u8],
-    /// How many bytes a read gives.
-    step: usize,
 }
 
-type Answer = Result<u64, SnapshotError>;
+type Done = Result<u64, SnapshotError>;
 
-impl Writes for Job<'_> {
-    fn write_to(&self, alloc: Global, writer: &mut Brittle) -> Result<u64, SnapshotError> {
-        let mut reader = fakes::Pieces::new(self.row, self.step, 0);
-        made(alloc, self, &mut reader, writer)
+impl Call for Calling<'_> {
+    type Answer = Done;
+
+    fn make(
+        &self,
+        alloc: Global,
+        reader: &mut Pieces<'_>,
+        writer: &mut Brittle,
+    ) -> Result<Answered<Done>, Fault> {
+        let (answer, told) = match done(alloc, self, reader, writer) {
+            Err(SnapshotError::Memory) => return Err(Fault::Memory),
+            Err(SnapshotError::Read { at }) => (
+                Err(SnapshotError::Read { at: 0 }),
+                Some(at as u64),
+            ),
+            Err(SnapshotError::Write { written }) => {
+                (Err(SnapshotError::Write { written: 0 }), Some(written))
+            }
+            other => (other, None),
+        };
+        Ok(Answered { answer, told })
+    }
+
+    fn print(&self, rt: &HostRuntime, answer: &Done) -> Result<(), Fault> {
+        match answer {
+            Err(SnapshotError::Read { .. }) => print!(rt; "Read")?,
+            Err(SnapshotError::Write { .. }) => print!(rt; "Write")?,
+            _ => print!(rt; "{answer:?}")?,
+        }
+        Ok(())
     }
 }
 
-/// Does it with what the reader gives.
-fn made(
-    alloc: Global,
-    job: &Job<'_>,
-    reader: &mut fakes::Pieces<'_>,
-    writer: &mut Brittle,
-) -> Answer {
-    if job.is_log {
-        return made_of::<MeshEntry>(alloc, job.engine, reader, writer);
-    }
-    what_is_saved_is_loaded::<MeshSilence>();
-    made_of::<MeshSilence>(alloc, job.engine, reader, writer)
-}
-
-fn made_of<V: Version + Message>(
-    alloc: Global,
-    engine: Engine,
-    reader: &mut fakes::Pieces<'_>,
-    writer: &mut Brittle,
-) -> Answer {
-    match engine {
-        Engine::Load => loaded::<V>(alloc, reader),
-        Engine::TakeRow => taken::<V>(alloc, reader),
-        Engine::Save => saved::<V>(alloc, reader, writer),
-        Engine::Copy => copied::<V>(alloc, reader, writer),
-        Engine::Fold => folded::<V>(alloc, reader, writer),
+fn done(alloc: Global, call: &Calling<'_>, reader: &mut Pieces<'_>, writer: &mut Brittle) -> Done {
+    match call.job {
+        Job::Show(now) if call.is_log => show_log(alloc, reader, writer, now),
+        Job::Show(now) => show_silences(alloc, reader, writer, now),
+        Job::View(view) => viewed(alloc, view, reader, writer),
+        Job::Send => sent(reader.left, writer),
+        job if call.is_log => done_with::<MeshEntry>(alloc, job, reader, writer),
+        job => {
+            what_is_saved_is_loaded::<MeshSilence>();
+            done_with::<MeshSilence>(alloc, job, reader, writer)
+        }
     }
 }
 
-fn loaded<V: Version + Message>(alloc: Global, reader: &mut fakes::Pieces<'_>) -> Answer {
-    let held: Held<V> = load(alloc, reader)?;
-    Ok(held.len() as u64)
-}
-
-fn taken<V: Version + Message>(alloc: Global, reader: &mut fakes::Pieces<'_>) -> Answer {
-    let held: Held<V> = take_row(alloc, reader)?;
-    Ok(held.len() as u64)
-}
-
-fn saved<V: Version + Message>(
+fn done_with<V: Version + Message>(
     alloc: Global,
-    reader: &mut fakes::Pieces<'_>,
+    job: Job<'_>,
+    reader: &mut Pieces<'_>,
     writer: &mut Brittle,
-) -> Answer {
-    let held: Held<V> = load(alloc, reader)?;
-    save(alloc, &held, writer)
+) -> Done {
+    match job {
+        Job::TakeRow => Ok(take_row::<V, _>(alloc, reader)?.len() as u64),
+        Job::Fold => fold::<V, _, _>(alloc, reader, writer, Moment::LEAST).map_err(named),
+        _ => loaded::<V>(alloc, job, reader, writer),
+    }
 }
 
-fn copied<V: Version + Message>(
+/// What is done with a row that is loaded.
+fn loaded<V: Version + Message>(
     alloc: Global,
-    reader: &mut fakes::Pieces<'_>,
+    job: Job<'_>,
+    reader: &mut Pieces<'_>,
     writer: &mut Brittle,
-) -> Answer {
+) -> Done {
     let held: Held<V> = load(alloc, reader)?;
-    saved_copy(alloc, &held, writer)
+    match job {
+        Job::Save => save(alloc, &held, writer),
+        Job::Copy => saved_copy(alloc, &held, writer),
+        _ => Ok(held.len() as u64),
+    }
 }
 
-fn saved_copy<V: Version + Message>(alloc: Global, held: &Held<V>, writer: &mut Brittle) -> Answer {
+fn saved_copy<V: Version + Message>(alloc: Global, held: &Held<V>, writer: &mut Brittle) -> Done {
     let copy = held.try_clone()?;
     save(alloc, &copy, writer)
-}
-
-fn folded<V: Version + Message>(
-    alloc: Global,
-    reader: &mut fakes::Pieces<'_>,
-    writer: &mut Brittle,
-) -> Answer {
-    match fold::<V, _, _>(alloc, reader, writer, Moment::LEAST) {
-        Ok(written) => Ok(written),
-        Err(fault) => Err(named(fault)),
-    }
 }
 
 /// The fault of that name.
@@ -142,6 +140,61 @@ fn named(fault: FoldError) -> SnapshotError {
     }
 }
 
+fn viewed(alloc: Global, view: &View<'_>, reader: &mut Pieces<'_>, writer: &mut Brittle) -> Done {
+    let silences: Held<MeshSilence> = load(alloc, reader)?;
+    viewed_with(alloc, view, &silences, writer)
+}
+
+fn viewed_with(
+    alloc: Global,
+    view: &View<'_>,
+    silences: &Held<MeshSilence>,
+    writer: &mut Brittle,
+) -> Done {
+    let mut log = view.log;
+    let log: Held<MeshEntry> = load(alloc, &mut log)?;
+    write_view(alloc, silences, &log, view.name, view.now, writer)
+}
+
+fn sent(bytes: &[u8], writer: &mut Brittle) -> Done {
+    match send(writer, bytes) {
+        Ok(()) => Ok(bytes.len() as u64),
+        Err(WriteFault { written }) => Err(SnapshotError::Write { written }),
+    }
+}
+
+/// Does what is asked with the bytes, and says what comes of it and what is written.
+fn say_call(
+    rt: &HostRuntime,
+    call: &Calling<'_>,
+    bytes: &[u8],
+    how: &How,
+    is_text: bool,
+) -> Result<(), Fault> {
+    let mut writer = writer(rt.alloc(), how, 0)?;
+    let _ = make(rt, call, bytes, how, &mut writer)?;
+    if writer.calls == 0 {
+        return Ok(());
+    }
+    print!(rt; "{} calls: ", writer.calls)?;
+    match writer.taken.len() {
+        _ if is_text => say_text(rt, writer.taken.as_slice()),
+        0..=1000 => say_bytes(rt, writer.taken.as_slice()),
+        count => Ok(println!(rt; "{count} bytes")?),
+    }
+}
+
+/// `HOW: TEXT`, or `TEXT`.
+fn how_and_text(rest: &str) -> Result<(How, &str), Fault> {
+    match rest.split_once(": ") {
+        Some((how, text)) => match how_of(how) {
+            Ok(how) => Ok((how, text)),
+            Err(fault) => Err(fault),
+        },
+        None => Ok((How::plain(), rest)),
+    }
+}
+
 /// Whether the word names the log.
 fn is_log(state: &str) -> Result<bool, Fault> {
     match state {
@@ -151,166 +204,71 @@ fn is_log(state: &str) -> Result<bool, Fault> {
     }
 }
 
-/// Does with a row what the words before it say.
-fn say_job(rt: &HostRuntime, engine: Engine, rest: &str) -> Result<(), Fault> {
-    let (state, rest) = words::first(rest);
+/// `VERB STATE HOW: ROW`, with `load`, `take_row`, `save`, `copy` or `fold`.
+pub fn row(rt: &HostRuntime, verb: &str, rest: &str) -> Result<(), Fault> {
+    let (state, rest) = first(rest);
+    let job = match verb {
+        "load" => Job::Load,
+        "take_row" => Job::TakeRow,
+        "save" => Job::Save,
+        "copy" => Job::Copy,
+        _ => Job::Fold,
+    };
     let is_log = is_log(state)?;
-    let (pieces, text) = in_pieces::of(rest)?;
-    let row = texts::hex(rt.alloc(), text)?;
-    let job = Job {
-        engine,
-        is_log,
-        row: &row,
-        step: pieces.step,
+    let (how, text) = how_and_text(rest)?;
+    let row = bytes(rt.alloc(), text)?;
+    say_call(rt, &Calling { job, is_log }, row.as_slice(), &how, false)
+}
+
+/// `show HOW: STATE at MOMENT: ROW`: what is shown of a snapshot.
+pub fn show(rt: &HostRuntime, rest: &str) -> Result<(), Fault> {
+    let (how, rest) = parts(rest, ": ")?;
+    let (head, text) = cut(rest, ": ");
+    let (state, word) = parts(head, " at ")?;
+    let call = Calling {
+        job: Job::Show(moment(word)?),
+        is_log: is_log(state)?,
     };
-    match pieces.failing {
-        Failing::EachFront => say_fronts(rt, &job),
-        Failing::EachRead => say_failed(rt, &job),
-        Failing::AfterEachRead => say_after(rt, &job),
-        _ => say_made(rt, &job, pieces),
-    }
+    let row = bytes(rt.alloc(), text)?;
+    say_call(rt, &call, row.as_slice(), &how_of(how)?, true)
 }
 
-/// Prints what is answered, and what is written if anything is.
-fn say_made(rt: &HostRuntime, job: &Job<'_>, pieces: Pieces) -> Result<(), Fault> {
-    let mut writer = in_pieces::writer(rt.alloc(), pieces.step)?;
-    let answer = job.write_to(rt.alloc(), &mut writer);
-    in_pieces::say_stops(rt, job, pieces, &writer.taken)?;
-    in_pieces::say_answer(rt, answer)?;
-    say_written(rt, writer.calls, &writer.taken)
+/// `view HOW: NAME at MOMENT: SILENCES / LOG`: the view of two snapshots. NAME may be missing.
+pub fn view(rt: &HostRuntime, rest: &str) -> Result<(), Fault> {
+    let (how, rest) = parts(rest, ": ")?;
+    let (head, rows) = parts(rest, ": ")?;
+    let (silences, log) = parts(rows, "/")?;
+    let log = bytes(rt.alloc(), log.trim())?;
+    say_view(rt, head, silences.trim(), log.as_slice(), &how_of(how)?)
 }
 
-fn say_written(rt: &HostRuntime, calls: usize, bytes: &[u8]) -> Result<(), Fault> {
-    if calls == 0 {
-        return Ok(());
-    }
-    print!(rt; "{calls} calls: ")?;
-    if bytes.len() > 1000 {
-        println!(rt; "{} bytes", bytes.len())?;
-        return Ok(());
-    }
-    words::say_bytes(rt, bytes)
-}
-
-/// Prints what is answered for the fronts of the row, from each size on at which that changes, and how often a writer was
-/// called.
-fn say_fronts(rt: &HostRuntime, job: &Job<'_>) -> Result<(), Fault> {
-    let mut last = None;
-    for size in 0..=job.row.len() {
-        let row = &job.row[..size];
-        let answer = answer_of(rt.alloc(), &Job { row, ..*job })?;
-        if last != Some(answer) {
-            print!(rt; "from {size} bytes, {} writes: ", answer.1)?;
-            in_pieces::say_answer(rt, answer.0)?;
-        }
-        last = Some(answer);
-    }
-    Ok(())
-}
-
-/// The answer, and how often a writer was called.
-fn answer_of(alloc: Global, job: &Job<'_>) -> Result<(Answer, usize), Fault> {
-    let mut writer = in_pieces::writer(alloc, usize::MAX)?;
-    let answer = job.write_to(alloc, &mut writer);
-    Ok((in_pieces::known(answer)?, writer.calls))
-}
-
-/// Prints what is told where each read fails, up to the one that isn't made.
-fn say_failed(rt: &HostRuntime, job: &Job<'_>) -> Result<(), Fault> {
-    let most = job.row.len().saturating_add(1);
-    let mut rows = Vec::with_capacity(rt.alloc(), most)?;
-    for k in 1..=most {
-        match failed_at(rt.alloc(), job, k)? {
-            Some(told) => rows.push(told)?,
-            None => break,
-        }
-    }
-    in_pieces::say_reads(rt, &rows)?;
-    in_pieces::say_writes_made(rt, &rows)
-}
-
-fn failed_at(alloc: Global, job: &Job<'_>, k: usize) -> Result<Option<Told>, Fault> {
-    let mut reader = fakes::Pieces::new(job.row, job.step, k);
-    let mut writer = in_pieces::writer(alloc, usize::MAX)?;
-    let answer = made(alloc, job, &mut reader, &mut writer);
-    let Err(SnapshotError::Read { at }) = in_pieces::known(answer)? else {
-        return Ok(None);
-    };
-    Ok(Some(Told {
-        at: at as u64,
-        passed: job.row.len().saturating_sub(reader.left.len()),
-        calls: reader.calls,
-        again: writer.calls,
-    }))
-}
-
-/// Prints what the call after each failed read is answered.
-fn say_after(rt: &HostRuntime, job: &Job<'_>) -> Result<(), Fault> {
-    for k in 1..=job.row.len().saturating_add(1) {
-        let answer = after(rt.alloc(), job, k)?;
-        print!(rt; "read {k}: ")?;
-        in_pieces::say_answer(rt, answer)?;
-    }
-    Ok(())
-}
-
-fn after(alloc: Global, job: &Job<'_>, k: usize) -> Result<Answer, Fault> {
-    let mut reader = fakes::Pieces::new(job.row, job.step, k);
-    let mut writer = in_pieces::writer(alloc, usize::MAX)?;
-    let failed = made(alloc, job, &mut reader, &mut writer);
-    let _ = in_pieces::known(failed)?;
-    let answer = made(alloc, job, &mut reader, &mut writer);
-    in_pieces::known(answer)
-}
-
-/// Prints how many messages come before a fault, or before the end.
-fn say_messages(rt: &HostRuntime, rest: &str) -> Result<(), Fault> {
-    let (state, text) = words::first(rest);
-    let bytes = texts::hex(rt.alloc(), text)?;
-    let (count, fault) = if is_log(state)? {
-        read_messages::<MeshEntry>(rt.alloc(), &bytes)
-    } else {
-        read_messages::<MeshSilence>(rt.alloc(), &bytes)
-    };
-    match fault {
-        None => println!(rt; "{count} messages")?,
-        Some(WireError::Memory) => return Err(Fault::Memory),
-        Some(fault) => println!(rt; "{count} messages, {fault:?}")?,
-    }
-    Ok(())
-}
-
-fn read_messages<M: Message>(alloc: Global, bytes: &[u8]) -> (usize, Option<WireError>) {
-    let mut count = 0usize;
-    for message in Messages::<M>::new(alloc, bytes) {
-        if let Err(fault) = message {
-            return (count, Some(fault));
-        }
-        count = count.saturating_add(1);
-    }
-    (count, None)
-}
-
-/// Takes a silence at a moment, and sweeps at another: `at NOW, sweep at LATER: MESSAGE`.
-fn say_taken(rt: &HostRuntime, rest: &str) -> Result<(), Fault> {
-    let (moments, text) = rest.split_once(": ").unwrap_or((rest, ""));
-    let (now, later) = moments.split_once(", sweep at ").unwrap_or((moments, ""));
-    let now = words::moment(now.strip_prefix("at ").unwrap_or(now))?;
-    let later = words::moment(later)?;
-    let message = texts::hex(rt.alloc(), text)?;
-    let version = MeshSilence::decode(rt.alloc(), &message).map_err(|_| Fault::Words)?;
-    say_swept(rt, version, now, later)
-}
-
-fn say_swept(
+fn say_view(
     rt: &HostRuntime,
-    version: MeshSilence,
-    now: Moment,
-    later: Moment,
+    head: &str,
+    silences: &str,
+    log: &[u8],
+    how: &How,
 ) -> Result<(), Fault> {
-    let mut held: Held<MeshSilence> = Held::new(rt.alloc());
-    let taken = held.take(version, now)?;
-    let swept = held.sweep(later);
-    println!(rt; "{taken:?}, {swept} swept, {} held", held.len())?;
-    Ok(())
+    let (name, word) = parts(head, "at ")?;
+    let view = View {
+        name: Some(name.trim_end()).filter(|name| !name.is_empty()),
+        now: moment(word)?,
+        log,
+    };
+    let call = Calling {
+        job: Job::View(&view),
+        is_log: false,
+    };
+    let row = bytes(rt.alloc(), silences)?;
+    say_call(rt, &call, row.as_slice(), how, true)
+}
+
+/// `send HOW: TEXT`: bytes that are sent.
+pub fn send_to(rt: &HostRuntime, rest: &str) -> Result<(), Fault> {
+    let (how, text) = parts(rest, ": ")?;
+    let call = Calling {
+        job: Job::Send,
+        is_log: false,
+    };
+    say_call(rt, &call, text.as_bytes(), &how_of(how)?, true)
 }

@@ -1,199 +1,200 @@
-//! Silences in words: `a job=x env!~y|z 10..100 updated 10 expires 200`.
-//!
-//! Each matcher is a word, in which `\n` is a line feed. What isn't said is as above: no matchers, the moments 10, 100,
-//! 10 and 200.
+//! Versions of either state: read, written, copied and compared; matchers, identifiers and receivers.
 
-use crate::fault::Fault;
-use crate::moments;
-use crate::words::behind;
-use am_merge::{Held, Taken};
-use am_silence::{Matcher, MatcherKind, MatcherRef, Matchers, MeshSilence, Silence};
+use am_case_words::entries::print_hashes;
+use am_case_words::fault::{Fault, say_refusal};
+use am_case_words::matchers::{matchers, print_matcher, print_matchers};
+use am_case_words::moments::{moment, print_moment};
+use am_case_words::silences::silence;
+use am_case_words::versions::{Told, say, version, versions};
+use am_case_words::words::{bytes, first, numbers, parts, say_bytes};
+use am_nflog::{Hashes, MeshEntry, Receiver};
+use am_silence::{Matcher, MeshSilence, fresh_id, state_at};
 use am_version_order::{Moment, Version};
-use am_wire::Text;
+use am_wire::{Message, WireError};
 use std::alloc::Global;
 
-/// The signs of matchers, the longer ones first.
-const SIGNS: [(&str, MatcherKind); 4] = [
-    ("=~", MatcherKind::Regexp),
-    ("!~", MatcherKind::NotRegexp),
-    ("!=", MatcherKind::NotEqual),
-    ("=", MatcherKind::Equal),
-];
-
-/// The kind, name and pattern of a word that is a matcher. No sign stands in the pattern.
-pub fn parts(word: &str) -> Option<(MatcherKind, &str, &str)> {
-    for (sign, kind) in SIGNS {
-        if let Some((name, pattern)) = word.split_once(sign) {
-            return Some((kind, name, pattern));
-        }
-    }
-    None
-}
-
-/// The sign of a kind.
-pub fn sign(kind: MatcherKind) -> &'static str {
-    match kind {
-        MatcherKind::Regexp => "=~",
-        MatcherKind::NotRegexp => "!~",
-        MatcherKind::NotEqual => "!=",
-        MatcherKind::Equal => "=",
+/// `sil VERB WORDS` of silences.
+pub fn of_silences(rt: &HostRuntime, text: &str) -> Result<(), Fault> {
+    match first(text) {
+        ("state", rest) => states(rt, rest),
+        _ => of_state::<MeshSilence>(rt, text),
     }
 }
 
-/// A text in which `\n` is a line feed; `""` is the empty one.
-pub fn text(alloc: Global, word: &str) -> Result<String, Fault> {
-    let word = if word == "\"\"" { "" } else { word };
-    Ok(word.replace(alloc, "\\n", "\n")?)
+/// `nfl VERB WORDS` of log entries.
+pub fn of_log(rt: &HostRuntime, text: &str) -> Result<(), Fault> {
+    of_state::<MeshEntry>(rt, text)
 }
 
-/// The matcher of a word.
-pub fn matcher(alloc: Global, word: &str) -> Result<Matcher, Fault> {
-    let Some((kind, name, pattern)) = parts(word) else {
-        return Err(Fault::Words);
-    };
-    let pattern = text(alloc, pattern)?;
-    Ok(MatcherRef::new(kind, name, pattern.as_str()).copied(alloc)?)
+fn of_state<V: Told>(rt: &HostRuntime, text: &str) -> Result<(), Fault> {
+    let (verb, rest) = first(text);
+    match verb {
+        "made" | "bucket" | "copied" => of_version::<V>(rt, verb, rest),
+        "order" | "keys" => orders::<V>(rt, verb, rest),
+        _ => read::<V>(rt, text),
+    }
 }
 
-/// Puts the matcher of a word at the end.
-fn push(alloc: Global, matchers: &mut Matchers, word: &str) -> Result<(), Fault> {
-    let matcher = matcher(alloc, word)?;
-    matchers.push(alloc, &matcher.borrowed())?;
+fn of_version<V: Told>(rt: &HostRuntime, verb: &str, words: &str) -> Result<(), Fault> {
+    let version = version::<V>(rt.alloc(), words)?;
+    match verb {
+        "made" => say_written(rt, &version),
+        "bucket" => say_bytes(rt, version.bucket()),
+        _ => copied(rt, &version),
+    }
+}
+
+/// The version that bytes are read as.
+fn read<V: Told>(rt: &HostRuntime, hex: &str) -> Result<(), Fault> {
+    let bytes = bytes(rt.alloc(), hex)?;
+    match V::decode(rt.alloc(), bytes.as_slice()) {
+        Ok(version) => say_version(rt, &version),
+        Err(fault) => say_refusal(rt, fault, WireError::Memory),
+    }
+}
+
+/// Says a version, and how the version order and the wire form see it: its moments, its bucket and its canonical text.
+pub fn say_version<V: Told>(rt: &HostRuntime, version: &V) -> Result<(), Fault> {
+    say(rt, version)?;
+    print_moment(rt, "order: updated ", version.updated())?;
+    print_moment(rt, ", expires ", version.expires())?;
+    print!(rt; ", bucket ")?;
+    say_bytes(rt, version.bucket())?;
+    print!(rt; "written ")?;
+    say_bytes(rt, version.canonical())
+}
+
+/// Says the bytes of a message that is written twice into one vector.
+fn say_written<M: Message>(rt: &HostRuntime, message: &M) -> Result<(), Fault> {
+    let mut bytes = Vec::new(rt.alloc());
+    message.encode(&mut bytes)?;
+    message.encode(&mut bytes)?;
+    say_bytes(rt, bytes.as_slice())
+}
+
+/// Says the copies of a version and of its key, and how the key and the version compare with them.
+fn copied<V: Told>(rt: &HostRuntime, version: &V) -> Result<(), Fault> {
+    print_key_copy(rt, version)?;
+    let copy = version.try_clone(rt.alloc())?;
+    println!(rt; " {:?}", version.compare(&copy))?;
+    say(rt, &copy)
+}
+
+fn print_key_copy<V: Told>(rt: &HostRuntime, version: &V) -> Result<(), Fault> {
+    let copy = version.try_key(rt.alloc())?;
+    V::print_key(rt, &copy)?;
+    Ok(print!(rt; ": {:?}", copy.cmp(version.key()))?)
+}
+
+/// Says in a line for each version of a list how it, or its key, compares with each.
+fn orders<V: Told>(rt: &HostRuntime, verb: &str, text: &str) -> Result<(), Fault> {
+    let list = versions::<V>(rt.alloc(), text)?;
+    for version in &list {
+        say_orders(rt, verb, version, list.as_slice())?;
+    }
     Ok(())
 }
 
-/// The matchers among the words.
-pub fn matchers(alloc: Global, words: &str) -> Result<Matchers, Fault> {
-    let mut matchers = Matchers::none(alloc);
-    for word in words.split(' ') {
-        if parts(word).is_some() {
-            push(alloc, &mut matchers, word)?;
-        }
+fn say_orders<V: Told>(
+    rt: &HostRuntime,
+    verb: &str,
+    version: &V,
+    others: &[V],
+) -> Result<(), Fault> {
+    for (place, other) in others.iter().enumerate() {
+        let blank = if place == 0 { "" } else { " " };
+        let order = match verb {
+            "keys" => version.key().cmp(other.key()),
+            _ => version.compare(other),
+        };
+        print!(rt; "{blank}{order:?}")?;
     }
-    Ok(matchers)
+    Ok(println!(rt; "")?)
 }
 
-/// The moments of a version.
-#[derive(Clone, Copy)]
-struct Times {
-    starts: Moment,
-    ends: Moment,
-    updated: Moment,
-    expires: Moment,
-}
-
-/// The moment behind a name, or another one.
-fn moment_behind(words: &str, name: &str, otherwise: &str) -> Result<Moment, Fault> {
-    moments::moment(behind(words, name).unwrap_or(otherwise))
-}
-
-/// The first word that is a start and an end.
-fn span(words: &str) -> Option<(&str, &str)> {
-    for word in words.split(' ') {
-        if parts(word).is_none() {
-            if let Some(span) = word.split_once("..") {
-                return Some(span);
-            }
-        }
+/// `state WORDS at MOMENT ..`: the state at each of the moments, of the silence and of its version.
+fn states(rt: &HostRuntime, text: &str) -> Result<(), Fault> {
+    let (words, moments) = parts(text, " at ")?;
+    for word in moments.split(' ') {
+        let now = moment(word)?;
+        print_state(rt, words, now)?;
+        say_version_state(rt, words, now)?;
     }
-    None
-}
-
-/// The moments among the words.
-fn read_times(words: &str) -> Result<Times, Fault> {
-    let (starts, ends) = span(words).unwrap_or(("10", "100"));
-    Ok(Times {
-        starts: moments::moment(starts)?,
-        ends: moments::moment(ends)?,
-        updated: moment_behind(words, " updated ", "10")?,
-        expires: moment_behind(words, " expires ", "200")?,
-    })
-}
-
-/// The silence of these words and moments.
-fn silence_at(alloc: Global, words: &str, times: &Times) -> Result<Silence, Fault> {
-    let (id, _) = crate::words::first(words);
-    let matchers = matchers(alloc, words)?;
-    Ok(Silence {
-        id: Text::copied(alloc, id)?,
-        matchers,
-        starts_at: times.starts,
-        ends_at: times.ends,
-        updated_at: times.updated,
-        created_by: Text::new(String::new(alloc)),
-        comment: Text::new(String::new(alloc)),
-    })
-}
-
-/// The silence of these words.
-pub fn silence(alloc: Global, words: &str) -> Result<Silence, Fault> {
-    let times = read_times(words)?;
-    silence_at(alloc, words, &times)
-}
-
-/// The version of these words.
-pub fn version(alloc: Global, words: &str) -> Result<MeshSilence, Fault> {
-    let times = read_times(words)?;
-    let silence = silence_at(alloc, words, &times)?;
-    MeshSilence::new(alloc, silence, times.expires).map_err(|_| Fault::Memory)
-}
-
-/// Takes the version of these words at a moment.
-pub fn take(
-    alloc: Global,
-    held: &mut Held<MeshSilence>,
-    words: &str,
-    now: Moment,
-) -> Result<Taken, Fault> {
-    let version = version(alloc, words)?;
-    Ok(held.take(version, now)?)
-}
-
-/// The map of versions that are parted by commas.
-pub fn held(alloc: Global, versions: &str) -> Result<Held<MeshSilence>, Fault> {
-    let mut held = Held::new(alloc);
-    for words in versions.split(", ") {
-        if !words.is_empty() {
-            take(alloc, &mut held, words, Moment::LEAST)?;
-        }
-    }
-    Ok(held)
-}
-
-/// Prints a version in words.
-pub fn print_version(rt: &HostRuntime, version: &MeshSilence) -> Result<(), Fault> {
-    print!(rt; "{}", version.key().as_str())?;
-    for matcher in version.matchers() {
-        print!(rt;
-            " {}{}{}",
-            matcher.name(),
-            sign(matcher.kind()),
-            matcher.pattern()
-        )?;
-    }
-    moments::print(rt, " ", version.starts_at())?;
-    moments::print(rt, "..", version.ends_at())?;
-    moments::print(rt, " updated ", version.updated_at())?;
-    moments::print(rt, " expires ", version.expires_at())
-}
-
-/// Says a version, or that there is none.
-pub fn say_version(rt: &HostRuntime, version: Option<&MeshSilence>) -> Result<(), Fault> {
-    match version {
-        Some(version) => print_version(rt, version)?,
-        None => print!(rt; "none")?,
-    }
-    println!(rt; "")?;
     Ok(())
 }
 
-/// Says all versions of a map.
-pub fn say_held(rt: &HostRuntime, held: &Held<MeshSilence>) -> Result<(), Fault> {
-    print!(rt; "{} held", held.len())?;
-    for version in held.iter() {
-        print!(rt; ", ")?;
-        print_version(rt, version)?;
+fn print_state(rt: &HostRuntime, words: &str, now: Moment) -> Result<(), Fault> {
+    let silence = silence(rt.alloc(), words)?;
+    Ok(print!(rt; "{:?} ", state_at(&silence, now))?)
+}
+
+fn say_version_state(rt: &HostRuntime, words: &str, now: Moment) -> Result<(), Fault> {
+    let version = version::<MeshSilence>(rt.alloc(), words)?;
+    Ok(println!(rt; "{:?}", version.state_at(now))?)
+}
+
+/// `matcher BYTES`: the matcher that bytes are read as, and its bytes, twice.
+pub fn matcher(rt: &HostRuntime, hex: &str) -> Result<(), Fault> {
+    let bytes = bytes(rt.alloc(), hex)?;
+    match Matcher::decode(rt.alloc(), bytes.as_slice()) {
+        Ok(matcher) => say_matcher(rt, &matcher),
+        Err(fault) => say_refusal(rt, fault, WireError::Memory),
     }
-    println!(rt; "")?;
-    Ok(())
+}
+
+fn say_matcher(rt: &HostRuntime, matcher: &Matcher) -> Result<(), Fault> {
+    let (wants, regexp) = (matcher.wants_label(), matcher.kind.is_regexp());
+    print_matcher(rt, "", &matcher.borrowed())?;
+    println!(rt; ", wants the label: {wants}, regular expression: {regexp}")?;
+    say_written(rt, matcher)
+}
+
+/// `matchers WORDS`: a copy of matchers.
+pub fn matchers_copied(rt: &HostRuntime, words: &str) -> Result<(), Fault> {
+    let matchers = matchers(rt.alloc(), words)?;
+    let copy = matchers.try_clone(rt.alloc())?;
+    print!(rt; "empty {}:", copy.is_empty())?;
+    print_matchers(rt, copy.iter())?;
+    Ok(println!(rt; "")?)
+}
+
+/// The bits of 32 hexadecimal digits.
+pub fn bits(alloc: Global, word: &str) -> Result<u128, Fault> {
+    let bytes = bytes(alloc, word)?;
+    let bytes: [u8; 16] = bytes.as_slice().try_into().map_err(|_| Fault::Words)?;
+    Ok(u128::from_be_bytes(bytes))
+}
+
+/// `fresh BITS`: the identifier that random bits give.
+pub fn fresh(rt: &HostRuntime, word: &str) -> Result<(), Fault> {
+    let id = fresh_id(bits(rt.alloc(), word)?);
+    Ok(println!(rt; "{}", id.as_str())?)
+}
+
+/// `hashes LIST`: the hashes that a copy of a list shows, and gives back.
+pub fn hashes_copied(rt: &HostRuntime, list: &str) -> Result<(), Fault> {
+    let hashes = Hashes::new(numbers(rt.alloc(), list)?);
+    let copy = hashes.try_clone(rt.alloc())?;
+    print_hashes(rt, "", copy.iter())?;
+    say_given_back(rt, copy)
+}
+
+fn say_given_back(rt: &HostRuntime, hashes: Hashes) -> Result<(), Fault> {
+    let hashes = hashes.into_vec();
+    Ok(println!(rt; " {:?}", hashes.as_slice())?)
+}
+
+/// `receiver BYTES`: the receiver that bytes are read as, and its bytes, twice.
+pub fn receiver(rt: &HostRuntime, hex: &str) -> Result<(), Fault> {
+    let bytes = bytes(rt.alloc(), hex)?;
+    match Receiver::decode(rt.alloc(), bytes.as_slice()) {
+        Ok(receiver) => say_receiver(rt, &receiver),
+        Err(fault) => say_refusal(rt, fault, WireError::Memory),
+    }
+}
+
+fn say_receiver(rt: &HostRuntime, receiver: &Receiver) -> Result<(), Fault> {
+    let (name, integration) = (receiver.group_name.as_str(), receiver.integration.as_str());
+    println!(rt; "{name}/{integration}/{}", receiver.idx)?;
+    say_written(rt, receiver)
 }
