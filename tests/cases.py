@@ -41,7 +41,6 @@ PROGRAMS = {
     "maps": CASES,
     "matchers": CASES,
     "moments": CASES,
-    "plans": CASES,
     "replays": MEMBER_CASES,
     "requests": CASES,
     "rows": CASES,

@@ -31,7 +31,7 @@ pub fn receiver(alloc: Global, word: &str) -> Result<Receiver, Fault> {
 }
 
 /// The key of words such as `g r/w/0`.
-pub fn log_key(alloc: Global, words: &str) -> Result<LogKey, Fault> {
+fn log_key(alloc: Global, words: &str) -> Result<LogKey, Fault> {
     let (group, rest) = first(words);
     let (name, integration, idx) = receiver_parts(first(rest).0)?;
     Ok(LogKey::of_parts(alloc, group.as_bytes(), name, integration, idx)?)
@@ -79,7 +79,7 @@ fn print_group(rt: &HostRuntime, group: &[u8]) -> Result<(), Fault> {
 }
 
 /// Prints a word and hashes, with commas between; nothing where there are none.
-pub fn print_hashes(rt: &HostRuntime, word: &str, hashes: HashIter<'_>) -> Result<(), Fault> {
+fn print_hashes(rt: &HostRuntime, word: &str, hashes: HashIter<'_>) -> Result<(), Fault> {
     let mut before = word;
     for hash in hashes {
         print!(rt; "{before}{hash}")?;

@@ -348,13 +348,6 @@ fn say_each<C: Call>(
     }
 }
 
-/// How often a reader was called, and how many bytes it had left.
-#[derive(Clone, Copy)]
-pub struct Calls {
-    pub reads: usize,
-    pub left: usize,
-}
-
 /// Makes a call with nothing failing, and the tries that are asked. Says what came of each try, and then what the call is
 /// answered where nothing fails.
 pub fn make<C: Call>(
@@ -363,7 +356,7 @@ pub fn make<C: Call>(
     input: &[u8],
     how: &How,
     writer: &mut Brittle,
-) -> Result<Calls, Fault> {
+) -> Result<(), Fault> {
     let mut reader = Pieces::new(input, how.gives, 0);
     let answered = call.make(rt.alloc(), &mut reader, writer)?;
     if how.each != Each::Once {
@@ -371,8 +364,5 @@ pub fn make<C: Call>(
     }
     call.print(rt, &answered.answer)?;
     println!(rt; "")?;
-    Ok(Calls {
-        reads: reader.calls,
-        left: reader.left.len(),
-    })
+    Ok(())
 }

@@ -42,15 +42,29 @@ pub fn size(word: &str) -> Result<usize, Fault> {
     word.parse::<usize>().map_err(|_| Fault::Words)
 }
 
-/// The numbers of a list, as `1,2`, or `-` for none.
+/// The numbers of a list, as `1,2`, or `-` for none. `1..9` and `9..1` are all from one to the other.
 pub fn numbers(alloc: Global, list: &str) -> Result<Vec<u64>, Fault> {
     let mut numbers = Vec::new(alloc);
     for word in list.split(',') {
         if word != "-" {
-            numbers.push(number(word)?)?;
+            append_numbers(&mut numbers, word)?;
         }
     }
     Ok(numbers)
+}
+
+fn append_numbers(numbers: &mut Vec<u64>, word: &str) -> Result<(), Fault> {
+    let (from, to) = word.split_once("..").unwrap_or((word, word));
+    let (from, to) = (number(from)?, number(to)?);
+    for step in 0..=from.abs_diff(to) {
+        let number = if from < to {
+            from.saturating_add(step)
+        } else {
+            from.saturating_sub(step)
+        };
+        numbers.push(number)?;
+    }
+    Ok(())
 }
 
 /// The value of a hexadecimal digit.

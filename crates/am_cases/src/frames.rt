@@ -1,23 +1,17 @@
 //! Frames as they are read, in any cut.
 
 use am_case_words::fault::{Fault, say_refusal};
-use am_case_words::words::{bytes, cut, number, parts};
-use am_gossip::{
-    Fed, Feeder, Frame, FrameError, FrameKind, Part, StateKey, append_frame, read_hello,
-};
+use am_case_words::words::{bytes, number};
+use am_gossip::{Fed, Feeder, Frame, FrameError, FrameKind, Part, StateKey, read_hello};
 
-/// `feed PIECE | PIECE ..` feeds a stream in these pieces, `feed cut each: STREAM` in two, cut at each place in turn, and
-/// `feed and write again: STREAM` writes the frames again.
+/// `feed PIECE | PIECE ..` feeds a stream in these pieces, and `feed cut each: STREAM` in two, cut at each place in turn.
 pub fn feed(rt: &HostRuntime, rest: &str) -> Result<(), Fault> {
-    let (how, pairs) = cut(rest, ": ");
-    if pairs.is_empty() {
-        return feed_pieces(rt, rest);
-    }
-    let bytes = bytes(rt.alloc(), pairs)?;
-    match how {
-        "cut each" => cut_each(rt, bytes.as_slice()),
-        "and write again" => write_again(rt, bytes.as_slice()),
-        _ => Err(Fault::Words),
+    match rest.strip_prefix("cut each: ") {
+        Some(pairs) => {
+            let bytes = bytes(rt.alloc(), pairs)?;
+            cut_each(rt, bytes.as_slice())
+        }
+        None => feed_pieces(rt, rest),
     }
 }
 
@@ -123,65 +117,6 @@ fn feed_two(rt: &HostRuntime, front: &[u8], rest: &[u8]) -> Result<(), Fault> {
     let mut feeder = Feeder::new(rt.alloc());
     feed_piece(rt, &mut feeder, front)?;
     feed_piece(rt, &mut feeder, rest)
-}
-
-/// Feeds the stream in two pieces, cut at each place in turn, and then byte by byte, and writes the frames again: says
-/// how often that gives the same bytes, of which those of the first piece are written or wait.
-fn write_again(rt: &HostRuntime, bytes: &[u8]) -> Result<(), Fault> {
-    let mut same = 0usize;
-    for place in 0..=bytes.len() {
-        if is_same(rt, bytes, place, usize::MAX)? {
-            same = same.saturating_add(1);
-        }
-    }
-    let is_same = is_same(rt, bytes, 0, 1)?;
-    Ok(println!(rt; "the same at {same} cuts, byte by byte {is_same}")?)
-}
-
-fn is_same(rt: &HostRuntime, bytes: &[u8], place: usize, step: usize) -> Result<bool, Fault> {
-    let mut out = Vec::new(rt.alloc());
-    let (front, rest) = bytes.split_at(place.min(bytes.len()));
-    let is_whole = write_pieces(rt, front, rest, step, &mut out)?;
-    Ok(is_whole && out.as_slice() == bytes)
-}
-
-/// Feeds a front and the rest, that in pieces, and writes the frames; whether of the front what isn't written waits, and in
-/// the end nothing does.
-fn write_pieces(
-    rt: &HostRuntime,
-    front: &[u8],
-    rest: &[u8],
-    step: usize,
-    out: &mut Vec<u8>,
-) -> Result<bool, Fault> {
-    let mut feeder = Feeder::new(rt.alloc());
-    write_piece(rt, &mut feeder, front, out)?;
-    let is_whole = out.len().checked_add(feeder.waiting()) == Some(front.len());
-    for piece in rest.chunks(step.max(1)) {
-        write_piece(rt, &mut feeder, piece, out)?;
-    }
-    Ok(is_whole && feeder.waiting() == 0)
-}
-
-/// Writes the frames that a piece brings behind the bytes.
-fn write_piece(
-    rt: &HostRuntime,
-    feeder: &mut Feeder,
-    piece: &[u8],
-    out: &mut Vec<u8>,
-) -> Result<(), Fault> {
-    let fed = fed(rt, feeder, piece).map_err(fault_of)?;
-    for frame in &fed.frames {
-        append_frame(out, frame).map_err(fault_of)?;
-    }
-    Ok(())
-}
-
-fn fault_of(fault: FrameError) -> Fault {
-    match fault {
-        FrameError::Memory => Fault::Memory,
-        _ => Fault::Words,
-    }
 }
 
 /// `hello BYTES` reads a greeting.

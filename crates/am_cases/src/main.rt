@@ -5,12 +5,10 @@ mod decisions;
 mod frames;
 mod frames_written;
 mod json;
-mod log;
 mod maps;
 mod matchers;
 mod moments;
 mod mutes;
-mod plans;
 mod replies;
 mod requests;
 mod rows;
@@ -18,9 +16,9 @@ mod snapshots;
 mod versions;
 mod views;
 mod wire;
-mod written;
 
 use am_case_words::fault::Fault;
+use am_case_words::texts::say_text;
 use am_case_words::transcript::{Answers, run};
 use std::process::ExitCode;
 
@@ -35,10 +33,7 @@ impl Answers for Cases {
             "matcher" => versions::matcher(rt, rest),
             "matchers" => versions::matchers_copied(rt, rest),
             "fresh" => versions::fresh(rt, rest),
-            "hashes" => versions::hashes_copied(rt, rest),
             "receiver" => versions::receiver(rt, rest),
-            "notified" => log::notified(rt, rest),
-            "held" => plans::held(rt, rest),
             "moment" => moments::of_parts(rt, rest),
             "parts" => moments::say_parts(rt, rest),
             "order" => moments::say_order(rt, rest),
@@ -54,11 +49,8 @@ impl Answers for Cases {
 fn of_bytes(rt: &HostRuntime, verb: &str, rest: &str) -> Result<(), Fault> {
     match verb {
         "wire" => wire::wire(rt, rest),
-        "put" => written::put(rt, rest),
-        "dated-size" => written::say_size(rt, rest),
-        "compare" => written::compare(rt, rest),
-        "keep-text" => written::keep_text(rt, rest),
-        "keep-bytes" => written::keep_bytes(rt, rest),
+        "put" => wire::put(rt, rest),
+        "compare" => wire::compare(rt, rest),
         "feed" => frames::feed(rt, rest),
         "hello" => frames::hello(rt, rest),
         "kind" => frames::kind(rt, rest),
@@ -68,7 +60,6 @@ fn of_bytes(rt: &HostRuntime, verb: &str, rest: &str) -> Result<(), Fault> {
         "timestamps" => rows::timestamps(rt, rest),
         "load" | "take_row" | "save" | "copy" | "fold" => snapshots::row(rt, verb, rest),
         "show" => snapshots::show(rt, rest),
-        "view" => snapshots::view(rt, rest),
         "send" => snapshots::send_to(rt, rest),
         _ => of_maps(rt, verb, rest),
     }
@@ -88,7 +79,6 @@ fn of_maps(rt: &HostRuntime, verb: &str, rest: &str) -> Result<(), Fault> {
         "filter" => mutes::filter(rt, rest),
         "mutes" => mutes::mutes(rt, rest),
         "decide" => decisions::decide(rt, rest),
-        "decide-long" => decisions::decide_long(rt, rest),
         "due" => decisions::say_due(rt, rest),
         _ => of_texts(rt, verb, rest),
     }
@@ -100,17 +90,15 @@ fn of_texts(rt: &HostRuntime, verb: &str, rest: &str) -> Result<(), Fault> {
         "json" => json::json(rt, rest),
         "moment-text" => json::moment_text(rt, rest),
         "request" => requests::request(rt, rest),
-        "fronts" => requests::fronts(rt, rest),
         "receive" => requests::receive_from(rt, rest),
         "call" => replies::call(rt, rest),
         "filters" => replies::filters(rt, rest),
         "refusals" => replies::refusals(rt),
         "reply" => replies::reply(rt, rest),
+        "out_of_memory" => say_text(rt, am_http::out_of_memory()),
         "word" => views::word(rt, rest),
         "numbers" => views::numbers_word(rt, rest),
         "texts" => views::texts_word(rt, rest),
-        "calm" => views::calm(rt, rest),
-        "pull" => views::pull(rt, rest),
         "refused" => views::refused(rt),
         "schedule" => views::schedule(rt, rest),
         _ => Err(Fault::Words),

@@ -26,7 +26,6 @@ pub fn map(rt: &HostRuntime, text: &str) -> Result<(), Fault> {
 /// A step on a map.
 fn step(rt: &HostRuntime, held: &mut Held<MeshSilence>, text: &str) -> Result<(), Fault> {
     match first(text) {
-        ("get", id) => versions::say_if_any(rt, held.get(&Text::copied(rt.alloc(), id)?)),
         ("bucket", pairs) => say_bucket(rt, held, pairs),
         ("expiry", _) => say_if_any(rt, held.next_expiry()),
         ("held", _) => say_held(rt, held),
@@ -58,6 +57,16 @@ fn version(alloc: Global, words: &str) -> Result<MeshSilence, Fault> {
     versions::version(alloc, words)
 }
 
+/// The two versions of words, parted by `, `.
+fn pair(alloc: Global, words: &str) -> Result<(MeshSilence, MeshSilence), Fault> {
+    let (one, other) = parts(words, ", ")?;
+    let one = version(alloc, one)?;
+    match version(alloc, other) {
+        Ok(other) => Ok((one, other)),
+        Err(fault) => Err(fault),
+    }
+}
+
 /// Takes two versions.
 fn take_pair(
     rt: &HostRuntime,
@@ -65,23 +74,8 @@ fn take_pair(
     words: &str,
     now: Moment,
 ) -> Result<(), Fault> {
-    let (one, other) = parts(words, ", ")?;
-    let one = version(rt.alloc(), one)?;
-    take_before(rt, held, one, other, now)
-}
-
-/// Takes a version, and behind it another one.
-fn take_before(
-    rt: &HostRuntime,
-    held: &mut Held<MeshSilence>,
-    one: MeshSilence,
-    other: &str,
-    now: Moment,
-) -> Result<(), Fault> {
-    match version(rt.alloc(), other) {
-        Ok(other) => Ok(println!(rt; "{:?}", held.take_pair(one, other, now)?)?),
-        Err(fault) => Err(fault),
-    }
+    let (one, other) = pair(rt.alloc(), words)?;
+    Ok(println!(rt; "{:?}", held.take_pair(one, other, now)?)?)
 }
 
 /// Merges a map of versions, and says how many identifiers have another version.
@@ -174,23 +168,8 @@ fn run(rt: &HostRuntime, keeper: &mut Keeper<MeshSilence>, text: &str) -> Result
 fn keep_pair(rt: &HostRuntime, keeper: &mut Keeper<MeshSilence>, text: &str) -> Result<(), Fault> {
     let (words, word) = parts(text, " at ")?;
     let now = moment(word)?;
-    let (one, other) = parts(words, ", ")?;
-    let one = version(rt.alloc(), one)?;
-    keep_before(rt, keeper, one, other, now)
-}
-
-/// Takes a version, and behind it another one.
-fn keep_before(
-    rt: &HostRuntime,
-    keeper: &mut Keeper<MeshSilence>,
-    one: MeshSilence,
-    other: &str,
-    now: Moment,
-) -> Result<(), Fault> {
-    match version(rt.alloc(), other) {
-        Ok(other) => say(rt, &keeper.take_pair(one, other, now)),
-        Err(fault) => Err(fault),
-    }
+    let (one, other) = pair(rt.alloc(), words)?;
+    say(rt, &keeper.take_pair(one, other, now))
 }
 
 /// Says what is in view of an identifier at a moment.

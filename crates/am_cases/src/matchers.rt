@@ -62,37 +62,19 @@ fn say_parts(rt: &HostRuntime, matcher: &Matcher) -> Result<(), Fault> {
     Ok(println!(rt; "{kind:?} {name} {pattern}")?)
 }
 
-/// `verdicts LIST; LIST ..`: the verdict on each list of matchers by itself, and then by one cache, twice.
+/// `verdicts LIST; LIST ..`: the verdict on each list of matchers.
 pub fn verdicts(rt: &HostRuntime, lists: &str) -> Result<(), Fault> {
     for (place, words) in lists.split("; ").enumerate() {
         let blank = if place == 0 { "" } else { " " };
-        let verdict = verdict_alone(rt.alloc(), words)?;
+        let verdict = verdict_on(rt.alloc(), words)?;
         print!(rt; "{blank}{verdict:?}")?;
-    }
-    println!(rt; "")?;
-    let mut patterns = PatternCache::new(rt.alloc());
-    say_kept(rt, &mut patterns, lists)?;
-    say_kept(rt, &mut patterns, lists)
-}
-
-/// Says the verdicts of a cache.
-fn say_kept(rt: &HostRuntime, patterns: &mut PatternCache, lists: &str) -> Result<(), Fault> {
-    print!(rt; "kept")?;
-    for words in lists.split("; ") {
-        let verdict = verdict_kept(rt.alloc(), patterns, words)?;
-        print!(rt; " {verdict:?}")?;
     }
     Ok(println!(rt; "")?)
 }
 
-fn verdict_alone(alloc: Global, words: &str) -> Result<Verdict, Fault> {
+fn verdict_on(alloc: Global, words: &str) -> Result<Verdict, Fault> {
     let matchers = matchers(alloc, words)?;
     Ok(verdict(alloc, &matchers)?)
-}
-
-fn verdict_kept(alloc: Global, patterns: &mut PatternCache, words: &str) -> Result<Verdict, Fault> {
-    let matchers = matchers(alloc, words)?;
-    Ok(patterns.verdict(&matchers)?)
 }
 
 /// `many-verdicts COUNT`: asks one cache twice of so many patterns.

@@ -74,44 +74,6 @@ fn say_open(rt: &HostRuntime, bytes: &[u8]) -> Result<Seen, Fault> {
     seen_of(&read)
 }
 
-/// Bytes that came, behind which more may come, and where the input ended.
-#[derive(Clone, Copy)]
-struct Front;
-
-impl Call for Front {
-    type Answer = (Seen, Seen);
-
-    fn make(
-        &self,
-        alloc: Global,
-        reader: &mut Pieces<'_>,
-        _writer: &mut Brittle,
-    ) -> Result<Answered<(Seen, Seen)>, Fault> {
-        let open = seen_in(alloc, reader.left, false)?;
-        let ended = seen_in(alloc, reader.left, true)?;
-        Ok(Answered {
-            answer: (open, ended),
-            told: None,
-        })
-    }
-
-    fn print(&self, rt: &HostRuntime, answer: &(Seen, Seen)) -> Result<(), Fault> {
-        print_seen(rt, answer.0)?;
-        print!(rt; "; at the end: ")?;
-        print_seen(rt, answer.1)
-    }
-}
-
-/// `fronts TEXT`: what the fronts of bytes come to.
-pub fn fronts(rt: &HostRuntime, text: &str) -> Result<(), Fault> {
-    let bytes = spelled(rt.alloc(), text)?;
-    let how = How {
-        each: Each::Front,
-        ..How::plain()
-    };
-    tried(rt, &Front, bytes.as_slice(), &how)
-}
-
 /// A request that is read from a reader.
 #[derive(Clone, Copy)]
 struct Receiving;
@@ -145,12 +107,6 @@ impl Call for Receiving {
     }
 }
 
-fn tried<C: Call>(rt: &HostRuntime, call: &C, bytes: &[u8], how: &How) -> Result<(), Fault> {
-    let mut writer = writer(rt.alloc(), how, 0)?;
-    let _ = make(rt, call, bytes, how, &mut writer)?;
-    Ok(())
-}
-
 /// `receive HOW: TEXT`: what a reader gives.
 pub fn receive_from(rt: &HostRuntime, rest: &str) -> Result<(), Fault> {
     let (how, text) = parts(rest, ": ")?;
@@ -158,8 +114,14 @@ pub fn receive_from(rt: &HostRuntime, rest: &str) -> Result<(), Fault> {
     let bytes = spelled(rt.alloc(), text)?;
     match how.each {
         Each::Once => say_received(rt, Pieces::new(bytes.as_slice(), how.gives, 0)),
-        _ => tried(rt, &Receiving, bytes.as_slice(), &how),
+        _ => say_tries(rt, bytes.as_slice(), &how),
     }
+}
+
+fn say_tries(rt: &HostRuntime, bytes: &[u8], how: &How) -> Result<(), Fault> {
+    let mut writer = writer(rt.alloc(), how, 0)?;
+    let _ = make(rt, &Receiving, bytes, how, &mut writer)?;
+    Ok(())
 }
 
 /// Says what a reader gives, and how it stands then.

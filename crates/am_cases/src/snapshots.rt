@@ -13,13 +13,13 @@ use am_silence::MeshSilence;
 use am_snapshot::laws::what_is_saved_is_loaded;
 use am_snapshot::{FoldError, SnapshotError, fold, load, save, take_row};
 use am_version_order::{Moment, Version};
-use am_view::{show_log, show_silences, write_view};
+use am_view::{show_log, show_silences};
 use am_wire::Message;
 use std::alloc::Global;
 
 /// What is done.
 #[derive(Clone, Copy)]
-enum Job<'a> {
+enum Job {
     Load,
     TakeRow,
     Save,
@@ -27,29 +27,19 @@ enum Job<'a> {
     Fold,
     /// The row is shown at a moment.
     Show(Moment),
-    /// The row, and one of the log, are viewed by a member at a moment.
-    View(&'a View<'a>),
     Send,
-}
-
-/// What a view is of, beside silences.
-#[derive(Clone, Copy)]
-struct View<'a> {
-    name: Option<&'a str>,
-    now: Moment,
-    log: &'a [u8],
 }
 
 /// Something that is done with a row of silences or of the log.
 #[derive(Clone, Copy)]
-struct Calling<'a> {
-    job: Job<'a>,
+struct Calling {
+    job: Job,
     is_log: bool,
 }
 
 type Done = Result<u64, SnapshotError>;
 
-impl Call for Calling<'_> {
+impl Call for Calling {
     type Answer = Done;
 
     fn make(
@@ -82,11 +72,10 @@ impl Call for Calling<'_> {
     }
 }
 
-fn done(alloc: Global, call: &Calling<'_>, reader: &mut Pieces<'_>, writer: &mut Brittle) -> Done {
+fn done(alloc: Global, call: &Calling, reader: &mut Pieces<'_>, writer: &mut Brittle) -> Done {
     match call.job {
         Job::Show(now) if call.is_log => show_log(alloc, reader, writer, now),
         Job::Show(now) => show_silences(alloc, reader, writer, now),
-        Job::View(view) => viewed(alloc, view, reader, writer),
         Job::Send => sent(reader.left, writer),
         job if call.is_log => done_with::<MeshEntry>(alloc, job, reader, writer),
         job => {
@@ -98,7 +87,7 @@ fn done(alloc: Global, call: &Calling<'_>, reader: &mut Pieces<'_>, writer: &mut
 
 fn done_with<V: Version + Message>(
     alloc: Global,
-    job: Job<'_>,
+    job: Job,
     reader: &mut Pieces<'_>,
     writer: &mut Brittle,
 ) -> Done {
@@ -112,7 +101,7 @@ fn done_with<V: Version + Message>(
 /// What is done with a row that is loaded.
 fn loaded<V: Version + Message>(
     alloc: Global,
-    job: Job<'_>,
+    job: Job,
     reader: &mut Pieces<'_>,
     writer: &mut Brittle,
 ) -> Done {
@@ -140,22 +129,6 @@ fn named(fault: FoldError) -> SnapshotError {
     }
 }
 
-fn viewed(alloc: Global, view: &View<'_>, reader: &mut Pieces<'_>, writer: &mut Brittle) -> Done {
-    let silences: Held<MeshSilence> = load(alloc, reader)?;
-    viewed_with(alloc, view, &silences, writer)
-}
-
-fn viewed_with(
-    alloc: Global,
-    view: &View<'_>,
-    silences: &Held<MeshSilence>,
-    writer: &mut Brittle,
-) -> Done {
-    let mut log = view.log;
-    let log: Held<MeshEntry> = load(alloc, &mut log)?;
-    write_view(alloc, silences, &log, view.name, view.now, writer)
-}
-
 fn sent(bytes: &[u8], writer: &mut Brittle) -> Done {
     match send(writer, bytes) {
         Ok(()) => Ok(bytes.len() as u64),
@@ -166,7 +139,7 @@ fn sent(bytes: &[u8], writer: &mut Brittle) -> Done {
 /// Does what is asked with the bytes, and says what comes of it and what is written.
 fn say_call(
     rt: &HostRuntime,
-    call: &Calling<'_>,
+    call: &Calling,
     bytes: &[u8],
     how: &How,
     is_text: bool,
@@ -231,36 +204,6 @@ pub fn show(rt: &HostRuntime, rest: &str) -> Result<(), Fault> {
     };
     let row = bytes(rt.alloc(), text)?;
     say_call(rt, &call, row.as_slice(), &how_of(how)?, true)
-}
-
-/// `view HOW: NAME at MOMENT: SILENCES / LOG`: the view of two snapshots. NAME may be missing.
-pub fn view(rt: &HostRuntime, rest: &str) -> Result<(), Fault> {
-    let (how, rest) = parts(rest, ": ")?;
-    let (head, rows) = parts(rest, ": ")?;
-    let (silences, log) = parts(rows, "/")?;
-    let log = bytes(rt.alloc(), log.trim())?;
-    say_view(rt, head, silences.trim(), log.as_slice(), &how_of(how)?)
-}
-
-fn say_view(
-    rt: &HostRuntime,
-    head: &str,
-    silences: &str,
-    log: &[u8],
-    how: &How,
-) -> Result<(), Fault> {
-    let (name, word) = parts(head, "at ")?;
-    let view = View {
-        name: Some(name.trim_end()).filter(|name| !name.is_empty()),
-        now: moment(word)?,
-        log,
-    };
-    let call = Calling {
-        job: Job::View(&view),
-        is_log: false,
-    };
-    let row = bytes(rt.alloc(), silences)?;
-    say_call(rt, &call, row.as_slice(), how, true)
 }
 
 /// `send HOW: TEXT`: bytes that are sent.

@@ -1,13 +1,12 @@
 //! Versions of either state: read, written, copied and compared; matchers, identifiers and receivers.
 
-use am_case_words::entries::print_hashes;
 use am_case_words::fault::{Fault, say_refusal};
 use am_case_words::matchers::{matchers, print_matcher, print_matchers};
 use am_case_words::moments::{moment, print_moment};
 use am_case_words::silences::silence;
 use am_case_words::versions::{Told, say, version, versions};
-use am_case_words::words::{bytes, first, numbers, parts, say_bytes};
-use am_nflog::{Hashes, MeshEntry, Receiver};
+use am_case_words::words::{bytes, first, parts, say_bytes};
+use am_nflog::{MeshEntry, Receiver};
 use am_silence::{Matcher, MeshSilence, fresh_id, state_at};
 use am_version_order::{Moment, Version};
 use am_wire::{Message, WireError};
@@ -169,19 +168,6 @@ pub fn bits(alloc: Global, word: &str) -> Result<u128, Fault> {
 pub fn fresh(rt: &HostRuntime, word: &str) -> Result<(), Fault> {
     let id = fresh_id(bits(rt.alloc(), word)?);
     Ok(println!(rt; "{}", id.as_str())?)
-}
-
-/// `hashes LIST`: the hashes that a copy of a list shows, and gives back.
-pub fn hashes_copied(rt: &HostRuntime, list: &str) -> Result<(), Fault> {
-    let hashes = Hashes::new(numbers(rt.alloc(), list)?);
-    let copy = hashes.try_clone(rt.alloc())?;
-    print_hashes(rt, "", copy.iter())?;
-    say_given_back(rt, copy)
-}
-
-fn say_given_back(rt: &HostRuntime, hashes: Hashes) -> Result<(), Fault> {
-    let hashes = hashes.into_vec();
-    Ok(println!(rt; " {:?}", hashes.as_slice())?)
 }
 
 /// `receiver BYTES`: the receiver that bytes are read as, and its bytes, twice.

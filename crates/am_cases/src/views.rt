@@ -1,14 +1,12 @@
-//! Texts, numbers and lists as words, the lines of a player that no schedule reaches, and schedules as they are read.
+//! Texts, numbers and lists as words, the lines of refusals, and schedules as they are read.
 
 use am_case_words::fault::Fault;
 use am_case_words::texts::{spelled, unescaped};
-use am_case_words::words::{first, number};
-use am_gossip::FrameKind;
+use am_case_words::words::number;
 use am_nflog::HashIter;
 use am_output::{Line, Refusal, append_line};
 use am_schedule::{FaultKind, Schedule, parse};
 use am_silence::SilenceError;
-use am_version_order::Moment;
 use am_view::{ListedWord, Numbers, Texts, Word};
 use am_wire::Text;
 
@@ -43,77 +41,18 @@ fn say_line(rt: &HostRuntime, line: &Line<'_>) -> Result<(), Fault> {
     Ok(print!(rt; "{text}")?)
 }
 
-/// `calm NAME`: the line of a member that was calm.
-pub fn calm(rt: &HostRuntime, name: &str) -> Result<(), Fault> {
-    say_line(rt, &Line::Calm { name })
-}
-
-/// `pull NUMBER SENDER ADDRESSEE`: the line of a Pull that flies.
-pub fn pull(rt: &HostRuntime, rest: &str) -> Result<(), Fault> {
-    let (word, rest) = first(rest);
-    let (sender, addressee) = first(rest);
-    let line = Line::Frame {
-        number: number(word)?,
-        sender,
-        addressee,
-        kind: FrameKind::Pull,
-    };
-    say_line(rt, &line)
-}
-
-/// The refusals of a post or of an end.
-const OF_SILENCES: [SilenceError; 12] = [
-    SilenceError::NotFound,
-    SilenceError::NoMatcher,
-    SilenceError::EmptyName,
-    SilenceError::BadPattern,
-    SilenceError::AllMatchEmpty,
-    SilenceError::EndNotAfterStart,
-    SilenceError::EndInPast,
-    SilenceError::AlreadyExpired,
-    SilenceError::Newer {
-        held: Moment::LEAST,
-    },
-    SilenceError::IdInUse,
-    SilenceError::TooLarge,
-    SilenceError::Memory,
-];
-
-/// The others.
-const OTHERS: [Refusal; 5] = [
-    Refusal::MomentBack,
-    Refusal::UnknownPeer,
-    Refusal::Stopped,
-    Refusal::Running,
-    Refusal::NoFrame,
-];
-
-/// `refused`: the line of each refusal, of no member and of `a`.
+/// `refused`: the lines of refusals that no schedule reaches.
 pub fn refused(rt: &HostRuntime) -> Result<(), Fault> {
-    for error in OF_SILENCES {
-        say_refused(rt, Refusal::from(error))?;
-    }
-    for refusal in OTHERS {
-        say_refused(rt, refusal)?;
+    for error in [
+        SilenceError::NoMatcher,
+        SilenceError::BadPattern,
+        SilenceError::TooLarge,
+        SilenceError::Memory,
+    ] {
+        let (name, refusal) = (Some("a"), Refusal::from(error));
+        say_line(rt, &Line::Refused { name, refusal })?;
     }
     Ok(())
-}
-
-fn say_refused(rt: &HostRuntime, refusal: Refusal) -> Result<(), Fault> {
-    say_line(
-        rt,
-        &Line::Refused {
-            name: None,
-            refusal,
-        },
-    )?;
-    say_line(
-        rt,
-        &Line::Refused {
-            name: Some("a"),
-            refusal,
-        },
-    )
 }
 
 /// `schedule TEXT`: how many members and lines a schedule has, or its first fault.

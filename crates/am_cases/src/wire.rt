@@ -1,20 +1,18 @@
-//! Varints, fields, rows, timestamps, and the parts of messages as they are read.
+//! Varints, fields, rows, timestamps and texts.
 
 use am_case_words::fault::{Fault, say_refusal};
-use am_case_words::moments::say_moment;
-use am_case_words::words::{bytes, first, number, parts, say_bytes, size};
+use am_case_words::moments::{moment, say_moment};
+use am_case_words::words::{bytes, cut, first, number, say_bytes, size};
 use am_version_order::Moment;
-use am_wire::reading::{
-    AnyField, LastNumber, LastText, Scan, Schema, Submessage, TimestampDraft, moment_in, take_item,
-};
-use am_wire::{Field, Fields, Message, Rows, Value, WireError, read_varint};
+use am_wire::reading::{AnyField, Scan, Schema, TimestampDraft};
+use am_wire::writing::append_text;
+use am_wire::{Field, Message, Rows, Text, Value, WireError, read_varint, write_varint};
 use std::alloc::Global;
-use std::fmt::Display;
 
 /// `wire WHAT: BYTES` reads what the words say.
 pub fn wire(rt: &HostRuntime, rest: &str) -> Result<(), Fault> {
-    let (what, pairs) = parts(rest, ":")?;
-    let bytes = bytes(rt.alloc(), pairs.trim_start())?;
+    let (what, pairs) = cut(rest, ": ");
+    let bytes = bytes(rt.alloc(), pairs)?;
     let (kind, which) = first(what);
     read(rt, kind, which, bytes.as_slice())
 }
@@ -26,38 +24,12 @@ fn read(rt: &HostRuntime, kind: &str, which: &str, bytes: &[u8]) -> Result<(), F
         "fields" => say_fields::<TimestampDraft>(rt, bytes),
         "rows" => say_rows(rt, bytes),
         "timestamp" => say_timestamp(rt, bytes, which),
-        _ => read_part(rt, kind, number(which)?, bytes),
-    }
-}
-
-/// Reads the part under a number.
-fn read_part(rt: &HostRuntime, kind: &str, number: u64, bytes: &[u8]) -> Result<(), Fault> {
-    match kind {
-        "text" => say_read(rt, text_in(bytes, number)),
-        "number" => say_read(rt, number_in(bytes, number)),
-        "moment" => say_moment_read(rt, moment_of(rt.alloc(), bytes, number)),
-        "moments" => say_moments(rt, bytes, number),
         _ => Err(Fault::Words),
     }
 }
 
 fn say_fault(rt: &HostRuntime, fault: WireError) -> Result<(), Fault> {
     say_refusal(rt, fault, WireError::Memory)
-}
-
-/// Says what was read, or the fault.
-fn say_read<T: Display + Drop>(rt: &HostRuntime, read: Result<T, WireError>) -> Result<(), Fault> {
-    match read {
-        Ok(value) => Ok(println!(rt; "{value}")?),
-        Err(fault) => say_fault(rt, fault),
-    }
-}
-
-fn say_moment_read(rt: &HostRuntime, read: Result<Moment, WireError>) -> Result<(), Fault> {
-    match read {
-        Ok(moment) => say_moment(rt, "", moment),
-        Err(fault) => say_fault(rt, fault),
-    }
 }
 
 fn say_varint(rt: &HostRuntime, bytes: &[u8]) -> Result<(), Fault> {
@@ -104,78 +76,46 @@ fn say_timestamp(rt: &HostRuntime, bytes: &[u8], which: &str) -> Result<(), Faul
         Some(at) => size(at)? % (1 << 32),
         None => 0,
     };
-    say_moment_read(rt, Moment::decode_at(rt.alloc(), bytes, at))
-}
-
-/// The last text under the number.
-fn text_in(bytes: &[u8], number: u64) -> Result<&str, WireError> {
-    let mut text = LastText::none();
-    for field in Fields::new(bytes) {
-        let field = field?;
-        if u64::from(field.number) == number {
-            text.take(field)?;
-        }
-    }
-    Ok(text.text)
-}
-
-/// The last number under the number.
-fn number_in(bytes: &[u8], number: u64) -> Result<u64, WireError> {
-    let mut last = LastNumber::none();
-    for field in Fields::new(bytes) {
-        let field = field?;
-        if u64::from(field.number) == number {
-            last.take(field);
-        }
-    }
-    Ok(last.value)
-}
-
-fn take_moment(
-    part: &mut Submessage<TimestampDraft>,
-    bytes: &[u8],
-    number: u64,
-) -> Result<(), WireError> {
-    for field in Fields::new(bytes) {
-        let field = field?;
-        if u64::from(field.number) == number {
-            part.take(field)?;
-        }
-    }
-    Ok(())
-}
-
-/// The moment under the number, which is held once.
-fn moment_of(alloc: Global, bytes: &[u8], number: u64) -> Result<Moment, WireError> {
-    let mut part = Submessage::<TimestampDraft>::none(alloc);
-    take_moment(&mut part, bytes, number)?;
-    moment_in(alloc, part)
-}
-
-fn take_moments(
-    alloc: Global,
-    moments: &mut Vec<Moment>,
-    bytes: &[u8],
-    number: u64,
-) -> Result<(), WireError> {
-    for field in Fields::new(bytes) {
-        let field = field?;
-        if u64::from(field.number) == number {
-            take_item::<TimestampDraft>(alloc, moments, field)?;
-        }
-    }
-    Ok(())
-}
-
-/// Says the moments under the number, of which there may be many, and the fault behind them, if there is one.
-fn say_moments(rt: &HostRuntime, bytes: &[u8], number: u64) -> Result<(), Fault> {
-    let mut moments = Vec::new(rt.alloc());
-    let taken = take_moments(rt.alloc(), &mut moments, bytes, number);
-    for moment in &moments {
-        say_moment(rt, "", *moment)?;
-    }
-    match taken {
-        Ok(()) => Ok(()),
+    match Moment::decode_at(rt.alloc(), bytes, at) {
+        Ok(moment) => say_moment(rt, "", moment),
         Err(fault) => say_fault(rt, fault),
     }
+}
+
+/// `put PART; PART ..` writes `append BYTES`, `varint NUMBER` and `timestamp MOMENT`.
+pub fn put(rt: &HostRuntime, rest: &str) -> Result<(), Fault> {
+    let mut out = Vec::new(rt.alloc());
+    for part in rest.split("; ") {
+        let (kind, what) = first(part);
+        put_part(rt.alloc(), &mut out, kind, what)?;
+    }
+    say_bytes(rt, out.as_slice())
+}
+
+fn put_part(alloc: Global, out: &mut Vec<u8>, kind: &str, what: &str) -> Result<(), Fault> {
+    match kind {
+        "append" => append(alloc, out, what),
+        "varint" => Ok(out.extend_from_slice(write_varint(number(what)?).as_slice())?),
+        "timestamp" => Ok(moment(what)?.encode(out)?),
+        _ => Err(Fault::Words),
+    }
+}
+
+/// Puts bytes that were written before at the end.
+fn append(alloc: Global, out: &mut Vec<u8>, what: &str) -> Result<(), Fault> {
+    let bytes = bytes(alloc, what)?;
+    Ok(append_text(out, bytes.as_slice())?)
+}
+
+/// `compare A B`: how the texts are ordered, whether the first is less, and whether they are equal.
+pub fn compare(rt: &HostRuntime, texts: &str) -> Result<(), Fault> {
+    let (text, other) = first(texts);
+    let text = Text::copied(rt.alloc(), text)?;
+    compare_with(rt, &text, other)
+}
+
+fn compare_with(rt: &HostRuntime, text: &Text, other: &str) -> Result<(), Fault> {
+    let other = Text::copied(rt.alloc(), other)?;
+    let (order, is_less, is_equal) = (text.cmp(&other), *text < other, *text == other);
+    Ok(println!(rt; "{order:?}, less {is_less}, equal {is_equal}")?)
 }
