@@ -10,19 +10,11 @@ use am_version_order::{Moment, Version};
 use am_wire::Text;
 use std::alloc::Global;
 
-/// The group name, the integration and the index of a word such as `r/w/0`.
-fn receiver_parts(word: &str) -> Result<(&str, &str, u32), Fault> {
-    let (name, rest) = cut(word, "/");
-    let (integration, index) = cut(rest, "/");
-    match index.parse::<u32>() {
-        Ok(index) => Ok((name, integration, index)),
-        Err(_) => Err(Fault::Words),
-    }
-}
-
 /// The receiver of a word such as `r/w/0`.
 pub fn receiver(alloc: Global, word: &str) -> Result<Receiver, Fault> {
-    let (name, integration, idx) = receiver_parts(word)?;
+    let (name, rest) = cut(word, "/");
+    let (integration, index) = cut(rest, "/");
+    let idx = index.parse::<u32>().map_err(|_| Fault::Words)?;
     Ok(Receiver {
         group_name: Text::copied(alloc, name)?,
         integration: Text::copied(alloc, integration)?,
@@ -33,8 +25,8 @@ pub fn receiver(alloc: Global, word: &str) -> Result<Receiver, Fault> {
 /// The key of words such as `g r/w/0`.
 fn log_key(alloc: Global, words: &str) -> Result<LogKey, Fault> {
     let (group, rest) = first(words);
-    let (name, integration, idx) = receiver_parts(first(rest).0)?;
-    Ok(LogKey::of_parts(alloc, group.as_bytes(), name, integration, idx)?)
+    let receiver = receiver(alloc, first(rest).0)?;
+    Ok(LogKey::new(alloc, group.as_bytes(), &receiver)?)
 }
 
 /// The hashes of the list behind a name; none where the name doesn't stand there.
@@ -69,12 +61,14 @@ pub fn entry(alloc: Global, words: &str) -> Result<Entry, Fault> {
     entry_with(alloc, key, firing_alerts, words, timestamp)
 }
 
-/// Prints a group's key as text, or as bytes where it is none.
-fn print_group(rt: &HostRuntime, group: &[u8]) -> Result<(), Fault> {
-    match str::from_utf8(group) {
+/// Prints a key. The group's is text, or bytes where it is none.
+fn print_key(rt: &HostRuntime, key: &LogKey) -> Result<(), Fault> {
+    match str::from_utf8(key.group_key()) {
         Ok(text) => print!(rt; "{text}")?,
-        Err(_) => print!(rt; "{group:?}")?,
+        Err(_) => print!(rt; "{:?}", key.group_key())?,
     }
+    let (name, integration, index) = (key.group_name(), key.integration(), key.idx());
+    print!(rt; " {name}/{integration}/{index}")?;
     Ok(())
 }
 
@@ -105,7 +99,7 @@ impl Told for MeshEntry {
     }
 
     fn print(&self, rt: &HostRuntime) -> Result<(), Fault> {
-        MeshEntry::print_key(rt, self.key())?;
+        print_key(rt, self.key())?;
         print_moment(rt, " updated ", self.timestamp())?;
         print_moment(rt, " expires ", self.expires_at())?;
         print_hashes(rt, " firing ", self.firing_alerts())?;
@@ -114,13 +108,6 @@ impl Told for MeshEntry {
         if self.resolved() {
             print!(rt; ", all resolved")?;
         }
-        Ok(())
-    }
-
-    fn print_key(rt: &HostRuntime, key: &LogKey) -> Result<(), Fault> {
-        print_group(rt, key.group_key())?;
-        let (name, integration, index) = (key.group_name(), key.integration(), key.idx());
-        print!(rt; " {name}/{integration}/{index}")?;
         Ok(())
     }
 }

@@ -12,15 +12,6 @@ const SIGNS: [(&str, MatcherKind); 4] = [
     ("=", MatcherKind::Equal),
 ];
 
-fn sign(kind: MatcherKind) -> &'static str {
-    match kind {
-        MatcherKind::Regexp => "=~",
-        MatcherKind::NotRegexp => "!~",
-        MatcherKind::NotEqual => "!=",
-        MatcherKind::Equal => "=",
-    }
-}
-
 /// The kind, name and pattern of a word that is a matcher. No sign stands in the pattern.
 pub fn matcher_parts(word: &str) -> Option<(MatcherKind, &str, &str)> {
     for (sign, kind) in SIGNS {
@@ -61,8 +52,12 @@ pub fn print_matcher(
     before: &str,
     matcher: &MatcherRef<'_>,
 ) -> Result<(), Fault> {
-    let (name, sign, pattern) = (matcher.name(), sign(matcher.kind()), matcher.pattern());
-    print!(rt; "{before}{name}{sign}{pattern}")?;
+    let (name, pattern) = (matcher.name(), matcher.pattern());
+    for (sign, kind) in SIGNS {
+        if kind == matcher.kind() {
+            print!(rt; "{before}{name}{sign}{pattern}")?;
+        }
+    }
     Ok(())
 }
 

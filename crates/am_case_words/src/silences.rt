@@ -99,9 +99,4 @@ impl Told for MeshSilence {
         print_text(rt, "by", self.created_by())?;
         print_text(rt, "saying", self.comment())
     }
-
-    fn print_key(rt: &HostRuntime, key: &Text) -> Result<(), Fault> {
-        print!(rt; "{}", key.as_str())?;
-        Ok(())
-    }
 }

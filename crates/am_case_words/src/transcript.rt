@@ -53,26 +53,19 @@ fn append(rt: &HostRuntime, text: &mut Vec<u8>, piece: &[u8]) -> Result<(), Faul
     Ok(())
 }
 
-/// Answers each line of the text.
-fn cases<A: Answers>(rt: &HostRuntime, answers: &mut A, text: &str) -> Result<(), Fault> {
-    for line in text.lines() {
+/// Answers the cases of standard input, if they are text.
+fn cases<A: Answers>(rt: &HostRuntime, answers: &mut A) -> Result<(), Fault> {
+    let text = input(rt, rt.alloc())?;
+    let lines = str::from_utf8(text.as_slice()).map_err(|_| Fault::Words)?;
+    for line in lines.lines() {
         case(rt, answers, line)?;
     }
     Ok(())
 }
 
-/// Answers the cases of standard input, if they are text.
-fn all_cases<A: Answers>(rt: &HostRuntime, answers: &mut A) -> Result<(), Fault> {
-    let text = input(rt, rt.alloc())?;
-    match str::from_utf8(text.as_slice()) {
-        Ok(lines) => cases(rt, answers, lines),
-        Err(_) => Err(Fault::Words),
-    }
-}
-
 /// Answers all cases of standard input, and says how the program ends.
 pub fn run<A: Answers>(rt: &HostRuntime, answers: &mut A) -> ExitCode {
-    match all_cases(rt, answers) {
+    match cases(rt, answers) {
         Ok(()) => ExitCode::SUCCESS,
         Err(_) => ExitCode::FAILURE,
     }

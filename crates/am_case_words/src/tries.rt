@@ -21,6 +21,19 @@ pub enum Each {
     Size,
 }
 
+impl Each {
+    /// The word for it, the first number of a try, and the one behind the last.
+    fn numbers(self, input: &[u8]) -> (&'static str, usize, usize) {
+        match self {
+            Each::Once => ("once", 1, 2),
+            Each::Read => ("read", 1, 100_000),
+            Each::Write(_) => ("write", 1, 100_000),
+            Each::Front => ("front", 0, input.len().saturating_add(1)),
+            Each::Size => ("pieces of", 1, 51),
+        }
+    }
+}
+
 /// How a call is made.
 #[derive(Clone, Copy)]
 pub struct How {
@@ -240,8 +253,19 @@ fn tried<C: Call>(
     tried_over(alloc, call, how, number, whole, &mut reader, &mut writer)
 }
 
-/// Says what came of a try.
-fn say_row<C: Call>(rt: &HostRuntime, call: &C, row: &Row<C::Answer>) -> Result<(), Fault> {
+/// Says the numbers of a spell, and what came of it.
+fn say_spell<C: Call>(
+    rt: &HostRuntime,
+    call: &C,
+    name: &str,
+    spell: &Spell<C::Answer>,
+) -> Result<(), Fault> {
+    print!(rt; "{} {}", name, spell.from)?;
+    if spell.from != spell.to {
+        print!(rt; " to {}", spell.to)?;
+    }
+    print!(rt; ": ")?;
+    let row = &spell.row;
     call.print(rt, &row.answer)?;
     match row.wrong {
         Some(number) => print!(rt; " at {number}")?,
@@ -265,37 +289,11 @@ fn say_row<C: Call>(rt: &HostRuntime, call: &C, row: &Row<C::Answer>) -> Result<
     Ok(())
 }
 
-/// The word for what is tried in turn.
-fn name(each: Each) -> &'static str {
-    match each {
-        Each::Once => "once",
-        Each::Read => "read",
-        Each::Write(_) => "write",
-        Each::Front => "front",
-        Each::Size => "pieces of",
-    }
-}
-
-/// Prints the numbers of a spell, and what came of it.
-fn say_spell<C: Call>(
-    rt: &HostRuntime,
-    call: &C,
-    each: Each,
-    spell: &Spell<C::Answer>,
-) -> Result<(), Fault> {
-    print!(rt; "{} {}", name(each), spell.from)?;
-    if spell.from != spell.to {
-        print!(rt; " to {}", spell.to)?;
-    }
-    print!(rt; ": ")?;
-    say_row(rt, call, &spell.row)
-}
-
 /// The spell with one more try, where the same came of it; else it is printed, and the try begins another.
 fn joined<C: Call>(
     rt: &HostRuntime,
     call: &C,
-    each: Each,
+    name: &str,
     spell: Option<Spell<C::Answer>>,
     number: usize,
     row: &Row<C::Answer>,
@@ -307,23 +305,13 @@ fn joined<C: Call>(
                 ..spell
             });
         }
-        say_spell(rt, call, each, &spell)?;
+        say_spell(rt, call, name, &spell)?;
     }
     Ok(Spell {
         row: *row,
         from: number,
         to: number,
     })
-}
-
-/// The first number of a try, and the one behind the last.
-fn numbers(each: Each, input: &[u8]) -> (usize, usize) {
-    match each {
-        Each::Once => (1, 2),
-        Each::Read | Each::Write(_) => (1, 100_000),
-        Each::Front => (0, input.len().saturating_add(1)),
-        Each::Size => (1, 51),
-    }
 }
 
 /// Makes all tries, and prints what came of them. `whole` is what goes out where nothing fails.
@@ -335,15 +323,15 @@ fn say_each<C: Call>(
     whole: &[u8],
 ) -> Result<(), Fault> {
     let mut spell = None;
-    let (first, end) = numbers(how.each, input);
+    let (name, first, end) = how.each.numbers(input);
     for number in first..end {
         match tried(rt.alloc(), call, input, how, number, whole)? {
-            Some(row) => spell = Some(joined(rt, call, how.each, spell, number, &row)?),
+            Some(row) => spell = Some(joined(rt, call, name, spell, number, &row)?),
             None => break,
         }
     }
     match spell {
-        Some(spell) => say_spell(rt, call, how.each, &spell),
+        Some(spell) => say_spell(rt, call, name, &spell),
         None => Ok(()),
     }
 }

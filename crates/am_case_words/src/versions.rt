@@ -13,9 +13,6 @@ pub trait Told: Version + Message {
 
     /// Prints the version as words.
     fn print(&self, rt: &HostRuntime) -> Result<(), Fault>;
-
-    /// Prints a key as words.
-    fn print_key(rt: &HostRuntime, key: &Self::Key) -> Result<(), Fault>;
 }
 
 /// The version of bytes.

@@ -4,19 +4,8 @@ use am_case_words::fault::{Fault, say_refusal};
 use am_case_words::words::{bytes, number};
 use am_gossip::{Fed, Feeder, Frame, FrameError, FrameKind, Part, StateKey, read_hello};
 
-/// `feed PIECE | PIECE ..` feeds a stream in these pieces, and `feed cut each: STREAM` in two, cut at each place in turn.
-pub fn feed(rt: &HostRuntime, rest: &str) -> Result<(), Fault> {
-    match rest.strip_prefix("cut each: ") {
-        Some(pairs) => {
-            let bytes = bytes(rt.alloc(), pairs)?;
-            cut_each(rt, bytes.as_slice())
-        }
-        None => feed_pieces(rt, rest),
-    }
-}
-
-/// Feeds the pieces to one feeder, with a line for each.
-fn feed_pieces(rt: &HostRuntime, pieces: &str) -> Result<(), Fault> {
+/// `feed PIECE | PIECE ..`: feeds the pieces of a stream, with a line for each.
+pub fn feed(rt: &HostRuntime, pieces: &str) -> Result<(), Fault> {
     let mut feeder = Feeder::new(rt.alloc());
     for pairs in pieces.split('|') {
         feed_pairs(rt, &mut feeder, pairs.trim())?;
@@ -102,21 +91,6 @@ fn print_part(rt: &HostRuntime, part: &Part) -> Result<(), Fault> {
         print!(rt; " {byte:02x}")?;
     }
     Ok(())
-}
-
-/// Feeds the stream in two pieces, with two lines for each place of the cut.
-fn cut_each(rt: &HostRuntime, bytes: &[u8]) -> Result<(), Fault> {
-    for place in 0..=bytes.len() {
-        let (front, rest) = bytes.split_at(place);
-        feed_two(rt, front, rest)?;
-    }
-    Ok(())
-}
-
-fn feed_two(rt: &HostRuntime, front: &[u8], rest: &[u8]) -> Result<(), Fault> {
-    let mut feeder = Feeder::new(rt.alloc());
-    feed_piece(rt, &mut feeder, front)?;
-    feed_piece(rt, &mut feeder, rest)
 }
 
 /// `hello BYTES` reads a greeting.

@@ -34,7 +34,6 @@ impl Answers for Cases {
             "matchers" => versions::matchers_copied(rt, rest),
             "fresh" => versions::fresh(rt, rest),
             "receiver" => versions::receiver(rt, rest),
-            "moment" => moments::of_parts(rt, rest),
             "parts" => moments::say_parts(rt, rest),
             "order" => moments::say_order(rt, rest),
             "interval" => moments::say_interval(rt, rest),
@@ -50,7 +49,6 @@ fn of_bytes(rt: &HostRuntime, verb: &str, rest: &str) -> Result<(), Fault> {
     match verb {
         "wire" => wire::wire(rt, rest),
         "put" => wire::put(rt, rest),
-        "compare" => wire::compare(rt, rest),
         "feed" => frames::feed(rt, rest),
         "hello" => frames::hello(rt, rest),
         "kind" => frames::kind(rt, rest),

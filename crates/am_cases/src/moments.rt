@@ -18,25 +18,12 @@ pub fn say_if_any(rt: &HostRuntime, moment: Option<Moment>) -> Result<(), Fault>
     }
 }
 
-fn say_two(rt: &HostRuntime, moment: Moment) -> Result<(), Fault> {
-    let (seconds, nanos) = moment.parts();
-    Ok(println!(rt; "{seconds} {nanos}")?)
-}
-
-/// `moment SECONDS NANOSECONDS`: whether there is a moment of these parts, and its parts.
-pub fn of_parts(rt: &HostRuntime, rest: &str) -> Result<(), Fault> {
-    let (seconds, nanos) = first(rest);
-    let seconds = seconds.parse::<i64>().map_err(|_| Fault::Words)?;
-    let nanos = nanos.parse::<u32>().map_err(|_| Fault::Words)?;
-    match Moment::from_parts(seconds, nanos) {
-        Some(moment) => say_two(rt, moment),
-        None => Ok(println!(rt; "none")?),
-    }
-}
-
-/// `parts MOMENT`: the parts of a moment.
+/// `parts MOMENT`: the seconds and nanoseconds of a moment, or that there is none.
 pub fn say_parts(rt: &HostRuntime, word: &str) -> Result<(), Fault> {
-    say_two(rt, moment(word)?)
+    match moment(word) {
+        Ok(moment) => Ok(println!(rt; "{:?}", moment.parts())?),
+        Err(_) => Ok(println!(rt; "none")?),
+    }
 }
 
 /// `order MOMENT MOMENT`: how two moments stand to each other.

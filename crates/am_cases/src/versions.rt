@@ -10,7 +10,6 @@ use am_nflog::{MeshEntry, Receiver};
 use am_silence::{Matcher, MeshSilence, fresh_id, state_at};
 use am_version_order::{Moment, Version};
 use am_wire::{Message, WireError};
-use std::alloc::Global;
 
 /// `sil VERB WORDS` of silences.
 pub fn of_silences(rt: &HostRuntime, text: &str) -> Result<(), Fault> {
@@ -71,18 +70,17 @@ fn say_written<M: Message>(rt: &HostRuntime, message: &M) -> Result<(), Fault> {
     say_bytes(rt, bytes.as_slice())
 }
 
-/// Says the copies of a version and of its key, and how the key and the version compare with them.
+/// Says how the copies of the key and of a version compare with them, and the version's copy.
 fn copied<V: Told>(rt: &HostRuntime, version: &V) -> Result<(), Fault> {
-    print_key_copy(rt, version)?;
+    print_key_order(rt, version)?;
     let copy = version.try_clone(rt.alloc())?;
     println!(rt; " {:?}", version.compare(&copy))?;
     say(rt, &copy)
 }
 
-fn print_key_copy<V: Told>(rt: &HostRuntime, version: &V) -> Result<(), Fault> {
+fn print_key_order<V: Told>(rt: &HostRuntime, version: &V) -> Result<(), Fault> {
     let copy = version.try_key(rt.alloc())?;
-    V::print_key(rt, &copy)?;
-    Ok(print!(rt; ": {:?}", copy.cmp(version.key()))?)
+    Ok(print!(rt; "{:?}", copy.cmp(version.key()))?)
 }
 
 /// Says in a line for each version of a list how it, or its key, compares with each.
@@ -157,16 +155,11 @@ pub fn matchers_copied(rt: &HostRuntime, words: &str) -> Result<(), Fault> {
     Ok(println!(rt; "")?)
 }
 
-/// The bits of 32 hexadecimal digits.
-pub fn bits(alloc: Global, word: &str) -> Result<u128, Fault> {
-    let bytes = bytes(alloc, word)?;
-    let bytes: [u8; 16] = bytes.as_slice().try_into().map_err(|_| Fault::Words)?;
-    Ok(u128::from_be_bytes(bytes))
-}
-
 /// `fresh BITS`: the identifier that random bits give.
 pub fn fresh(rt: &HostRuntime, word: &str) -> Result<(), Fault> {
-    let id = fresh_id(bits(rt.alloc(), word)?);
+    let bytes = bytes(rt.alloc(), word)?;
+    let bits: [u8; 16] = bytes.as_slice().try_into().map_err(|_| Fault::Words)?;
+    let id = fresh_id(u128::from_be_bytes(bits));
     Ok(println!(rt; "{}", id.as_str())?)
 }
 

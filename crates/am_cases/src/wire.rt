@@ -1,4 +1,4 @@
-//! Varints, fields, rows, timestamps and texts.
+//! Varints, fields, rows and timestamps.
 
 use am_case_words::fault::{Fault, say_refusal};
 use am_case_words::moments::{moment, say_moment};
@@ -6,7 +6,7 @@ use am_case_words::words::{bytes, cut, first, number, say_bytes, size};
 use am_version_order::Moment;
 use am_wire::reading::{AnyField, Scan, Schema, TimestampDraft};
 use am_wire::writing::append_text;
-use am_wire::{Field, Message, Rows, Text, Value, WireError, read_varint, write_varint};
+use am_wire::{Field, Message, Rows, Value, WireError, read_varint, write_varint};
 use std::alloc::Global;
 
 /// `wire WHAT: BYTES` reads what the words say.
@@ -105,17 +105,4 @@ fn put_part(alloc: Global, out: &mut Vec<u8>, kind: &str, what: &str) -> Result<
 fn append(alloc: Global, out: &mut Vec<u8>, what: &str) -> Result<(), Fault> {
     let bytes = bytes(alloc, what)?;
     Ok(append_text(out, bytes.as_slice())?)
-}
-
-/// `compare A B`: how the texts are ordered, whether the first is less, and whether they are equal.
-pub fn compare(rt: &HostRuntime, texts: &str) -> Result<(), Fault> {
-    let (text, other) = first(texts);
-    let text = Text::copied(rt.alloc(), text)?;
-    compare_with(rt, &text, other)
-}
-
-fn compare_with(rt: &HostRuntime, text: &Text, other: &str) -> Result<(), Fault> {
-    let other = Text::copied(rt.alloc(), other)?;
-    let (order, is_less, is_equal) = (text.cmp(&other), *text < other, *text == other);
-    Ok(println!(rt; "{order:?}, less {is_less}, equal {is_equal}")?)
 }
