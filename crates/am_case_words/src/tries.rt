@@ -3,7 +3,7 @@
 
 use crate::fakes::{Brittle, Pieces, Stop};
 use crate::fault::Fault;
-use crate::words::{parts, size};
+use crate::words::size;
 use std::alloc::Global;
 
 /// What is tried in turn.

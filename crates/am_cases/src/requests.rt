@@ -120,7 +120,7 @@ pub fn receive_from(rt: &HostRuntime, rest: &str) -> Result<(), Fault> {
 
 fn say_tries(rt: &HostRuntime, bytes: &[u8], how: &How) -> Result<(), Fault> {
     let mut writer = writer(rt.alloc(), how, 0)?;
-    let _ = make(rt, &Receiving, bytes, how, &mut writer)?;
+    make(rt, &Receiving, bytes, how, &mut writer)?;
     Ok(())
 }
 

@@ -37,17 +37,17 @@ struct Calling {
     is_log: bool,
 }
 
-type Done = Result<u64, SnapshotError>;
+type Outcome = Result<u64, SnapshotError>;
 
 impl Call for Calling {
-    type Answer = Done;
+    type Answer = Outcome;
 
     fn make(
         &self,
         alloc: Global,
         reader: &mut Pieces<'_>,
         writer: &mut Brittle,
-    ) -> Result<Answered<Done>, Fault> {
+    ) -> Result<Answered<Outcome>, Fault> {
         let (answer, told) = match done(alloc, self, reader, writer) {
             Err(SnapshotError::Memory) => return Err(Fault::Memory),
             Err(SnapshotError::Read { at }) => (
@@ -62,7 +62,7 @@ impl Call for Calling {
         Ok(Answered { answer, told })
     }
 
-    fn print(&self, rt: &HostRuntime, answer: &Done) -> Result<(), Fault> {
+    fn print(&self, rt: &HostRuntime, answer: &Outcome) -> Result<(), Fault> {
         match answer {
             Err(SnapshotError::Read { .. }) => print!(rt; "Read")?,
             Err(SnapshotError::Write { .. }) => print!(rt; "Write")?,
@@ -72,7 +72,7 @@ impl Call for Calling {
     }
 }
 
-fn done(alloc: Global, call: &Calling, reader: &mut Pieces<'_>, writer: &mut Brittle) -> Done {
+fn done(alloc: Global, call: &Calling, reader: &mut Pieces<'_>, writer: &mut Brittle) -> Outcome {
     match call.job {
         Job::Show(now) if call.is_log => show_log(alloc, reader, writer, now),
         Job::Show(now) => show_silences(alloc, reader, writer, now),
@@ -90,7 +90,7 @@ fn done_with<V: Version + Message>(
     job: Job,
     reader: &mut Pieces<'_>,
     writer: &mut Brittle,
-) -> Done {
+) -> Outcome {
     match job {
         Job::TakeRow => Ok(take_row::<V, _>(alloc, reader)?.len() as u64),
         Job::Fold => fold::<V, _, _>(alloc, reader, writer, Moment::LEAST).map_err(named),
@@ -104,7 +104,7 @@ fn loaded<V: Version + Message>(
     job: Job,
     reader: &mut Pieces<'_>,
     writer: &mut Brittle,
-) -> Done {
+) -> Outcome {
     let held: Held<V> = load(alloc, reader)?;
     match job {
         Job::Save => save(alloc, &held, writer),
@@ -113,7 +113,11 @@ fn loaded<V: Version + Message>(
     }
 }
 
-fn saved_copy<V: Version + Message>(alloc: Global, held: &Held<V>, writer: &mut Brittle) -> Done {
+fn saved_copy<V: Version + Message>(
+    alloc: Global,
+    held: &Held<V>,
+    writer: &mut Brittle,
+) -> Outcome {
     let copy = held.try_clone()?;
     save(alloc, &copy, writer)
 }
@@ -129,7 +133,7 @@ fn named(fault: FoldError) -> SnapshotError {
     }
 }
 
-fn sent(bytes: &[u8], writer: &mut Brittle) -> Done {
+fn sent(bytes: &[u8], writer: &mut Brittle) -> Outcome {
     match send(writer, bytes) {
         Ok(()) => Ok(bytes.len() as u64),
         Err(WriteFault { written }) => Err(SnapshotError::Write { written }),
@@ -145,7 +149,7 @@ fn say_call(
     is_text: bool,
 ) -> Result<(), Fault> {
     let mut writer = writer(rt.alloc(), how, 0)?;
-    let _ = make(rt, call, bytes, how, &mut writer)?;
+    make(rt, call, bytes, how, &mut writer)?;
     if writer.calls == 0 {
         return Ok(());
     }
