@@ -35,11 +35,9 @@ fn ask(rt: &HostRuntime, text: &str, words: &str) -> Result<(), Fault> {
 }
 
 fn say_passes(rt: &HostRuntime, filter: &mut Filter, words: &str) -> Result<(), Fault> {
-    let (first, second) = (
-        passes(rt.alloc(), filter, words)?,
-        passes_version(rt.alloc(), filter, words)?,
-    );
-    Ok(println!(rt; "{first}, its version {second}")?)
+    let silence = passes(rt.alloc(), filter, words)?;
+    let version = passes_version(rt.alloc(), filter, words)?;
+    Ok(println!(rt; "{silence}, its version {version}")?)
 }
 
 fn passes(alloc: Global, filter: &mut Filter, words: &str) -> Result<bool, Fault> {
@@ -114,13 +112,25 @@ fn say_three(
     labels: &Labels,
     now: Moment,
 ) -> Result<(), Fault> {
-    print_mutes(rt, &muting(rt.alloc(), held, labels, now)?)?;
-    print!(rt; "; kept ")?;
-    print_mutes(rt, &patterns.mutes(held, labels, now)?)?;
+    let alone = muting(rt.alloc(), held, labels, now)?;
+    print_mutes(rt, &alone)?;
+    print_kept(rt, "; kept ", patterns, held, labels, now)?;
     patterns.drop_unused(held);
-    print!(rt; "; again ")?;
-    print_mutes(rt, &patterns.mutes(held, labels, now)?)?;
+    print_kept(rt, "; again ", patterns, held, labels, now)?;
     Ok(println!(rt; "")?)
+}
+
+fn print_kept(
+    rt: &HostRuntime,
+    word: &str,
+    patterns: &mut PatternCache,
+    held: &Held<MeshSilence>,
+    labels: &Labels,
+    now: Moment,
+) -> Result<(), Fault> {
+    print!(rt; "{word}")?;
+    let kept = patterns.mutes(held, labels, now)?;
+    print_mutes(rt, &kept)
 }
 
 fn print_mutes(rt: &HostRuntime, mutes: &Mutes) -> Result<(), Fault> {
