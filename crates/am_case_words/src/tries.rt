@@ -60,6 +60,7 @@ impl How {
     /// Applies a phrase.
     pub fn apply(&mut self, phrase: &str) -> Result<(), Fault> {
         match phrase {
+            "" => {}
             "each read fails" => self.each = Each::Read,
             "each write fails" => self.each = Each::Write(Stop::Fails),
             "each write takes nothing" => self.each = Each::Write(Stop::TakesNothing),
@@ -73,13 +74,13 @@ impl How {
 
     /// Applies `in pieces of N`, of reads and writes, or `writes of N`.
     fn apply_size(&mut self, phrase: &str) -> Result<(), Fault> {
-        if let Some(word) = phrase.strip_prefix("in pieces of ") {
-            self.gives = size(word)?;
-            self.takes = self.gives;
-        } else if let Some(word) = phrase.strip_prefix("writes of ") {
-            self.takes = size(word)?;
-        } else {
-            return Err(Fault::Words);
+        match phrase.rsplit_once(' ') {
+            Some(("in pieces of", word)) => {
+                self.gives = size(word)?;
+                self.takes = self.gives;
+            }
+            Some(("writes of", word)) => self.takes = size(word)?,
+            _ => return Err(Fault::Words),
         }
         Ok(())
     }

@@ -47,16 +47,11 @@ fn bytes_of(alloc: Global, what: &str) -> Result<Vec<u8>, Fault> {
     }
 }
 
-fn push_part(alloc: Global, parts: &mut Vec<Part>, what: &str) -> Result<(), Fault> {
-    let part = part(alloc, what)?;
-    Ok(parts.push(part)?)
-}
-
 /// The state whose parts the words say.
 fn state(alloc: Global, what: &str) -> Result<FullState, Fault> {
     let mut parts = Vec::new(alloc);
-    for part in what.split(" + ") {
-        push_part(alloc, &mut parts, part)?;
+    for words in what.split(" + ") {
+        parts.push(part(alloc, words)?)?;
     }
     Ok(FullState::new(parts))
 }

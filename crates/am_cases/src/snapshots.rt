@@ -161,17 +161,6 @@ fn say_call(
     }
 }
 
-/// `HOW: TEXT`, or `TEXT`.
-fn how_and_text(rest: &str) -> Result<(How, &str), Fault> {
-    match rest.split_once(": ") {
-        Some((how, text)) => match how_of(how) {
-            Ok(how) => Ok((how, text)),
-            Err(fault) => Err(fault),
-        },
-        None => Ok((How::plain(), rest)),
-    }
-}
-
 /// Whether the word names the log.
 fn is_log(state: &str) -> Result<bool, Fault> {
     match state {
@@ -181,7 +170,7 @@ fn is_log(state: &str) -> Result<bool, Fault> {
     }
 }
 
-/// `VERB STATE HOW: ROW`, with `load`, `take_row`, `save`, `copy` or `fold`.
+/// `VERB STATE HOW: ROW` or `VERB STATE ROW`, with `load`, `take_row`, `save`, `copy` or `fold`.
 pub fn row(rt: &HostRuntime, verb: &str, rest: &str) -> Result<(), Fault> {
     let (state, rest) = first(rest);
     let job = match verb {
@@ -192,7 +181,8 @@ pub fn row(rt: &HostRuntime, verb: &str, rest: &str) -> Result<(), Fault> {
         _ => Job::Fold,
     };
     let is_log = is_log(state)?;
-    let (how, text) = how_and_text(rest)?;
+    let (how, text) = rest.split_once(": ").unwrap_or(("", rest));
+    let how = how_of(how)?;
     let row = bytes(rt.alloc(), text)?;
     say_call(rt, &Calling { job, is_log }, row.as_slice(), &how, false)
 }
@@ -200,13 +190,13 @@ pub fn row(rt: &HostRuntime, verb: &str, rest: &str) -> Result<(), Fault> {
 /// `show HOW: STATE at MOMENT: ROW`: what is shown of a snapshot.
 pub fn show(rt: &HostRuntime, rest: &str) -> Result<(), Fault> {
     let (how, rest) = parts(rest, ": ")?;
-    let (head, text) = cut(rest, ": ");
+    let (head, text) = cut(rest, ":");
     let (state, word) = parts(head, " at ")?;
     let call = Calling {
         job: Job::Show(moment(word)?),
         is_log: is_log(state)?,
     };
-    let row = bytes(rt.alloc(), text)?;
+    let row = bytes(rt.alloc(), text.trim_start())?;
     say_call(rt, &call, row.as_slice(), &how_of(how)?, true)
 }
 
