@@ -49,7 +49,7 @@ fn ask(rt: &HostRuntime, words: &str, asked: &Asked<'_>) -> Result<(), Fault> {
 }
 
 fn ask_over(rt: &HostRuntime, words: &str, entry: &Entry, asked: &Asked<'_>) -> Result<(), Fault> {
-    let version = version(rt.alloc(), words)?;
+    let version = version::<MeshEntry>(rt.alloc(), words)?;
     say_decisions(rt, Some(entry), Some(&version), asked)
 }
 

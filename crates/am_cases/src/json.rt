@@ -58,7 +58,7 @@ fn state(word: &str) -> Result<State, Fault> {
 fn shows(rt: &HostRuntime, row: &str) -> Result<(), Fault> {
     let (word, words) = first(row);
     let state = state(word)?;
-    let version = version(rt.alloc(), words)?;
+    let version = version::<MeshSilence>(rt.alloc(), words)?;
     say_body(rt, write_silence(Vec::new(rt.alloc()), &version, state))
 }
 

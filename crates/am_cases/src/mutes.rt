@@ -54,7 +54,7 @@ fn passes_version(alloc: Global, filter: &mut Filter, words: &str) -> Result<boo
 /// patterns that are kept.
 pub fn mutes(rt: &HostRuntime, rest: &str) -> Result<(), Fault> {
     let (silences, text) = parts(rest, "; ")?;
-    let held = held(rt.alloc(), silences)?;
+    let held = held::<MeshSilence>(rt.alloc(), silences)?;
     steps(rt, &held, text)
 }
 
