@@ -135,6 +135,10 @@ UNSENT = re.compile(r"unsent (\d+) 0")
 TAKEN = re.compile(r"Memory \{ taken: (\d+) \}")
 
 
+# What a request is answered whose step was made before memory ran out: it isn't made again.
+STANDS = ["! Memory, and something stands"]
+
+
 def without_frames(lines):
     return [line for line in lines if not FRAME.match(line)]
 
@@ -143,6 +147,8 @@ def how_refused(lines, wanted):
     """What the lines of a case say of a request that was refused; None where they are not right."""
     if lines == wanted:
         return "as wanted"
+    if lines == STANDS:
+        return "something stands"
     found, text = "".join(f"{line}\n" for line in lines), "".join(f"{line}\n" for line in wanted)
     begun, memory, again = found.partition("! Memory\n")
     if memory:

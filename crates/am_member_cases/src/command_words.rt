@@ -1,51 +1,40 @@
 //! Numbers, ports and peers of the command line, and the moment that a clock gives.
 
-use crate::fault::Fault;
-use crate::requests_served::parts;
-use crate::words;
+use crate::requests::phrases_and_text;
+use am_case_words::fault::Fault;
+use am_case_words::moments::{moment, say_moment};
+use am_case_words::words;
 use am_member::{later_moment, number_within, peer_of, port_of};
 use std::time::Duration;
 
-/// Answers `number LEAST to MOST: WORD`.
+/// `number LEAST to MOST: WORD`, `port WORD`, `peer WORD` and `clock TIME, last MOMENT`
+pub fn answer(rt: &HostRuntime, verb: &str, rest: &str) -> Result<(), Fault> {
+    match verb {
+        "number" => number(rt, rest),
+        "port" => Ok(println!(rt; "{:?}", port_of(rest))?),
+        "peer" => Ok(println!(rt; "{:?}", peer_of(rest))?),
+        "clock" => clock(rt, rest),
+        _ => Err(Fault::Words),
+    }
+}
+
 fn number(rt: &HostRuntime, rest: &str) -> Result<(), Fault> {
-    let (bounds, word) = parts(rest)?;
-    let Some((least, most)) = bounds.split_once(" to ") else {
-        return Err(Fault::Words);
-    };
+    let (bounds, word) = phrases_and_text(rest)?;
+    let (least, most) = words::parts(bounds, " to ")?;
     let number = number_within(words::number(least)?, words::number(most)?, word);
     println!(rt; "{number:?}")?;
     Ok(())
 }
 
-/// Answers `clock MOMENT, last MOMENT`.
 fn clock(rt: &HostRuntime, rest: &str) -> Result<(), Fault> {
-    let Some((clock, last)) = rest.split_once(", last ") else {
-        return Err(Fault::Words);
-    };
-    let moment = later_moment(since_1970(clock)?, words::moment(last)?);
-    words::say_moment(rt, moment)?;
-    println!(rt; "")?;
-    Ok(())
+    let (clock, last) = words::parts(rest, ", last ")?;
+    let later = later_moment(since_1970(clock)?, moment(last)?);
+    say_moment(rt, "", later)
 }
 
-/// A time since 1970, in seconds and perhaps nanoseconds.
+/// A time since 1970: seconds, or seconds `and` nanoseconds.
 fn since_1970(word: &str) -> Result<Duration, Fault> {
-    match word.split_once(" and ") {
-        Some((seconds, nanos)) => Ok(Duration::from_nanos(words::number(nanos)?).saturating_add(
-            Duration::from_secs(words::number(seconds)?),
-        )),
-        None => Ok(Duration::from_secs(words::number(word)?)),
-    }
-}
-
-/// Answers `number ..`, `port ..`, `peer ..` and `clock ..`.
-pub fn answer(rt: &HostRuntime, verb: &str, rest: &str) -> Result<bool, Fault> {
-    match verb {
-        "number" => number(rt, rest)?,
-        "port" => println!(rt; "{:?}", port_of(rest))?,
-        "peer" => println!(rt; "{:?}", peer_of(rest))?,
-        "clock" => clock(rt, rest)?,
-        _ => return Ok(false),
-    }
-    Ok(true)
+    let (seconds, nanos) = word.split_once(" and ").unwrap_or((word, "0"));
+    let seconds = Duration::from_secs(words::number(seconds)?);
+    Ok(seconds.saturating_add(Duration::from_nanos(words::number(nanos)?)))
 }

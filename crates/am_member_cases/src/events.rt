@@ -1,41 +1,30 @@
-//! What happens to an instance, in words.
+//! What happens to a member, in words.
 
-use crate::fault::Fault;
-use crate::moments::{interval, moment};
-use crate::shown::step;
-use crate::streams::hear;
-use crate::words::{first, number};
-use am_instance::{Event, Instance, Place, Request};
+use am_case_words::entries::receiver;
+use am_case_words::fault::Fault;
+use am_case_words::matchers::matchers;
+use am_case_words::moments::{moment, seconds};
+use am_case_words::words::{first, number, numbers, parts};
+use am_instance::{Config, Event, Place, Request};
+use am_line_events::place_named;
 use am_matcher::{Filter, FilterError, Label, Labels};
-use am_nflog::{Hashes, Receiver};
-use am_silence::{MatcherKind, MatcherRef, Matchers, Posted};
-use am_version_order::Interval;
+use am_nflog::Hashes;
+use am_silence::Posted;
 use am_wire::{Bytes, Text};
 use std::alloc::Global;
 
-/// `at MOMENT` and what happens.
-pub fn happen(rt: &HostRuntime, instance: &mut Instance, text: &str) -> Result<(), Fault> {
-    let (now, text) = first(text);
-    let now = moment(now)?;
-    let (verb, rest) = first(text);
+/// The event of words.
+pub fn event(alloc: Global, config: &Config, verb: &str, rest: &str) -> Result<Event, Fault> {
     match verb {
-        "from" => hear(rt, instance, rest, now, usize::MAX),
-        "bytewise" => hear(rt, instance, first(rest).1, now, 1),
-        _ => {
-            let event = event(rt.alloc(), instance, verb, rest)?;
-            step(rt, instance, event, now)
-        }
-    }
-}
-
-fn event(alloc: Global, instance: &Instance, verb: &str, rest: &str) -> Result<Event, Fault> {
-    match verb {
-        "pull" => Ok(Event::PullFrom(place(instance, rest)?)),
+        "pull" => Ok(Event::PullFrom(place(config, rest)?)),
         "show" => Ok(Event::Show),
         "tick" => Ok(Event::Tick),
         "mutes" => mutes(alloc, rest),
-        "notified" => notified(alloc, rest),
-        "decide" => decide(alloc, rest),
+        "notified" => of_group(alloc, rest, None),
+        "decide" => {
+            let (wanted, rest) = first(rest);
+            of_group(alloc, rest, Some(wanted == "yes"))
+        }
         _ => Ok(Event::Request(request(alloc, verb, rest)?)),
     }
 }
@@ -55,13 +44,11 @@ fn request(alloc: Global, verb: &str, rest: &str) -> Result<Request, Fault> {
 }
 
 /// The place of a member, by its name; another place is a number.
-pub fn place(instance: &Instance, word: &str) -> Result<Place, Fault> {
-    for (place, name) in instance.config().members().iter().enumerate() {
-        if name.as_str() == word {
-            return Ok(place as u64);
-        }
+pub fn place(config: &Config, word: &str) -> Result<Place, Fault> {
+    match place_named(config, word) {
+        Some(place) => Ok(place),
+        None => number(word),
     }
-    number(word)
 }
 
 /// `list FILTER ..`
@@ -115,24 +102,6 @@ fn id_of(alloc: Global, word: &str) -> Result<Option<Text>, Fault> {
     Ok(Some(Text::copied(alloc, word)?))
 }
 
-/// Matchers `NAME=TEXT` and `NAME=~PATTERN`.
-fn matchers(alloc: Global, text: &str) -> Result<Matchers, Fault> {
-    let mut matchers = Matchers::none(alloc);
-    for word in text.split(' ') {
-        if let Some((name, pattern)) = word.split_once('=') {
-            matchers.push(alloc, &matcher(name, pattern))?;
-        }
-    }
-    Ok(matchers)
-}
-
-fn matcher<'a>(name: &'a str, pattern: &'a str) -> MatcherRef<'a> {
-    match pattern.strip_prefix('~') {
-        Some(pattern) => MatcherRef::new(MatcherKind::Regexp, name, pattern),
-        None => MatcherRef::new(MatcherKind::Equal, name, pattern),
-    }
-}
-
 /// `mutes NAME=VALUE ..`
 fn mutes(alloc: Global, text: &str) -> Result<Event, Fault> {
     let mut labels = Vec::new(alloc);
@@ -144,44 +113,44 @@ fn mutes(alloc: Global, text: &str) -> Result<Event, Fault> {
 }
 
 fn label(alloc: Global, word: &str) -> Result<Label, Fault> {
-    let (name, value) = word.split_once('=').ok_or(Fault::Words)?;
+    let (name, value) = parts(word, "=")?;
     let name = Text::copied(alloc, name)?;
     let value = Text::copied(alloc, value)?;
     Ok(Label { name, value })
 }
 
-/// A group that is told, or asked about.
-struct Told {
-    group_key: Bytes,
-    receiver: Receiver,
-    firing: Hashes,
-    resolved: Hashes,
-    repeat: Interval,
-}
-
-/// `GROUP GROUPNAME INTEGRATION IDX FIRING RESOLVED REPEAT`; a list of hashes is numbers with commas, or `-` for none. A long
-/// group is a number and a letter, as `3*g`.
-fn group(alloc: Global, text: &str) -> Result<Told, Fault> {
-    let (key, text) = first(text);
+/// `GROUP RECEIVER FIRING RESOLVED REPEAT`, as `g r/w/0 1,2 - 60`: what is told of a group, or asked, with whether resolved
+/// alerts are wanted.
+fn of_group(alloc: Global, text: &str, wanted: Option<bool>) -> Result<Event, Fault> {
+    let (group, text) = first(text);
     let (name, text) = first(text);
-    let (integration, text) = first(text);
-    let (idx, text) = first(text);
     let (firing, text) = first(text);
     let (resolved, repeat) = first(text);
-    let repeat = interval(repeat)?;
-    let receiver = receiver(alloc, name, integration, idx)?;
-    let firing = hashes(alloc, firing)?;
-    let resolved = hashes(alloc, resolved)?;
-    let group_key = group_key(alloc, key)?;
-    Ok(Told {
-        group_key,
-        receiver,
-        firing,
-        resolved,
-        repeat,
+    let repeat = seconds(repeat)?;
+    let receiver = receiver(alloc, name)?;
+    let firing = Hashes::new(numbers(alloc, firing)?);
+    let resolved = Hashes::new(numbers(alloc, resolved)?);
+    let group_key = group_key(alloc, group)?;
+    Ok(match wanted {
+        Some(send_resolved) => Event::Decide {
+            group_key,
+            receiver,
+            firing,
+            resolved,
+            repeat,
+            send_resolved,
+        },
+        None => Event::Notified {
+            group_key,
+            receiver,
+            firing,
+            resolved,
+            repeat,
+        },
     })
 }
 
+/// The key of a group; a long one is a number and a letter, as `3*g`.
 fn group_key(alloc: Global, word: &str) -> Result<Bytes, Fault> {
     match word.split_once('*') {
         Some((times, text)) => long_key(alloc, number(times)?, text),
@@ -193,63 +162,4 @@ fn group_key(alloc: Global, word: &str) -> Result<Bytes, Fault> {
 fn long_key(alloc: Global, times: u64, text: &str) -> Result<Bytes, Fault> {
     let byte = text.as_bytes().first().copied().unwrap_or(0);
     Ok(Bytes::new(vec![in alloc; byte; times as usize]?))
-}
-
-fn receiver(alloc: Global, name: &str, integration: &str, idx: &str) -> Result<Receiver, Fault> {
-    let idx = idx.parse::<u32>().map_err(|_| Fault::Words)?;
-    let group_name = Text::copied(alloc, name)?;
-    let integration = Text::copied(alloc, integration)?;
-    Ok(Receiver {
-        group_name,
-        integration,
-        idx,
-    })
-}
-
-fn hashes(alloc: Global, word: &str) -> Result<Hashes, Fault> {
-    let mut hashes = Vec::new(alloc);
-    for part in word.split(',') {
-        if part != "-" {
-            hashes.push(number(part)?)?;
-        }
-    }
-    Ok(Hashes::new(hashes))
-}
-
-/// `notified` and a group.
-fn notified(alloc: Global, text: &str) -> Result<Event, Fault> {
-    let Told {
-        group_key,
-        receiver,
-        firing,
-        resolved,
-        repeat,
-    } = group(alloc, text)?;
-    Ok(Event::Notified {
-        group_key,
-        receiver,
-        firing,
-        resolved,
-        repeat,
-    })
-}
-
-/// `decide`, whether resolved ones are wanted (`yes` or `no`), and a group.
-fn decide(alloc: Global, text: &str) -> Result<Event, Fault> {
-    let (wanted, text) = first(text);
-    let Told {
-        group_key,
-        receiver,
-        firing,
-        resolved,
-        repeat,
-    } = group(alloc, text)?;
-    Ok(Event::Decide {
-        group_key,
-        receiver,
-        firing,
-        resolved,
-        repeat,
-        send_resolved: wanted == "yes",
-    })
 }

@@ -1,129 +1,137 @@
-//! The member that the cases of a file go through, one after the other.
+//! The member that the cases go through: how it begins, and what it holds.
 
-use crate::fault::Fault;
-use crate::words;
-use am_instance::{Config, Instance};
+use am_case_words::fault::{Fault, say_refusal};
+use am_case_words::maps::held;
+use am_case_words::moments::{moment, say_moment, seconds};
+use am_case_words::versions::say;
+use am_case_words::words::{cut, first};
+use am_instance::{Config, ConfigError, Instance};
 use am_merge::Held;
-use am_silence::MeshSilence;
 use am_version_order::{Interval, Moment};
-use am_wire::{Messages, Text, WireError};
+use am_wire::Text;
 use std::alloc::Global;
 
-/// How long versions are kept after their end: 100 s.
-const RETENTION: u64 = 100_000_000_000;
+/// How long members keep versions after their end: 100 s.
+pub fn retention() -> Result<Interval, Fault> {
+    seconds("100")
+}
 
 /// How long members wait for one another: 15 s.
-const PEER_TIMEOUT: u64 = 15_000_000_000;
+pub fn peer_timeout() -> Result<Interval, Fault> {
+    seconds("15")
+}
 
-/// The names that words spell.
-fn names(alloc: Global, words: &str) -> Result<Vec<Text>, Fault> {
+/// The names that words spell; `-` is the empty one.
+pub fn names(alloc: Global, words: &str) -> Result<Vec<Text>, Fault> {
     let mut names = Vec::new(alloc);
-    if words.is_empty() {
-        return Ok(names);
-    }
     for word in words.split(' ') {
-        names.push(Text::copied(alloc, word)?)?;
+        if !word.is_empty() {
+            names.push(name(alloc, word)?)?;
+        }
     }
     Ok(names)
 }
 
-/// A member of the first name, among peers of the others.
-fn config(alloc: Global, words: &str) -> Result<Config, Fault> {
-    let (name, peers) = words::first(words);
+fn name(alloc: Global, word: &str) -> Result<Text, Fault> {
+    let name = if word == "-" { "" } else { word };
+    Ok(Text::copied(alloc, name)?)
+}
+
+/// The configuration of the first name among the others.
+fn config(alloc: Global, words: &str) -> Result<Result<Config, ConfigError>, Fault> {
+    let (own, peers) = first(words);
+    let (retention, peer_timeout) = (retention()?, peer_timeout()?);
     let peers = names(alloc, peers)?;
-    let name = Text::copied(alloc, name)?;
-    let (Some(retention), Some(timeout)) = (
-        Interval::from_nanos(RETENTION),
-        Interval::from_nanos(PEER_TIMEOUT),
-    ) else {
-        return Err(Fault::Words);
-    };
-    Config::new(alloc, name, peers, retention, timeout).map_err(|_| Fault::Memory)
+    let name = name(alloc, own)?;
+    Ok(Config::new(alloc, name, peers, retention, peer_timeout))
 }
 
-/// Takes a version that was read.
-fn take(
-    silences: &mut Held<MeshSilence>,
-    read: Result<MeshSilence, WireError>,
-    now: Moment,
-) -> Result<(), Fault> {
-    match read {
-        Ok(version) => {
-            silences.take(version, now)?;
-            Ok(())
+/// `new at MOMENT NAME PEER ..`: says the configuration of a member that holds nothing, or why there is none.
+pub fn begun(rt: &HostRuntime, text: &str) -> Result<Option<Instance>, Fault> {
+    let (_, text) = first(text);
+    let (now, names) = first(text);
+    let now = moment(now)?;
+    match config(rt.alloc(), names)? {
+        Ok(config) => {
+            say_config(rt, &config)?;
+            Ok(Some(empty(rt.alloc(), config, now)))
         }
-        Err(WireError::Memory) => Err(Fault::Memory),
-        Err(_) => Err(Fault::Words),
+        Err(error) => {
+            say_refusal(rt, error, ConfigError::Memory)?;
+            Ok(None)
+        }
     }
 }
 
-/// A map that holds the versions of a row.
-fn silences(alloc: Global, row: &[u8], now: Moment) -> Result<Held<MeshSilence>, Fault> {
-    let mut silences = Held::new(alloc);
-    for read in Messages::<MeshSilence>::new(alloc, row) {
-        take(&mut silences, read, now)?;
-    }
-    Ok(silences)
+/// A member that holds nothing.
+fn empty(alloc: Global, config: Config, now: Moment) -> Instance {
+    Instance::start(config, Held::new(alloc), Held::new(alloc), now)
 }
 
-/// The map whose row these digits spell.
-fn silences_of(alloc: Global, digits: &str, now: Moment) -> Result<Held<MeshSilence>, Fault> {
-    let row = words::bytes(alloc, digits)?;
-    silences(alloc, &row, now)
-}
-
-/// A member `NAMES at MOMENT`, or one `NAMES at MOMENT holding ROW`.
-fn member(alloc: Global, words: &str) -> Result<Instance, Fault> {
-    let (words, digits) = words.split_once(" holding ").unwrap_or((words, ""));
-    let Some((names, moment)) = words.split_once(" at ") else {
-        return Err(Fault::Words);
-    };
-    let now = words::moment(moment)?;
-    let config = config(alloc, names)?;
-    let silences = silences_of(alloc, digits, now)?;
-    Ok(Instance::start(config, silences, Held::new(alloc), now))
-}
-
-/// A new member of the same configuration, which holds nothing, at the moment of the other's last event.
+/// The same member, which holds nothing.
 pub fn anew(alloc: Global, instance: &Instance) -> Result<Instance, Fault> {
     let config = instance.config().try_clone()?;
-    let last = instance.last();
-    Ok(Instance::start(config, Held::new(alloc), Held::new(alloc), last))
+    Ok(empty(alloc, config, instance.last()))
 }
 
-/// Prints the moments of a version, to the nanosecond.
-fn say_version(rt: &HostRuntime, version: &MeshSilence) -> Result<(), Fault> {
-    print!(rt; "starts ")?;
-    words::say_moment(rt, version.starts_at())?;
-    print!(rt; ", ends ")?;
-    words::say_moment(rt, version.ends_at())?;
-    print!(rt; ", updated ")?;
-    words::say_moment(rt, version.updated_at())?;
-    print!(rt; ", expires ")?;
-    words::say_moment(rt, version.expires_at())?;
-    println!(rt; "")?;
+/// `hold at MOMENT SILENCES / ENTRIES`: the member begins anew, with these versions.
+pub fn hold(alloc: Global, instance: &mut Instance, text: &str) -> Result<(), Fault> {
+    let holding = holding(alloc, instance, first(text).1)?;
+    *instance = holding;
     Ok(())
 }
 
-/// Prints what is held.
-fn say_held(rt: &HostRuntime, instance: &Instance) -> Result<(), Fault> {
+fn holding(alloc: Global, instance: &Instance, text: &str) -> Result<Instance, Fault> {
+    let (now, versions) = first(text);
+    let now = moment(now)?;
+    let (silences, log) = cut(versions, " / ");
+    let silences = held(alloc, silences)?;
+    let log = held(alloc, log)?;
+    let config = instance.config().try_clone()?;
+    Ok(Instance::start(config, silences, log, now))
+}
+
+/// Says what a copy of the configuration is.
+pub fn copy_config(rt: &HostRuntime, instance: &Instance) -> Result<(), Fault> {
+    let copy = instance.config().try_clone()?;
+    say_config(rt, &copy)
+}
+
+/// Says place and names of the members, how long versions are kept, and when the member is due that began to wait at 0 s.
+pub fn say_config(rt: &HostRuntime, config: &Config) -> Result<(), Fault> {
+    print!(rt; "place {} of", config.place())?;
+    for name in config.members() {
+        print!(rt; " {}", name.as_str())?;
+    }
+    print!(rt; ", keeps {:?}", config.retention())?;
+    match config.due_from(moment("0")?) {
+        Some(due) => say_moment(rt, ", due ", due),
+        None => Ok(println!(rt; ", never due")?),
+    }
+}
+
+/// The name of the member at a place.
+pub fn name_at(config: &Config, place: u64) -> &str {
+    match config.members().get(place as usize) {
+        Some(name) => name.as_str(),
+        None => "nobody",
+    }
+}
+
+/// Says all that is held.
+pub fn say_state(rt: &HostRuntime, instance: &Instance) -> Result<(), Fault> {
     for version in instance.silences().iter() {
-        say_version(rt, version)?;
+        say(rt, version)?;
     }
-    Ok(())
+    for entry in instance.log().iter() {
+        say(rt, entry)?;
+    }
+    say_held(rt, instance)
 }
 
-/// Answers `member ..`, by which there is another one, and `held`.
-pub fn answer(
-    rt: &HostRuntime,
-    standing: &mut Option<Instance>,
-    verb: &str,
-    rest: &str,
-) -> Result<bool, Fault> {
-    match (verb, &*standing) {
-        ("member", _) => *standing = Some(member(rt.alloc(), rest)?),
-        ("held", Some(instance)) => say_held(rt, instance)?,
-        _ => return Ok(false),
-    }
-    Ok(true)
+/// Says how many silences and entries are held, and the moment of the last event.
+pub fn say_held(rt: &HostRuntime, instance: &Instance) -> Result<(), Fault> {
+    let (silences, entries) = (instance.silences().len(), instance.log().len());
+    print!(rt; "holds {silences} {entries}")?;
+    say_moment(rt, " at ", instance.last())
 }
