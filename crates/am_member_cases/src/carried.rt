@@ -1,9 +1,9 @@
 //! The versions that a frame carries, by their state.
 
 use crate::frames::frames;
+use crate::steps::say_all;
 use am_carried::{ByState, Carried, carried_by};
 use am_case_words::fault::Fault;
-use am_case_words::moments::print_moment;
 use am_case_words::versions::Told;
 use am_case_words::words::{number, parts};
 use am_gossip::Frame;
@@ -46,12 +46,6 @@ fn say(rt: &HostRuntime, sorted: ByState) -> Result<(), Fault> {
 }
 
 fn say_versions<V: Told>(rt: &HostRuntime, state: &str, versions: &[V]) -> Result<(), Fault> {
-    print!(rt; "{state}")?;
-    for version in versions {
-        print!(rt; " ")?;
-        V::print_key(rt, version.key())?;
-        print_moment(rt, " at ", version.updated())?;
-    }
-    println!(rt; "")?;
-    Ok(())
+    println!(rt; "{state}")?;
+    say_all(rt, versions)
 }

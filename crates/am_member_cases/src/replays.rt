@@ -54,6 +54,6 @@ pub fn replay(rt: &HostRuntime, rest: &str) -> Result<(), Fault> {
 
 fn played(rt: &HostRuntime, text: &[u8], how: &How) -> Result<(), Fault> {
     let mut writer = writer(rt.alloc(), how, 0)?;
-    let _ = make(rt, &Replay, text, how, &mut writer)?;
+    make(rt, &Replay, text, how, &mut writer)?;
     say_reply(rt, writer.taken.as_slice())
 }

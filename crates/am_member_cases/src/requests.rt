@@ -123,7 +123,7 @@ fn come(
         instance: &*instance,
         coming: &manner.coming,
     };
-    let _ = make(rt, &call, bytes, &manner.how, &mut writer)?;
+    make(rt, &call, bytes, &manner.how, &mut writer)?;
     say_reply(rt, writer.taken.as_slice())
 }
 

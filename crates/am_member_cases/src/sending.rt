@@ -64,6 +64,6 @@ pub fn send_frames(rt: &HostRuntime, rest: &str) -> Result<(), Fault> {
 
 fn made(rt: &HostRuntime, sending: &Sending<'_>, how: &How) -> Result<(), Fault> {
     let mut writer = writer(rt.alloc(), how, 0)?;
-    let _ = make(rt, sending, &[], how, &mut writer)?;
+    make(rt, sending, &[], how, &mut writer)?;
     say_bytes(rt, writer.taken.as_slice())
 }

@@ -175,7 +175,7 @@ fn say_row(rt: &HostRuntime, version: &MeshSilence, state: State) -> Result<(), 
 }
 
 /// Says each of these versions.
-fn say_all<V: Told>(rt: &HostRuntime, versions: &[V]) -> Result<(), Fault> {
+pub fn say_all<V: Told>(rt: &HostRuntime, versions: &[V]) -> Result<(), Fault> {
     for version in versions {
         say(rt, version)?;
     }
