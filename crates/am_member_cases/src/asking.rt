@@ -62,7 +62,7 @@ fn parted(fault: Option<Cause>) -> (Option<Cause>, Option<u64>) {
 }
 
 /// What is seen of a member.
-fn seen(
+fn seen_of(
     instance: &Instance,
     status: Option<u16>,
     frames: &[(Place, Frame)],
@@ -97,7 +97,7 @@ fn served(
         return Err(Fault::Memory);
     }
     let frames = served.frames.as_slice();
-    Ok(seen(instance, served.status, frames, false, fault))
+    Ok(seen_of(instance, served.status, frames, false, fault))
 }
 
 /// Has a connection taken.
@@ -113,7 +113,7 @@ fn connected(
         return Err(Fault::Memory);
     }
     let frames = ended.frames.as_slice();
-    Ok(seen(instance, None, frames, ended.ticked, ended.fault))
+    Ok(seen_of(instance, None, frames, ended.ticked, ended.fault))
 }
 
 /// Has a member take what comes.

@@ -85,7 +85,7 @@ fn say_event(rt: &HostRuntime, event: &Event) -> Result<(), Fault> {
         } => {
             print!(rt; "notified")?;
             print_group(rt, group_key, receiver, firing, resolved)?;
-            println!(rt; " {repeat:?}")?;
+            println!(rt; " repeat {repeat:?}")?;
         }
         Event::Decide {
             group_key,
@@ -97,7 +97,7 @@ fn say_event(rt: &HostRuntime, event: &Event) -> Result<(), Fault> {
         } => {
             print!(rt; "decide")?;
             print_group(rt, group_key, receiver, firing, resolved)?;
-            println!(rt; " {repeat:?}, resolved wanted {send_resolved}")?;
+            println!(rt; " repeat {repeat:?}, resolved wanted {send_resolved}")?;
         }
         Event::Mutes { labels } => say_labels(rt, labels)?,
         Event::Show => println!(rt; "show")?,

@@ -10,9 +10,9 @@ use std::alloc::Global;
 
 /// A schedule is played.
 #[derive(Clone, Copy)]
-struct Replay;
+struct Playing;
 
-impl Call for Replay {
+impl Call for Playing {
     type Answer = Result<(), ReplayError>;
 
     fn make(
@@ -54,6 +54,6 @@ pub fn replay(rt: &HostRuntime, rest: &str) -> Result<(), Fault> {
 
 fn played(rt: &HostRuntime, text: &[u8], how: &How) -> Result<(), Fault> {
     let mut writer = writer(rt.alloc(), how, 0)?;
-    make(rt, &Replay, text, how, &mut writer)?;
+    make(rt, &Playing, text, how, &mut writer)?;
     say_reply(rt, writer.taken.as_slice())
 }

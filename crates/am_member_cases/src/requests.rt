@@ -38,7 +38,7 @@ fn apply(manner: &mut Manner, phrase: &str) -> Result<(), Fault> {
 }
 
 /// What phrases say that are parted by commas.
-fn manner(phrases: &str, is_connection: bool) -> Result<Manner, Fault> {
+fn manner_of(phrases: &str, is_connection: bool) -> Result<Manner, Fault> {
     let coming = Coming {
         is_connection,
         now: Moment::LEAST,
@@ -70,7 +70,7 @@ pub fn ask(
     rest: &str,
 ) -> Result<(), Fault> {
     let (phrases, text) = phrases_and_text(rest)?;
-    let manner = manner(phrases, is_connection)?;
+    let manner = manner_of(phrases, is_connection)?;
     let text = unescaped(rt.alloc(), text)?;
     if manner.is_post {
         return send_post(rt, instance, &manner, text.as_slice());
@@ -103,7 +103,7 @@ fn post(alloc: Global, body: &[u8]) -> Result<Vec<u8>, Fault> {
 /// `hear PHRASES: BYTES`: the bytes are those of a peer's connection.
 pub fn hear(rt: &HostRuntime, instance: &mut Instance, rest: &str) -> Result<(), Fault> {
     let (phrases, digits) = phrases_and_text(rest)?;
-    let manner = manner(phrases, true)?;
+    let manner = manner_of(phrases, true)?;
     let bytes = bytes(rt.alloc(), digits)?;
     come(rt, instance, &manner, bytes.as_slice())
 }

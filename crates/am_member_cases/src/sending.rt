@@ -5,7 +5,7 @@ use crate::requests::phrases_and_text;
 use am_case_words::fakes::{Brittle, Pieces};
 use am_case_words::fault::Fault;
 use am_case_words::tries::{Answered, Call, How, how_of, make, writer};
-use am_case_words::words::say_bytes;
+use am_case_words::words::{cut, say_bytes};
 use am_connection::{SendError, send};
 use am_gossip::Frame;
 use std::alloc::Global;
@@ -50,10 +50,8 @@ impl Call for Sending<'_> {
 /// `send NAME: FRAMES` and `send NAME, PHRASES: FRAMES`
 pub fn send_frames(rt: &HostRuntime, rest: &str) -> Result<(), Fault> {
     let (phrases, digits) = phrases_and_text(rest)?;
-    let (name, how) = match phrases.split_once(", ") {
-        Some((name, phrases)) => (name, how_of(phrases)?),
-        None => (phrases, How::plain()),
-    };
+    let (name, phrases) = cut(phrases, ", ");
+    let how = how_of(phrases)?;
     let frames = frames(rt.alloc(), digits)?;
     let sending = Sending {
         name,
