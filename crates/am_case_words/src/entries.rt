@@ -74,10 +74,11 @@ fn print_key(rt: &HostRuntime, key: &LogKey) -> Result<(), Fault> {
 
 /// Prints a word and hashes, with commas between; nothing where there are none.
 fn print_hashes(rt: &HostRuntime, word: &str, hashes: HashIter<'_>) -> Result<(), Fault> {
-    let mut before = word;
+    let mut is_first = true;
     for hash in hashes {
+        let before = if is_first { word } else { "," };
         print!(rt; "{before}{hash}")?;
-        before = ",";
+        is_first = false;
     }
     Ok(())
 }
