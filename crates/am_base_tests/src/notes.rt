@@ -1,4 +1,4 @@
-//! Versions of which the tests speak.
+//! Versions of which the tests speak, and the numbers that runs follow from.
 
 ghost use Rattle.std.specs.Prelude.{◌≡◌};
 ghost use Rattle.std.proofs.Common.{refl, sym};
@@ -17,22 +17,17 @@ pub struct Note {
     pub content: [u8; 2],
 }
 
-/// A note's letter, its update and its expiry in seconds, and its bytes.
-pub type Row = (u8, u32, u32, [u8; 2]);
-
 /// The moment of so many seconds since 1970.
 pub fn at(seconds: u32) -> Moment {
     Moment::from_parts(i64::from(seconds), 0).unwrap_or(Moment::LEAST)
 }
 
-/// The note of a row.
-pub fn make_note((id, updated, expires, content): Row) -> Note {
-    Note {
-        id,
-        updated: at(updated),
-        expires: at(expires),
-        content,
-    }
+/// A number that follows from two, as if it were drawn.
+pub fn mixed(seed: u64, number: u64) -> u64 {
+    let spread = seed
+        .wrapping_mul(0x9E37_79B9_7F4A_7C15)
+        .wrapping_add(number.wrapping_mul(0xBF58_476D_1CE4_E5B9));
+    (spread ^ (spread >> 31)).wrapping_mul(0x94D0_49BB_1331_11EB) >> 20
 }
 
 impl Version for Note {

@@ -1,18 +1,15 @@
 //! Runs that follow from a number: what a run tells of them is what plain loops over its steps tell.
 
-use crate::run_notes::Note;
+use crate::notes::{Note, at, mixed};
 use am_runs::{Run, Source, Step, plain};
 use am_version_order::{Interval, Moment};
 use std::alloc::{AllocError, Global};
 
-/// How a run follows from a number.
+/// How the acts of a run follow from their numbers.
 #[derive(Clone, Copy)]
 enum Draw {
-    /// Two members do and take anything.
-    Any,
-    /// Two members; versions last, and most of them come to both soon, in turn of one key and of another.
-    Spreading,
-    /// Three members, each of which takes what was made last, with up to four versions from before.
+    /// Three members take what was made last, with up to four versions from before, in an order that a seed gives. Where it
+    /// is odd time goes fast, so that versions expire, and moments go back.
     Crowd,
     /// The first of two members takes 40 versions, and the second one takes them after that. It is saved between, stopped
     /// and started, and takes all of them again or not.
@@ -21,7 +18,8 @@ enum Draw {
 
 #[derive(Clone, Copy)]
 enum Verb {
-    Take,
+    /// So many versions, made one after another up to the one of this number.
+    Take(u32, u32),
     Tick,
     Save,
     Stop,
@@ -32,163 +30,71 @@ enum Verb {
 }
 
 /// What, at which place, and when, in seconds.
-type Act = (Verb, usize, u64);
+type Act = (Verb, usize, u32);
 
 /// What was told.
-#[derive(Clone, Copy, Debug, PartialEq, Eq)]
+#[derive(Clone, Copy, Debug)]
 struct Tally {
-    asked: usize,
-    /// How often it was what plain loops tell.
-    agreed: usize,
+    /// Whether it was ever other than what plain loops tell.
+    differs: bool,
     timely: usize,
     untimely: usize,
     /// Whether the run was timely when that was last asked.
     last: bool,
 }
 
-fn at(seconds: u64) -> Moment {
-    match Interval::from_seconds(seconds) {
-        Some(span) => Moment::LEAST.capped_add(span),
-        None => Moment::LEAST,
-    }
-}
-
-// A number that follows from two, in no order.
-fn mixed_of(seed: u64, number: u64) -> u64 {
-    let spread = seed
-        .wrapping_mul(0x9E37_79B9_7F4A_7C15)
-        .wrapping_add(number.wrapping_mul(0xBF58_476D_1CE4_E5B9));
-    (spread ^ (spread >> 31)).wrapping_mul(0x94D0_49BB_1331_11EB) >> 20
-}
-
-fn any_act(mixed: u64, number: u64) -> Act {
-    let verb = match mixed % 10 {
-        0 => Verb::Tick,
-        1 => Verb::Save,
-        2 => Verb::Stop,
-        3 | 4 => Verb::Start,
-        5 => Verb::Back,
-        _ => Verb::Take,
-    };
-    let place = if mixed / 16 % 2 == 0 { 0 } else { 1 };
-    (verb, place, number / 2)
-}
-
-fn spreading_act(mixed: u64, number: u64) -> Act {
-    let verb = match mixed % 16 {
-        0 => Verb::Tick,
-        1 | 2 => Verb::Save,
-        3 => Verb::Stop,
-        4 | 5 => Verb::Start,
-        _ => Verb::Take,
-    };
-    let place = if mixed / 16 % 8 == 0 || number % 2 == 0 {
-        0
-    } else {
-        1
-    };
-    (verb, place, 20 + number / 2)
-}
-
-fn crowd_act(run: &Run<Note>, mixed: u64, number: u64) -> Act {
-    let place = match number % 3 {
-        0 => 0usize,
-        1 => 1,
-        _ => 2,
-    };
+fn crowd_act(run: &Run<Note>, seed: u64, number: u32) -> Act {
+    let mixed = mixed(seed, u64::from(number));
+    let count = if mixed / 32 % 4 == 0 { 5 } else { 2 };
+    let is_fast = seed % 2 == 1;
+    let place = (number % 3) as usize;
     let verb = match mixed % 32 {
         0 => Verb::Tick,
-        1 | 2 | 3 => Verb::Save,
+        1..4 => Verb::Save,
         4 | 5 => Verb::Stop,
-        6 | 7 | 8 | 9 => Verb::Start,
+        6..10 => Verb::Start,
+        10 if is_fast => Verb::Back,
         _ if !run.runs(place) => Verb::Start,
-        _ => Verb::Take,
+        _ => Verb::Take(count, number / 3),
     };
-    (verb, place, number.wrapping_add(20))
+    let pace = if is_fast { 20 } else { 1 };
+    let second = number.saturating_mul(pace).saturating_add(20);
+    (verb, place, second)
 }
 
-fn far_act(taken_again: bool, number: u64) -> Act {
+fn far_act(taken_again: bool, number: u32) -> Act {
     match number {
-        0..=39 => (Verb::Take, 0, 20),
+        0..=39 => (Verb::Take(1, number), 0, 20),
+        40..=59 => (Verb::Take(1, number - 40), 1, 21),
         60 => (Verb::Save, 1, 21),
-        40..=80 => (Verb::Take, 1, 21),
+        61..=80 => (Verb::Take(1, number - 41), 1, 21),
         81 => (Verb::Stop, 1, 21),
         82 => (Verb::Start, 1, 22),
-        83 if taken_again => (Verb::Take, 1, 23),
-        83 => (Verb::Save, 0, 23),
+        83 if taken_again => (Verb::Take(40, 39), 1, 23),
         _ => (Verb::Tick, 1, 900),
     }
 }
 
-fn act(run: &Run<Note>, draw: Draw, seed: u64, number: u64) -> Act {
-    let mixed = mixed_of(seed, number);
-    match draw {
-        Draw::Any => any_act(mixed, number),
-        Draw::Spreading => spreading_act(mixed, number),
-        Draw::Crowd => crowd_act(run, mixed, number),
-        Draw::Far(taken_again) => far_act(taken_again, number),
-    }
-}
-
-// How many versions are taken.
-fn count(draw: Draw, mixed: u64, number: u64) -> u64 {
-    match draw {
-        Draw::Any | Draw::Spreading => 1,
-        Draw::Crowd if mixed / 32 % 4 == 0 => 5,
-        Draw::Crowd => 2,
-        Draw::Far(_) if number == 83 => 40,
-        Draw::Far(_) => 1,
-    }
-}
-
-// Of a version that lasts, made as one of this number.
-fn lasting(made: u64, apart: u64, life: u64) -> (u64, u64) {
-    let updated = made.wrapping_mul(apart).wrapping_add(20);
-    (updated, updated.wrapping_add(life).wrapping_add(made % 2))
-}
-
-// Update and expiry of the version that was made so many before the last one.
-fn span(draw: Draw, mixed: u64, number: u64, back: u64) -> (u64, u64) {
-    match draw {
-        Draw::Any => {
-            let updated = mixed / 32 % 16;
-            (updated, updated.wrapping_add(mixed / 512 % 32))
-        }
-        Draw::Spreading => {
-            let late = if mixed / 128 % 8 == 0 { 3 } else { 0 };
-            lasting((number / 4).saturating_sub(late), 2, 200)
-        }
-        Draw::Crowd => lasting((number / 3).saturating_sub(back), 3, 400),
-        Draw::Far(_) => {
-            let last = match number {
-                0..=39 => number,
-                40..=59 => number - 40,
-                61..=80 => number - 41,
-                _ => 39,
-            };
-            lasting(last.saturating_sub(back), 3, 400)
-        }
-    }
-}
-
-fn note((updated, expires): (u64, u64)) -> Note {
+// The version that was made as one of this number. It lasts.
+fn note(made: u32) -> Note {
+    let updated = made.saturating_mul(3).saturating_add(20);
     Note {
-        id: if expires % 2 == 0 { b'k' } else { b'l' },
+        id: if made % 2 == 0 { b'k' } else { b'l' },
         updated: at(updated),
-        expires: at(expires),
-        content: [0],
+        expires: at(updated.saturating_add(400).saturating_add(made % 2)),
+        content: [0, 0],
     }
 }
 
-fn notes(alloc: Global, draw: Draw, seed: u64, number: u64) -> Result<Vec<Note>, AllocError> {
-    let mixed = mixed_of(seed, number);
+fn notes(alloc: Global, count: u32, last: u32) -> Result<Vec<Note>, AllocError> {
     let mut notes = Vec::new(alloc);
-    for back in 0..count(draw, mixed, number) {
-        notes.push(note(span(draw, mixed, number, back)))?;
+    for back in 0..count {
+        notes.push(note(last.saturating_sub(back)))?;
     }
     Ok(notes)
 }
 
+// Writes down that a member took versions, where that is possible, and says whether it was.
 fn take(
     alloc: Global,
     run: &mut Run<Note>,
@@ -197,10 +103,7 @@ fn take(
     versions: Vec<Note>,
 ) -> Result<bool, AllocError> {
     run.make_room(1, versions.len())?;
-    if !run.runs(place) {
-        return Ok(false);
-    }
-    if now < run.last(place) {
+    if !run.runs(place) || now < run.last(place) {
         return Ok(false);
     }
     run.append(Step::Took {
@@ -213,138 +116,83 @@ fn take(
     Ok(true)
 }
 
-fn tick(run: &mut Run<Note>, place: usize, now: Moment) -> Result<bool, AllocError> {
+// Likewise of what takes no versions.
+fn turn(run: &mut Run<Note>, verb: Verb, place: usize, now: Moment) -> Result<bool, AllocError> {
     run.make_room(1, 0)?;
-    if !run.runs(place) {
-        return Ok(false);
-    }
-    if now < run.last(place) {
-        return Ok(false);
-    }
-    run.append(Step::Ticked { place, now });
-    Ok(true)
-}
-
-fn back(run: &mut Run<Note>, place: usize, now: Moment) -> Result<bool, AllocError> {
-    run.make_room(1, 0)?;
-    if run.last(place) <= now {
-        return Ok(false);
-    }
-    run.append(Step::Back { place, now });
-    Ok(true)
-}
-
-fn save(run: &mut Run<Note>, place: usize) -> Result<bool, AllocError> {
-    run.make_room(1, 0)?;
-    if !run.runs(place) {
-        return Ok(false);
-    }
-    run.append(Step::Saved { place });
-    Ok(true)
-}
-
-fn stop(run: &mut Run<Note>, place: usize) -> Result<bool, AllocError> {
-    run.make_room(1, 0)?;
-    if !run.runs(place) {
-        return Ok(false);
-    }
-    run.append(Step::Stopped { place });
-    Ok(true)
-}
-
-fn start(run: &mut Run<Note>, place: usize, now: Moment) -> Result<bool, AllocError> {
-    run.make_room(1, 0)?;
-    if place >= run.members() {
-        return Ok(false);
-    }
-    if run.runs(place) {
-        return Ok(false);
-    }
-    if now < run.last(place) {
-        return Ok(false);
-    }
-    run.append(Step::Started { place, now });
-    Ok(true)
-}
-
-// Whether the act of this number was possible, and so written down.
-fn write_down(
-    alloc: Global,
-    run: &mut Run<Note>,
-    draw: Draw,
-    seed: u64,
-    number: u64,
-) -> Result<bool, AllocError> {
-    let (verb, place, seconds) = act(run, draw, seed, number);
-    let now = at(seconds);
+    let runs = run.runs(place);
+    let is_back = now < run.last(place);
     match verb {
-        Verb::Take => take(alloc, run, place, now, notes(alloc, draw, seed, number)?),
-        Verb::Tick => tick(run, place, now),
-        Verb::Back => back(run, place, now),
-        Verb::Save => save(run, place),
-        Verb::Stop => stop(run, place),
-        Verb::Start => start(run, place, now),
+        Verb::Back if is_back => run.append(Step::Back { place, now }),
+        Verb::Tick if runs && !is_back => run.append(Step::Ticked { place, now }),
+        Verb::Save if runs => run.append(Step::Saved { place }),
+        Verb::Stop if runs => run.append(Step::Stopped { place }),
+        Verb::Start if place < run.members() && !runs && !is_back => {
+            run.append(Step::Started { place, now });
+        }
+        _ => return Ok(false),
     }
+    Ok(true)
 }
 
 // Of each member, and of one that isn't there.
 fn ask_faults(run: &Run<Note>, tally: &mut Tally) {
     for place in 0..4 {
-        tally.asked = tally.asked.wrapping_add(1);
-        if run.first_fault(place) == plain::first_fault(place, run.steps()) {
-            tally.agreed = tally.agreed.wrapping_add(1);
-        }
+        let fault = run.first_fault(place);
+        tally.differs = tally.differs || fault != plain::first_fault(place, run.steps());
     }
 }
 
-fn ask_timely(run: &Run<Note>, spread: Interval, flight: Interval, tally: &mut Tally) {
-    let told = run.timely(spread, flight);
-    tally.asked = tally.asked.wrapping_add(1);
-    if told == plain::is_timely(spread, flight, run.members(), run.steps()) {
-        tally.agreed = tally.agreed.wrapping_add(1);
-    }
-    if told {
+fn ask_timely(run: &Run<Note>, spread: Interval, tally: &mut Tally) {
+    let flight = Interval::from_nanos(200_000_000_000).unwrap();
+    tally.last = run.timely(spread, flight);
+    let plain = plain::is_timely(spread, flight, run.members(), run.steps());
+    tally.differs = tally.differs || tally.last != plain;
+    if plain {
         tally.timely = tally.timely.wrapping_add(1);
     } else {
         tally.untimely = tally.untimely.wrapping_add(1);
     }
-    tally.last = told;
 }
 
-fn ask(run: &Run<Note>, flight: u64, tally: &mut Tally) {
-    ask_faults(run, tally);
-    for spread in [2, 4, 6, 9, 15, 24, 50] {
-        if let (Some(spread), Some(flight)) = (
-            Interval::from_seconds(spread),
-            Interval::from_seconds(flight),
-        ) {
-            ask_timely(run, spread, flight, tally);
-        }
-    }
-}
-
-// Writes down a run, and asks after steps of it.
+// Writes down a run, and asks after each step.
 fn play(alloc: Global, draw: Draw, seed: u64, tally: &mut Tally) -> Result<(), AllocError> {
-    let (members, acts, flight, mask) = match draw {
-        Draw::Any => (2, 60, 10, 0),
-        Draw::Spreading => (2, 60, 60, 0),
-        Draw::Crowd => (3, 48, 200, 3),
-        Draw::Far(_) => (2, 85, 200, 0),
+    let (members, acts) = match draw {
+        Draw::Crowd => (3, 48),
+        Draw::Far(_) => (2, 85),
     };
     let mut run = Run::new(alloc, members);
     for number in 0..acts {
-        if write_down(alloc, &mut run, draw, seed, number)? && number & mask == mask {
-            ask(&run, flight, tally);
+        let (verb, place, second) = match draw {
+            Draw::Crowd => crowd_act(&run, seed, number),
+            Draw::Far(taken_again) => far_act(taken_again, number),
+        };
+        let is_done = match verb {
+            Verb::Take(count, last) => {
+                let notes = notes(alloc, count, last)?;
+                take(alloc, &mut run, place, at(second), notes)?
+            }
+            _ => turn(&mut run, verb, place, at(second))?,
+        };
+        if is_done {
+            ask(&run, tally);
         }
     }
     Ok(())
 }
 
-// What is told of so many runs.
+fn ask(run: &Run<Note>, tally: &mut Tally) {
+    ask_faults(run, tally);
+    for spread in [2, 4, 6, 9, 15, 24, 50] {
+        if let Some(spread) = Interval::from_seconds(spread) {
+            ask_timely(run, spread, tally);
+        }
+    }
+}
+
+// What is told of the runs of so many seeds.
 fn told(alloc: Global, draw: Draw, seeds: u64) -> Result<Tally, AllocError> {
     let mut tally = Tally {
-        asked: 0,
-        agreed: 0,
+        differs: false,
         timely: 0,
         untimely: 0,
         last: false,
@@ -355,47 +203,25 @@ fn told(alloc: Global, draw: Draw, seeds: u64) -> Result<Tally, AllocError> {
     Ok(tally)
 }
 
-// Whether plain loops told the same, each time of over so many.
-fn has_agreed(told: &Result<Tally, AllocError>, over: usize) -> bool {
+// Whether plain loops told the same, and runs were timely and untimely at least so many times.
+fn has_agreed(told: &Result<Tally, AllocError>, both: usize) -> bool {
     match told {
-        Ok(tally) => tally.agreed == tally.asked && tally.asked > over,
-        Err(_) => false,
-    }
-}
-
-fn is_both(told: &Result<Tally, AllocError>, over: usize) -> bool {
-    match told {
-        Ok(tally) => tally.timely > over && tally.untimely > over,
+        Ok(tally) => !tally.differs && tally.timely.min(tally.untimely) >= both,
         Err(_) => false,
     }
 }
 
 #[test]
-fn first_faults_are_those_that_plain_loops_find(rt: HostRuntime) {
-    let told = told(rt.alloc(), Draw::Any, 40);
-    assert!(rt; has_agreed(&told, 10_000));
-}
-
-#[test]
-fn runs_are_timely_where_plain_loops_find_so(rt: HostRuntime) {
-    let told = told(rt.alloc(), Draw::Spreading, 40);
-    assert!(rt; has_agreed(&told, 10_000) && is_both(&told, 100));
-}
-
-#[test]
-fn runs_of_many_versions_and_members_are_too(rt: HostRuntime) {
+fn drawn_runs_are_told_of_as_plain_loops_do(rt: HostRuntime) {
     let told = told(rt.alloc(), Draw::Crowd, 10);
-    assert!(rt; has_agreed(&told, 500) && is_both(&told, 50));
+    assert!(rt; has_agreed(&told, 100), "{told:?}");
 }
 
 #[test]
-fn what_was_lost_far_from_where_it_came_is_missed(rt: HostRuntime) {
-    let told = told(rt.alloc(), Draw::Far(false), 1);
-    assert!(rt; has_agreed(&told, 500) && told.map(|tally| tally.last) == Ok(false));
-}
-
-#[test]
-fn what_was_taken_again_far_from_where_it_came_counts(rt: HostRuntime) {
-    let told = told(rt.alloc(), Draw::Far(true), 1);
-    assert!(rt; has_agreed(&told, 500) && told.map(|tally| tally.last) == Ok(true));
+fn what_was_lost_far_from_where_it_came_is_missed_until_it_comes_again(rt: HostRuntime) {
+    for taken_again in [false, true] {
+        let told = told(rt.alloc(), Draw::Far(taken_again), 1);
+        let last = told.map(|tally| tally.last);
+        assert!(rt; has_agreed(&told, 1) && last == Ok(taken_again), "{told:?}");
+    }
 }

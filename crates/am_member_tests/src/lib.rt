@@ -5,5 +5,3 @@
 mod connections;
 #[cfg(test)]
 mod members;
-#[cfg(test)]
-mod values;

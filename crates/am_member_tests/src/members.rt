@@ -1,6 +1,7 @@
-//! The member that tests reach, its clock, and connections to a listener of the same process.
+//! The member that tests reach, and the moment of its next event.
 
 use am_instance::{Config, Instance};
+use am_member::next_moment;
 use am_merge::Held;
 use am_version_order::{Interval, Moment};
 use am_wire::Text;
@@ -8,34 +9,6 @@ use std::alloc::Global;
 use std::io;
 use std::rt::Clock;
 use std::time::Duration;
-
-/// A clock that says the same moment always, and by which no time passes.
-#[derive(Clone, Copy)]
-pub struct Standing(pub Duration);
-
-impl Clock for Standing {
-    fn monotonic(&self) -> io::Result<Duration> {
-        Ok(Duration::ZERO)
-    }
-
-    fn since_1970(&self) -> io::Result<Duration> {
-        Ok(self.0)
-    }
-}
-
-/// A clock that can't be read.
-#[derive(Clone, Copy)]
-pub struct Broken;
-
-impl Clock for Broken {
-    fn monotonic(&self) -> io::Result<Duration> {
-        Err(io::Error::from(io::ErrorKind::Unsupported))
-    }
-
-    fn since_1970(&self) -> io::Result<Duration> {
-        Err(io::Error::from(io::ErrorKind::Unsupported))
-    }
-}
 
 /// The moment of so many seconds since 1970.
 pub fn at(seconds: i64) -> Moment {
@@ -52,4 +25,24 @@ pub fn instance(alloc: Global) -> Option<Instance> {
     let peer_timeout = Interval::from_nanos(15_000_000_000).unwrap();
     let config = Config::new(alloc, name, peers, retention, peer_timeout).ok()?;
     Some(Instance::start(config, Held::new(alloc), Held::new(alloc), at(10)))
+}
+
+/// A clock that says the same always, or can't be read.
+#[derive(Clone, Copy)]
+struct Standing(Option<Duration>);
+
+impl Clock for Standing {
+    fn monotonic(&self) -> io::Result<Duration> {
+        self.since_1970()
+    }
+
+    fn since_1970(&self) -> io::Result<Duration> {
+        self.0.ok_or(io::Error::from(io::ErrorKind::Unsupported))
+    }
+}
+
+#[test]
+fn the_next_moment_is_the_clocks_where_it_can_be_read(rt: HostRuntime) {
+    assert!(rt; next_moment(&Standing(Some(Duration::from_secs(20))), at(10)) == at(20));
+    assert!(rt; next_moment(&Standing(None), at(10)) == at(10));
 }
