@@ -9,8 +9,8 @@ use std::io::{self, Read, Write};
 use std::net::{Ipv4Addr, TcpListener, TcpStream};
 use std::time::Duration;
 
-/// How long the other end is waited for.
-const PATIENCE: Duration = Duration::from_secs(30);
+/// For how many milliseconds the other end is waited for.
+const PATIENCE: u64 = 30_000;
 
 const LIST: &[u8] = b"GET /api/v2/silences HTTP/1.1\r\n\r\n";
 
@@ -35,16 +35,18 @@ fn client(rt: &HostRuntime, listener: &TcpListener, bytes: &[u8]) -> io::Result<
 
 // What comes of a Tick that a member of this name sends to a port.
 fn send_tick(rt: &HostRuntime, port: u16, name: &str) -> Result<u64, SendFault> {
-    send_to(rt.alloc(), rt, name, port, &[Frame::Tick], PATIENCE)
+    let limit = Duration::from_millis(PATIENCE);
+    send_to(rt.alloc(), rt, name, port, &[Frame::Tick], limit)
 }
 
-// What a member tells of the next connection, at 11 s.
+// What a member tells of the next connection, at 11 s, with a limit in milliseconds.
 fn turned(
     rt: &HostRuntime,
     listener: &TcpListener,
     instance: &mut Instance,
-    limit: Duration,
+    limit: u64,
 ) -> io::Result<Told> {
+    let limit = Duration::from_millis(limit);
     let ended = turn(rt.alloc(), rt, listener, instance, 0, at(11), limit)?;
     Ok((ended.frames.len(), ended.ticked, ended.fault))
 }
@@ -69,7 +71,7 @@ fn three(rt: &HostRuntime, instance: &mut Instance) -> io::Result<([Told; 3], bo
     let peer = turned(rt, &listener, instance, PATIENCE)?;
     let (person, is_listed) = replied(rt, instance, &listener)?;
     let _silent = client(rt, &listener, &[])?;
-    let silent = turned(rt, &listener, instance, Duration::from_millis(50))?;
+    let silent = turned(rt, &listener, instance, 50)?;
     Ok(([peer, person, silent], sent == Ok(5) && is_listed))
 }
 
