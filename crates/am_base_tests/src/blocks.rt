@@ -1,6 +1,6 @@
 //! Lists in blocks beside plain sorted lists, over runs.
 
-ghost use Rattle.std.specs.Prelude.{◌<◌, ◌/◌};
+ghost use Rattle.std.specs.Prelude.{◌<◌};
 ghost use Rattle.std.specs.List.{AllPairs};
 ghost use Rattle.std.specs.Ordering.{nat_cmp};
 ghost use Rattle.am_blocks.specs.Rows.{entries};
@@ -19,18 +19,6 @@ impl Probe<u64> for Number {
 
     fn compare(&self, item: &u64) -> Ordering {
         item.cmp(&self.0)
-    }
-}
-
-// A number that is looked for among its 16 neighbours, as if they were one.
-#[derive(Clone, Copy)]
-struct Rough(u64);
-
-impl Probe<u64> for Rough {
-    ghost order = { λ probe item. nat_cmp (item / 16) (probe.0 / 16) };
-
-    fn compare(&self, item: &u64) -> Ordering {
-        (item / 16).cmp(&(self.0 / 16))
     }
 }
 
@@ -89,16 +77,15 @@ impl Twins {
 
     // A number is found in the same place near any guess and by any hint.
     fn finds_anyhow(&self, number: u64) -> bool {
-        let place = self.blocks.search(&Number(number));
+        let probe = Number(number);
+        let place = self.blocks.search(&probe);
         let guesses = [(0, 0), (0, 63), (3, 64), (7, 200), (900, 0)];
-        guesses.iter().all(|&(block, offset)| {
-            self.blocks
-                .search_near(Spot { block, offset }, &Number(number))
-                == place
-        }) && self.blocks.search_near(near_to(place), &Number(number)) == place
-            && self.blocks.search_by(&Number(number), &Number(number)) == place
-            && self.blocks.search_by(&Rough(number), &Number(number)) == place
-            && self.blocks.search_by(&Number(1000), &Number(number)) == place
+        guesses.iter().all(|&(block, offset)| self
+            .blocks
+            .search_near(Spot { block, offset }, &probe)
+            == place)
+            && self.blocks.search_by(&probe, &probe) == place
+            && self.blocks.search_by(&Number(1000), &probe) == place
     }
 
     // The blocks have the items of the plain list from a number on, and the same first one.
@@ -117,13 +104,6 @@ impl Twins {
             }
             _ => false,
         }
-    }
-}
-
-// The place of what was found or missed.
-fn near_to(place: Result<Spot, Spot>) -> Spot {
-    match place {
-        Ok(spot) | Err(spot) => spot,
     }
 }
 

@@ -57,12 +57,6 @@ impl Twins {
         self.held.sweep(now);
     }
 
-    // Goes on with a copy of the map.
-    fn copy(&mut self) -> Result<(), AllocError> {
-        self.held = self.held.try_clone()?;
-        Ok(())
-    }
-
     // Map and list have the same notes, by whichever way the map is read.
     fn agree(&self) -> bool {
         self.held.len() == self.plain.len()
@@ -178,7 +172,7 @@ fn step(twins: &mut Twins, number: u64) -> Result<bool, AllocError> {
     match mixed(3, number) % 32 {
         0 => return merge_many(twins, number, 2),
         1 => twins.sweep((first % 60) as u32),
-        2 => twins.copy()?,
+        2 => twins.held = twins.held.try_clone()?,
         3..8 => twins.take_pair(note(first), note(second))?,
         _ => twins.take(note(first))?,
     }

@@ -36,18 +36,6 @@ enum Made {
     Entry,
 }
 
-/// What there is beside the text, in bytes.
-const BESIDE: [(Made, usize); 8] = [
-    (Made::Silence, 30),
-    (Made::Held, 40),
-    (Made::Row, 44),
-    (Made::Posted, 75),
-    (Made::Updated, 40),
-    (Made::Replaced, 45),
-    (Made::Ended, 45),
-    (Made::Entry, 31),
-];
-
 /// How many bytes there are in all, or why there are none.
 type Length = Result<usize, SilenceError>;
 
@@ -64,14 +52,36 @@ fn length(alloc: Global, made: Made, len: usize) -> Length {
     }
 }
 
+// Whether the most bytes are made where there are so many beside the text, and none where the text has one more.
+fn is_limit(alloc: Global, made: Made, beside: usize) -> bool {
+    let len = MOST.saturating_sub(beside);
+    length(alloc, made, len) == Ok(MOST)
+        && length(alloc, made, len.saturating_add(1)) == Err(SilenceError::TooLarge)
+}
+
 #[test]
-fn nothing_has_a_byte_more(rt: HostRuntime) {
-    for (made, beside) in BESIDE {
-        let len = MOST.saturating_sub(beside);
-        let longest = length(rt.alloc(), made, len);
-        let over = length(rt.alloc(), made, len.saturating_add(1));
-        let is_right = longest == Ok(MOST) && over == Err(SilenceError::TooLarge);
-        assert!(rt; is_right, "{made:?}: {longest:?}, {over:?}");
+fn versions_and_rows_have_no_byte_more(rt: HostRuntime) {
+    for (made, beside) in [
+        (Made::Silence, 30),
+        (Made::Held, 40),
+        (Made::Row, 44),
+        (Made::Entry, 31),
+    ] {
+        assert!(rt; is_limit(rt.alloc(), made, beside), "{made:?}");
+    }
+}
+
+#[test]
+fn versions_of_posts_have_no_byte_more(rt: HostRuntime) {
+    for (made, beside) in [(Made::Posted, 75), (Made::Updated, 40)] {
+        assert!(rt; is_limit(rt.alloc(), made, beside), "{made:?}");
+    }
+}
+
+#[test]
+fn versions_that_end_a_silence_have_no_byte_more(rt: HostRuntime) {
+    for (made, beside) in [(Made::Replaced, 45), (Made::Ended, 45)] {
+        assert!(rt; is_limit(rt.alloc(), made, beside), "{made:?}");
     }
 }
 
