@@ -8,7 +8,7 @@ use Rattle.am_blocks.specs.Rows.{Rows, entries}
 use Rattle.am_blocks.specs.Spots.{place}
 use Rattle.am_blocks.specs.Searches.{IsMissing}
 use Rattle.am_blocks.proofs.Places.{place_within, missing_before, missing_behind, all_pairs_insert}
-use Rattle.am_base_tests.proofs.blocks.put.Goals as goal
+use Rattle.am_tests.proofs.blocks.put.Goals as goal
 
 put_between : (rows : Rows ℕ) (spot : Spot) (number : ℕ) → AllPairs (λ x y. x < y) (entries rows) → IsMissing (λ item. nat_cmp item number) rows spot → AllPairs (λ x y. x < y) (insert (entries rows) (place rows spot) number)
 put_between rows spot number rising missing =

@@ -3,7 +3,7 @@ use Rattle.std.proofs.lemmas.List.Quantifiers.{all_pairs_remove}
 use Rattle.am_blocks.specs.Rows.{entries}
 use Rattle.am_blocks.specs.Spots.{place}
 use Rattle.am_blocks.proofs.Places.{place_of_item}
-use Rattle.am_base_tests.proofs.blocks.take.Goals as goal
+use Rattle.am_tests.proofs.blocks.take.Goals as goal
 
 pub returns-in-Ok : goal.returns-in-Ok
 returns-in-Ok c =
