@@ -20,16 +20,18 @@ mod wire;
 use am_case_words::fault::Fault;
 use am_case_words::texts::say_text;
 use am_case_words::transcript::{Answers, run};
+use am_nflog::MeshEntry;
 use std::process::ExitCode;
 
 /// The cases of this program. Nothing goes on from one to the next.
+#[derive(Drop)]
 struct Cases;
 
 impl Answers for Cases {
     fn answer(&mut self, rt: &HostRuntime, verb: &str, rest: &str) -> Result<(), Fault> {
         match verb {
             "sil" => versions::of_silences(rt, rest),
-            "nfl" => versions::of_log(rt, rest),
+            "nfl" => versions::of_state::<MeshEntry>(rt, rest),
             "matcher" => versions::matcher(rt, rest),
             "matchers" => versions::matchers_copied(rt, rest),
             "fresh" => versions::fresh(rt, rest),

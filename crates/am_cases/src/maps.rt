@@ -53,15 +53,11 @@ fn step_at(
     }
 }
 
-fn version(alloc: Global, words: &str) -> Result<MeshSilence, Fault> {
-    versions::version(alloc, words)
-}
-
 /// The two versions of words, parted by `, `.
 fn pair(alloc: Global, words: &str) -> Result<(MeshSilence, MeshSilence), Fault> {
     let (one, other) = parts(words, ", ")?;
-    let one = version(alloc, one)?;
-    match version(alloc, other) {
+    let one = versions::version(alloc, one)?;
+    match versions::version(alloc, other) {
         Ok(other) => Ok((one, other)),
         Err(fault) => Err(fault),
     }
@@ -132,7 +128,7 @@ fn step_of(alloc: Global, text: &str) -> Result<(Step<MeshSilence>, Moment), Fau
     let now = moment(word)?;
     match first(words) {
         ("collect", _) => Ok((Step::Collect, now)),
-        ("take", words) => Ok((Step::Take(version(alloc, words)?), now)),
+        ("take", words) => Ok((Step::Take(versions::version(alloc, words)?), now)),
         _ => Err(Fault::Words),
     }
 }

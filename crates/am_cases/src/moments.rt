@@ -34,8 +34,7 @@ pub fn say_order(rt: &HostRuntime, rest: &str) -> Result<(), Fault> {
 
 /// `interval NANOSECONDS`: whether there is an interval of so many.
 pub fn say_interval(rt: &HostRuntime, rest: &str) -> Result<(), Fault> {
-    let is_there = Interval::from_nanos(number(rest)?).is_some();
-    Ok(println!(rt; "{is_there}")?)
+    Ok(println!(rt; "{}", Interval::from_nanos(number(rest)?).is_some())?)
 }
 
 /// `sum MOMENT NANOSECONDS`: the sum of a moment and an interval, and the sum that ends at the last moment.

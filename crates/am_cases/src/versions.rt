@@ -6,7 +6,7 @@ use am_case_words::moments::{moment, print_moment};
 use am_case_words::silences::silence;
 use am_case_words::versions::{Told, say, version, versions};
 use am_case_words::words::{bytes, first, parts, say_bytes};
-use am_nflog::{MeshEntry, Receiver};
+use am_nflog::Receiver;
 use am_silence::{Matcher, MeshSilence, fresh_id, state_at};
 use am_version_order::{Moment, Version};
 use am_wire::{Message, WireError};
@@ -19,12 +19,11 @@ pub fn of_silences(rt: &HostRuntime, text: &str) -> Result<(), Fault> {
     }
 }
 
-/// `nfl VERB WORDS` of log entries.
-pub fn of_log(rt: &HostRuntime, text: &str) -> Result<(), Fault> {
-    of_state::<MeshEntry>(rt, text)
-}
-
-fn of_state<V: Told>(rt: &HostRuntime, text: &str) -> Result<(), Fault> {
+/// `nfl VERB WORDS` of log entries, and other such cases of silences.
+pub fn of_state<V: Told>(rt: &HostRuntime, text: &str) -> Result<(), Fault>
+where
+    V::Key: Drop,
+{
     let (verb, rest) = first(text);
     match verb {
         "made" | "bucket" | "copied" => of_version::<V>(rt, verb, rest),
@@ -33,7 +32,10 @@ fn of_state<V: Told>(rt: &HostRuntime, text: &str) -> Result<(), Fault> {
     }
 }
 
-fn of_version<V: Told>(rt: &HostRuntime, verb: &str, words: &str) -> Result<(), Fault> {
+fn of_version<V: Told>(rt: &HostRuntime, verb: &str, words: &str) -> Result<(), Fault>
+where
+    V::Key: Drop,
+{
     let version = version::<V>(rt.alloc(), words)?;
     match verb {
         "made" => say_written(rt, &version),
@@ -71,14 +73,20 @@ fn say_written<M: Message>(rt: &HostRuntime, message: &M) -> Result<(), Fault> {
 }
 
 /// Says how the copies of the key and of a version compare with them, and the version's copy.
-fn copied<V: Told>(rt: &HostRuntime, version: &V) -> Result<(), Fault> {
+fn copied<V: Told>(rt: &HostRuntime, version: &V) -> Result<(), Fault>
+where
+    V::Key: Drop,
+{
     print_key_order(rt, version)?;
     let copy = version.try_clone(rt.alloc())?;
     println!(rt; " {:?}", version.compare(&copy))?;
     say(rt, &copy)
 }
 
-fn print_key_order<V: Told>(rt: &HostRuntime, version: &V) -> Result<(), Fault> {
+fn print_key_order<V: Told>(rt: &HostRuntime, version: &V) -> Result<(), Fault>
+where
+    V::Key: Drop,
+{
     let copy = version.try_key(rt.alloc())?;
     Ok(print!(rt; "{:?}", copy.cmp(version.key()))?)
 }

@@ -28,14 +28,10 @@ fn read(rt: &HostRuntime, kind: &str, which: &str, bytes: &[u8]) -> Result<(), F
     }
 }
 
-fn say_fault(rt: &HostRuntime, fault: WireError) -> Result<(), Fault> {
-    say_refusal(rt, fault, WireError::Memory)
-}
-
 fn say_varint(rt: &HostRuntime, bytes: &[u8]) -> Result<(), Fault> {
     match read_varint(bytes) {
         Ok((value, len)) => Ok(println!(rt; "{value} in {len}")?),
-        Err(fault) => say_fault(rt, fault),
+        Err(fault) => say_refusal(rt, fault, WireError::Memory),
     }
 }
 
@@ -53,7 +49,7 @@ fn say_fields<K: Schema>(rt: &HostRuntime, bytes: &[u8]) -> Result<(), Fault> {
     for field in Scan::<K>::new(bytes) {
         match field {
             Ok(field) => say_field(rt, &field)?,
-            Err(fault) => say_fault(rt, fault)?,
+            Err(fault) => say_refusal(rt, fault, WireError::Memory)?,
         }
     }
     Ok(())
@@ -64,7 +60,7 @@ fn say_rows(rt: &HostRuntime, bytes: &[u8]) -> Result<(), Fault> {
     for row in Rows::new(bytes) {
         match row {
             Ok(message) => say_bytes(rt, message)?,
-            Err(fault) => say_fault(rt, fault)?,
+            Err(fault) => say_refusal(rt, fault, WireError::Memory)?,
         }
     }
     Ok(())
@@ -78,7 +74,7 @@ fn say_timestamp(rt: &HostRuntime, bytes: &[u8], which: &str) -> Result<(), Faul
     };
     match Moment::decode_at(rt.alloc(), bytes, at) {
         Ok(moment) => say_moment(rt, "", moment),
-        Err(fault) => say_fault(rt, fault),
+        Err(fault) => say_refusal(rt, fault, WireError::Memory),
     }
 }
 
