@@ -50,7 +50,6 @@ pub fn say_sum(rt: &HostRuntime, rest: &str) -> Result<(), Fault> {
 pub fn say_sums(rt: &HostRuntime, rest: &str) -> Result<(), Fault> {
     let (start, rest) = first(rest);
     let (length, count) = first(rest);
-    let start = moment(start)?;
-    let count = number(count)?;
-    say_if_any(rt, start.checked_add_times(interval(length)?, count))
+    let (start, length) = (moment(start)?, interval(length)?);
+    say_if_any(rt, start.checked_add_times(length, number(count)?))
 }

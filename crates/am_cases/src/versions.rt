@@ -54,7 +54,7 @@ fn read<V: Told>(rt: &HostRuntime, hex: &str) -> Result<(), Fault> {
 }
 
 /// Says a version, and how the version order and the wire form see it: its moments, its bucket and its canonical text.
-pub fn say_version<V: Told>(rt: &HostRuntime, version: &V) -> Result<(), Fault> {
+fn say_version<V: Told>(rt: &HostRuntime, version: &V) -> Result<(), Fault> {
     say(rt, version)?;
     print_moment(rt, "order: updated ", version.updated())?;
     print_moment(rt, ", expires ", version.expires())?;

@@ -66,9 +66,6 @@ pub fn schedule(rt: &HostRuntime, text: &str) -> Result<(), Fault> {
 }
 
 fn say_counts(rt: &HostRuntime, schedule: &Schedule) -> Result<(), Fault> {
-    let (members, lines) = (
-        schedule.names.as_slice().len(),
-        schedule.lines.as_slice().len(),
-    );
-    Ok(println!(rt; "{members} members, {lines} lines")?)
+    let (names, lines) = (schedule.names.as_slice(), schedule.lines.as_slice());
+    Ok(println!(rt; "{} members, {} lines", names.len(), lines.len())?)
 }
