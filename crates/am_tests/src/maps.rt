@@ -27,16 +27,17 @@ impl Twins {
         }
     }
 
-    fn take(&mut self, note: Note) -> Result<(), AllocError> {
-        put(&mut self.plain, note)?;
-        self.held.take(note, at(NOW))?;
+    // Takes the note that follows from a number.
+    fn take(&mut self, mixed: u64) -> Result<(), AllocError> {
+        put(&mut self.plain, note(mixed))?;
+        self.held.take(note(mixed), at(NOW))?;
         Ok(())
     }
 
-    fn take_pair(&mut self, first: Note, second: Note) -> Result<(), AllocError> {
-        put(&mut self.plain, first)?;
-        put(&mut self.plain, second)?;
-        self.held.take_pair(first, second, at(NOW))?;
+    fn take_pair(&mut self, first: u64, second: u64) -> Result<(), AllocError> {
+        put(&mut self.plain, note(first))?;
+        put(&mut self.plain, note(second))?;
+        self.held.take_pair(note(first), note(second), at(NOW))?;
         Ok(())
     }
 
@@ -141,7 +142,7 @@ fn note(mixed: u64) -> Note {
 fn many(alloc: Global, seed: u64, count: u64) -> Result<Twins, AllocError> {
     let mut twins = Twins::new(alloc);
     for number in 0..count {
-        twins.take(note(mixed(seed, number)))?;
+        twins.take(mixed(seed, number))?;
     }
     Ok(twins)
 }
@@ -173,8 +174,8 @@ fn step(twins: &mut Twins, number: u64) -> Result<bool, AllocError> {
         0 => return merge_many(twins, number, 2),
         1 => twins.sweep((first % 60) as u32),
         2 => twins.held = twins.held.try_clone()?,
-        3..8 => twins.take_pair(note(first), note(second))?,
-        _ => twins.take(note(first))?,
+        3..8 => twins.take_pair(first, second)?,
+        _ => twins.take(first)?,
     }
     Ok(true)
 }

@@ -5,7 +5,7 @@ ghost use Rattle.std.proofs.Common.{refl, sym};
 ghost use Rattle.std.specs.declared.cmp.Ordering.TheVariants.{Equal};
 ghost use Rattle.std.specs.Cmp.{ranked};
 
-use am_version_order::{Moment, Version};
+use am_version_order::{Interval, Moment, Version};
 use std::alloc::{AllocError, Global};
 
 /// Two bytes under a letter. The first one is the bucket, where it isn't 0.
@@ -17,9 +17,12 @@ pub struct Note {
     pub content: [u8; 2],
 }
 
-/// The moment of so many seconds since 1970.
+/// The moment so many seconds after the least one.
 pub fn at(seconds: u32) -> Moment {
-    Moment::from_parts(i64::from(seconds), 0).unwrap_or(Moment::LEAST)
+    match Interval::from_seconds(u64::from(seconds)) {
+        Some(span) => Moment::LEAST.capped_add(span),
+        None => Moment::LEAST,
+    }
 }
 
 /// A number that follows from two, as if it were drawn.

@@ -109,7 +109,7 @@ fn take(
     run.append(Step::Took {
         place,
         now,
-        source: Source::Written(at(0)),
+        source: Source::Written(Moment::LEAST),
         versions,
         frames: Vec::new(alloc),
     });
