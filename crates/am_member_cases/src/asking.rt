@@ -9,7 +9,7 @@ use am_case_words::moments::print_moment;
 use am_case_words::tries::{Answered, Call};
 use am_connection::{Fault as Cause, connection};
 use am_gossip::{Frame, FrameError};
-use am_instance::{Config, Instance, Place, StepError, Unsent};
+use am_instance::{Config, Instance, Place, StepError};
 use am_version_order::Moment;
 use std::alloc::Global;
 
@@ -36,19 +36,20 @@ pub struct Seen {
 }
 
 /// The fault of a request, as that of a connection.
-fn cause_of(fault: ServeFault) -> Cause {
+fn cause_of(fault: Option<ServeFault>) -> Option<Cause> {
     match fault {
-        ServeFault::Read { at } => Cause::Read { at: at as u64 },
-        ServeFault::Write { written } => Cause::Write { written },
+        Some(ServeFault::Read { at }) => Some(Cause::Read { at: at as u64 }),
+        Some(ServeFault::Write { written }) => Some(Cause::Write { written }),
+        None => None,
     }
 }
 
-/// Whether memory ran out for a step, for a frame to a peer, or for the reply.
-fn is_memory(fault: Option<Cause>, unsent: Unsent, reply: &[u8]) -> bool {
+/// Whether memory ran out for a step, for so many frames to peers, or for the reply.
+fn is_memory(fault: Option<Cause>, unsent: usize, reply: &[u8]) -> bool {
     match fault {
         Some(Cause::Frame(FrameError::Memory)) => true,
         Some(Cause::Step(StepError::Memory { .. })) => true,
-        _ => unsent.memory > 0 || reply.ends_with(b"\"out of memory\""),
+        _ => unsent > 0 || reply.ends_with(b"\"out of memory\""),
     }
 }
 
@@ -92,8 +93,8 @@ fn served(
     writer: &mut Brittle,
 ) -> Result<Answered<Seen>, Fault> {
     let served = serve(alloc, instance, reader, writer, coming.bits, coming.now);
-    let fault = served.fault.map(|fault| cause_of(fault));
-    if is_memory(fault, served.unsent, writer.taken.as_slice()) {
+    let fault = cause_of(served.fault);
+    if is_memory(fault, served.unsent.memory, writer.taken.as_slice()) {
         return Err(Fault::Memory);
     }
     let frames = served.frames.as_slice();
@@ -109,7 +110,7 @@ fn connected(
     writer: &mut Brittle,
 ) -> Result<Answered<Seen>, Fault> {
     let ended = connection(alloc, instance, reader, writer, coming.bits, coming.now);
-    if is_memory(ended.fault, ended.unsent, writer.taken.as_slice()) {
+    if is_memory(ended.fault, ended.unsent.memory, writer.taken.as_slice()) {
         return Err(Fault::Memory);
     }
     let frames = ended.frames.as_slice();
