@@ -221,18 +221,13 @@ fn tried_over<C: Call>(
         Out::Front(_) if told.is_some() => Out::Nothing,
         out => out,
     };
-    let again = if how.again {
-        Some(call.make(alloc, reader, writer)?.answer)
-    } else {
-        None
-    };
     Ok(Some(Row {
         answer,
         is_told: told.is_some(),
         wrong: told.filter(|number| *number != right as u64),
         later,
         out,
-        again,
+        again: None,
     }))
 }
 
@@ -251,7 +246,23 @@ fn tried<C: Call>(
     };
     let mut reader = reader(input, how, number);
     let mut writer = writer(alloc, how, stops_at)?;
-    tried_over(alloc, call, how, number, whole, &mut reader, &mut writer)
+    let row = tried_over(alloc, call, how, number, whole, &mut reader, &mut writer)?;
+    let Some(row) = row else {
+        return Ok(None);
+    };
+    if !how.again {
+        return Ok(Some(row));
+    }
+    let rest = match how.each {
+        Each::Write(_) => input,
+        _ => reader.left,
+    };
+    let mut reader = Pieces::new(rest, how.gives, 0);
+    let again = call.make(alloc, &mut reader, &mut writer)?.answer;
+    Ok(Some(Row {
+        again: Some(again),
+        ..row
+    }))
 }
 
 /// Says the numbers of a spell, and what came of it.
