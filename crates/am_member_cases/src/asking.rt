@@ -93,11 +93,12 @@ fn served(
     writer: &mut Brittle,
 ) -> Result<Answered<Seen>, Fault> {
     let served = serve(alloc, instance, reader, writer, coming.bits, coming.now);
-    let fault = cause_of(served.fault);
-    if is_memory(fault, served.unsent.memory, writer.taken.as_slice()) {
+    let unsent = served.unsent.memory;
+    if is_memory(cause_of(served.fault), unsent, writer.taken.as_slice()) {
         return Err(Fault::Memory);
     }
     let frames = served.frames.as_slice();
+    let fault = cause_of(served.fault);
     Ok(seen_of(instance, served.status, frames, false, fault))
 }
 

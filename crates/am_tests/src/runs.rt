@@ -222,6 +222,6 @@ fn what_was_lost_far_from_where_it_came_is_missed_until_it_comes_again(rt: HostR
     for taken_again in [false, true] {
         let told = told(rt.alloc(), Draw::Far(taken_again), 1);
         let last = told.map(|tally| tally.last);
-        assert!(rt; has_agreed(&told, 1) && last == Ok(taken_again), "{told:?}");
+        assert!(rt; has_agreed(&told, 0) && last == Ok(taken_again), "{told:?}");
     }
 }
