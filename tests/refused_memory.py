@@ -133,6 +133,7 @@ MOST_OF_A_FILE = 1_500
 FRAME = re.compile(r"to \S+ ")
 UNSENT = re.compile(r"unsent (\d+) 0")
 TAKEN = re.compile(r"Memory \{ taken: (\d+) \}")
+STOPPED = re.compile(r"stops at \d+: $")
 
 
 # What a request is answered whose step was made before memory ran out: it isn't made again.
@@ -155,6 +156,8 @@ def how_refused(lines, wanted):
         # a step says how many versions it took, and what is held then
         told = TAKEN.search(begun)
         begun = begun[: told.start()] if told else begun
+        # a keeper says at which event it stopped
+        begun = STOPPED.sub("", begun)
         if told and int(told[1]) > 0:
             return "something stands" if without_frames(again.splitlines()) == without_frames(wanted) else None
         # (a feeder is fed the same piece again, and goes on)
