@@ -134,6 +134,8 @@ FRAME = re.compile(r"to \S+ ")
 UNSENT = re.compile(r"unsent (\d+) 0")
 TAKEN = re.compile(r"Memory \{ taken: (\d+) \}")
 STOPPED = re.compile(r"stops at \d+: $")
+MOMENT = re.compile(r"^(holds \d+ \d+) at \S+$", re.MULTILINE)
+TRIES = re.compile(r"([a-z ]+) (\d+)(?: to (\d+))?: (.*)")
 
 
 # What a request is answered whose step was made before memory ran out: it isn't made again.
@@ -144,12 +146,34 @@ def without_frames(lines):
     return [line for line in lines if not FRAME.match(line)]
 
 
+def tries_of(lines):
+    """What came of each try of a case that is made in turn, by its number; and the other lines."""
+    tries, others = {}, []
+    for line in lines:
+        row = TRIES.fullmatch(line)
+        if row:
+            tries.update({(row[1], number): row[4] for number in range(int(row[2]), int(row[3] or row[2]) + 1)})
+        else:
+            others.append(line)
+    return tries, others
+
+
+def is_one_try(lines, wanted):
+    """Whether one try of a case is answered otherwise: one whose reply that there is no memory could not be written. That
+    reply may be the longer one, so that one more write is to fail."""
+    (found, others), (tries, rest) = tries_of(lines), tries_of(wanted)
+    differing = [key for key in found if found[key] != tries.get(key)]
+    return others == rest and tries.keys() <= found.keys() and len(differing) == 1
+
+
 def how_refused(lines, wanted):
     """What the lines of a case say of a request that was refused; None where they are not right."""
     if lines == wanted:
         return "as wanted"
     if lines == STANDS:
         return "something stands"
+    if is_one_try(lines, wanted):
+        return "one try"
     found, text = "".join(f"{line}\n" for line in lines), "".join(f"{line}\n" for line in wanted)
     begun, memory, again = found.partition("! Memory\n")
     if memory:
@@ -160,6 +184,9 @@ def how_refused(lines, wanted):
         begun = STOPPED.sub("", begun)
         if told and int(told[1]) > 0:
             return "something stands" if without_frames(again.splitlines()) == without_frames(wanted) else None
+        # the moment of a step that found no memory stands, also where the step is then refused
+        if told and MOMENT.sub(r"\1", again) == MOMENT.sub(r"\1", text):
+            return "made again"
         # (a feeder is fed the same piece again, and goes on)
         return "made again" if again == text and text.startswith(begun) or begun + again == text else None
     # a step whose frame found no memory stands, and the frame is counted
