@@ -1,0 +1,4 @@
+pub mod Sources
+pub mod Differences
+pub mod Groups
+pub mod Walks

@@ -1,0 +1,10 @@
+//! What is compared.
+
+/// What is compared of what sources hold.
+#[derive(Clone, Copy, Debug, PartialEq, Eq)]
+pub enum Compared {
+    /// What they show at the moment: what is live.
+    Shown,
+    /// All that they hold.
+    Held,
+}

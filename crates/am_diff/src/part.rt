@@ -1,0 +1,12 @@
+//! The parts of the order of versions.
+
+/// By which of the three parts of the order one version is less than another.
+#[derive(Clone, Copy, Debug, PartialEq, Eq)]
+pub enum Part {
+    /// The update moment.
+    Update,
+    /// The expiry; the update moments are the same.
+    Expiry,
+    /// The canonical bytes; both moments are the same.
+    Bytes,
+}
