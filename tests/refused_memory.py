@@ -135,7 +135,7 @@ UNSENT = re.compile(r"unsent (\d+) 0")
 TAKEN = re.compile(r"Memory \{ taken: (\d+) \}")
 STOPPED = re.compile(r"stops at \d+: $")
 MOMENT = re.compile(r"^(holds \d+ \d+) at \S+$", re.MULTILINE)
-TRIES = re.compile(r"([a-z ]+) (\d+)(?: to (\d+))?: (.*)")
+TRIES = re.compile(r"(write) (\d+)(?: to (\d+))?: (.*)")
 
 
 # What a request is answered whose step was made before memory ran out: it isn't made again.
