@@ -32,7 +32,7 @@ from tally import count, finish
 TOP = os.path.dirname(os.path.dirname(os.path.abspath(__file__)))
 PARTS = ["src", "specs", "proofs"]
 FUNCTION = re.compile(r"^( *)(?:pub(?:\([a-z]+\))? )?(?:final )?(?:const )?fn (\w+)")
-IMPL = re.compile(r"^ *impl\b(?:<.*?>(?= ))? (?:(\w+)(?:<.*>)? for )?&?(?:'\w+ )?(\w+)")
+IMPL = re.compile(r"^ *impl\b(?:<.*?>(?= ))? (?:(?:\w+::)*(\w+)(?:<([\w:]*).*>)? for )?&?(?:'\w+ )?(\w+)")
 TRAIT = re.compile(r"^ *(?:pub )?trait (\w+)")
 PLACE = re.compile(r"^(?:note: )?(?:\./)?((?:src|specs|proofs)/\S+?):(\d+):\d+: (.*)")
 GOAL = re.compile(r"\(`([^`]+)`\)")
@@ -88,23 +88,42 @@ def function_at(lines, number):
     return None, number
 
 
-def path_of(crate, file, lines, name, begin):
-    """The path by which the prover names a function, as am_merge::held::Held::take."""
-    words = [crate, *file[len("src/") : -len(".rt")].split("/")]
-    if words[-1] in ("lib", "main"):
-        words.pop()
+def module_of(file):
+    """The words of a module's path, by the file that it stands in."""
+    words = file[len("src/") : -len(".rt")].split("/")
+    return words[:-1] if words[-1] in ("lib", "main") else words
+
+
+def trait_of(name, given):
+    """What the prover puts behind a type's name for an impl of a trait: FromIoError of From<io::Error>, and nothing for Drop."""
+    if name in (None, "Drop"):
+        return ""
+    return name + "".join(it[:1].upper() + it[1:] for it in (given or "").split("::"))
+
+
+def home_of(texts, file, name):
+    """The file that declares a type; where none does, the one that speaks of it."""
+    declared = re.compile(rf"^(?:pub(?:\([a-z]+\))? )?(?:struct|enum) {name}\b", re.M)
+    return next((it for it in [file, *sorted(texts)] if declared.search(texts[it])), file)
+
+
+def path_of(crate, file, texts, name, begin):
+    """The path by which the prover names a function, as am_merge::held::Held::take: a method by the module of its type."""
+    lines, words = texts[file].split("\n"), []
     indent = len(FUNCTION.match(lines[begin])[1])
     for at in range(begin, -1, -1) if indent else ():
         line = lines[at]
         if len(line) - len(line.lstrip(" ")) < indent:
             match, trait = IMPL.match(line), TRAIT.match(line)
             if match:
-                words.append(match[2] + (match[1] or ""))
+                words = [match[3] + trait_of(match[1], match[2])]
+                # (an impl of a trait stands where it is written)
+                file = file if match[1] else home_of(texts, file, match[3])
                 break
             if trait:
-                words.append(trait[1])
+                words = [trait[1]]
                 break
-    return "::".join([*words, name])
+    return "::".join([crate, *module_of(file), *words, name])
 
 
 def sources(crate):
@@ -236,7 +255,7 @@ def judge(edit, said, texts, after):
         open_paths = [OPEN.match(it)[1] for it in said if OPEN.match(it) and "no" in OPEN.match(it)[2].split()]
     for file, name, begin in functions:
         lines = after[file].split("\n")
-        path = path_of(edit.crate, file, lines, name, begin)
+        path = path_of(edit.crate, file, after, name, begin)
         verdict = Verdict(said, path, file, (begin, end_of(lines, begin)))
         if verdict.is_told and not verdict.is_proved:
             open_paths.append(path)
