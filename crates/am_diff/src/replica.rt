@@ -26,18 +26,21 @@ impl<'a, V: Version> Model for Replica<'a, V> {
 }
 
 impl<'a, V: Version> Replica<'a, V> {
+    /// The source of this name that holds this map.
     pub fn new(name: &'a str, held: Held<V>) -> Self
         ensures { result ≡ record { name = name.now; held = held } }
     {
         Replica { name, held }
     }
 
+    /// Its name.
     pub fn name(&self) -> &'a str
         ensures { result.now ≡ self.now.name }
     {
         self.name
     }
 
+    /// The map that it holds.
     pub fn held(&self) -> &Held<V>
         ensures { result.now ≡ self.now.held }
     {

@@ -52,6 +52,7 @@ impl<'a, V: Version> Side<'a, V> {
         }
     }
 
+    /// The source's name.
     pub fn name(&self) -> &'a str
         ensures { result.now ≡ self.now.name }
     {
