@@ -4,10 +4,10 @@
     tests/cases.py [FILE ..]
     tests/cases.py --program PATH [FILE ..]
 
-FILE is a cases/SUBJECT.txt or a cases/replay/NAME.schedule; all of them if none is given. Those of texts go to the programs
-that PROGRAMS names, which rt ci builds, and schedules to am_tool. With --program all go to PATH, another implementation:
-texts to its standard input, and schedules to that of `PATH replay`. Prints each difference with its file and line, and at the
-end how many cases passed.
+FILE is a cases/SUBJECT.txt, a cases/replay/NAME.schedule or a cases/diff/NAME.txt; all of them if none is given. Those of
+texts go to the programs that PROGRAMS names, which rt ci builds, and schedules and command lines to am_tool. With --program all
+go to PATH, another implementation: texts to its standard input, schedules to that of `PATH replay`, and command lines as they
+are. Prints each difference with its file and line, and at the end how many cases passed.
 """
 
 import argparse
@@ -16,8 +16,10 @@ import os
 import re
 import subprocess
 import sys
+import tempfile
 
 from tally import compare, count, finish, give_up
+from versions import row, unescaped
 
 TOP = os.path.dirname(os.path.dirname(os.path.abspath(__file__)))
 
@@ -52,12 +54,18 @@ PROGRAMS = {
     "wire": CASES,
 }
 
+# The files of all cases.
+ALL = ["*.txt", "replay/*.schedule", "diff/*.txt"]
+
 # Files whose cases take inputs of many MiB.
 LARGE = {"instance_large", "rows_large"}
 
 # The file that a program is run on by rt ci, as both compilers build it: its cases stand in the crate's stdin, and what is
 # wanted of them in its stdout.
 STREAMS = {"am_cases": "decisions", "am_member_cases": "carried"}
+
+# What a command line ends with whose output goes to a disk that is full.
+TO_FULL = " > /dev/full"
 
 # How long a program may take for a file, in seconds.
 PATIENCE = 600
@@ -68,10 +76,13 @@ WIDTH = 300
 
 
 class Case:
-    """A line that is given to the program, and the lines that it is to answer, each with its number in the file."""
+    """A line that is given to the program, and the lines that it is to answer, each with its number in the file.
 
-    def __init__(self, line, words):
-        self.line, self.words, self.wanted = line, words, []
+    A command line has files too, by their names, whose bytes it finds.
+    """
+
+    def __init__(self, line, words, files):
+        self.line, self.words, self.files, self.wanted = line, words, files, []
 
 
 class BadFile(Exception):
@@ -106,9 +117,19 @@ def filled(text, fixtures, where):
     return re.sub(r"\$([A-Za-z0-9_]+)", value, text)
 
 
+def file_of(text, where):
+    """The name and the bytes of a file from words such as `sil NAME: VERSIONS`."""
+    head, _, versions = text.partition(":")
+    try:
+        kind, name = head.split(" ")
+        return {name: row(kind, versions.strip(" "))}
+    except (ValueError, KeyError, IndexError, StopIteration) as error:
+        raise BadFile(f"{where}: no file of versions: {error!r}") from error
+
+
 def read_cases(path):
     """The cases of a file."""
-    cases, fixtures, case = [], {}, None
+    cases, fixtures, files, case = [], {}, {}, None
     for number, line in enumerate(lines_of(path), 1):
         where = f"{short(path)}:{number}"
         if line == "" or line.startswith("#"):
@@ -119,8 +140,11 @@ def read_cases(path):
                 raise BadFile(f"{where}: no `let NAME = TEXT` of a new name")
             fixtures[name] = filled(text, fixtures, where)
             case = None
+        elif line.startswith("< "):
+            files = {**files, **file_of(filled(line[len("< ") :], fixtures, where), where)}
+            case = None
         elif line == ">" or line.startswith("> "):
-            case = Case(number, filled(line[len("> ") :], fixtures, where))
+            case = Case(number, filled(line[len("> ") :], fixtures, where), files)
             cases.append(case)
         elif case is None:
             raise BadFile(f"{where}: an answer without a case")
@@ -162,6 +186,40 @@ def told(line):
     return "no line" if line is None else line[:WIDTH]
 
 
+def shown_lines(data, before=""):
+    """What was printed, line by line behind a text."""
+    *lines, last = data.decode("utf-8", "backslashreplace").split("\n")
+    return [before + line for line in lines] + ([f"{before}{last} (without an end)"] if last else [])
+
+
+def shortened(found, case):
+    """The lines found, where those on standard error are cut to the beginning that is wanted before ` ..`."""
+    for start in [line[: -len(" ..")] for _, line in case.wanted if line.startswith("! ") and line.endswith(" ..")]:
+        at = next((at for at, line in enumerate(found) if line.startswith(start)), None)
+        if at is not None:
+            return [*found[:at], f"{start} ..", found[-1]]
+    return found
+
+
+def carried_out(program, case):
+    """What comes of a command line in a folder that has its files: its output, behind `! ` its errors, and its status."""
+    words = [unescaped(word) for word in case.words.partition(TO_FULL)[0].split(" ")]
+    with tempfile.TemporaryDirectory() as folder, open("/dev/full", "wb") as full:
+        for name, data in case.files.items():
+            if name != "-":
+                os.makedirs(os.path.dirname(f"{folder}/{name}"), exist_ok=True)
+                with open(f"{folder}/{name}", "wb") as file:
+                    file.write(data)
+        streams = {"stdout": full if case.words.endswith(TO_FULL) else subprocess.PIPE, "stderr": subprocess.PIPE}
+        given = case.files.get("-", b"")
+        try:
+            ran = subprocess.run([program, *words], input=given, cwd=folder, check=False, timeout=PATIENCE, **streams)
+        except (OSError, subprocess.TimeoutExpired) as error:
+            return [f"> {case.words}", f"no end: {error}"]
+    found = [f"> {case.words}", *shown_lines(ran.stdout or b""), *shown_lines(ran.stderr, "! "), f"status {ran.returncode}"]
+    return shortened(found, case)
+
+
 def try_texts(path, program):
     """Gives the cases of a file to a program, and counts each."""
     try:
@@ -170,7 +228,10 @@ def try_texts(path, program):
         print(error, flush=True)
         count(False)
         return
-    found, status = answers(program, cases)
+    if is_of_words(path):
+        found, status = [carried_out(program, case) for case in cases], 0
+    else:
+        found, status = answers(program, cases)
     shown = 0
     for at, case in enumerate(cases):
         difference = first_difference(case, found[at] if at < len(found) else [])
@@ -230,9 +291,14 @@ def subject(path):
     return os.path.splitext(os.path.basename(path))[0]
 
 
+def is_of_words(path):
+    """Whether the cases of a file are command lines."""
+    return os.path.basename(os.path.dirname(path)) == "diff"
+
+
 def program_of(path):
     """The program of this repository that a file is for, or None where none is."""
-    return TOOL if path.endswith(".schedule") else PROGRAMS.get(subject(path))
+    return TOOL if path.endswith(".schedule") or is_of_words(path) else PROGRAMS.get(subject(path))
 
 
 def try_file(path, program):
@@ -269,7 +335,7 @@ def main():
     words.add_argument("files", metavar="FILE", nargs="*", type=os.path.abspath)
     given = words.parse_args()
     if not given.files:
-        given.files = sorted(glob.glob(f"{TOP}/cases/*.txt")) + sorted(glob.glob(f"{TOP}/cases/replay/*.schedule"))
+        given.files = [path for kind in ALL for path in sorted(glob.glob(f"{TOP}/cases/{kind}"))]
         check_all_are_there()
         check_streams()
     tried = [(path, given.program or program_of(path)) for path in given.files]

@@ -23,8 +23,9 @@ def field(number, payload):
     return varint(number * 8 + 2) + delimited(payload)
 
 
-def timestamp(seconds):
-    return bytes([8]) + varint(seconds) if seconds else b""
+def timestamp(seconds, nanos=0):
+    """The message of a moment: before 1970 its seconds are in two's complement, and the nanoseconds go up from there."""
+    return (bytes([8]) + varint(seconds % (1 << 64)) if seconds else b"") + (bytes([16]) + varint(nanos) if nanos else b"")
 
 
 def greeting(name):
