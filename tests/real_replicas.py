@@ -86,9 +86,8 @@ class Replica:
         posted = {name: it for name, it in self.listed()[key].items() if name not in ("status", "updatedAt")}
         compare(f"{self.name} changes it", self.ask("POST", "silences", {**posted, "comment": comment}), {"silenceID": key})
 
-    def stop(self):
-        """Ends it, which writes its files."""
-        self.process.terminate()
+    def end(self):
+        """Its status, once it has ended, as it is asked to."""
         try:
             return self.process.wait(PATIENCE)
         except subprocess.TimeoutExpired:
@@ -112,19 +111,22 @@ class Hook(http.server.BaseHTTPRequestHandler):
 
 def start(*clusters):
     """Starts replicas, each beside the others of its cluster, and waits until all have settled."""
+    ports = free_ports(2 * sum(map(len, clusters)))
     for replicas in clusters:
-        ports = free_ports(2 * len(replicas))
-        for place, replica in enumerate(replicas):
-            own = ports[place]
-            replica.start(ports[len(replicas) + place], own, [it for it in ports[: len(replicas)] if it != own])
+        own = {replica: ports.pop() for replica in replicas}
+        for replica in replicas:
+            replica.start(ports.pop(), own[replica], [own[it] for it in replicas if it is not replica])
     for replicas in clusters:
         for replica in replicas:
             check(f"{replica.name} is ready", eventually(lambda: replica.is_ready(len(replicas))), replica.folder)
 
 
 def stop(replicas):
+    """Ends replicas, which writes their files."""
     for replica in replicas:
-        compare(f"{replica.name} ends", replica.stop(), 0)
+        replica.process.terminate()
+    for replica in replicas:
+        compare(f"{replica.name} ends", replica.end(), 0)
 
 
 def same(replicas, keys):
@@ -308,7 +310,8 @@ def main():
         finally:
             for replica in three:
                 if replica.process is not None:
-                    replica.stop()
+                    replica.process.kill()
+                    replica.process.wait()
     finish(TITLE)
 
 
