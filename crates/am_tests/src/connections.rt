@@ -1,6 +1,6 @@
 //! Connections over sockets of this process: the system keeps what was written to one until the other end reads it.
 
-use crate::members::{at, instance};
+use crate::members::{PEER, at, instance};
 use am_connection::Fault;
 use am_gossip::Frame;
 use am_instance::Instance;
@@ -17,6 +17,10 @@ const LIST: &[u8] = b"GET /api/v2/silences HTTP/1.1\r\n\r\n";
 /// The reply that lists no silence.
 const NONE_LISTED: &[u8] =
     b"HTTP/1.1 200 OK\r\ncontent-type: application/json\r\ncontent-length: 2\r\nconnection: close\r\n\r\n[]";
+
+/// The reply that lists the silence of the peer `b`.
+const ONE_LISTED: &[u8] =
+    b"HTTP/1.1 200 OK\r\ncontent-type: application/json\r\ncontent-length: 252\r\nconnection: close\r\n\r\n[{\"comment\":\"\",\"createdBy\":\"\",\"endsAt\":\"1970-01-01T00:01:40.000Z\",\"id\":\"a\",\"matchers\":[{\"isEqual\":true,\"isRegex\":false,\"name\":\"job\",\"value\":\"x\"}],\"startsAt\":\"1970-01-01T00:00:10.000Z\",\"status\":{\"state\":\"active\"},\"updatedAt\":\"1970-01-01T00:00:10.000Z\"}]";
 
 /// How many frames are to be sent, whether a Tick was made, and why the connection ended.
 type Told = (usize, bool, Option<Fault>);
@@ -51,17 +55,24 @@ fn turned(
     Ok((ended.frames.len(), ended.ticked, ended.fault))
 }
 
-// What it tells of a client that waits for its reply before it closes, and whether that is the list.
+// Whether a stream gives these bytes, and then ends.
+fn gives(rt: &HostRuntime, stream: &mut TcpStream, wanted: &[u8]) -> io::Result<bool> {
+    let mut reply = Vec::new(rt.alloc());
+    stream.read_to_end(&mut reply)?;
+    Ok(reply.as_slice() == wanted)
+}
+
+// What it tells of a client that reads its reply to the end before it closes, and whether that is the list.
 fn replied(
     rt: &HostRuntime,
     instance: &mut Instance,
     listener: &TcpListener,
+    wanted: &[u8],
 ) -> io::Result<(Told, bool)> {
     let mut stream = client(rt, listener, LIST)?;
     let told = turned(rt, listener, instance, PATIENCE)?;
-    let mut reply = [0u8; 4_096];
-    let read = stream.read(&mut reply)?;
-    Ok((told, &reply[..read] == NONE_LISTED))
+    let is_list = gives(rt, &mut stream, wanted)?;
+    Ok((told, is_list))
 }
 
 // What is told of a peer that sends a Tick, of a client, and of one that sends nothing and waits.
@@ -69,7 +80,7 @@ fn three(rt: &HostRuntime, instance: &mut Instance) -> io::Result<([Told; 3], bo
     let listener = listener(rt)?;
     let sent = send_tick(rt, listener.local_addr()?.port(), "b");
     let peer = turned(rt, &listener, instance, PATIENCE)?;
-    let (person, is_listed) = replied(rt, instance, &listener)?;
+    let (person, is_listed) = replied(rt, instance, &listener, NONE_LISTED)?;
     let _silent = client(rt, &listener, &[])?;
     let silent = turned(rt, &listener, instance, 50)?;
     Ok(([peer, person, silent], sent == Ok(5) && is_listed))
@@ -87,6 +98,25 @@ fn turns_take_a_peer_a_client_and_a_silent_one(rt: HostRuntime) {
         (0, false, Some(Fault::Read { at: 0 })),
     ];
     assert!(rt; found == Some((wanted, true)), "three");
+}
+
+// What is told of a peer that sends a silence and closes, and of a client behind it; and whether that gets the list of it.
+fn two(rt: &HostRuntime, instance: &mut Instance) -> io::Result<([Told; 2], bool)> {
+    let listener = listener(rt)?;
+    client(rt, &listener, PEER)?;
+    let peer = turned(rt, &listener, instance, PATIENCE)?;
+    let (person, is_listed) = replied(rt, instance, &listener, ONE_LISTED)?;
+    Ok(([peer, person], is_listed))
+}
+
+#[test]
+fn what_a_peer_sends_is_listed(rt: HostRuntime) {
+    let found = match instance(rt.alloc()) {
+        Some(mut instance) => two(&rt, &mut instance).ok(),
+        None => None,
+    };
+    let wanted = [(1, false, None), (0, false, None)];
+    assert!(rt; found == Some((wanted, true)), "two");
 }
 
 // What comes of sending to a port at which nobody listens.

@@ -10,20 +10,33 @@ use std::io;
 use std::rt::Clock;
 use std::time::Duration;
 
+/// What the peer `b` writes: its greeting, and a Delta of the silence `a`, which wants job `x` from 10 s to 100 s, was updated
+/// at 10 s and expires at 200 s.
+pub const PEER: &[u8] = &[
+    0x00, 0x01, 0x62, 0x01, 0x28, 0x0A, 0x03, 0x73, 0x69, 0x6C, 0x12, 0x21, 0x20, 0x0A, 0x19, 0x0A,
+    0x01, 0x61, 0x12, 0x08, 0x12, 0x03, 0x6A, 0x6F, 0x62, 0x1A, 0x01, 0x78, 0x1A, 0x02, 0x08, 0x0A,
+    0x22, 0x02, 0x08, 0x64, 0x2A, 0x02, 0x08, 0x0A, 0x12, 0x03, 0x08, 0xC8, 0x01,
+];
+
 /// The moment of so many seconds since 1970.
 pub fn at(seconds: i64) -> Moment {
     Moment::from_parts(seconds, 0).unwrap_or(Moment::LEAST)
 }
 
-/// The member `a` of `a`, `b` and `c`, which holds nothing, at 10 s; `None` without memory.
-pub fn instance(alloc: Global) -> Option<Instance> {
+/// The configuration of the member `a` of `a`, `b` and `c`; `None` without memory.
+pub fn config(alloc: Global) -> Option<Config> {
     let mut peers = Vec::new(alloc);
     peers.push(Text::copied(alloc, "c").ok()?).ok()?;
     peers.push(Text::copied(alloc, "b").ok()?).ok()?;
     let name = Text::copied(alloc, "a").ok()?;
     let retention = Interval::from_nanos(100_000_000_000).unwrap();
     let peer_timeout = Interval::from_nanos(15_000_000_000).unwrap();
-    let config = Config::new(alloc, name, peers, retention, peer_timeout).ok()?;
+    Config::new(alloc, name, peers, retention, peer_timeout).ok()
+}
+
+/// That member, which holds nothing, at 10 s; `None` without memory.
+pub fn instance(alloc: Global) -> Option<Instance> {
+    let config = config(alloc)?;
     Some(Instance::start(config, Held::new(alloc), Held::new(alloc), at(10)))
 }
 

@@ -1,5 +1,7 @@
 //! What has at most 67,108,864 bytes, with as many, and with one more.
 
+use crate::members::config;
+use am_instance::{Event, Instance, Reply, Request};
 use am_merge::Held;
 use am_nflog::{Bytes, Entry, Hashes, LogKey, MeshEntry};
 use am_silence::{
@@ -216,6 +218,33 @@ fn length_ended(alloc: Global, len: usize, now: Moment) -> Length {
     let prev = held(alloc, len)?;
     let ended = plan_expire(alloc, Some(&prev), now, retention())?;
     Ok(ended.canonical().len())
+}
+
+/// Whether a silence is refused as too large; how many frames are to be sent, and how many are over their limit.
+type Answered = (bool, usize, usize);
+
+// What a member answers that is to end the silence 1 ns after 20 s.
+fn answered(alloc: Global, member: &mut Instance) -> Option<Answered> {
+    let id = Text::copied(alloc, "a").ok()?;
+    let event = Event::Request(Request::Delete { id });
+    let outcome = member.step(event, at(20, 1)).ok()?;
+    let is_refused = matches!(&outcome.reply, Reply::Refused(SilenceError::TooLarge));
+    Some((is_refused, outcome.frames.len(), outcome.unsent.limit))
+}
+
+// The same of a member that holds that version alone.
+fn answered_by(alloc: Global, len: usize) -> Option<Answered> {
+    let map = map(alloc, len).ok()?;
+    let mut member = Instance::start(config(alloc)?, map, Held::new(alloc), at(10, 0));
+    answered(alloc, &mut member)
+}
+
+// A version of the most bytes is made, and is too large for a Delta to either peer; with a byte more none is made.
+#[test]
+fn a_member_makes_no_version_of_a_byte_more(rt: HostRuntime) {
+    for (len, wanted) in [(MOST - 45, (false, 0, 2)), (MOST - 44, (true, 0, 0))] {
+        assert!(rt; answered_by(rt.alloc(), len) == Some(wanted), "{len}");
+    }
 }
 
 // The entry of a group key of so many `g`, and the receiver `r`, `w`, 0: at 10 s, with 1 and 2 firing.
