@@ -8,6 +8,7 @@ use am_instance::ConfigError;
 use am_member::{FileFault, SendFault};
 use am_replay::ReplayError;
 use am_snapshot::{FoldError, SnapshotError};
+use am_view::Word;
 use std::fmt;
 use std::io::ErrorKind;
 
@@ -112,13 +113,38 @@ impl From<ConfigError> for Fault {
 
 impl From<FoldError> for Fault {
     fn from(error: FoldError) -> Fault {
-        Fault::Snapshot(match error {
-            FoldError::Read { at } => SnapshotError::Read { at },
-            FoldError::Write { written } => SnapshotError::Write { written },
-            FoldError::Wire(error) => SnapshotError::Wire(error),
-            FoldError::TooLarge => SnapshotError::TooLarge,
-            FoldError::Memory => SnapshotError::Memory,
-        })
+        Fault::Snapshot(snapshot_error(error))
+    }
+}
+
+/// The same fault, as one of a snapshot.
+pub fn snapshot_error(error: FoldError) -> SnapshotError {
+    match error {
+        FoldError::Read { at } => SnapshotError::Read { at },
+        FoldError::Write { written } => SnapshotError::Write { written },
+        FoldError::Wire(error) => SnapshotError::Wire(error),
+        FoldError::TooLarge => SnapshotError::TooLarge,
+        FoldError::Memory => SnapshotError::Memory,
+    }
+}
+
+/// A fault of a source, which is told by its name.
+#[derive(Clone, Copy)]
+pub struct SourceFault<'a> {
+    pub name: &'a str,
+    pub fault: FileFault,
+}
+
+/// Prints a fault of a source on standard error, and answers the exit status of the program.
+pub fn report_source<R: Eprint>(rt: &R, fault: &SourceFault<'_>) -> u8 {
+    let _ = eprintln!(rt; "am_tool: {fault}");
+    status_of_file(fault.fault)
+}
+
+impl fmt::Display for SourceFault<'_> {
+    fn fmt<W: fmt::Write>(&self, f: &mut fmt::Formatter<W>) -> fmt::Result {
+        write!(f, "{} ", Word(self.name.as_bytes()))?;
+        lines::write_file_fault(self.fault, f)
     }
 }
 

@@ -1,4 +1,5 @@
-//! The program: plays a schedule, folds a row of versions to the ones that count, shows a snapshot, runs a member.
+//! The program: plays a schedule, folds a row of versions to the ones that count, shows a snapshot, tells how replicas
+//! differ, runs a member.
 #![tactic(auto)]
 
 ghost use Rattle.std.specs.Prelude.{ℕ, List, IfSome, OnOk};
@@ -6,6 +7,7 @@ ghost use Rattle.std.specs.Io.KnownBytes.{Appends};
 ghost use Rattle.am_replay.specs.Replays.{IsReplay};
 ghost use Rattle.am_snapshot.specs.Folds.{IsFold};
 
+mod diff;
 mod fault;
 mod member;
 mod progress;
@@ -27,15 +29,24 @@ use std::mem;
 use std::process::ExitCode;
 use words::{Job, RowJob, StateName, Task};
 
-/// Does what the words ask for.
-fn run<'a>(rt: &'a HostRuntime, job: Job<'a>) -> Result<(), Fault> {
+/// Does what the words ask for, and answers the exit status of the program.
+fn run<'a>(rt: &'a HostRuntime, job: Job<'a>) -> u8 {
     match job {
-        Job::Replay => replay(rt),
+        Job::Replay => status_of(rt, replay(rt)),
         Job::Rows(job) => match run_rows(rt, job) {
-            Ok(_) => Ok(()),
-            Err(fault) => Err(fault),
+            Ok(_) => status::DONE,
+            Err(fault) => fault::report(rt, fault),
         },
-        Job::Instance(options) => member::run(rt, &options),
+        Job::Diff(job) => diff::run(rt, &job),
+        Job::Instance(options) => status_of(rt, member::run(rt, &options)),
+    }
+}
+
+/// The exit status where a job is done, or has a fault, which is printed.
+fn status_of(rt: &HostRuntime, done: Result<(), Fault>) -> u8 {
+    match done {
+        Ok(()) => status::DONE,
+        Err(fault) => fault::report(rt, fault),
     }
 }
 
@@ -114,10 +125,7 @@ fn main(rt: HostRuntime) -> ExitCode {
 /// Does what the words ask for, or says why there is nothing to be done, and answers the exit status of the program.
 fn start<'a>(rt: &'a HostRuntime, words: &'a [String]) -> u8 {
     match words::job_of(rt.alloc(), words) {
-        Ok(job) => match run(rt, job) {
-            Ok(()) => status::DONE,
-            Err(fault) => fault::report(rt, fault),
-        },
+        Ok(job) => run(rt, job),
         Err(error) => words::report(rt, &error),
     }
 }

@@ -14,3 +14,6 @@ pub const OUTSIDE: u8 = 3;
 
 /// Memory ran out.
 pub const MEMORY: u8 = 4;
+
+/// Sources are different.
+pub const DIFFERENT: u8 = 5;

@@ -2,6 +2,7 @@
 
 ghost use Rattle.std.specs.Prelude.{◌≡◌, ◌≢◌};
 
+mod diff;
 mod instance;
 
 use crate::fault::{self, Fault};
@@ -11,6 +12,7 @@ use am_snapshot::SnapshotError;
 use am_version_order::Moment;
 use clap::error::ErrorKind;
 use clap::{Arg, ArgAction, ArgMatches, Command};
+pub use diff::{DiffJob, STANDARD_INPUT, SourceWord};
 pub use instance::Options;
 use std::alloc::{AllocError, Global};
 use std::rt::Env;
@@ -23,6 +25,8 @@ pub enum Job<'a> {
     Replay,
     /// Something is to be done with the row that stands on standard input.
     Rows(RowJob),
+    /// Sources are to be compared.
+    Diff(DiffJob<'a>),
     /// A member is to be run.
     Instance(Options<'a>),
 }
@@ -156,6 +160,7 @@ fn command<'a>(alloc: Global) -> Result<Command<'a>, AllocError> {
         .subcommand(replay_command(alloc))?
         .subcommand(fold_command(alloc)?)?
         .subcommand(show_command(alloc)?)?
+        .subcommand(diff::command(alloc)?)?
         .subcommand(instance::command(alloc)?)
 }
 
@@ -212,6 +217,9 @@ fn read_job<'a>(
     if matches.subcommand_matches(REPLAY).is_some() {
         return Ok(Job::Replay);
     }
+    if let Some(flags) = matches.subcommand_matches(diff::NAME) {
+        return Ok(Job::Diff(diff::read_job(alloc, command, flags)?));
+    }
     if let Some(flags) = matches.subcommand_matches(instance::NAME) {
         return Ok(Job::Instance(instance::read_options(alloc, command, flags)?));
     }
@@ -219,18 +227,27 @@ fn read_job<'a>(
         Some(flags) => (Task::Show, Some(flags)),
         None => (Task::Fold, matches.subcommand_matches(FOLD)),
     };
-    let state = match flags.and_then(|flags| flags.get_str("state")) {
+    let state = flags.map_or(StateName::Silences, state_of);
+    let now = flags.and_then(|flags| flags.get_str("now"));
+    match now.and_then(moment_of) {
+        Some(now) => Ok(Job::Rows(RowJob { task, state, now })),
+        None => Err(mistake(command, BAD_NOW)),
+    }
+}
+
+/// The state that an option names.
+fn state_of(flags: &ArgMatches<'_>) -> StateName {
+    match flags.get_str("state") {
         Some("nfl") => StateName::Log,
         _ => StateName::Silences,
-    };
-    let now = flags.and_then(|flags| flags.get_str("now"));
-    match now.and_then(|now| number_within(0, u64::MAX, now)) {
-        Some(nanos) => Ok(Job::Rows(RowJob {
-            task,
-            state,
-            now: since_1970(nanos),
-        })),
-        None => Err(mistake(command, BAD_NOW)),
+    }
+}
+
+/// The moment of so many nanoseconds since 1970.
+fn moment_of(word: &str) -> Option<Moment> {
+    match number_within(0, u64::MAX, word) {
+        Some(nanos) => Some(since_1970(nanos)),
+        None => None,
     }
 }
 

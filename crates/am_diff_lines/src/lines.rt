@@ -1,0 +1,89 @@
+//! The lines of a difference.
+
+ghost use Rattle.std.specs.Prelude.{◌≡◌, ◌++◌, true, None, map, OnOk, string_bytes};
+ghost use Rattle.std.specs.Option.{option_copied};
+ghost use Rattle.am_version_order.specs.Versions.{is_below};
+ghost use Rattle.am_diff.specs.Sources.{holding_of};
+ghost use Rattle.am_diff_lines.specs.Told.{behind_line, greatest_line, missing_line, part_word};
+
+use crate::names::{append_names, is_held};
+use crate::told::Told;
+use am_diff::{Part, Side, is_behind_by};
+use am_version_order::Moment;
+use std::alloc::AllocError;
+
+/// The name of a part of the order.
+fn part_name(part: Part) -> &'static str
+    ensures { result.now ≡ part_word part }
+{
+    match part {
+        Part::Update => "update",
+        Part::Expiry => "expiry",
+        Part::Bytes => "bytes",
+    }
+}
+
+/// Appends the line of the sources that have the greatest version.
+pub fn append_greatest<V: Told>(
+    out: &mut String,
+    sides: &[Side<'_, V>],
+    greatest: &V,
+    now: Moment,
+) -> Result<(), AllocError>
+    ensures { OnOk result (string_bytes out.new ≡ string_bytes out.old
+        ++ greatest_line V.seen V.begins (V.told now) (V.seen greatest.now).key (map holding_of sides.now) greatest.now) }
+{
+    V::append_key(out, greatest.key())?;
+    write!(out, " greatest ")?;
+    append_names(out, sides, Some(greatest))?;
+    write!(out, " ")?;
+    greatest.append_told(out, now)?;
+    writeln!(out)
+}
+
+/// Appends the line of the sources that have a version that is less.
+pub fn append_behind<V: Told>(
+    out: &mut String,
+    sides: &[Side<'_, V>],
+    version: &V,
+    greatest: &V,
+    now: Moment,
+) -> Result<(), AllocError>
+    requires { is_below (V.seen version.now) (V.seen greatest.now) ≡ true }
+    ensures { OnOk result (string_bytes out.new ≡ string_bytes out.old
+        ++ behind_line V.seen V.begins (V.told now) (V.seen greatest.now).key (map holding_of sides.now) greatest.now version.now) }
+{
+    V::append_key(out, greatest.key())?;
+    write!(out, " behind ")?;
+    append_names(out, sides, Some(version))?;
+    write!(out, " ")?;
+    version.append_told(out, now)?;
+    let part = part_name(is_behind_by(version, greatest));
+    writeln!(out, " by {part}")
+}
+
+/// No version, of those that the sources may hold.
+fn nothing<'a, V: Told>(_sides: &[Side<'a, V>]) -> Option<&'a V>
+    ensures { option_copied result ≡ None }
+{
+    None
+}
+
+/// Appends the line of the sources that hold nothing, where there are some.
+pub fn append_missing<V: Told>(
+    out: &mut String,
+    sides: &[Side<'_, V>],
+    key: &V::Key,
+) -> Result<(), AllocError>
+    ensures { OnOk result (string_bytes out.new ≡ string_bytes out.old
+        ++ missing_line V.seen V.begins key.now (map holding_of sides.now)) }
+{
+    let nothing = nothing(sides);
+    if !is_held(sides, nothing) {
+        return Ok(());
+    }
+    V::append_key(out, key)?;
+    write!(out, " missing ")?;
+    append_names(out, sides, nothing)?;
+    writeln!(out)
+}

@@ -1,0 +1,177 @@
+//! The words of `diff`.
+
+use super::{BAD_NOW, StateName, WordsError, mistake, moment_of, now_flag, state_flag, state_of};
+use am_diff::Compared;
+use am_version_order::Moment;
+use clap::{Arg, ArgAction, ArgMatches, Command};
+use std::alloc::{AllocError, Global};
+
+/// The name of the command.
+pub const NAME: &str = "diff";
+
+/// The file that is standard input.
+pub const STANDARD_INPUT: &str = "-";
+
+/// A source: its name, and its file.
+#[derive(Clone, Copy, Debug)]
+pub struct SourceWord<'a> {
+    pub name: &'a str,
+    pub file: &'a str,
+}
+
+/// Which sources are to be compared.
+#[derive(Drop)]
+pub struct DiffJob<'a> {
+    pub state: StateName,
+    pub compared: Compared,
+    /// The moment; without it, the clock's.
+    pub now: Option<Moment>,
+    pub sources: Vec<SourceWord<'a>>,
+}
+
+/// The command with its options.
+pub fn command<'a>(alloc: Global) -> Result<Command<'a>, AllocError> {
+    Command::new(alloc, NAME)
+        .about(ABOUT)
+        .after_help(AFTER)
+        .arg(state_flag(alloc, STATE_HELP))?
+        .arg(now_flag(alloc, NOW_HELP).required(false))?
+        .arg(held_flag(alloc))?
+        .arg(sources(alloc))
+}
+
+fn held_flag<'a>(alloc: Global) -> Arg<'a> {
+    Arg::new(alloc, "held")
+        .long("held")
+        .help(HELD_HELP)
+        .action(ArgAction::SetTrue)
+}
+
+fn sources<'a>(alloc: Global) -> Arg<'a> {
+    Arg::new(alloc, SOURCES)
+        .value_name("SOURCE")
+        .help(SOURCES_HELP)
+        .required(true)
+        .num_args(1..)
+        .action(ArgAction::Append)
+}
+
+/// The job that the words name. The moment is judged first, and then the sources.
+pub fn read_job<'a>(
+    alloc: Global,
+    command: &mut Command<'a>,
+    flags: &ArgMatches<'a>,
+) -> Result<DiffJob<'a>, WordsError> {
+    let now = match flags.get_str("now") {
+        Some(word) => match moment_of(word) {
+            Some(now) => Some(now),
+            None => return Err(mistake(command, BAD_NOW)),
+        },
+        None => None,
+    };
+    let words = flags.get_strs(SOURCES).unwrap_or(&[]);
+    let sources = source_words(alloc, words)?;
+    if let Some(text) = mistake_of(&sources) {
+        return Err(mistake(command, text));
+    }
+    Ok(DiffJob {
+        state: state_of(flags),
+        compared: compared_of(flags),
+        now,
+        sources,
+    })
+}
+
+fn compared_of(flags: &ArgMatches<'_>) -> Compared {
+    if flags.get_flag("held") {
+        Compared::Held
+    } else {
+        Compared::Shown
+    }
+}
+
+/// The sources that the words name.
+fn source_words<'a>(
+    alloc: Global,
+    words: &[&'a str],
+) -> Result<Vec<SourceWord<'a>>, AllocError> {
+    let mut sources = Vec::with_capacity(alloc, words.len())?;
+    for word in words {
+        sources.push(source_of(word))?;
+    }
+    Ok(sources)
+}
+
+/// A source as NAME=FILE, which is cut at the first `=`, or as FILE, which is then its own name.
+fn source_of(word: &str) -> SourceWord<'_> {
+    match word.split_once('=') {
+        Some((name, file)) => SourceWord { name, file },
+        None => SourceWord {
+            name: word,
+            file: word,
+        },
+    }
+}
+
+/// What is said of sources that can't be compared.
+fn mistake_of(sources: &[SourceWord<'_>]) -> Option<&'static str> {
+    if sources.len() < FEWEST_SOURCES || sources.len() > MOST_SOURCES {
+        return Some(BAD_NUMBER);
+    }
+    if has_name_twice(sources) {
+        return Some(SAME_NAME);
+    }
+    if sources.iter().filter(|source| source.file == STANDARD_INPUT).count() > 1 {
+        return Some(INPUT_TWICE);
+    }
+    None
+}
+
+/// Whether two sources have one name.
+fn has_name_twice(sources: &[SourceWord<'_>]) -> bool {
+    for (place, source) in sources.iter().enumerate() {
+        let name = source.name;
+        if sources[..place].iter().any(|other| other.name == name) {
+            return true;
+        }
+    }
+    false
+}
+
+/// The name of the sources among the options.
+const SOURCES: &str = "source";
+
+const FEWEST_SOURCES: usize = 2;
+
+const MOST_SOURCES: usize = 16;
+
+const ABOUT: &str =
+    "Reads what several replicas hold, and prints in key order at which keys they differ, and which of them counts";
+
+const STATE_HELP: &str = "The state that the sources are of: silences or the notification log";
+
+const NOW_HELP: &str =
+    "The moment of the views, in whole nanoseconds since 1970-01-01T00:00:00Z; without it, the clock's";
+
+const HELD_HELP: &str =
+    "Compares all that the sources hold, what has expired too, and not only what they show";
+
+const SOURCES_HELP: &str =
+    "NAME=FILE, cut at its first '=', or FILE, which is then its own name; '-' is standard input; 2 to 16 of them";
+
+const AFTER: &str = "\
+Of each key that differs there is a line for each group of sources that hold the same there: first those that have the
+greatest version, which counts, then those that are behind, and by what (update, expiry or bytes), and then those that
+hold nothing.
+
+The status is 0 where nothing is different, and 5 where something is.
+
+Examples:
+  am_tool diff --state sil a=a.sil b=b.sil c=c.sil
+  ssh b cat b.nfl | am_tool diff --state nfl --held a=a.nfl b=-";
+
+const BAD_NUMBER: &str = "invalid values for '<SOURCE>...': 2 to 16 sources are wanted";
+
+const SAME_NAME: &str = "invalid values for '<SOURCE>...': two sources have one name";
+
+const INPUT_TWICE: &str = "invalid values for '<SOURCE>...': '-' is named twice";
