@@ -51,5 +51,6 @@ pub fn append_difference<V: Told>(
     };
     append_greatest(out, sides, greatest, now)?;
     append_others(out, sides, greatest, now)?;
-    append_missing(out, sides, greatest.key())
+    append_missing(out, sides, greatest.key())?;
+    Ok(())
 }

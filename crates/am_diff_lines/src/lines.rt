@@ -3,6 +3,7 @@
 ghost use Rattle.std.specs.Prelude.{◌≡◌, ◌++◌, true, None, map, OnOk, string_bytes};
 ghost use Rattle.std.specs.Option.{option_copied};
 ghost use Rattle.am_version_order.specs.Versions.{is_below};
+ghost use Rattle.am_diff.specs.Groups.{part_between};
 ghost use Rattle.am_diff.specs.Sources.{holding_of};
 ghost use Rattle.am_diff_lines.specs.Told.{behind_line, greatest_line, missing_line, part_word};
 
@@ -11,6 +12,14 @@ use crate::told::Told;
 use am_diff::{Part, Side, is_behind_by};
 use am_version_order::Moment;
 use std::alloc::AllocError;
+
+/// By which part of the order a version is less than a greater one, by its name.
+fn less_by<V: Told>(version: &V, greatest: &V) -> &'static str
+    requires { is_below (V.seen version.now) (V.seen greatest.now) ≡ true }
+    ensures { result.now ≡ part_word (part_between (V.seen version.now) (V.seen greatest.now)) }
+{
+    part_name(is_behind_by(version, greatest))
+}
 
 /// The name of a part of the order.
 fn part_name(part: Part) -> &'static str
@@ -58,7 +67,7 @@ pub fn append_behind<V: Told>(
     append_names(out, sides, Some(version))?;
     write!(out, " ")?;
     version.append_told(out, now)?;
-    let part = part_name(is_behind_by(version, greatest));
+    let part = less_by(version, greatest);
     writeln!(out, " by {part}")
 }
 
