@@ -17,11 +17,15 @@ abbrev pub is_any : {D : Type 0} → List D → Bool
 is_any [] = false
 is_any (difference ∷ differences) = true
 
--- by which part a version is less
+-- a part of the order by its name
 abbrev pub part_word : Part → List ℕ
 part_word Update = codes "update"
 part_word Expiry = codes "expiry"
 part_word Bytes = codes "bytes"
+
+-- by which part a version is less than a greater one
+unfoldable pub less_word : {K : Type 0} → Version K → Version K → List ℕ
+less_word v greatest = part_word (part_between v greatest)
 
 -- names with commas between them, each as a word of a list
 abbrev pub names_word : List (List ℕ) → List ℕ
@@ -59,7 +63,7 @@ module _ {K X : Type 0} (seen : X → Version K) where
     abbrev pub behind_line : K → List (Holding X) → X → X → List ℕ
     behind_line key holdings greatest v =
         begins key ++ codes " behind " ++ names_word (holders (Some v) holdings) ++ codes " " ++ told v
-        ++ codes " by " ++ part_word (part_between (seen v) (seen greatest)) ++ codes "\n"
+        ++ codes " by " ++ less_word (seen v) (seen greatest) ++ codes "\n"
 
     -- the lines of these versions, which are all that are held
     abbrev pub version_lines : K → List (Holding X) → List X → List ℕ

@@ -3,9 +3,8 @@
 ghost use Rattle.std.specs.Prelude.{◌≡◌, ◌++◌, true, None, map, OnOk, string_bytes};
 ghost use Rattle.std.specs.Option.{option_copied};
 ghost use Rattle.am_version_order.specs.Versions.{is_below};
-ghost use Rattle.am_diff.specs.Groups.{part_between};
 ghost use Rattle.am_diff.specs.Sources.{holding_of};
-ghost use Rattle.am_diff_lines.specs.Told.{behind_line, greatest_line, missing_line, part_word};
+ghost use Rattle.am_diff_lines.specs.Told.{behind_line, greatest_line, less_word, missing_line, part_word};
 
 use crate::names::{append_names, is_held};
 use crate::told::Told;
@@ -14,9 +13,10 @@ use am_version_order::Moment;
 use std::alloc::AllocError;
 
 /// By which part of the order a version is less than a greater one, by its name.
+#[tactic(auto, unfolding(crate::specs::Told::less_word))]
 fn less_by<V: Told>(version: &V, greatest: &V) -> &'static str
     requires { is_below (V.seen version.now) (V.seen greatest.now) ≡ true }
-    ensures { result.now ≡ part_word (part_between (V.seen version.now) (V.seen greatest.now)) }
+    ensures { result.now ≡ less_word (V.seen version.now) (V.seen greatest.now) }
 {
     part_name(is_behind_by(version, greatest))
 }

@@ -1,3 +1,4 @@
+use Rattle.std.proofs.Common.{arith}
 use Rattle.am_diff_lines.specs.Reads.{IsRead, StopsAt}
 use Rattle.am_diff_lines.proofs.Reading.{none_read, read_more, stops_there, all_read}
 use Rattle.am_diff_lines.proofs.inputs.read_sources.Goals as goal
@@ -11,16 +12,16 @@ pub loop-input-preserved : goal.loop-input-preserved
 loop-input-preserved g c =
     rw c.in_ok-push-in-Ok.ensures
     (read_more (IsRead g.V.Version.seen g.V.Key.Ord.cmp g.V.Message.reads g.R.Read.remaining) c.args.inputs.now c.loop-input.inputs c.loop-input.input-index c.loop-input.replicas.items
-    c.input-item.result c.read_source.new.input c.loop-input-test.true c.input-item.is c.loop-input.invariant c.in-Ok.replica c.in-Ok.ensures.read)
+    c.input-item.result c.read_source.new.input (omega (arith, c.loop-input-test.true, c.loop-input.invariant.many)) c.input-item.is c.loop-input.invariant c.in-Ok.replica c.in-Ok.ensures.read)
 
 pub returns-in-Err-clause-stopped : goal.returns-in-Err-clause-stopped
 returns-in-Err-clause-stopped g c =
     stops_there (IsRead g.V.Version.seen g.V.Key.Ord.cmp g.V.Message.reads g.R.Read.remaining) c.args.inputs.now c.loop-input.inputs c.loop-input.input-index c.loop-input.replicas.items
-    c.input-item.result c.read_source.new.input c.loop-input-test.true c.input-item.is c.loop-input.invariant
+    c.input-item.result c.read_source.new.input (omega (arith, c.loop-input-test.true, c.loop-input.invariant.many)) c.input-item.is c.loop-input.invariant
     (λ old new. StopsAt g.V.Message.reads g.R.Read.remaining old new c.from.result) c.len.result c.len.ensures
     (record { row_fault = c.in-Err.fault; told = c.from.ensures; first = c.in-Err.ensures.fault })
 
 pub returns-clause-read : goal.returns-clause-read
 returns-clause-read g c =
     all_read (IsRead g.V.Version.seen g.V.Key.Ord.cmp g.V.Message.reads g.R.Read.remaining) c.args.inputs.now c.loop-input.inputs c.loop-input.input-index c.loop-input.replicas.items
-    c.loop-input-test.false c.loop-input.invariant
+    (omega (arith, c.loop-input-test.false, c.loop-input.invariant.many)) c.loop-input.invariant
