@@ -22,10 +22,10 @@ none_read R start = record { front = tt; rest = λ k d _. refl; many = refl; few
 
 module _ {A B : Type 0} (R : A → B → Type 0) (start now : List A) (i : ℕ) (sources : List B) (old new : A) (less : i < length now) (is : old ≡ get_or now i old)
     (before : AreReadTo R start now i sources) where
-  first_was : old ≡ get_or start i old
-  first_was = is ∙ before.rest i old (omega arith)
+  first_was : get_or now i old ≡ get_or start i old
+  first_was = before.rest i old (omega arith)
 
-  more_front : (y : B) → R old y → AllZip R (take (i + 1) start) (sources ++ y ∷ [])
+  more_front : (y : B) → R (get_or now i old) y → AllZip R (take (i + 1) start) (sources ++ y ∷ [])
   more_front y here =
       let within : i < length start = omega (arith, less, before.many) in
       subst (λ xs. AllZip R xs (sources ++ y ∷ [])) (sym (take_more start i old within))
@@ -34,7 +34,7 @@ module _ {A B : Type 0} (R : A → B → Type 0) (start now : List A) (i : ℕ) 
   more_rest : (k : ℕ) (d : A) → i + 1 ≤ k → get_or (set now i new) k d ≡ get_or start k d
   more_rest k d more = let other : k ≢ i = omega arith in rw get_or-set_other (before.rest k d (omega arith))
 
-  pub read_more : (y : B) → R old y → AreReadTo R start (set now i new) (i + 1) (sources ++ y ∷ [])
+  pub read_more : (y : B) → R (get_or now i old) y → AreReadTo R start (set now i new) (i + 1) (sources ++ y ∷ [])
   read_more y here = record {
     front = more_front y here;
     rest = more_rest;
@@ -43,14 +43,14 @@ module _ {A B : Type 0} (R : A → B → Type 0) (start now : List A) (i : ℕ) 
   }
 
   -- the source at which it stops is the one of that number
-  pub stops_there : (S : A → A → Type 0) (number : ℕ) → number ≡ length sources → S old new → (number < length start) × ((d : A) → S (get_or start number d) (get_or (set now i new) number d))
+  pub stops_there : (S : A → A → Type 0) (number : ℕ) → number ≡ length sources → S (get_or now i old) new → (number < length start) × ((d : A) → S (get_or start number d) (get_or (set now i new) number d))
   stops_there S number is_number stops =
       let same : number ≡ i = is_number ∙ before.few in
       rw same (
         omega (arith, less, before.many),
         λ d.
             let here : get_or (set now i new) i d ≡ new = rw get_or-set_same in
-            let there = at_read now (λ x. S x new) i old less is stops d in
+            let there = at_read now (λ x. S x new) i old less is (subst (λ x. S x new) (sym is) stops) d in
             subst (λ x. S (get_or start i d) x) (sym here) (subst (λ x. S x new) (before.rest i d (omega arith)) there),
       )
 

@@ -54,16 +54,19 @@ module _ {K X : Type 0} (seen : X → Version K) where
       else []
 
   module _ (begins : K → List ℕ) (told : X → List ℕ) where
+    -- KEY RELATION NAMES VERSION
+    unfoldable pub group_words : List ℕ → K → List (Holding X) → X → List ℕ
+    group_words relation key holdings v =
+        begins key ++ codes " " ++ relation ++ codes " " ++ names_word (holders (Some v) holdings) ++ codes " " ++ told v
+
     -- KEY greatest NAMES VERSION
     abbrev pub greatest_line : K → List (Holding X) → X → List ℕ
-    greatest_line key holdings greatest =
-        begins key ++ codes " greatest " ++ names_word (holders (Some greatest) holdings) ++ codes " " ++ told greatest ++ codes "\n"
+    greatest_line key holdings greatest = group_words (codes "greatest") key holdings greatest ++ codes "\n"
 
     -- KEY behind NAMES VERSION by WHAT
     abbrev pub behind_line : K → List (Holding X) → X → X → List ℕ
     behind_line key holdings greatest v =
-        begins key ++ codes " behind " ++ names_word (holders (Some v) holdings) ++ codes " " ++ told v
-        ++ codes " by " ++ less_word (seen v) (seen greatest) ++ codes "\n"
+        group_words (codes "behind") key holdings v ++ codes " by " ++ less_word (seen v) (seen greatest) ++ codes "\n"
 
     -- the lines of these versions, which are all that are held
     abbrev pub version_lines : K → List (Holding X) → List X → List ℕ

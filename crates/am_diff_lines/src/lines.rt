@@ -4,7 +4,7 @@ ghost use Rattle.std.specs.Prelude.{◌≡◌, ◌++◌, true, None, map, OnOk, 
 ghost use Rattle.std.specs.Option.{option_copied};
 ghost use Rattle.am_version_order.specs.Versions.{is_below};
 ghost use Rattle.am_diff.specs.Sources.{holding_of};
-ghost use Rattle.am_diff_lines.specs.Told.{behind_line, greatest_line, less_word, missing_line, part_word};
+ghost use Rattle.am_diff_lines.specs.Told.{behind_line, greatest_line, group_words, less_word, missing_line, part_word};
 
 use crate::names::{append_names, is_held};
 use crate::told::Told;
@@ -32,6 +32,26 @@ fn part_name(part: Part) -> &'static str
     }
 }
 
+/// Appends what a line says of the sources that have this version, in their relation to the others.
+#[tactic(auto, unfolding(crate::specs::Told::group_words))]
+fn append_group<V: Told>(
+    out: &mut String,
+    sides: &[Side<'_, V>],
+    key: &V::Key,
+    relation: &str,
+    version: &V,
+    now: Moment,
+) -> Result<(), AllocError>
+    ensures { OnOk result (string_bytes out.new ≡ string_bytes out.old
+        ++ group_words V.seen V.begins (V.told now) relation.now key.now (map holding_of sides.now) version.now) }
+{
+    V::append_key(out, key)?;
+    write!(out, " {relation} ")?;
+    append_names(out, sides, Some(version))?;
+    write!(out, " ")?;
+    version.append_told(out, now)
+}
+
 /// Appends the line of the sources that have the greatest version.
 pub fn append_greatest<V: Told>(
     out: &mut String,
@@ -42,11 +62,7 @@ pub fn append_greatest<V: Told>(
     ensures { OnOk result (string_bytes out.new ≡ string_bytes out.old
         ++ greatest_line V.seen V.begins (V.told now) (V.seen greatest.now).key (map holding_of sides.now) greatest.now) }
 {
-    V::append_key(out, greatest.key())?;
-    write!(out, " greatest ")?;
-    append_names(out, sides, Some(greatest))?;
-    write!(out, " ")?;
-    greatest.append_told(out, now)?;
+    append_group(out, sides, greatest.key(), "greatest", greatest, now)?;
     writeln!(out)
 }
 
@@ -62,12 +78,8 @@ pub fn append_behind<V: Told>(
     ensures { OnOk result (string_bytes out.new ≡ string_bytes out.old
         ++ behind_line V.seen V.begins (V.told now) (V.seen greatest.now).key (map holding_of sides.now) greatest.now version.now) }
 {
-    V::append_key(out, greatest.key())?;
-    write!(out, " behind ")?;
-    append_names(out, sides, Some(version))?;
-    write!(out, " ")?;
-    version.append_told(out, now)?;
     let part = less_by(version, greatest);
+    append_group(out, sides, greatest.key(), "behind", version, now)?;
     writeln!(out, " by {part}")
 }
 

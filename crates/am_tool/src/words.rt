@@ -227,9 +227,9 @@ fn read_job<'a>(
         Some(flags) => (Task::Show, Some(flags)),
         None => (Task::Fold, matches.subcommand_matches(FOLD)),
     };
-    let state = flags.map_or(StateName::Silences, state_of);
+    let state = flags.map_or(StateName::Silences, |flags| state_of(flags));
     let now = flags.and_then(|flags| flags.get_str("now"));
-    match now.and_then(moment_of) {
+    match now.and_then(|now| moment_of(now)) {
         Some(now) => Ok(Job::Rows(RowJob { task, state, now })),
         None => Err(mistake(command, BAD_NOW)),
     }
