@@ -1,8 +1,8 @@
 -- When a settle is let in, and what is written down where it isn't.
-use Rattle.std.proofs.Common.{◌≡◌, ℕ, zero, suc, ◌+◌, ◌<◌, ◌≤◌, Bool, true, false, cond, ltb, List, [], ◌∷◌, ◌++◌, Some, Result, Ok, Err, refl, sym, ap, ◌∙◌, subst, slice_get, length, map, arith, append_assoc, append-nil, inl, inr}
+use Rattle.std.proofs.Common.{◌≡◌, ℕ, zero, suc, ◌+◌, ◌<◌, ◌≤◌, Bool, true, false, cond, eqb, ltb, List, [], ◌∷◌, ◌++◌, Some, Result, Ok, Err, refl, sym, ap, ◌∙◌, subst, slice_get, length, map, arith, append_assoc, append-nil, inl, inr}
 use Rattle.std.specs.Prelude.{Any, filter}
 use Rattle.std.specs.List.{range_with_len}
-use Rattle.std.proofs.lemmas.Bool.{lt-ltb}
+use Rattle.std.proofs.lemmas.Bool.{eqb-true, lt-ltb}
 use Rattle.std.proofs.lemmas.Bool.Decides.{nat_tests}
 use Rattle.std.proofs.lemmas.List.{map_push}
 use Rattle.std.proofs.lemmas.List.Elements.{filter-append}
@@ -16,7 +16,7 @@ use Rattle.am_cluster.specs.declared.flight.Flight.{Flight}
 use Rattle.am_cluster.specs.declared.error.SettleError.{SettleError}
 use Rattle.am_cluster.specs.declared.error.SettleError.TheVariants as errors
 use Rattle.am_cluster.specs.Worlds.{Replica, World, replica_at, written}
-use Rattle.am_cluster.specs.Settling.{AreTurns, CanSettle, HasBacks, HasLate, HasStopped, IsAdmitted, IsRefusedAsBack, IsRefusedAsStopped, IsSettle, all_turns, is_late, late_places, with_backs}
+use Rattle.am_cluster.specs.Settling.{AreCutShort, AreTurns, CanSettle, HasBacks, HasLate, HasStopped, IsAdmitted, IsRefusedAsBack, IsRefusedAsStopped, IsSettle, Turn, all_turns, begun, is_late, late_places, with_backs}
 use Rattle.am_cluster.specs.Ties.{IsWorld}
 use Rattle.am_cluster.proofs.Goes.{goes_on_idle}
 use Rattle.am_cluster.proofs.Lived.{last_told, same_world}
@@ -142,6 +142,25 @@ marked_world rs seen first room new fs now line same silences log lines backs =
     (backs.log ∙ ap (λ x. x ++ map (λ p. Back p now) (late_places seen now)) log)
     (backs.lines ∙ ap (λ x. x ++ map (λ p. line) (late_places seen now)) lines))
 
+-- ---- a settle begins
+
+-- it changes no member
+pub begun_members : (rs : List Replica) (w : World) (now line : ℕ) → (begun rs w now line).replicas ≡ w.replicas
+begun_members [] w now line = refl
+begun_members (r ∷ rs) w now line = refl
+
+pub can_begun : (rs : List Replica) (w : World) (now line : ℕ) → CanSettle w now → CanSettle (begun rs w now line) now
+can_begun [] w now line can = record { runs = can.runs; forward = can.forward }
+can_begun (r ∷ rs) w now line can = can
+
+begun_with_members : (rs : List Replica) (w : World) (now line : ℕ) → eqb (length rs) 0 ≡ false → begun rs w now line ≡ w
+begun_with_members [] w now line some = absurd (let none : eqb 0 0 ≡ true = refl in cc)
+begun_with_members (r ∷ rs) w now line some = refl
+
+begun_alone : (rs : List Replica) (w : World) (now line : ℕ) → eqb (length rs) 0 ≡ true → begun rs w now line ≡ written w (Refused now) (Refused now) line
+begun_alone [] w now line none = refl
+begun_alone (r ∷ rs) w now line none = absurd (let some : length (r ∷ rs) ≡ 0 = eqb-true (length (r ∷ rs)) 0 none in omega (arith, some))
+
 module _ (w v n : World) (now line : ℕ) (rs others : List Replica) (same : w ≡ v) (are : rs ≡ w.replicas) (too : others ≡ w.replicas) where
   pub refused_as_stopped : HasStopped rs → n ≡ written w (Refused now) (Refused now) line → IsRefusedAsStopped v now line n
   refused_as_stopped stopped is = subst (λ u. IsRefusedAsStopped u now line n) same (subst HasStopped are stopped, is)
@@ -150,20 +169,40 @@ module _ (w v n : World) (now line : ℕ) (rs others : List Replica) (same : w �
   refused_as_back run late is =
       subst (λ u. IsRefusedAsBack u now line n) same (subst (λ xs. ¬ HasStopped xs) are run, subst (HasLate now) too late, is)
 
-  pub let_in : ¬ HasStopped rs → ¬ HasLate now others → n ≡ w → CanSettle v now × (n ≡ v)
+  let_in : ¬ HasStopped rs → ¬ HasLate now others → n ≡ begun w.replicas w now line → CanSettle v now × (n ≡ begun v.replicas v now line)
   let_in run none_late is =
-      (subst (λ u. CanSettle u now) same (can_settle w now (subst (λ xs. ¬ HasStopped xs) are run) (subst (λ xs. ¬ HasLate now xs) too none_late)), is ∙ same)
+      (subst (λ u. CanSettle u now) same (can_settle w now (subst (λ xs. ¬ HasStopped xs) are run) (subst (λ xs. ¬ HasLate now xs) too none_late)), is ∙ ap (λ u. begun u.replicas u now line) same)
+
+  pub let_in_with_members : ¬ HasStopped rs → ¬ HasLate now others → eqb (length w.replicas) 0 ≡ false → n ≡ w → CanSettle v now × (n ≡ begun v.replicas v now line)
+  let_in_with_members run none_late some is = let_in run none_late (is ∙ sym (begun_with_members w.replicas w now line some))
+
+  pub let_in_alone : ¬ HasStopped rs → ¬ HasLate now others → eqb (length w.replicas) 0 ≡ true → n ≡ written w (Refused now) (Refused now) line → CanSettle v now × (n ≡ begun v.replicas v now line)
+  let_in_alone run none_late none is = let_in run none_late (is ∙ sym (begun_alone w.replicas w now line none))
 
 -- ---- the settle
 
-pub settled_after : (old between new : World) (now line : ℕ) (result : Result Unit SettleError) → CanSettle old now → between ≡ old →
+-- where there are no turns none is cut short
+none_cut : (old new : World) (now line : ℕ) → ¬ AreCutShort old [] now line new
+none_cut old new now line cut = by cut.made cut.all where
+  by : (made : List Turn) → ¬ ([] ≡ made ++ cut.turn ∷ cut.left)
+  by [] all = cc
+  by (turn ∷ turns) all = cc
+
+cut_begun : (rs : List Replica) (old new : World) (now line : ℕ) → AreCutShort (begun rs old now line) (all_turns (length rs)) now line new → AreCutShort old (all_turns (length rs)) now line new
+cut_begun [] old new now line cut = absurd (none_cut (written old (Refused now) (Refused now) line) new now line cut)
+cut_begun (r ∷ rs) old new now line cut = cut
+
+pub settled_after : (old between new : World) (now line : ℕ) (result : Result Unit SettleError) → CanSettle old now → between ≡ begun old.replicas old now line →
     AreTurns between (all_turns (length between.replicas)) now line result new → IsSettle old now line result new
-settled_after old between new now line result ready same turns = by result (subst (λ w. AreTurns w (all_turns (length w.replicas)) now line result new) same turns) where
-  by : (r : Result Unit SettleError) → AreTurns old (all_turns (length old.replicas)) now line r new → IsSettle old now line r new
-  by (Ok u) made = (ready, made)
-  by (Err errors.Memory) cut = inr (ready, cut)
-  by (Err errors.Stopped) never = absurd never
-  by (Err errors.MomentBack) never = absurd never
+settled_after old between new now line result ready is turns =
+    by result
+    (subst (λ rs. AreTurns (begun old.replicas old now line) (all_turns (length rs)) now line result new) (begun_members old.replicas old now line)
+    (subst (λ w. AreTurns w (all_turns (length w.replicas)) now line result new) is turns)) where
+      by : (r : Result Unit SettleError) → AreTurns (begun old.replicas old now line) (all_turns (length old.replicas)) now line r new → IsSettle old now line r new
+      by (Ok u) made = (ready, made)
+      by (Err errors.Memory) cut = inr (ready, cut_begun old.replicas old new now line cut)
+      by (Err errors.Stopped) never = absurd never
+      by (Err errors.MomentBack) never = absurd never
 
 pub not_admitted : (old new : World) (now line : ℕ) (e : SettleError) → IsAdmitted old now line (Err e) new → IsSettle old now line (Err e) new
 not_admitted old new now line errors.Stopped refused = refused

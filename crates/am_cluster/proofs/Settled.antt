@@ -46,9 +46,10 @@ use Rattle.am_runs.specs.declared.step.Source.TheVariants.{Lent, Made}
 use Rattle.am_runs.specs.Settles.{join_of}
 use Rattle.am_cluster.specs.declared.error.SettleError.{SettleError}
 use Rattle.am_cluster.specs.Events.{IsTold, with_stand}
-use Rattle.am_cluster.specs.Settling.{AreMade, CanLend, HasSettled, IsMade, IsSettle, Turn, all_turns, collections, gatherings, held_log, held_silences, loan, spreadings}
+use Rattle.am_cluster.specs.Settling.{AreMade, CanLend, CanSettle, HasSettled, IsMade, IsSettle, Turn, all_turns, begun, collections, gatherings, held_log, held_silences, loan, spreadings}
 use Rattle.am_cluster.specs.Settling.Turn.{Collects, Takes}
 use Rattle.am_cluster.specs.Worlds.{Replica, World, replica_at}
+use Rattle.am_cluster.proofs.Admitted.{begun_members, can_begun}
 use Rattle.am_cluster.proofs.Places.{got_other, got_set}
 use Rattle.am_cluster.proofs.Turned.{still_can}
 
@@ -344,21 +345,33 @@ module _ (now line : ℕ) (old new : World) where
         values = subst (λ o. All IsLogMesh (held_log o)) (sym there) (values_of OfEntry IsLogMesh (λ e r. r.value) lent.stand.log can.log);
       }
 
-pub has_settled : (old new : World) (now line : ℕ) (result : Result Unit SettleError) → IsSettle old now line result new → OnOk result (HasSettled old now new)
-has_settled old new now line (Ok done) is = record {
+settled_by : (old new : World) (now line : ℕ) → CanSettle old now → AreMade old (all_turns (length old.replicas)) now line new → HasSettled old now new
+settled_by old new now line ready made = record {
   members = members;
   silences = λ place replica there id.
       ap (λ o. at mesh_version (slice_cmp nat_cmp) (held_silences o) id) (sym there)
       ∙ all_joined mesh_version (slice_cmp nat_cmp) silence_keys IsMesh silences_exact held_silences now line (λ o n p made. silences_sweep now line o n p made) (λ o n b l made. silences_join now line o n b l made)
-      old (length old.replicas) new is.1 place (within place replica there) id;
+      old (length old.replicas) new made place (within place replica there) id;
   log = λ place replica there key.
       ap (λ o. at entry_version key_cmp (held_log o) key) (sym there)
       ∙ all_joined entry_version key_cmp entry_keys IsLogMesh entries_exact held_log now line (λ o n p made. log_sweep now line o n p made) (λ o n b l made. log_join now line o n b l made)
-      old (length old.replicas) new is.1 place (within place replica there) key;
+      old (length old.replicas) new made place (within place replica there) key;
 } where
   members : length new.replicas ≡ length old.replicas
-  members = (still_can old (all_turns (length old.replicas)) now line new is.0 is.1).members
+  members = (still_can old (all_turns (length old.replicas)) now line new ready made).members
 
   within : (place : ℕ) (replica : Replica) → replica_at new place ≡ Some replica → place < length old.replicas
   within place replica there = subst (λ n. place < n) members (slice_get_within new.replicas place replica there)
+
+-- to write the moment down changes no member
+settled_begun : (rs : List Replica) (old new : World) (now line : ℕ) → HasSettled (begun rs old now line) now new → HasSettled old now new
+settled_begun [] old new now line settled = record { members = settled.members; silences = settled.silences; log = settled.log }
+settled_begun (r ∷ rs) old new now line settled = settled
+
+pub has_settled : (old new : World) (now line : ℕ) (result : Result Unit SettleError) → IsSettle old now line result new → OnOk result (HasSettled old now new)
+has_settled old new now line (Ok done) is =
+    let start = begun old.replicas old now line in
+    settled_begun old.replicas old new now line
+    (settled_by start new now line (can_begun old.replicas old now line is.0)
+    (subst (λ rs. AreMade start (all_turns (length rs)) now line new) (sym (begun_members old.replicas old now line)) is.1))
 has_settled old new now line (Err error) is = tt

@@ -10,6 +10,8 @@ use Rattle.am_instance.specs.Sendings.{whole_state}
 use Rattle.am_instance.specs.Deliveries.Delivery.{OfEntry, OfSilence}
 use Rattle.am_instance.specs.Laws.{HasMaps}
 use Rattle.am_instance.specs.Stands.{Stand, entry_at, log_in_view, silence_at, silences_in_view}
+use Rattle.am_rows.specs.Texts.{row_text}
+use Rattle.am_wire.specs.Limits.{most}
 use Rattle.am_carried.specs.Contents.{IsReadable}
 use Rattle.am_silence.specs.Mesh.{Mesh, mesh_version}
 use Rattle.am_nflog.specs.Mesh.{Mesh as LogMesh, mesh_version as entry_version}
@@ -30,14 +32,17 @@ use Rattle.am_cluster.specs.Lives.{OfMember}
 abbrev pub loan : ℕ → Stand → Event
 loan lender lent = events.Frame lender (frames.Pull (whole_state lent.silences lent.log))
 
--- What can be lent: both maps, and each version in them is a value that is read again where it is written. So what comes
--- with a loan are the maps.
+-- What can be lent: both maps, where each version in them is a value that is read again where it is written, so that what
+-- comes with a loan are the maps; and the row of neither is longer than a row may be.
 pub record CanLend (stand : Stand) : Type 0 where
   pub maps : HasMaps stand
   pub silences : All IsReadable (map OfSilence stand.silences)
   pub log : All IsReadable (map OfEntry stand.log)
+  pub silences_fit : length (row_text mesh_version stand.silences) ≤ most
+  pub log_fit : length (row_text entry_version stand.log) ≤ most
 
--- what came of a member's taking the maps of another: there is no room for them, or they can be lent and come to it
+-- What came of a member's taking the maps of another: they can be lent and come to it, or it found no memory. Where they can't
+-- be lent, as a row of them would be too long, that is always answered.
 abbrev pub IsTakingOf : World → ℕ → ℕ → ℕ → ℕ → Result Reply ClusterError → World → Type 0
 IsTakingOf old borrower lender now line result new =
     OfMember old lender (λ lent. OfMember old borrower (λ replica. IsUnmade old result new
@@ -78,7 +83,8 @@ IsTurn old (Takes borrower lender) now line result new =
 abbrev pub IsMade : World → Turn → ℕ → ℕ → World → Type 0
 IsMade old turn now line new = (reply : Reply) × IsTurn old turn now line (Ok reply) new
 
--- a turn found no memory: there was no room for it, or what was delivered stands
+-- A turn found no memory: what was delivered stands, or there was no room for it and nothing has changed. The latter is also
+-- answered where the maps of a member are to be taken that can't be lent, as the row of one is too long.
 abbrev pub IsStopped : World → Turn → ℕ → ℕ → World → Type 0
 IsStopped old turn now line new = (new ≡ old) ⊎ IsTurn old turn now line (Err cluster_errors.Memory) new
 
@@ -151,16 +157,24 @@ abbrev pub IsRefusedAsBack : World → ℕ → ℕ → World → Type 0
 IsRefusedAsBack old now line new =
     (¬ HasStopped old.replicas) × HasLate now old.replicas × (new ≡ with_backs old (late_places old.replicas now) now line)
 
+-- What a settle of these members is when it begins. Each turn is written down with its moment; where there is no member, and so
+-- no turn, the moment is written down alone.
+abbrev pub begun : List Replica → World → ℕ → ℕ → World
+begun [] world now line = written world (Refused now) (Refused now) line
+begun (first ∷ others) world now line = world
+
 -- what came of asking whether the members can settle
 abbrev pub IsAdmitted : World → ℕ → ℕ → Result Unit SettleError → World → Type 0
-IsAdmitted old now line (Ok _) new = CanSettle old now × (new ≡ old)
+IsAdmitted old now line (Ok _) new = CanSettle old now × (new ≡ begun old.replicas old now line)
 IsAdmitted old now line (Err errors.Stopped) new = IsRefusedAsStopped old now line new
 IsAdmitted old now line (Err errors.MomentBack) new = IsRefusedAsBack old now line new
 IsAdmitted old now line (Err errors.Memory) new = new ≡ old
 
--- what came of a settle: all its turns, a refusal, or for want of memory nothing or the first turns alone
+-- What came of a settle: all its turns; a refusal; or for want of memory, which a map with too long a row is told as too,
+-- nothing or the first turns alone.
 abbrev pub IsSettle : World → ℕ → ℕ → Result Unit SettleError → World → Type 0
-IsSettle old now line (Ok _) new = CanSettle old now × AreMade old (all_turns (length old.replicas)) now line new
+IsSettle old now line (Ok _) new =
+    CanSettle old now × AreMade (begun old.replicas old now line) (all_turns (length old.replicas)) now line new
 IsSettle old now line (Err errors.Stopped) new = IsRefusedAsStopped old now line new
 IsSettle old now line (Err errors.MomentBack) new = IsRefusedAsBack old now line new
 IsSettle old now line (Err errors.Memory) new =

@@ -54,7 +54,8 @@ pub enum SettleError {
     /// Each member whose last moment is after it is uncalm from then on.
     #[error("the moment is before the last one of a member")]
     MomentBack,
-    /// Collections and takings that were made stand, and count.
+    /// Collections and takings that were made stand, and count. It is also answered where the row of a map that is to be
+    /// taken has over 67,108,864 bytes.
     #[error("out of memory")]
     Memory,
 }

@@ -57,6 +57,8 @@ fn frame_of(alloc: Global, instance: &Instance) -> Result<Frame, AllocError>
     ensures frame { IfOk result (λ frame. frame ≡ frames.Pull (whole_state instance.now.silences instance.now.log)) }
     ensures silences { OnOk result (All IsReadable (map OfSilence instance.now.silences)) }
     ensures log { OnOk result (All IsReadable (map OfEntry instance.now.log)) }
+    ensures silences_fit { OnOk result (length (row_text mesh_version instance.now.silences) ≤ most) }
+    ensures log_fit { OnOk result (length (row_text entry_version instance.now.log) ≤ most) }
     ensures maps { HasMaps instance.now }
 {
     what_keeps_its_limit_is_readable();
@@ -97,8 +99,8 @@ impl Cluster {
         })
     }
 
-    /// Has a member take the maps of another, which runs. Where the row of a map has over 67,108,864 bytes, that is
-    /// answered as want of memory.
+    /// Has a member take the maps of another, which runs. Where the row of one has over 67,108,864 bytes, that is answered as
+    /// want of memory.
     fn lend(
         &mut self,
         borrower: usize,
@@ -231,7 +233,7 @@ fn mark_late(journal: &mut Journal, members: &[Member], now: Moment, line: u64)
 }
 
 impl Cluster {
-    /// Asks whether all members can settle, and writes it down if they can't.
+    /// Asks whether all members can settle, and writes it down if they can't, or if there are none.
     fn admit(&mut self, now: Moment, line: u64) -> Result<(), SettleError>
         ensures { IsAdmitted self.old now line result self.new }
     {
@@ -245,17 +247,22 @@ impl Cluster {
             mark_late(&mut self.journal, &self.members, now, line);
             return Err(SettleError::MomentBack);
         }
+        if !self.members.is_empty() {
+            return Ok(());
+        }
+        self.journal.mark(Mark::Refused { now }, line);
         Ok(())
     }
 
     /// Has every member collect, the first by name take the maps of all others in their order, and each other take the
     /// first one's. Then all hold the join of what they held that was live. Each taking counts as a delivery, and no
-    /// frame of it flies.
+    /// frame of it flies. Where there is no member its moment alone is written down.
     ///
     /// # Errors
     ///
     /// The first [`SettleError`] that applies, in their order; for want of room to write down what it is before all
-    /// others, and then nothing has changed.
+    /// others, and then nothing has changed. A map that is to be taken and whose row has over 67,108,864 bytes is answered
+    /// as [`SettleError::Memory`].
     pub fn settle(&mut self, now: Moment, line: u64) -> Result<(), SettleError>
         ensures settled { IsSettle self.old now line result self.new }
         ensures joined { OnOk result (HasSettled self.old now self.new) }

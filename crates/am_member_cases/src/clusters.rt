@@ -2,6 +2,8 @@
 
 use crate::members::{names, peer_timeout, retention, say_config, say_held};
 use am_case_words::fault::{Fault, say_refusal};
+use am_case_words::moments::moment;
+use am_case_words::words::parts;
 use am_cluster::{Cluster, SettleError};
 use am_instance::ConfigError;
 use am_version_order::Moment;
@@ -48,8 +50,33 @@ pub fn settle(rt: &HostRuntime, rest: &str) -> Result<(), Fault> {
 
 fn say_settled(rt: &HostRuntime, cluster: Cluster) -> Result<(), Fault> {
     let mut cluster = cluster;
-    match cluster.settle(Moment::LEAST, 1) {
+    settle_at(rt, &mut cluster, Moment::LEAST)
+}
+
+fn settle_at(rt: &HostRuntime, cluster: &mut Cluster, now: Moment) -> Result<(), Fault> {
+    match cluster.settle(now, 1) {
         Ok(()) => Ok(println!(rt; "settled")?),
         Err(error) => say_refusal(rt, error, SettleError::Memory),
     }
+}
+
+/// `settles MOMENT ..: NAME ..`: what such a cluster answers to a settle at each of the moments in turn, and whether its run
+/// is timely then.
+pub fn settles(rt: &HostRuntime, rest: &str) -> Result<(), Fault> {
+    let (moments, names) = parts(rest, ":")?;
+    match made(rt.alloc(), names)? {
+        Ok(cluster) => say_settles(rt, cluster, moments),
+        Err(error) => say_refusal(rt, error, ConfigError::Memory),
+    }
+}
+
+fn say_settles(rt: &HostRuntime, cluster: Cluster, moments: &str) -> Result<(), Fault> {
+    let mut cluster = cluster;
+    for word in moments.split(' ') {
+        settle_at(rt, &mut cluster, moment(word)?)?;
+    }
+    let time = peer_timeout()?;
+    let is_timely = cluster.timely(time, time);
+    println!(rt; "timely {is_timely}")?;
+    Ok(())
 }

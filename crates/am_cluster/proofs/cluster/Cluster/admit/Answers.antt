@@ -1,7 +1,7 @@
-use Rattle.std.proofs.Common.{◌++◌, ◌∷◌, [], refl, sym, ap, ◌∙◌, subst}
+use Rattle.std.proofs.Common.{ℕ, ◌++◌, ◌∷◌, [], eqb, refl, sym, ap, ◌∙◌, subst}
 use Rattle.am_runs.specs.Steps.Step.{Refused}
 use Rattle.am_cluster.specs.Ties.{IsWorld}
-use Rattle.am_cluster.proofs.Admitted.{lasts_told, let_in, marked_world, not_so, refused_as_back, refused_as_stopped, world_marked}
+use Rattle.am_cluster.proofs.Admitted.{lasts_told, let_in_alone, let_in_with_members, marked_world, not_so, refused_as_back, refused_as_stopped, world_marked}
 use Rattle.am_cluster.proofs.Goes.{goes_on_idle}
 use Rattle.am_cluster.proofs.Lived.{same_world}
 use Rattle.am_cluster.proofs.cluster.Cluster.admit.Goals as goal
@@ -42,8 +42,29 @@ returns-then-has_late c =
     refused_as_back _ _ _ c.args.now c.args.line _ _ c.self.view_is c.deref.ensures.value c.deref-2.ensures.value
     (not_so c.has_stopped.result _ c.has_stopped.ensures c.if-has_stopped.false) (c.has_late.ensures.0 c.if-has_late.true) marked
 
+pub returns-then-not-is_empty : goal.returns-then-not-is_empty
+returns-then-not-is_empty c =
+    let same = same_world _ _ _ _ _ _ _ _ c.self.inside.flights.items refl c.make_room.ensures.silences c.make_room.ensures.log c.make_room.ensures.lines in
+    let_in_with_members _ _ _ c.args.now c.args.line _ _ c.self.view_is c.deref.ensures.value c.deref-2.ensures.value
+    (not_so c.has_stopped.result _ c.has_stopped.ensures c.if-has_stopped.false) (not_so c.has_late.result _ c.has_late.ensures c.if-has_late.false)
+    (sym (c.is_empty.ensures ∙ ap (λ (n : ℕ). eqb n 0) c.self.inside.members.ok.0) ∙ c.if-not-is_empty.true) same
+
+pub invariant_of-self-2 : goal.invariant_of-self-2
+invariant_of-self-2 c =
+    let same = same_world _ _ _ _ _ _ _ _ c.self.inside.flights.items refl
+    (c.mark-2.ensures.silences ∙ ap (λ x. x ++ Refused c.args.now ∷ []) c.make_room.ensures.silences)
+    (c.mark-2.ensures.log ∙ ap (λ x. x ++ Refused c.args.now ∷ []) c.make_room.ensures.log)
+    (c.mark-2.ensures.lines ∙ ap (λ x. x ++ c.args.line ∷ []) c.make_room.ensures.lines) in record {
+      members = c.mark-2.ensures.members ∙ (c.make_room.ensures.members ∙ c.self.invariant.members);
+      world = subst IsWorld (sym same) (goes_on_idle _ (Refused c.args.now) (Refused c.args.now) c.args.line (λ m. refl) (λ m. refl) c.self.invariant.world);
+    }
+
 pub returns : goal.returns
 returns c =
-    let same = same_world _ _ _ _ _ _ _ _ c.self.inside.flights.items refl c.make_room.ensures.silences c.make_room.ensures.log c.make_room.ensures.lines in
-    let_in _ _ _ c.args.now c.args.line _ _ c.self.view_is c.deref.ensures.value c.deref-2.ensures.value
-    (not_so c.has_stopped.result _ c.has_stopped.ensures c.if-has_stopped.false) (not_so c.has_late.result _ c.has_late.ensures c.if-has_late.false) same
+    let same = same_world _ _ _ _ _ _ _ _ c.self.inside.flights.items refl
+    (c.mark-2.ensures.silences ∙ ap (λ x. x ++ Refused c.args.now ∷ []) c.make_room.ensures.silences)
+    (c.mark-2.ensures.log ∙ ap (λ x. x ++ Refused c.args.now ∷ []) c.make_room.ensures.log)
+    (c.mark-2.ensures.lines ∙ ap (λ x. x ++ c.args.line ∷ []) c.make_room.ensures.lines) in
+    let_in_alone _ _ _ c.args.now c.args.line _ _ c.self.view_is c.deref.ensures.value c.deref-2.ensures.value
+    (not_so c.has_stopped.result _ c.has_stopped.ensures c.if-has_stopped.false) (not_so c.has_late.result _ c.has_late.ensures c.if-has_late.false)
+    (sym (c.is_empty.ensures ∙ ap (λ (n : ℕ). eqb n 0) c.self.inside.members.ok.0) ∙ c.if-not-is_empty.false) same

@@ -32,4 +32,10 @@ returns-clause-lendable c =
     let less = inside _ _ c.args.lender c.self.view_is c.requires.within in
     let found = found_at c.self.inside.members.items c.args.lender c.index.result.now less c.index.ensures in
     lendable _ _ c.args.lender c.index.result.now c.behind-self.inside.instance c.self.view_is found (sym (ap (λ x. x.stand) c.behind-self.view_is))
-    (record { maps = c.in_ok-frame.ensures.maps; silences = c.in_ok-frame.ensures.silences; log = c.in_ok-frame.ensures.log })
+    (record {
+      maps = c.in_ok-frame.ensures.maps;
+      silences = c.in_ok-frame.ensures.silences;
+      log = c.in_ok-frame.ensures.log;
+      silences_fit = c.in_ok-frame.ensures.silences_fit;
+      log_fit = c.in_ok-frame.ensures.log_fit;
+    })

@@ -1,7 +1,7 @@
 use Rattle.std.proofs.Common.{Err, sym, subst}
 use Rattle.std.proofs.lemmas.Result.{err_from_is_err_and}
 use Rattle.am_cluster.specs.Settling.{CanSettle, IsAdmitted, IsSettle}
-use Rattle.am_cluster.proofs.Admitted.{not_admitted, settled_after}
+use Rattle.am_cluster.proofs.Admitted.{can_begun, not_admitted, settled_after}
 use Rattle.am_cluster.proofs.Settled.{has_settled}
 use Rattle.am_cluster.proofs.cluster.Cluster.settle.Goals as goal
 
@@ -14,7 +14,9 @@ returns-in_err-admit c =
     record { settled = is; joined = has_settled c.args.self.now c.admit.new.self c.args.now c.args.line c.from_residual.result is }
 
 pub make_turns-requires : goal.make_turns-requires
-make_turns-requires c = record { ready = subst (λ w. CanSettle w c.args.now) (sym c.in_ok-admit.ensures.1) c.in_ok-admit.ensures.0 }
+make_turns-requires c = record {
+  ready = subst (λ w. CanSettle w c.args.now) (sym c.in_ok-admit.ensures.1) (can_begun c.args.self.now.replicas c.args.self.now c.args.now c.args.line c.in_ok-admit.ensures.0);
+}
 
 pub returns : goal.returns
 returns c =
