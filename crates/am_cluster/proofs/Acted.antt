@@ -1,5 +1,5 @@
 -- What is known of the step of an instance, for writing it down.
-use Rattle.std.proofs.Common.{◌≡◌, ◌⊎◌, inl, inr, ℕ, Bool, true, false, cond, eqb, ltb, List, [], Result, Ok, Err, sym, subst, length, not, IfOk, ◌<◌, ◌∙◌}
+use Rattle.std.proofs.Common.{◌≡◌, ◌⊎◌, inl, inr, ℕ, Bool, true, false, cond, eqb, ltb, List, [], Result, Ok, Err, refl, sym, subst, length, not, IfOk, ◌<◌, ◌∙◌}
 use Rattle.std.specs.Prelude.{All, Contains, IfSome, None}
 use Rattle.std.proofs.lemmas.List.Elements.{All-nil, All-weaker, All-contains, All-contains_itself}
 use Rattle.std.proofs.lemmas.Bool.{and_parts, eqb-false, ltb-true, not-true}
@@ -19,7 +19,7 @@ use Rattle.am_instance.specs.Deliveries.{first_fault, rows_in, parts_of}
 use Rattle.am_instance.specs.Laws.{HasMaps}
 use Rattle.am_instance.specs.Replies.{IsNothing}
 use Rattle.am_instance.specs.Stands.{Stand}
-use Rattle.am_instance.specs.Steps.{delivers, fault_of}
+use Rattle.am_instance.specs.Steps.{brought, delivers, fault_of}
 use Rattle.am_instance.specs.OneStep.{IsStep}
 use Rattle.am_runs.specs.declared.step.Source.{Source}
 use Rattle.am_carried.specs.Contents.{IsValue}
@@ -63,6 +63,17 @@ brings_nothing before stand (events.Mutes labels) now outcome each step brings =
 brings_nothing before stand events.Show now outcome each step brings = absurd cc
 brings_nothing before stand events.Tick now outcome each step brings = absurd cc
 brings_nothing before stand (events.PullFrom place) now outcome each step brings = absurd cc
+
+-- what is no frame brings none
+pub nothing_brought : (event : Event) → ((sender : ℕ) (frame : Frame) → event ≡ events.Frame sender frame → ⊥) → brought event ≡ []
+nothing_brought (events.Request request) no_frame = refl
+nothing_brought (events.Frame sender frame) no_frame = absurd (no_frame sender frame refl)
+nothing_brought (events.Notified group_key receiver firing resolved repeat) no_frame = refl
+nothing_brought (events.Decide group_key receiver firing resolved repeat send_resolved) no_frame = refl
+nothing_brought (events.Mutes labels) no_frame = refl
+nothing_brought events.Show no_frame = refl
+nothing_brought events.Tick no_frame = refl
+nothing_brought (events.PullFrom place) no_frame = refl
 
 pub values_known : (event : Event) (stand : Stand) (answer : Result Outcome StepError) →
     ((made : Made) → All IsMesh made.silences.items → IfSome made.log IsLogMesh → All IsValue (delivers event made)) →
