@@ -42,7 +42,7 @@ impl From<ScheduleError> for ReplayError {
 }
 
 /// Memory ran out at this line, or at none, which is 0.
-#[derive(Clone, Copy, Debug)]
+#[derive(Clone, Copy)]
 pub struct Halt {
     pub line: u64,
 }

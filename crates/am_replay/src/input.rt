@@ -15,7 +15,7 @@ const MOST_BYTES: usize = 16_777_216;
 const PIECE: usize = 16_384;
 
 /// Why no bytes came, though the input has not ended.
-#[derive(Clone, Copy, Debug, PartialEq, Eq)]
+#[derive(Clone, Copy, PartialEq, Eq)]
 pub enum Stop {
     Read,
     Memory,

@@ -18,7 +18,7 @@ use am_version_order::Interval;
 use std::alloc::Global;
 
 /// The members of a cluster and their times.
-#[derive(Debug, Drop)]
+#[derive(Drop)]
 pub(crate) struct ClusterLine {
     pub names: Items<Word>,
     pub retention: Interval,

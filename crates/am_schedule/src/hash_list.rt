@@ -7,7 +7,7 @@ use std::marker::Model;
 
 /// The hashes of alerts in a word: at most 512, since a word has at most 1,024 bytes. Contracts see the list. Only
 /// reading a schedule makes one.
-#[derive(Debug, Drop)]
+#[derive(Drop)]
 pub struct HashList {
     hashes: Items<u64>,
 }

@@ -15,7 +15,6 @@ use am_version_order::Interval;
 use std::alloc::Global;
 
 /// A cluster, and what happens in it, line by line.
-#[derive(Debug)]
 pub struct Schedule {
     /// The members, in the order of the cluster line.
     pub names: Items<Word>,

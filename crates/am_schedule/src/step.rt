@@ -10,7 +10,7 @@ use am_version_order::{Interval, Moment};
 use std::marker::Model;
 
 /// A silence version with one matcher that wants the value of a label.
-#[derive(Debug, Drop)]
+#[derive(Drop)]
 pub struct SilenceLine {
     pub id: Word,
     pub updated: Moment,
@@ -22,7 +22,7 @@ pub struct SilenceLine {
 }
 
 /// A log version. `receiver` is the group name; the integration is empty and the index 0.
-#[derive(Debug, Drop)]
+#[derive(Drop)]
 pub struct LogLine {
     pub group: Word,
     pub receiver: Word,
@@ -33,21 +33,21 @@ pub struct LogLine {
 }
 
 /// A version that a label names.
-#[derive(Debug, Drop)]
+#[derive(Drop)]
 pub enum VersionLine {
     Silence(Shared<SilenceLine>),
     Log(Shared<LogLine>),
 }
 
 /// Versions of one state, in the order of their labels.
-#[derive(Debug, Drop)]
+#[derive(Drop)]
 pub enum Versions {
     Silences(Items<Shared<SilenceLine>>),
     Log(Items<Shared<LogLine>>),
 }
 
 /// A silence that is posted, with one matcher that wants the value of a label. Author and comment are empty.
-#[derive(Debug, Drop)]
+#[derive(Drop)]
 pub struct PostLine {
     /// The silence that is to be changed, if one is named.
     pub id: Option<Word>,
@@ -60,7 +60,7 @@ pub struct PostLine {
 }
 
 /// A group of alerts and what is notified of it.
-#[derive(Debug, Drop)]
+#[derive(Drop)]
 pub struct GroupLine {
     pub group: Word,
     pub receiver: Word,
@@ -70,14 +70,14 @@ pub struct GroupLine {
 }
 
 /// A label and its value.
-#[derive(Debug, Drop)]
+#[derive(Drop)]
 pub struct Pair {
     pub name: Word,
     pub value: Word,
 }
 
 /// What happens at a member at a moment.
-#[derive(Debug, Drop)]
+#[derive(Drop)]
 pub enum Event {
     /// A Delta of these versions comes from a peer.
     From {
@@ -108,7 +108,7 @@ pub enum Event {
 }
 
 /// What a line does to the cluster.
-#[derive(Debug, Drop)]
+#[derive(Drop)]
 pub enum Action {
     Event {
         at: Moment,
@@ -133,7 +133,7 @@ pub enum Action {
 }
 
 /// A step of a cluster. Contracts see its action. Only reading a schedule makes one.
-#[derive(Debug, Drop)]
+#[derive(Drop)]
 pub struct Step {
     action: Action,
 }
@@ -161,7 +161,7 @@ impl Step {
 }
 
 /// A line of a schedule that is neither the cluster's nor a version's.
-#[derive(Debug, Drop)]
+#[derive(Drop)]
 pub enum Line {
     Step(Step),
     /// All members agree at that moment.

@@ -13,7 +13,7 @@ use std::marker::Model;
 pub(crate) const MAX_WORD: usize = 1024;
 
 /// A word of a line: a text of at most 1,024 bytes. Contracts see its bytes. Only reading a schedule makes one.
-#[derive(Debug, Drop)]
+#[derive(Drop)]
 pub struct Word {
     text: String,
 }

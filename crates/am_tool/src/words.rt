@@ -32,7 +32,7 @@ pub enum Job<'a> {
 }
 
 /// What is to be done with which state, and at what moment.
-#[derive(Clone, Copy, Debug)]
+#[derive(Clone, Copy)]
 pub struct RowJob {
     pub task: Task,
     pub state: StateName,
@@ -40,7 +40,7 @@ pub struct RowJob {
 }
 
 /// What is to be done with the row that stands on standard input.
-#[derive(Clone, Copy, Debug)]
+#[derive(Clone, Copy)]
 pub enum Task {
     /// Fold a row of versions, which are taken at the moment.
     Fold,
@@ -49,7 +49,7 @@ pub enum Task {
 }
 
 /// A state that instances share.
-#[derive(Clone, Copy, Debug)]
+#[derive(Clone, Copy)]
 pub enum StateName {
     /// The silences, `sil`.
     Silences,
@@ -58,7 +58,7 @@ pub enum StateName {
 }
 
 /// Why the words of the command line give no job.
-#[derive(Debug, Drop)]
+#[derive(Drop)]
 pub enum WordsError {
     /// A word is not UTF-8.
     NotUtf8,
