@@ -137,6 +137,11 @@ STOPPED = re.compile(r"stops at \d+: $")
 MOMENT = re.compile(r"^(holds \d+ \d+) at \S+$", re.MULTILINE)
 TRIES = re.compile(r"(write) (\d+)(?: to (\d+))?: (.*)")
 
+# How the members of a cluster stand behind a line of a schedule, and one that found no memory.
+REFUSED_LINE = "no memory at "
+STANDING = re.compile(rf"(?:{REFUSED_LINE})?line \d+: (.*), (\d+) frames")
+MEMBER = re.compile(r"\S+ (\d+) (\d+) at (\S+)( uncalm)?")
+
 
 # What a request is answered whose step was made before memory ran out: it isn't made again.
 STANDS = ["! Memory, and something stands"]
@@ -166,6 +171,35 @@ def is_one_try(lines, wanted):
     return others == rest and tries.keys() <= found.keys() and len(differing) == 1
 
 
+def standing_of(line):
+    """How a line of `steps` says that a cluster stands: of each member what it holds, its moment and whether it is uncalm; and
+    the frames that fly."""
+    row = STANDING.fullmatch(line)
+    members = [MEMBER.fullmatch(it) for it in row[1].split(", ")]
+    return [(int(it[1]), int(it[2]), it[3], it[4]) for it in members], int(row[2])
+
+
+def is_between(found, before, after):
+    """Whether a member stands as before a line, or with a part of what it leaves."""
+    held = all(min(ends) <= it <= max(ends) for it, *ends in zip(found[:2], before[:2], after[:2]))
+    return held and found[2] in (before[2], after[2]) and found[3] in (before[3], after[3])
+
+
+def is_line_made_again(lines, wanted):
+    """Whether a line of a schedule found no memory and was made once more: what stood in between is what stood before it, or a
+    part of what it leaves without a frame of it; and the rest is as wanted, but for frames that never flew."""
+    told = [at for at, line in enumerate(lines) if line.startswith(REFUSED_LINE)]
+    if len(told) != 1 or len(lines) != len(wanted) + 1 or not all(STANDING.fullmatch(line) for line in lines):
+        return False
+    at = told[0]
+    found, goal = [standing_of(line) for line in lines], [standing_of(line) for line in wanted]
+    stood, newborn = found.pop(at), ([(0, 0, "least", None) for _ in goal[0][0]], 0)
+    before = found[at - 1] if at > 0 else newborn
+    is_part = all(is_between(*member) for member in zip(stood[0], before[0], goal[at][0]))
+    is_rest = all(row[0] == want[0] and row[1] <= want[1] for row, want in zip(found[at:], goal[at:]))
+    return lines[:at] == wanted[:at] and is_part and stood[1] == before[1] and is_rest
+
+
 def how_refused(lines, wanted):
     """What the lines of a case say of a request that was refused; None where they are not right."""
     if lines == wanted:
@@ -174,6 +208,8 @@ def how_refused(lines, wanted):
         return "something stands"
     if is_one_try(lines, wanted):
         return "one try"
+    if is_line_made_again(lines, wanted):
+        return "made again"
     found, text = "".join(f"{line}\n" for line in lines), "".join(f"{line}\n" for line in wanted)
     begun, memory, again = found.partition("! Memory\n")
     if memory:

@@ -1,12 +1,15 @@
-//! Clusters in which nothing has happened yet.
+//! Clusters in which nothing has happened yet, and how they stand behind each line of a schedule.
 
-use crate::members::{names, peer_timeout, retention, say_config, say_held};
+use crate::line_events::schedule_of;
+use crate::members::{name_at, names, peer_timeout, retention, say_config, say_held};
 use am_case_words::fault::{Fault, say_refusal};
-use am_case_words::moments::moment;
+use am_case_words::moments::{moment, print_moment};
 use am_case_words::words::parts;
-use am_cluster::{Cluster, SettleError};
-use am_instance::ConfigError;
+use am_cluster::{Cluster, ClusterError, SettleError};
+use am_instance::{ConfigError, Instance};
+use am_schedule::{Line, Schedule};
 use am_version_order::Moment;
+use am_wire::Text;
 use std::alloc::Global;
 
 /// A cluster of members with the names that words spell.
@@ -78,5 +81,90 @@ fn say_settles(rt: &HostRuntime, cluster: Cluster, moments: &str) -> Result<(), 
     let time = peer_timeout()?;
     let is_timely = cluster.timely(time, time);
     println!(rt; "timely {is_timely}")?;
+    Ok(())
+}
+
+/// `steps LINE; ..`: how the members of a schedule's cluster stand behind each of its lines.
+pub fn steps(rt: &HostRuntime, rest: &str) -> Result<(), Fault> {
+    let lines = rest.replace(rt.alloc(), "; ", "\n")?;
+    let schedule = schedule_of(rt.alloc(), lines.as_str())?;
+    begin(rt, &schedule)
+}
+
+/// The names of a schedule's members.
+fn names_in(alloc: Global, schedule: &Schedule) -> Result<Vec<Text>, Fault> {
+    let mut names = Vec::new(alloc);
+    for name in schedule.names.as_slice() {
+        names.push(Text::copied(alloc, name.as_str())?)?;
+    }
+    Ok(names)
+}
+
+fn begin(rt: &HostRuntime, schedule: &Schedule) -> Result<(), Fault> {
+    let names = names_in(rt.alloc(), schedule)?;
+    match Cluster::new(rt.alloc(), names, schedule.retention, schedule.peer_timeout) {
+        Ok(mut cluster) => play(rt, &mut cluster, schedule),
+        Err(_) => Err(Fault::Memory),
+    }
+}
+
+fn play(rt: &HostRuntime, cluster: &mut Cluster, schedule: &Schedule) -> Result<(), Fault> {
+    for (line, number) in schedule.lines.as_slice() {
+        play_line(rt, cluster, line, *number)?;
+    }
+    Ok(())
+}
+
+/// Makes a line, and says how the members stand then. Where it finds no memory, it says how they stand, and makes the line
+/// once more.
+fn play_line(
+    rt: &HostRuntime,
+    cluster: &mut Cluster,
+    line: &Line,
+    number: u64,
+) -> Result<(), Fault> {
+    if finds_no_memory(cluster, line, number) {
+        print!(rt; "no memory at ")?;
+        say_members(rt, cluster, number)?;
+        if finds_no_memory(cluster, line, number) {
+            return Err(Fault::Memory);
+        }
+    }
+    say_members(rt, cluster, number)
+}
+
+/// Makes a step or a settle, and answers whether it finds no memory.
+fn finds_no_memory(cluster: &mut Cluster, line: &Line, number: u64) -> bool {
+    match line {
+        Line::Step(step) => match cluster.step(step, number) {
+            Ok(_reply) => false,
+            Err(error) => error == ClusterError::Memory,
+        },
+        Line::Settle(now) => cluster.settle(*now, number) == Err(SettleError::Memory),
+        _ => false,
+    }
+}
+
+/// Says how the members stand behind a line, and how many frames fly.
+fn say_members(rt: &HostRuntime, cluster: &Cluster, number: u64) -> Result<(), Fault> {
+    print!(rt; "line {number}:")?;
+    for place in 0..u64::MAX {
+        let Some(instance) = cluster.instance(place) else {
+            break;
+        };
+        print_member(rt, instance, cluster.calm(place).calm)?;
+    }
+    let flights = cluster.in_flight().len();
+    println!(rt; " {flights} frames")?;
+    Ok(())
+}
+
+fn print_member(rt: &HostRuntime, instance: &Instance, is_calm: bool) -> Result<(), Fault> {
+    let (silences, entries) = (instance.silences().len(), instance.log().len());
+    let name = name_at(instance.config(), instance.config().place());
+    print!(rt; " {name} {silences} {entries}")?;
+    print_moment(rt, " at ", instance.last())?;
+    let calm = if is_calm { "" } else { " uncalm" };
+    print!(rt; "{calm},")?;
     Ok(())
 }

@@ -13,6 +13,7 @@ use am_runs::Source;
 use am_schedule::{Action, Event as LineEvent, FaultKind, Line, Schedule, parse};
 use am_silence::Posted;
 use am_wire::Bytes;
+use std::alloc::Global;
 
 /// `places NAME,..`: at which places the members of these names are.
 pub fn places(rt: &HostRuntime, config: &Config, names: &str) -> Result<(), Fault> {
@@ -25,12 +26,14 @@ pub fn places(rt: &HostRuntime, config: &Config, names: &str) -> Result<(), Faul
 /// `asks LINE; ..`: what the last line of a schedule asks of a member.
 pub fn asks(rt: &HostRuntime, config: &Config, text: &str) -> Result<(), Fault> {
     let lines = text.replace(rt.alloc(), "; ", "\n")?;
-    read(rt, config, lines.as_str())
+    let schedule = schedule_of(rt.alloc(), lines.as_str())?;
+    last(rt, config, &schedule)
 }
 
-fn read(rt: &HostRuntime, config: &Config, text: &str) -> Result<(), Fault> {
-    match parse(rt.alloc(), text.as_bytes()) {
-        Ok(schedule) => last(rt, config, &schedule),
+/// The schedule of a text.
+pub fn schedule_of(alloc: Global, text: &str) -> Result<Schedule, Fault> {
+    match parse(alloc, text.as_bytes()) {
+        Ok(schedule) => Ok(schedule),
         Err(error) if error.kind == FaultKind::Memory => Err(Fault::Memory),
         Err(_) => Err(Fault::Words),
     }
