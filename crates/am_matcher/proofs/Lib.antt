@@ -11,3 +11,6 @@ pub mod Orders
 pub mod Gatherings
 pub mod OtherBuckets
 pub mod Apart
+pub mod Uses
+pub mod Keepings
+pub mod Verdicts

@@ -7,3 +7,7 @@ pub mod Filters
 pub mod Errors
 pub mod Mutes
 pub mod Buckets
+pub mod Sizes
+pub mod Uses
+pub mod Kept
+pub mod Entries

@@ -1,5 +1,5 @@
 -- What matchers say of labels.
-use Rattle.std.specs.Prelude.{◌≡◌, ℕ, Bool, true, false, not, List, [], All, Any}
+use Rattle.std.specs.Prelude.{◌≡◌, ℕ, Bool, true, false, not, List, [], Option, Some, None, All, Any}
 use Rattle.std.specs.List.{list_all}
 use Rattle.std.specs.Option.{option_map_or}
 use Rattle.am_silence.specs.declared.matcher.Matcher.{Matcher}
@@ -13,6 +13,7 @@ use Rattle.am_silence.specs.declared.silence.Silence.{Silence}
 use Rattle.am_matcher.specs.Labels.{last_named, value_in}
 use Rattle.am_matcher.specs.declared.labels.Label.{Label}
 use Rattle.am_matcher.specs.Patterns.{is_match, IsSound, IsBroken}
+use Rattle.am_matcher.specs.Sizes.{CompiledPattern}
 
 -- the value is the text, or is not, or matches the pattern from end to end, or does not
 abbrev pub is_met : MatcherKind → List ℕ → List ℕ → Bool
@@ -34,6 +35,11 @@ IsSoundMatcher m = is_regexp m.kind ≡ true → IsSound m.pattern
 -- a regular expression decides, and its pattern is broken
 abbrev pub IsBrokenMatcher : Matcher → Type 0
 IsBrokenMatcher m = (is_regexp m.kind ≡ true) × IsBroken m.pattern
+
+-- where a regular expression decides, its pattern is compiled, and else none is
+abbrev pub IsCompiled : Matcher → Option CompiledPattern → Type 0
+IsCompiled m (Some compiled) = (is_regexp m.kind ≡ true) × (compiled.text ≡ m.pattern)
+IsCompiled m None = is_regexp m.kind ≡ false
 
 -- each of them matches its label's value
 abbrev pub match_all : List Matcher → List Label → Bool

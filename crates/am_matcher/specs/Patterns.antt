@@ -1,5 +1,5 @@
 -- What a pattern means, in the words of the crates that read it and search for it.
-use Rattle.std.specs.Prelude.{◌≡◌, ℕ, ◌≤◌, ◌⊎◌, Bool, false, List, ◌++◌, Option, Some, None, codes, chars, is_some, IsSomeAnd}
+use Rattle.std.specs.Prelude.{ℕ, ◌≤◌, ◌⊎◌, Bool, false, List, ◌++◌, Option, Some, None, codes, chars, is_some, IsSomeAnd}
 use Rattle.regex_syntax.specs.Grammar.{read, Names}
 use Rattle.regex_syntax.specs.Brackets.{Nested}
 use Rattle.regex.specs.Patterns.{Re, find_str, default_config}
@@ -43,8 +43,3 @@ IsRefusedFor text OutOfMemory = ⊥
 -- The grammar doesn't read the pattern by itself, or it does, and `regex` refuses the text that is compiled for it.
 abbrev pub IsBroken : List ℕ → Type 0
 IsBroken pattern = (¬ IsReadable pattern) ⊎ (IsReadable pattern × (error : Error) × IsRefusedFor (whole_text pattern) error)
-
--- what is kept of a pattern: the text that is compiled for it, where it is read, or nothing, where it is broken
-abbrev pub IsKept : List ℕ → Option (List ℕ) → Type 0
-IsKept pattern (Some text) = IsSound pattern × (text ≡ whole_text pattern)
-IsKept pattern None = IsBroken pattern

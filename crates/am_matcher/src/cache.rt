@@ -1,28 +1,30 @@
 //! Compiled patterns that are kept.
 
-ghost use Rattle.std.specs.Prelude.{◌≡◌, IfOk, OnOk, IsErrOf};
+ghost use Rattle.std.specs.Prelude.{◌≡◌, ◌≤◌, ℕ, Bool, true, false, List, [], All, Contains, IfOk, OnOk, IsErrOf};
 ghost use Rattle.am_matcher.specs.Patterns.{is_match, IsSound, IsBroken};
+ghost use Rattle.am_matcher.specs.Sizes.{size_of_all};
+ghost use Rattle.am_matcher.specs.Uses.{is_used_by, TextsPass};
 
 use crate::compiled::BuildError;
+use crate::entries::{Entry, ask, count, drop_unused, place_of};
 use crate::kept::Kept;
 use am_merge::Held;
-use am_silence::{MatcherIter, MeshSilence};
-use std::alloc::Global;
-use std::collections::HashMap;
+use am_silence::MeshSilence;
+use std::alloc::{AllocError, Global};
 use std::marker::Model;
 
-/// So many patterns a cache keeps at most.
-const MOST_PATTERNS: usize = 16_384;
+/// What is kept takes at most so many bytes.
+const MOST_BYTES: usize = 64 << 20;
 
-/// Compiled patterns, so that each is compiled once and not at each call.
+/// Compiled patterns of silences, so that each is compiled once and not at each call.
 ///
-/// Contracts see nothing of it: what is answered is the same whatever it keeps. Where there is no room for one more
-/// pattern, or no memory, it is built for the call alone.
+/// Contracts see the patterns that are kept, in the order of their texts. What is answered is the same whatever these
+/// are. Where there is no room for one more pattern, or no memory, it is built for the call alone.
 pub struct PatternCache {
     alloc: Global,
-    /// So many patterns are kept at most.
-    most: usize,
-    kept: HashMap<String, Kept>,
+    entries: Vec<Entry>,
+    /// The bytes that are counted for all of them.
+    bytes: usize,
 }
 
 // (so that crates above cite one drop, and don't prove those of all that is inside)
@@ -30,39 +32,34 @@ impl Drop for PatternCache {
     fn drop(self) {
         let PatternCache {
             alloc: _,
-            most: _,
-            kept: _,
+            entries: _,
+            bytes: _,
         } = self;
     }
 }
 
 impl Model for PatternCache {
-    ghost use Rattle.std.specs.Prelude.{◌≤◌};
-    ghost use Rattle.std.specs.HashMap.{hash_map_len};
+    ghost use Rattle.std.specs.Prelude.{◌≡◌, ◌≤◌, List};
+    ghost use Rattle.am_matcher.specs.Sizes.{CompiledPattern, size_of_all};
 
-    ghost Value = { Unit {0} };
+    ghost Value = { List CompiledPattern };
 
-    ghost view = { λ _. tt };
+    ghost use Rattle.am_matcher.specs.Entries.{patterns_in};
 
-    ghost invariant = { λ c. (hash_map_len c.kept ≤ c.most) × (c.most ≤ 16384) };
+    ghost view = { λ c. patterns_in c.entries.items };
+
+    ghost invariant = { λ c. (c.bytes ≡ size_of_all (patterns_in c.entries.items)) × (c.bytes ≤ 67_108_864) };
 }
 
 impl PatternCache {
     /// A cache that keeps nothing yet. It takes no memory.
-    pub fn new(alloc: Global) -> PatternCache {
+    pub fn new(alloc: Global) -> PatternCache
+        ensures { result ≡ [] }
+    {
         PatternCache {
             alloc,
-            most: MOST_PATTERNS,
-            kept: HashMap::new(alloc),
-        }
-    }
-
-    /// A cache that never keeps anything. It takes no memory.
-    pub(crate) fn of_nothing(alloc: Global) -> PatternCache {
-        PatternCache {
-            alloc,
-            most: 0,
-            kept: HashMap::new(alloc),
+            entries: Vec::new(alloc),
+            bytes: 0,
         }
     }
 
@@ -70,54 +67,72 @@ impl PatternCache {
         self.alloc
     }
 
-    /// Whether the value matches the pattern from end to end.
-    pub(crate) fn is_match(&mut self, pattern: &str, value: &str) -> Result<bool, BuildError>
+    /// The bytes that are counted for what is kept: at most 64 MiB.
+    pub fn size(&self) -> usize
+        ensures size { result ≡ size_of_all self.now }
+        ensures bounded { size_of_all self.now ≤ 67_108_864 }
+    {
+        self.bytes
+    }
+
+    /// Whether the value matches the pattern from end to end. The pattern may be kept if `keeps` says so.
+    pub(crate) fn is_match(
+        &mut self,
+        pattern: &str,
+        value: &str,
+        keeps: bool,
+    ) -> Result<bool, BuildError>
         ensures answer { IfOk result (λ yes. yes ≡ is_match pattern.now value.now) }
         ensures sound { OnOk result (IsSound pattern.now) }
         ensures broken { IsErrOf result BuildError.BadPattern → IsBroken pattern.now }
+        ensures same { keeps ≡ false → self.new ≡ self.old }
+        ensures kept { (test : List ℕ → Bool) → test pattern.now ≡ true → TextsPass test self.old → TextsPass test self.new }
     {
-        if let Some(kept) = self.kept.get_mut(pattern) {
-            if kept.pattern() == pattern {
-                return kept.is_match(value);
-            }
+        if let Some(found) = ask(&mut self.entries, pattern, value) {
+            return found;
         }
         let mut built = Kept::build(self.alloc, pattern)?;
         let found = built.is_match(value);
-        self.keep(built);
+        if !keeps {
+            return found;
+        }
+        let _ = self.keep(built);
         found
     }
 
     /// Keeps a pattern where there is room.
-    fn keep(&mut self, built: Kept) {
-        if self.kept.len() < self.most {
-            if let Ok(pattern) = String::from_str(self.alloc, built.pattern()) {
-                let _ = self.kept.insert(pattern, built);
-            }
+    ///
+    /// # Errors
+    ///
+    /// [`AllocError`] where memory runs out. What is kept stays as it was.
+    fn keep(&mut self, built: Kept) -> Result<(), AllocError>
+        ensures { (test : List ℕ → Bool) → test built.text ≡ true → TextsPass test self.old → TextsPass test self.new }
+    {
+        let size = built.size();
+        if size > MOST_BYTES - self.bytes {
+            return Ok(());
         }
+        let Err(place) = place_of(self.entries.as_slice(), built.text()) else {
+            return Ok(());
+        };
+        let entry = Entry {
+            kept: built,
+            is_used: false,
+        };
+        self.entries.insert(place, entry)?;
+        self.bytes += size;
+        Ok(())
     }
 
-    fn mark(&mut self, pattern: &str) {
-        if let Some(kept) = self.kept.get_mut(pattern) {
-            kept.mark();
-        }
-    }
-
-    fn mark_all(&mut self, matchers: MatcherIter<'_>) {
-        for matcher in matchers {
-            if matcher.kind().is_regexp() {
-                self.mark(matcher.pattern());
-            }
-        }
-    }
-
-    /// Drops the patterns that no silence of the map has. It takes linear time and no memory.
-    pub fn drop_unused(&mut self, held: &Held<MeshSilence>) {
-        if self.kept.is_empty() {
+    /// Drops the patterns that no silence of the map has. It takes no memory.
+    pub fn drop_unused(&mut self, held: &Held<MeshSilence>)
+        ensures used { TextsPass (is_used_by held.now) self.new }
+        ensures kept { All (Contains self.old) self.new }
+    {
+        if self.entries.is_empty() {
             return;
         }
-        for version in held.iter() {
-            self.mark_all(version.matchers());
-        }
-        self.kept.retain(|_, kept| kept.take_mark());
+        drop_unused(&mut self.entries, held);
+        self.bytes = count(self.entries.as_slice());
     }
 }

@@ -89,17 +89,14 @@ impl Drop for Compiled {
 }
 
 impl Model for Compiled {
-    ghost use Rattle.std.specs.Prelude.{◌≡◌, Some, None, if◌then◌else◌};
-    ghost use Rattle.am_silence.specs.Kinds.{is_regexp};
-    ghost use Rattle.am_matcher.specs.Patterns.{whole_text};
     ghost use Rattle.am_silence.specs.declared.matcher.Matcher.{Matcher};
+    ghost use Rattle.am_matcher.specs.Matching.{IsCompiled};
 
     ghost Value = { Matcher };
 
     ghost view = { λ c. c.matcher };
 
-    ghost invariant = { λ c.
-        c.whole ≡ (if is_regexp c.matcher.kind then Some (whole_text c.matcher.pattern) else None) };
+    ghost invariant = { λ c. IsCompiled c.matcher c.whole };
 }
 
 impl Compiled {

@@ -1,8 +1,10 @@
 //! Matchers that are asked once.
 
-ghost use Rattle.std.specs.Prelude.{◌≡◌, List, ℕ, [], true, All, Any, IfOk, OnOk, IsErrOf};
+ghost use Rattle.std.specs.Prelude.{◌≡◌, List, ℕ, Bool, [], true, false, All, Any, IfOk, OnOk, IsErrOf};
+ghost use Rattle.am_silence.specs.Kinds.{is_regexp};
 ghost use Rattle.am_matcher.specs.Labels.{value_in};
 ghost use Rattle.am_matcher.specs.Matching.{matches_value, IsSoundMatcher, IsBrokenMatcher, match_all, IsVerdict};
+ghost use Rattle.am_matcher.specs.Uses.{PatternsPass, TextsPass};
 
 use crate::cache::PatternCache;
 use crate::compiled::BuildError;
@@ -10,19 +12,23 @@ use crate::labels::{Label, value_of};
 use am_silence::{MatcherIter, MatcherKind, MatcherRef, Matchers, Verdict};
 use std::alloc::{AllocError, Global};
 
-/// Whether the value of a matcher's label matches.
+/// Whether the value of a matcher's label matches. Its pattern may be kept if `keeps` says so.
 fn judge(
     patterns: &mut PatternCache,
     matcher: &MatcherRef<'_>,
     labels: &[Label],
+    keeps: bool,
 ) -> Result<bool, BuildError>
     ensures answer { IfOk result (λ yes. yes ≡ matches_value matcher.now (value_in labels.now matcher.now.name)) }
     ensures sound { OnOk result (IsSoundMatcher matcher.now) }
     ensures broken { IsErrOf result BuildError.BadPattern → IsBrokenMatcher matcher.now }
+    ensures same { keeps ≡ false → patterns.new ≡ patterns.old }
+    ensures kept { (test : List ℕ → Bool) → (is_regexp matcher.now.kind ≡ true → test matcher.now.pattern ≡ true) →
+        TextsPass test patterns.old → TextsPass test patterns.new }
 {
     let value = value_of(labels, matcher.name());
     let found = if matcher.kind().is_regexp() {
-        patterns.is_match(matcher.pattern(), value)?
+        patterns.is_match(matcher.pattern(), value, keeps)?
     } else {
         matcher.pattern() == value
     };
@@ -33,34 +39,39 @@ fn judge(
 }
 
 /// Whether each of the matchers matches its label's value. All patterns are judged, whatever the
-/// labels are.
+/// labels are, and may be kept if `keeps` says so.
 pub fn judge_all(
     patterns: &mut PatternCache,
     matchers: MatcherIter<'_>,
     labels: &[Label],
+    keeps: bool,
 ) -> Result<bool, BuildError>
     ensures answer { IfOk result (λ yes. yes ≡ match_all matchers.entry labels.now) }
     ensures sound { OnOk result (All IsSoundMatcher matchers.entry) }
     ensures broken { IsErrOf result BuildError.BadPattern → Any IsBrokenMatcher matchers.entry }
+    ensures same { keeps ≡ false → patterns.new ≡ patterns.old }
+    ensures kept { (test : List ℕ → Bool) → PatternsPass test matchers.entry →
+        TextsPass test patterns.old → TextsPass test patterns.new }
 {
     let mut all = true;
     for matcher in matchers {
-        let matches = judge(patterns, &matcher, labels)?;
+        let matches = judge(patterns, &matcher, labels, keeps)?;
         all &= matches;
     }
     Ok(all)
 }
 
 impl PatternCache {
-    /// As [`verdict`], with the patterns kept.
+    /// As [`verdict`], by the patterns that are kept. It keeps none, since no silence has those that are posted yet.
     ///
     /// # Errors
     ///
     /// [`AllocError`] where memory runs out.
     pub fn verdict(&mut self, matchers: &Matchers) -> Result<Verdict, AllocError>
-        ensures { IfOk result (IsVerdict matchers.now) }
+        ensures verdict { IfOk result (IsVerdict matchers.now) }
+        ensures same { self.new ≡ self.old }
     {
-        match judge_all(self, matchers.iter(), &[]) {
+        match judge_all(self, matchers.iter(), &[], false) {
             Ok(true) => Ok(Verdict::AllEmpty),
             Ok(false) => Ok(Verdict::Fine),
             Err(BuildError::BadPattern) => Ok(Verdict::Bad),
@@ -79,5 +90,5 @@ impl PatternCache {
 pub fn verdict(alloc: Global, matchers: &Matchers) -> Result<Verdict, AllocError>
     ensures { IfOk result (IsVerdict matchers.now) }
 {
-    PatternCache::of_nothing(alloc).verdict(matchers)
+    PatternCache::new(alloc).verdict(matchers)
 }

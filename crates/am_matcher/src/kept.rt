@@ -1,90 +1,92 @@
 //! Patterns that are kept from one call to the next.
 
-ghost use Rattle.std.specs.Prelude.{◌≡◌, IfOk, OnOk, IsErrOf};
-ghost use Rattle.am_matcher.specs.Patterns.{is_match, IsSound, IsBroken, IsKept};
+ghost use Rattle.std.specs.Prelude.{◌≡◌, ◌-◌, ◌^◌, min, IfOk, OnOk, IsErrOf};
+ghost use Rattle.am_matcher.specs.Patterns.{is_match, IsSound, IsBroken};
+ghost use Rattle.am_matcher.specs.Kept.{pattern_of, IsBuilt};
+ghost use Rattle.am_matcher.specs.Sizes.{size_of};
 
 use crate::compiled::BuildError;
+use crate::counting::counted;
 use crate::whole::Whole;
 use std::alloc::{AllocError, Global};
 use std::marker::Model;
 
-/// What is kept of a pattern.
-fn whole_of(alloc: Global, pattern: &str) -> Result<Option<Whole>, AllocError>
-    ensures { IfOk result (IsKept pattern.now) }
+/// What building a pattern gave. Each has the text of its pattern.
+#[derive(Drop)]
+pub enum Built {
+    Sound(Box<Whole>),
+    Broken(String),
+}
+
+/// Builds a pattern.
+fn built_of(alloc: Global, pattern: &str) -> Result<Built, AllocError>
+    ensures text { IfOk result (λ built. (pattern_of built).text ≡ pattern.now) }
+    ensures told { IfOk result IsBuilt }
 {
     match Whole::build(alloc, pattern) {
-        Ok(whole) => Ok(Some(whole)),
-        Err(BuildError::BadPattern) => Ok(None),
+        Ok(whole) => Ok(Built::Sound(Box::new(alloc, whole)?)),
+        Err(BuildError::BadPattern) => Ok(Built::Broken(String::from_str(alloc, pattern)?)),
         Err(BuildError::Memory) => Err(AllocError),
     }
 }
 
-/// A pattern, and what building it gave. Contracts see the pattern.
+/// A pattern, and what building it gave. Contracts see the pattern, and how much was compiled.
 #[derive(Drop)]
 pub struct Kept {
-    pattern: String,
-    /// None where the pattern is broken.
-    whole: Option<Whole>,
-    is_used: bool,
+    built: Built,
 }
 
 impl Model for Kept {
-    ghost use Rattle.std.specs.Prelude.{List, ℕ, string_bytes};
-    ghost use Rattle.am_matcher.specs.Patterns.{IsKept};
+    ghost use Rattle.am_matcher.specs.Sizes.{CompiledPattern};
 
-    ghost Value = { List ℕ };
+    ghost Value = { CompiledPattern };
 
-    ghost view = { λ k. string_bytes k.pattern };
+    ghost use Rattle.am_matcher.specs.Kept.{pattern_of, IsBuilt};
 
-    ghost invariant = { λ k. IsKept (string_bytes k.pattern) k.whole };
+    ghost view = { λ k. pattern_of k.built };
+
+    ghost invariant = { λ k. IsBuilt k.built };
 }
 
 impl Kept {
     /// Builds a pattern. One that is broken is kept as such.
     pub fn build(alloc: Global, pattern: &str) -> Result<Kept, AllocError>
-        ensures { IfOk result (λ kept. kept ≡ pattern.now) }
+        ensures { IfOk result (λ kept. kept.text ≡ pattern.now) }
     {
-        let whole = whole_of(alloc, pattern)?;
-        let pattern = String::from_str(alloc, pattern)?;
-        Ok(Kept {
-            pattern,
-            whole,
-            is_used: false,
-        })
+        let built = built_of(alloc, pattern)?;
+        Ok(Kept { built })
     }
 
-    pub fn pattern(&self) -> &str
-        ensures { result.now ≡ self.now }
+    /// The text of the pattern.
+    pub fn text(&self) -> &str
+        ensures { result.now ≡ self.now.text }
     {
-        self.pattern.as_str()
+        match &self.built {
+            Built::Sound(whole) => whole.text(),
+            Built::Broken(text) => text.as_str(),
+        }
+    }
+
+    /// The bytes that are counted for it.
+    pub fn size(&self) -> usize
+        ensures { result ≡ min (size_of self.now) (2 ^ 64 - 1) }
+    {
+        match &self.built {
+            Built::Sound(whole) => whole.size(),
+            Built::Broken(text) => counted(text.len(), 0, 0, 0),
+        }
     }
 
     /// Whether the value matches the pattern from end to end.
     pub fn is_match(&mut self, value: &str) -> Result<bool, BuildError>
-        ensures answer { IfOk result (λ yes. yes ≡ is_match self.old value.now) }
-        ensures sound { OnOk result (IsSound self.old) }
-        ensures broken { IsErrOf result BuildError.BadPattern → IsBroken self.old }
+        ensures answer { IfOk result (λ yes. yes ≡ is_match self.old.text value.now) }
+        ensures sound { OnOk result (IsSound self.old.text) }
+        ensures broken { IsErrOf result BuildError.BadPattern → IsBroken self.old.text }
         ensures same { self.new ≡ self.old }
     {
-        match &mut self.whole {
-            Some(whole) => Ok(whole.matches(value)?),
-            None => Err(BuildError::BadPattern),
+        match &mut self.built {
+            Built::Sound(whole) => Ok(whole.matches(value)?),
+            Built::Broken(_) => Err(BuildError::BadPattern),
         }
-    }
-
-    /// Marks it as used.
-    pub fn mark(&mut self)
-        ensures { self.new ≡ self.old }
-    {
-        self.is_used = true;
-    }
-
-    /// Whether it was marked. The mark goes.
-    pub fn take_mark(&mut self) -> bool
-        ensures { self.new ≡ self.old }
-    {
-        let was_used = self.is_used;
-        self.is_used = false;
-        was_used
     }
 }

@@ -3,6 +3,8 @@
 
 mod cache;
 mod compiled;
+mod counting;
+mod entries;
 mod filter;
 mod filter_text;
 mod gathering;

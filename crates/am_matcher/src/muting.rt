@@ -1,8 +1,9 @@
 //! Which silences mute an alert.
 
-ghost use Rattle.std.specs.Prelude.{◌≡◌, ◌++◌, ℕ, List, map, IfOk, OnOk};
+ghost use Rattle.std.specs.Prelude.{◌≡◌, ◌++◌, ◌||◌, ℕ, Bool, List, All, map, IfOk, OnOk};
 ghost use Rattle.am_silence.specs.Mesh.{Mesh};
 ghost use Rattle.am_matcher.specs.Mutes.{is_active, IsEffect, if_mutes, if_broken, AreMuted};
+ghost use Rattle.am_matcher.specs.Uses.{is_among, is_used_by, PatternsPass, SilencesPass, TextsPass};
 
 use crate::cache::PatternCache;
 use crate::compiled::BuildError;
@@ -36,19 +37,23 @@ fn is_active(version: &MeshSilence, now: Moment) -> bool
     now < version.expires() && version.starts_at() <= now && now < version.ends_at()
 }
 
-/// What a silence does to an alert with these labels. Only the patterns of an active one are looked at.
+/// What a silence does to an alert with these labels. Only the patterns of an active one are looked at, and may be kept
+/// if `keeps` says so.
 fn effect_of(
     patterns: &mut PatternCache,
     version: &MeshSilence,
     labels: &[Label],
     now: Moment,
+    keeps: bool,
 ) -> Result<Effect, AllocError>
-    ensures { IfOk result (IsEffect labels.now now version.now) }
+    ensures effect { IfOk result (IsEffect labels.now now version.now) }
+    ensures kept { (test : List ℕ → Bool) → PatternsPass test version.now.silence.matchers →
+        TextsPass test patterns.old → TextsPass test patterns.new }
 {
     if !is_active(version, now) {
         return Ok(Effect::Idle);
     }
-    match judge_all(patterns, version.matchers(), labels) {
+    match judge_all(patterns, version.matchers(), labels, keeps) {
         Ok(true) => Ok(Effect::Mutes),
         Ok(false) => Ok(Effect::Passes),
         Err(BuildError::BadPattern) => Ok(Effect::Broken),
@@ -75,20 +80,23 @@ fn put_id(
     Ok(())
 }
 
-/// Which of the silences mute an alert, and which are broken.
+/// Which of the silences mute an alert, and which are broken. Patterns may be kept if `keeps` says so.
 fn mutes_among(
     alloc: Global,
     patterns: &mut PatternCache,
     silences: &[&MeshSilence],
     labels: &[Label],
     now: Moment,
+    keeps: bool,
 ) -> Result<Mutes, AllocError>
-    ensures { IfOk result (λ m. AreMuted labels.now now (map (λ m. m.now) silences.now) m.ids m.broken) }
+    ensures muted { IfOk result (λ m. AreMuted labels.now now (map (λ m. m.now) silences.now) m.ids m.broken) }
+    ensures kept { (test : List ℕ → Bool) → SilencesPass test (map (λ m. m.now) silences.now) →
+        TextsPass test patterns.old → TextsPass test patterns.new }
 {
     let mut ids = Vec::new(alloc);
     let mut broken = Vec::new(alloc);
     for &version in silences {
-        let effect = effect_of(patterns, version, labels, now)?;
+        let effect = effect_of(patterns, version, labels, now, keeps)?;
         put_id(alloc, version.key(), effect, &mut ids, &mut broken)?;
     }
     Ok(Mutes {
@@ -97,8 +105,27 @@ fn mutes_among(
     })
 }
 
+/// Which silences of a map mute an alert. Patterns may be kept if `keeps` says so.
+fn mutes_by(
+    patterns: &mut PatternCache,
+    held: &Held<MeshSilence>,
+    labels: &[Label],
+    now: Moment,
+    keeps: bool,
+) -> Result<Mutes, AllocError>
+    ensures muted { IfOk result (λ m. AreMuted labels.now now held.now m.ids m.broken) }
+    ensures kept { (test : List ℕ → Bool) → SilencesPass test held.now →
+        TextsPass test patterns.old → TextsPass test patterns.new }
+{
+    let alloc = patterns.alloc();
+    let buckets = buckets_for(alloc, labels)?;
+    let silences = gather(alloc, held, &buckets)?;
+    let muted = mutes_among(alloc, patterns, &silences, labels, now, keeps)?;
+    Ok(muted)
+}
+
 impl PatternCache {
-    /// As [`mutes`], with the patterns kept: each is compiled once.
+    /// As [`mutes`], with the patterns of the silences kept where there is room: each is compiled once.
     ///
     /// # Errors
     ///
@@ -109,14 +136,11 @@ impl PatternCache {
         labels: &Labels,
         now: Moment,
     ) -> Result<Mutes, AllocError>
-        ensures { IfOk result (λ m. AreMuted labels.now now held.now m.ids m.broken) }
+        ensures muted { IfOk result (λ m. AreMuted labels.now now held.now m.ids m.broken) }
+        // What is kept then was kept before, or a silence has it.
+        ensures kept { TextsPass (λ text. is_among self.old text || is_used_by held.now text) self.new }
     {
-        let alloc = self.alloc();
-        let labels = labels.as_slice();
-        let buckets = buckets_for(alloc, labels)?;
-        let silences = gather(alloc, held, &buckets)?;
-        let muted = mutes_among(alloc, self, &silences, labels, now)?;
-        Ok(muted)
+        mutes_by(self, held, labels.as_slice(), now, true)
     }
 }
 
@@ -138,5 +162,11 @@ pub fn mutes(
 ) -> Result<Mutes, AllocError>
     ensures { IfOk result (λ m. AreMuted labels.now now held.now m.ids m.broken) }
 {
-    PatternCache::of_nothing(alloc).mutes(held, labels, now)
+    mutes_by(
+        &mut PatternCache::new(alloc),
+        held,
+        labels.as_slice(),
+        now,
+        false,
+    )
 }

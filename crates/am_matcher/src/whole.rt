@@ -1,13 +1,15 @@
 //! Patterns that are searched for from end to end.
 
-ghost use Rattle.std.specs.Prelude.{◌≡◌, IfOk, OnOk, IsErrOf};
+ghost use Rattle.std.specs.Prelude.{◌≡◌, ◌-◌, ◌^◌, min, IfOk, OnOk, IsErrOf, if◌then◌else◌};
 ghost use Rattle.regex.specs.declared.error.Error.{Error};
 ghost use Rattle.regex_hir.specs.Meaning.{meaning};
 ghost use Rattle.regex_compile.specs.Implements.{Implements};
-ghost use Rattle.am_matcher.specs.Patterns.{whole_text, is_found, IsReadable, IsSound, IsBroken, IsRefusedFor};
+ghost use Rattle.am_matcher.specs.Patterns.{is_match, IsReadable, IsSound, IsBroken, IsRefusedFor};
 ghost use Rattle.am_matcher.specs.Searches.{Finds};
+ghost use Rattle.am_matcher.specs.Sizes.{size_of};
 
 use crate::compiled::BuildError;
+use crate::counting::{SEARCH_BYTES, counted};
 use crate::search::is_found;
 use regex_dfa::{Dfa, Forward};
 use regex_nfa::Nfa;
@@ -18,14 +20,12 @@ use std::marker::Model;
 /// What is compiled takes at most so many bytes: the limit that `regex` has by itself.
 const MOST_BYTES: usize = 10 << 20;
 
-/// What searches build takes about so many bytes. Where that is too little they go on without it.
-const SEARCH_BYTES: usize = 64 << 10;
-
-/// A compiled pattern, and what searches for it have built. Contracts see the text that was compiled.
+/// A compiled pattern, and what searches for it have built. Contracts see its text, how much was compiled, and how many
+/// tables searches may fill.
 ///
 /// It stands on the parts of `regex`, whose own searcher borrows the compiled pattern and can't be kept beside it.
 pub struct Whole {
-    text: String,
+    pattern: String,
     dfa: Dfa,
     forward: Forward,
     alloc: Global,
@@ -35,7 +35,7 @@ pub struct Whole {
 impl Drop for Whole {
     fn drop(self) {
         let Whole {
-            text: _,
+            pattern: _,
             dfa: _,
             forward: _,
             alloc: _,
@@ -44,15 +44,22 @@ impl Drop for Whole {
 }
 
 impl Model for Whole {
-    ghost use Rattle.std.specs.Prelude.{List, ℕ, string_bytes};
+    ghost use Rattle.std.specs.Prelude.{string_bytes, vec_len, if◌then◌else◌};
     ghost use Rattle.regex_dfa.specs.Search.{IsForwardFor};
+    ghost use Rattle.am_matcher.specs.Patterns.{whole_text};
     ghost use Rattle.am_matcher.specs.Searches.{Finds};
+    ghost use Rattle.am_matcher.specs.Sizes.{CompiledPattern};
 
-    ghost Value = { List ℕ };
+    ghost Value = { CompiledPattern };
 
-    ghost view = { λ w. string_bytes w.text };
+    ghost view = { λ w. record {
+      text = string_bytes w.pattern;
+      states = vec_len w.dfa.nfa.states;
+      transitions = vec_len w.dfa.nfa.transitions;
+      tables = (if w.dfa.needs.unicode then 2 else 1);
+    } };
 
-    ghost invariant = { λ w. Finds w.dfa.nfa (string_bytes w.text) × IsForwardFor w.forward w.dfa };
+    ghost invariant = { λ w. Finds w.dfa.nfa (whole_text (string_bytes w.pattern)) × IsForwardFor w.forward w.dfa };
 }
 
 /// Refuses a pattern that is broken by itself, as `a)|(b`, which would be read once it is wrapped.
@@ -92,7 +99,7 @@ fn dfa_of(alloc: Global, text: &str) -> Result<Dfa, BuildError>
 impl Whole {
     /// Compiles the pattern `p` as `^(?:p)$`.
     pub fn build(alloc: Global, pattern: &str) -> Result<Whole, BuildError>
-        ensures source { IfOk result (λ whole. whole ≡ whole_text pattern.now) }
+        ensures text { IfOk result (λ whole. whole.text ≡ pattern.now) }
         ensures sound { OnOk result (IsSound pattern.now) }
         ensures broken { IsErrOf result BuildError.BadPattern → IsBroken pattern.now }
     {
@@ -100,20 +107,50 @@ impl Whole {
         let text = format!(in alloc; "^(?:{pattern})$")?;
         let dfa = dfa_of(alloc, text.as_str())?;
         let forward = Forward::with_budget(alloc, &dfa, false, SEARCH_BYTES)?;
+        let pattern = String::from_str(alloc, pattern)?;
         Ok(Whole {
-            text,
+            pattern,
             dfa,
             forward,
             alloc,
         })
     }
 
+    /// The text of the pattern.
+    pub fn text(&self) -> &str
+        ensures { result.now ≡ self.now.text }
+    {
+        self.pattern.as_str()
+    }
+
+    /// The bytes that are counted for it.
+    pub fn size(&self) -> usize
+        ensures { result ≡ min (size_of self.now) (2 ^ 64 - 1) }
+    {
+        let tables = tables_of(&self.dfa);
+        let nfa = &self.dfa.nfa;
+        counted(
+            self.pattern.len(),
+            nfa.states.len(),
+            nfa.transitions.len(),
+            tables,
+        )
+    }
+
     /// Whether the text matches from end to end.
     pub fn matches(&mut self, text: &str) -> Result<bool, AllocError>
-        ensures answer { IfOk result (λ found. found ≡ is_found self.old text.now) }
+        ensures answer { IfOk result (λ found. found ≡ is_match self.old.text text.now) }
         ensures same { self.new ≡ self.old }
     {
         let found = is_found(self.alloc, &self.dfa, &mut self.forward, text.as_bytes())?;
         Ok(found)
     }
+}
+
+/// How many tables searches may fill: one of the states that they meet, and one of the steps by the characters beside a
+/// word where the pattern asks for these.
+fn tables_of(dfa: &Dfa) -> usize
+    ensures { result ≡ (if dfa.now.needs.unicode then 2 else 1) }
+{
+    if dfa.needs.unicode { 2 } else { 1 }
 }

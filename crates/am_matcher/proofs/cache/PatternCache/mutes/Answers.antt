@@ -1,18 +1,12 @@
-use Rattle.std.proofs.Common.{◌≡◌, ◌∙◌, ap, filter, subst}
-use Rattle.am_matcher.specs.Buckets.{buckets_for, is_in}
-use Rattle.am_matcher.specs.Mutes.{AreMuted}
-use Rattle.am_matcher.proofs.Apart.{muted_among_all}
-use Rattle.am_matcher.proofs.Orders.{silences}
-use Rattle.am_matcher.proofs.OtherBuckets.{other_bucket}
+use Rattle.std.proofs.Common.{◌||◌}
+use Rattle.am_matcher.specs.Uses.{is_among, is_used_by}
+use Rattle.am_matcher.proofs.Uses.{used_by_themselves, among_themselves, texts_first, silences_second}
 use Rattle.am_matcher.proofs.cache.PatternCache.mutes.Goals as goal
 
-pub returns : goal.returns
-returns c =
-    let ids = c.in_ok-muted.muted.ids in
-    let broken = c.in_ok-muted.muted.broken in
-    let labels = c.args.labels.now in
-    let found : silences c.deref-2.result.now ≡ filter (is_in (buckets_for labels)) c.args.held.now =
-    ap silences c.deref-2.ensures.value ∙ c.in_ok-silences.ensures
-    ∙ ap (λ bs. filter (is_in bs) c.args.held.now) (c.deref.ensures.value ∙ c.in_ok-buckets.ensures ∙ ap buckets_for c.as_slice-labels.ensures) in
-    let some = subst (λ ls. AreMuted ls c.args.now (silences c.deref-2.result.now) ids broken) c.as_slice-labels.ensures c.in_ok-muted.ensures in
-    muted_among_all labels c.args.now (is_in (buckets_for labels)) c.args.held.now ids broken (λ m no. other_bucket labels m no) (subst (λ ms. AreMuted labels c.args.now ms ids broken) found some)
+pub returns-clause-kept : goal.returns-clause-kept
+returns-clause-kept c =
+    let before = c.args.self.now in
+    let held = c.args.held.now in
+    c.mutes_by.ensures.kept (λ text. is_among before text || is_used_by held text)
+    (silences_second (is_among before) (is_used_by held) held (used_by_themselves held))
+    (texts_first (is_among before) (is_used_by held) before (among_themselves before))

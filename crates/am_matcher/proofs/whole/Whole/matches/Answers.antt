@@ -1,6 +1,7 @@
 use Rattle.std.proofs.Common.{◌≡◌, ◌∙◌, ap, is_some, rules}
-use Rattle.am_matcher.specs.Patterns.{is_found}
+use Rattle.am_matcher.specs.Patterns.{is_match}
 use Rattle.am_matcher.specs.Searches.{found_by}
+use Rattle.am_matcher.specs.Sizes.{CompiledPattern}
 use Rattle.am_matcher.proofs.whole.Whole.matches.Goals as goal
 
 pub returns-clause-answer : goal.returns-clause-answer
@@ -9,4 +10,4 @@ returns-clause-answer c =
     c.in_ok-found.ensures.answer
     ∙ ap (λ text. is_some (found_by c.self.inside.dfa.nfa text)) same
     ∙ c.self.invariant.0 c.args.text.now (λ k. (c.type_inv.text k).fits)
-    ∙ ap (λ source. is_found source c.args.text.now) c.self.view_is
+    ∙ ap (λ (p : CompiledPattern). is_match p.text c.args.text.now) c.self.view_is

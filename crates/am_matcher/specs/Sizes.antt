@@ -1,0 +1,18 @@
+-- The bytes that are counted for patterns that are kept.
+use Rattle.std.specs.Prelude.{ℕ, ◌+◌, ◌*◌, List, length, sum_by}
+
+-- A pattern that was compiled: its text, how many states and transitions came of it, and how many tables its searches may
+-- fill. Of a broken one there are none.
+pub record CompiledPattern : Type 0 where
+  pub text : List ℕ
+  pub states : ℕ
+  pub transitions : ℕ
+  pub tables : ℕ
+
+-- the bytes of a pattern: 4,096 for each, those of its text, 96 for a state, 24 for a transition and 65,536 for a table
+abbrev pub size_of : CompiledPattern → ℕ
+size_of p = 4_096 + length p.text + 96 * p.states + 24 * p.transitions + 65_536 * p.tables
+
+-- the bytes of all of them
+abbrev pub size_of_all : List CompiledPattern → ℕ
+size_of_all patterns = sum_by size_of patterns

@@ -1,0 +1,120 @@
+//! The entries of a cache: patterns that are kept, in the order of their texts.
+
+ghost use Rattle.std.specs.Prelude.{◌≡◌, ℕ, ◌^◌, ◌<◌, ◌≤◌, Bool, true, false, List, All, Contains, filter, length, IfOk, IfErr, IfSome, OnOk, IsErrOf};
+ghost use Rattle.std.specs.List.{HoldsAt};
+ghost use Rattle.am_silence.specs.Kinds.{is_regexp};
+ghost use Rattle.am_matcher.specs.Patterns.{is_match, IsSound, IsBroken};
+ghost use Rattle.am_matcher.specs.Sizes.{size_of_all};
+ghost use Rattle.am_matcher.specs.Uses.{is_used_by, PatternsPass, TextsPass};
+ghost use Rattle.am_matcher.specs.Entries.{patterns_in, MarkedPass};
+
+use crate::compiled::BuildError;
+use crate::kept::Kept;
+use am_merge::Held;
+use am_silence::{MatcherIter, MatcherRef, MeshSilence};
+
+/// A pattern that is kept.
+#[derive(Drop)]
+pub struct Entry {
+    pub kept: Kept,
+    /// It is marked as one that a silence has. The mark counts while those are dropped that none has.
+    pub is_used: bool,
+}
+
+/// Where the pattern of a text is, or else where it would go.
+pub fn place_of(entries: &[Entry], text: &str) -> Result<usize, usize>
+    ensures found { IfOk result (HoldsAt (λ e. e.kept.text ≡ text.now) entries.now) }
+    ensures inside { IfOk result (λ place. place < length entries.now) }
+    ensures within { IfErr result (λ place. place ≤ length entries.now) }
+{
+    entries.binary_search_by(|entry| entry.kept.text().cmp(text))
+}
+
+/// Whether the value matches the pattern of a text, where that is kept.
+pub fn ask(entries: &mut Vec<Entry>, pattern: &str, value: &str) -> Option<Result<bool, BuildError>>
+    ensures answer { IfSome result (λ found. IfOk found (λ yes. yes ≡ is_match pattern.now value.now)) }
+    ensures sound { IfSome result (λ found. OnOk found (IsSound pattern.now)) }
+    ensures broken { IfSome result (λ found. IsErrOf found BuildError.BadPattern → IsBroken pattern.now) }
+    ensures same { patterns_in entries.new.items ≡ patterns_in entries.old.items }
+{
+    let Ok(place) = place_of(entries.as_slice(), pattern) else {
+        return None;
+    };
+    let entry = &mut entries[place];
+    Some(entry.kept.is_match(value))
+}
+
+/// The bytes that are counted for the patterns.
+pub fn count(entries: &[Entry]) -> usize
+    requires { size_of_all (patterns_in entries.now) < 2 ^ 64 }
+    ensures { result ≡ size_of_all (patterns_in entries.now) }
+{
+    let mut bytes = 0;
+    for entry in entries {
+        bytes += entry.kept.size();
+    }
+    bytes
+}
+
+/// Drops the patterns that no silence of the map has. It takes no memory.
+pub fn drop_unused(entries: &mut Vec<Entry>, held: &Held<MeshSilence>)
+    ensures used { TextsPass (is_used_by held.now) (patterns_in entries.new.items) }
+    ensures kept { All (Contains (patterns_in entries.old.items)) (patterns_in entries.new.items) }
+    ensures size { size_of_all (patterns_in entries.new.items) ≤ size_of_all (patterns_in entries.old.items) }
+{
+    mark_used(entries, held);
+    drop_unmarked(entries);
+}
+
+/// Marks the patterns that the silences of the map have, and no others.
+fn mark_used(entries: &mut Vec<Entry>, held: &Held<MeshSilence>)
+    ensures same { patterns_in entries.new.items ≡ patterns_in entries.old.items }
+    ensures used { MarkedPass (is_used_by held.now) entries.new.items }
+{
+    unmark_all(entries);
+    for version in held.iter() {
+        mark_all(entries, version.matchers());
+    }
+}
+
+fn unmark_all(entries: &mut Vec<Entry>)
+    ensures same { patterns_in entries.new.items ≡ patterns_in entries.old.items }
+    ensures none { All (λ e. e.is_used ≡ false) entries.new.items }
+{
+    for entry in entries.iter_mut() {
+        entry.is_used = false;
+    }
+}
+
+/// Marks the patterns of matchers.
+fn mark_all(entries: &mut Vec<Entry>, matchers: MatcherIter<'_>)
+    ensures same { patterns_in entries.new.items ≡ patterns_in entries.old.items }
+    ensures used { (test : List ℕ → Bool) → PatternsPass test matchers.entry →
+        MarkedPass test entries.old.items → MarkedPass test entries.new.items }
+{
+    for matcher in matchers {
+        mark(entries, &matcher);
+    }
+}
+
+/// Marks the pattern of a matcher that is a regular expression, where it is kept.
+fn mark(entries: &mut Vec<Entry>, matcher: &MatcherRef<'_>)
+    ensures same { patterns_in entries.new.items ≡ patterns_in entries.old.items }
+    ensures used { (test : List ℕ → Bool) → (is_regexp matcher.now.kind ≡ true → test matcher.now.pattern ≡ true) →
+        MarkedPass test entries.old.items → MarkedPass test entries.new.items }
+{
+    if !matcher.kind().is_regexp() {
+        return;
+    }
+    let Ok(place) = place_of(entries.as_slice(), matcher.pattern()) else {
+        return;
+    };
+    let entry = &mut entries[place];
+    entry.is_used = true;
+}
+
+fn drop_unmarked(entries: &mut Vec<Entry>)
+    ensures { entries.new.items ≡ filter (λ e. e.is_used) entries.old.items }
+{
+    entries.retain(|entry| entry.is_used);
+}
