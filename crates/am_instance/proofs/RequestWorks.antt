@@ -1,16 +1,17 @@
 -- What a request does, put together of its parts.
-use Rattle.std.proofs.Common.{◌≡◌, ℕ, List, [], ◌∷◌, Bool, map, ap, refl, sym, subst, ◌∙◌}
+use Rattle.std.proofs.Common.{◌≡◌, ℕ, List, [], ◌∷◌, Bool, true, false, map, ap, refl, sym, subst, ◌∙◌}
 use Rattle.std.specs.Prelude.{◌≢◌, Option, Some, None, Result, Ok, Err, IfOk, IfErr, OnOk, OnErr, is_some}
 use Rattle.am_silence.specs.Mesh.{Mesh}
 use Rattle.am_silence.specs.Ids.{id_text}
 use Rattle.am_silence.specs.Plans.{post_of, planned, versions, ended_of}
-use Rattle.am_silence.specs.Refusals.{refusal, end_refusal}
+use Rattle.am_silence.specs.Refusals.{◌when◌, ◌before◌, refusal, early_refusal, posted_refusal, matchers_refusal, end_refusal}
 use Rattle.am_silence.specs.declared.plan.Posted.{Posted}
 use Rattle.am_silence.specs.declared.plan.Plan.{Plan}
 use Rattle.am_silence.specs.declared.plan.Verdict.{Verdict}
 use Rattle.am_silence.specs.declared.error.SilenceError.{SilenceError}
 use Rattle.am_silence.specs.declared.error.SilenceError.TheVariants as silence_errors
 use Rattle.am_matcher.specs.Matching.{IsVerdict}
+use Rattle.am_matcher.proofs.Verdicts.{has_verdict}
 use Rattle.am_instance.specs.declared.error.StepError.{StepError}
 use Rattle.am_instance.specs.declared.error.StepError.TheVariants.{Memory}
 use Rattle.am_instance.specs.declared.event.Event.TheVariants as events
@@ -20,7 +21,7 @@ use Rattle.am_instance.specs.declared.reply.Reply.TheVariants as replies
 use Rattle.am_instance.specs.declared.reply.Outcome.{Outcome}
 use Rattle.am_instance.specs.Deliveries.Delivery.{OfSilence}
 use Rattle.am_instance.specs.Stands.{Stand, silence_at}
-use Rattle.am_instance.specs.Replies.{RefusedOr, IsDone, IsEnded, posted_id, posted_over, silence_in_view}
+use Rattle.am_instance.specs.Replies.{RefusedOr, IsDone, IsEnded, posted_id, posted_over, unread_refusal, silence_in_view}
 use Rattle.am_instance.specs.Steps.{IsWork, IsPlanned, IsPutHere, IsTurnedAway}
 use Rattle.am_instance.proofs.Works.{made_work, quiet_work, stopped_work, made_silences}
 
@@ -50,6 +51,24 @@ planned_by stand posted bits now verdict held id_held (Err e) judged is known pl
   ap (λ (h : Option Mesh). refusal h verdict (is_some (silence_at stand.silences (id_text bits))) (post_of posted now bits stand.config.retention)) (sym is)
       ∙ ap (λ (b : Bool). refusal held verdict b (post_of posted now bits stand.config.retention)) (sym known) ∙ refused other,
 )
+
+-- what comes first of refusals is the refusal, whatever comes behind it
+comes_first : (missing none nameless : Bool) (patterns times older fresh size : Option SilenceError) (error : SilenceError) →
+    (silence_errors.NotFound when missing before silence_errors.NoMatcher when none before silence_errors.EmptyName when nameless) ≡ Some error →
+    (silence_errors.NotFound when missing
+    before (silence_errors.NoMatcher when none before silence_errors.EmptyName when nameless before patterns)
+    before times before older before fresh before size) ≡ Some error
+comes_first true none nameless patterns times older fresh size error is = is
+comes_first false true nameless patterns times older fresh size error is = is
+comes_first false false true patterns times older fresh size error is = is
+comes_first false false false patterns times older fresh size error is = absurd cc
+
+-- a post that is refused whatever its patterns are: there is a verdict on them, with which it is refused so
+pub unread_planned : (stand : Stand) (posted : Posted) (bits now : ℕ) (error : SilenceError) → unread_refusal (posted_over now stand.silences posted.id) posted ≡ Some error → IsPlanned stand posted bits now (Err error)
+unfolding refusal early_refusal posted_refusal matchers_refusal
+unread_planned stand posted bits now error is = λ other.
+    let judged = has_verdict posted.matchers in
+    (judged.0, judged.1, comes_first _ _ _ _ _ _ _ _ error is)
 
 -- a post that was planned and carried out
 pub post_done : (old new : Stand) (posted : Posted) (bits now : ℕ) (plan : Plan) (result : Result Outcome StepError) → IsPlanned old posted bits now (Ok plan) →

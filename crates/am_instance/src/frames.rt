@@ -1,11 +1,16 @@
 //! Frames that peers send to an instance.
 
-ghost use Rattle.std.specs.Prelude.{◌≡◌, ◌+◌, ℕ, Ok, length, None, OnOk, OnErr, IfOk, IfErr};
+ghost use Rattle.std.specs.Prelude.{◌≡◌, ◌+◌, ℕ, List, Ok, length, None, OnOk, OnErr, IfOk, IfErr};
+ghost use Rattle.am_silence.specs.Mesh.{mesh_version};
+ghost use Rattle.am_nflog.specs.LogKeys.{LogKey};
+ghost use Rattle.am_nflog.specs.Mesh.{mesh_version as entry_version};
+ghost use Rattle.am_merge.specs.Maps.{if_live};
+ghost use Rattle.am_matcher.specs.Uses.{is_used_by, TextsPass};
 ghost use Rattle.am_gossip.specs.declared.frame.Frame.TheVariants as frames;
 ghost use Rattle.am_instance.specs.declared.event.Event.TheVariants as events;
 ghost use Rattle.am_instance.specs.Configs.{peers_but, places_but};
 ghost use Rattle.am_instance.specs.Deliveries.{before_fault, first_fault, rows_in, rows_of};
-ghost use Rattle.am_instance.specs.Stands.{silence_at, entry_at};
+ghost use Rattle.am_instance.specs.Stands.{silence_at, entry_at, silences_in_view, log_in_view};
 ghost use Rattle.am_instance.specs.Changes.{changed_of};
 ghost use Rattle.am_instance.specs.Sendings.{Sends, deltas_to, nothing_sent, sent_by};
 ghost use Rattle.am_instance.specs.Replies.{IsNothing};
@@ -18,6 +23,8 @@ use crate::outbox::{Outbox, Route};
 use crate::reply::{Made, Outcome, Reply};
 use crate::rows::{Taking, judge_row, take_row};
 use am_gossip::{Frame, Part, StateKey};
+use am_matcher::PatternCache;
+use am_merge::Held;
 use am_nflog::MeshEntry;
 use am_silence::MeshSilence;
 use am_version_order::Moment;
@@ -56,9 +63,7 @@ impl Instance {
         ensures tick { IsWork self.old events.Tick now (Ok result) self.new }
         ensures frame { (sender : ℕ) → IsWork self.old (events.Frame sender frames.Tick) now (Ok result) self.new }
     {
-        self.silences.sweep(now);
-        self.log.sweep(now);
-        self.patterns.drop_unused(&self.silences);
+        sweep(&mut self.silences, &mut self.log, &mut self.patterns, now);
         outcome(self.alloc, Reply::Nothing, Outbox::new(self.alloc))
     }
 
@@ -166,6 +171,25 @@ impl Instance {
             origin,
         }
     }
+}
+
+/// Drops what isn't live of both states, and the patterns that no silence has that is left. It takes no memory.
+fn sweep(
+    silences: &mut Held<MeshSilence>,
+    log: &mut Held<MeshEntry>,
+    patterns: &mut PatternCache,
+    now: Moment,
+)
+    ensures silences { silences.new ≡ silences_in_view now silences.old }
+    ensures log { log.new ≡ log_in_view now log.old }
+    ensures each_silence { (id : List ℕ) →
+        silence_at silences.new id ≡ if_live mesh_version now (silence_at silences.old id) }
+    ensures each_entry { (key : LogKey) → entry_at log.new key ≡ if_live entry_version now (entry_at log.old key) }
+    ensures patterns { TextsPass (is_used_by silences.new) patterns.new }
+{
+    silences.sweep(now);
+    log.sweep(now);
+    patterns.drop_unused(silences);
 }
 
 /// Reads each version in parts, and keeps none.

@@ -1,6 +1,7 @@
 //! What people and tools ask of an instance.
 
-ghost use Rattle.std.specs.Prelude.{◌≡◌, [], ◌∷◌, is_some, OnErr, IfOk, IfErr};
+ghost use Rattle.std.specs.Prelude.{◌≡◌, ◌==◌, [], ◌∷◌, length, is_some, OnErr, IfOk, IfErr};
+ghost use Rattle.std.specs.List.{list_any};
 ghost use Rattle.std.specs.Option.{option_copied};
 ghost use Rattle.am_silence.specs.Plans.{versions};
 ghost use Rattle.am_silence.specs.declared.error.SilenceError.TheVariants as silence_errors;
@@ -14,7 +15,7 @@ ghost use Rattle.am_instance.specs.Deliveries.Delivery.{OfSilence};
 ghost use Rattle.am_instance.specs.declared.reply.Reply.TheVariants as replies;
 ghost use Rattle.am_instance.specs.Changes.{only_if};
 ghost use Rattle.am_instance.specs.Sendings.{Sends, deltas_to, nothing_sent, sent_by};
-ghost use Rattle.am_instance.specs.Replies.{AreMade, IsNothing, posted_id, posted_over};
+ghost use Rattle.am_instance.specs.Replies.{AreMade, IsNothing, posted_id, posted_over, unread_refusal};
 ghost use Rattle.am_instance.specs.Steps.{IsPlanned, IsPutHere, IsTurnedAway, IsWork, is_changed};
 
 use crate::error::StepError;
@@ -28,7 +29,8 @@ use am_gossip::StateKey;
 use am_matcher::Filter;
 use am_merge::{Held, Taken};
 use am_silence::{
-    Matchers, MeshSilence, Plan, Posted, SilenceError, Verdict, fresh_id, plan_expire, plan_post,
+    MatcherIter, Matchers, MeshSilence, Plan, Posted, SilenceError, Verdict, fresh_id, plan_expire,
+    plan_post,
 };
 use am_version_order::{Moment, Version};
 use am_wire::Text;
@@ -71,11 +73,22 @@ impl Instance {
     fn post(&mut self, posted: Posted, bits: u128, now: Moment) -> Result<Outcome, StepError>
         ensures { IsWork self.old (events.Request (requests.Post posted bits)) now result self.new }
     {
+        if let Some(error) = self.refused_unread(&posted, now) {
+            return self.turn_away(error);
+        }
         let verdict = self.judge(&posted.matchers)?;
         match self.plan(posted, verdict, bits, now) {
             Ok(plan) => self.carry_out(plan, now),
             Err(error) => self.turn_away(error),
         }
+    }
+
+    /// Why a post is refused before its patterns are looked at.
+    fn refused_unread(&self, posted: &Posted, now: Moment) -> Option<SilenceError>
+        ensures { result ≡ unread_refusal (posted_over now self.now.silences posted.now.id) posted.now }
+    {
+        let held = posted_over(&self.silences, posted.id.as_ref(), now);
+        refused_unread(held, posted)
     }
 
     /// Answers why a request is refused.
@@ -222,6 +235,35 @@ pub(crate) fn is_changed(taken: Taken) -> bool
     ensures { result ≡ is_changed taken }
 {
     matches!(taken, Taken::Changed)
+}
+
+/// Why a post is refused whatever its patterns are: an identifier that is not in view, no matcher, or one without a
+/// label's name.
+fn refused_unread(held: Option<&MeshSilence>, posted: &Posted) -> Option<SilenceError>
+    ensures { result ≡ unread_refusal (option_copied held.entry) posted.now }
+{
+    if posted.id.is_some() && held.is_none() {
+        return Some(SilenceError::NotFound);
+    }
+    if posted.matchers.is_empty() {
+        return Some(SilenceError::NoMatcher);
+    }
+    if has_empty_name(posted.matchers.iter()) {
+        return Some(SilenceError::EmptyName);
+    }
+    None
+}
+
+/// Whether a matcher names no label.
+fn has_empty_name(matchers: MatcherIter<'_>) -> bool
+    ensures { result ≡ list_any (λ m. length m.name == 0) matchers.entry }
+{
+    for matcher in matchers {
+        if matcher.name().is_empty() {
+            return true;
+        }
+    }
+    false
 }
 
 /// A copy of a version.

@@ -11,4 +11,4 @@ returns-in_err-muted c =
 pub returns : goal.returns
 returns c =
     rw (← c.self.view_is) (quiet_work _ _ c.args.now c.quiet.result refl refl refl refl c.quiet.ensures.sent c.quiet.ensures.made
-    (rw c.quiet.ensures.reply c.in_ok-muted.ensures, c.quiet.ensures.made))
+    (rw c.quiet.ensures.reply c.in_ok-muted.ensures.muted, c.quiet.ensures.made))

@@ -1,11 +1,16 @@
-use Rattle.std.proofs.Common.{refl, subst}
+use Rattle.std.proofs.Common.{refl, subst, sym}
 use Rattle.std.proofs.lemmas.Result.{err_from_is_err_and}
 use Rattle.am_instance.specs.declared.event.Event.TheVariants as events
 use Rattle.am_instance.specs.declared.event.Request.TheVariants as requests
 use Rattle.am_instance.specs.Steps.{IsWork}
-use Rattle.am_instance.proofs.RequestWorks.{post_done, post_refused}
+use Rattle.am_instance.proofs.RequestWorks.{post_done, post_refused, unread_planned}
 use Rattle.am_instance.proofs.Works.{stopped_work}
 use Rattle.am_instance.proofs.instance.Instance.post.Goals as goal
+
+pub returns-in-Some : goal.returns-in-Some
+returns-in-Some c =
+    post_refused c.args.self.now c.args.posted c.args.bits c.args.now c.in-Some.error c.turn_away.result
+    (unread_planned c.args.self.now c.args.posted c.args.bits c.args.now c.in-Some.error (sym c.in-Some.ensures)) c.turn_away.ensures.refused c.turn_away.ensures.memory
 
 pub returns-in_err-verdict : goal.returns-in_err-verdict
 returns-in_err-verdict c =
@@ -19,5 +24,5 @@ returns-in-Ok c =
 
 pub returns-in-Err : goal.returns-in-Err
 returns-in-Err c =
-    subst (λ old. IsWork old (events.Request (requests.Post c.args.posted c.args.bits)) c.args.now c.turn_away.result c.judge.new.self) c.in_ok-verdict.ensures.same
-    (post_refused _ c.args.posted c.args.bits c.args.now c.in-Err.error c.turn_away.result c.in-Err.ensures c.turn_away.ensures.refused c.turn_away.ensures.memory)
+    subst (λ old. IsWork old (events.Request (requests.Post c.args.posted c.args.bits)) c.args.now c.turn_away-in-Err.result c.judge.new.self) c.in_ok-verdict.ensures.same
+    (post_refused _ c.args.posted c.args.bits c.args.now c.in-Err.error c.turn_away-in-Err.result c.in-Err.ensures c.turn_away-in-Err.ensures.refused c.turn_away-in-Err.ensures.memory)
