@@ -2,10 +2,10 @@
 
 use am_case_words::fault::{Fault, say_refusal};
 use am_case_words::matchers::{matcher_parts, matchers, value};
-use am_case_words::words::{first, number};
+use am_case_words::words::first;
 use am_matcher::{BuildError, Compiled, PatternCache, verdict};
-use am_silence::{Matcher, MatcherKind, MatcherRef, Matchers, Verdict};
-use std::alloc::{AllocError, Global};
+use am_silence::{Matcher, MatcherRef, Verdict};
+use std::alloc::Global;
 
 /// The matcher of a word.
 fn matcher(alloc: Global, word: &str) -> Result<Matcher, Fault> {
@@ -77,42 +77,18 @@ fn verdict_on(alloc: Global, words: &str) -> Result<Verdict, Fault> {
     Ok(verdict(alloc, &matchers)?)
 }
 
-/// `many-verdicts COUNT`: asks one cache twice of so many patterns.
-pub fn many_verdicts(rt: &HostRuntime, rest: &str) -> Result<(), Fault> {
-    let count = number(rest)?;
+/// `kept-verdicts LIST; LIST ..`: the verdict on each list of matchers by one cache, and how many bytes it keeps then.
+pub fn kept_verdicts(rt: &HostRuntime, lists: &str) -> Result<(), Fault> {
     let mut patterns = PatternCache::new(rt.alloc());
-    say_many(rt, &mut patterns, count)?;
-    say_many(rt, &mut patterns, count)
-}
-
-/// Says how many of so many patterns are fine and even, and how many bad and odd.
-fn say_many(rt: &HostRuntime, patterns: &mut PatternCache, count: u64) -> Result<(), Fault> {
-    let mut fine: u64 = 0;
-    let mut bad: u64 = 0;
-    for number in 0..count {
-        match (numbered(rt.alloc(), patterns, number)?, number % 2) {
-            (Verdict::Fine, 0) => fine = fine.saturating_add(1),
-            (Verdict::Bad, 1) => bad = bad.saturating_add(1),
-            _ => {}
-        }
+    for (place, words) in lists.split("; ").enumerate() {
+        let blank = if place == 0 { "" } else { " " };
+        let verdict = verdict_by(rt.alloc(), &mut patterns, words)?;
+        print!(rt; "{blank}{verdict:?}")?;
     }
-    Ok(println!(rt; "{fine} Fine, {bad} Bad")?)
+    Ok(println!(rt; ", {} bytes kept", patterns.size())?)
 }
 
-/// The verdict on a pattern that no other number has; that of an odd number is broken.
-fn numbered(alloc: Global, patterns: &mut PatternCache, number: u64) -> Result<Verdict, Fault> {
-    let end = if number % 2 == 0 { "x" } else { "(" };
-    let pattern = format!(in alloc; "{number}|{end}")?;
-    Ok(of_pattern(alloc, patterns, pattern.as_str())?)
-}
-
-/// The verdict on one pattern.
-fn of_pattern(
-    alloc: Global,
-    patterns: &mut PatternCache,
-    pattern: &str,
-) -> Result<Verdict, AllocError> {
-    let mut matchers = Matchers::none(alloc);
-    matchers.push(alloc, &MatcherRef::new(MatcherKind::Regexp, "", pattern))?;
-    patterns.verdict(&matchers)
+fn verdict_by(alloc: Global, patterns: &mut PatternCache, words: &str) -> Result<Verdict, Fault> {
+    let matchers = matchers(alloc, words)?;
+    Ok(patterns.verdict(&matchers)?)
 }

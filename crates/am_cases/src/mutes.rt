@@ -7,13 +7,13 @@ use am_case_words::moments::moment;
 use am_case_words::silences::silence;
 use am_case_words::texts::unescaped;
 use am_case_words::versions::version;
-use am_case_words::words::{first, parts};
+use am_case_words::words::{first, number, parts};
 use am_matcher::{Filter, FilterError, Ids, Label, Labels, Mutes, PatternCache, mutes as muting};
 use am_merge::Held;
 use am_silence::MeshSilence;
 use am_version_order::Moment;
 use am_wire::Text;
-use std::alloc::Global;
+use std::alloc::{AllocError, Global};
 
 /// `filter [TEXT] of SILENCE`: whether a filter, given with escapes, passes a silence, and whether its version.
 pub fn filter(rt: &HostRuntime, rest: &str) -> Result<(), Fault> {
@@ -75,7 +75,7 @@ fn step(
     let (verb, rest) = first(words);
     if verb == "forget" {
         patterns.drop_unused(&Held::new(rt.alloc()));
-        return Ok(println!(rt; "forgotten")?);
+        return Ok(println!(rt; "forgotten, {} bytes kept", patterns.size())?);
     }
     let (word, names) = first(rest);
     let now = moment(word)?;
@@ -149,4 +149,51 @@ fn print_ids(rt: &HostRuntime, ids: &Ids) -> Result<(), Fault> {
         print!(rt; "{comma}{}", id.as_str())?;
     }
     Ok(())
+}
+
+/// `many-mutes COUNT`: asks one cache twice which of so many silences mute the job x at 50. Each has a pattern of its own.
+pub fn many_mutes(rt: &HostRuntime, rest: &str) -> Result<(), Fault> {
+    let words = many_silences(rt.alloc(), number(rest)?)?;
+    let held = held::<MeshSilence>(rt.alloc(), words.as_str())?;
+    ask_twice(rt, &held)
+}
+
+/// The words of so many silences, of which those of odd numbers have a broken pattern.
+fn many_silences(alloc: Global, count: u64) -> Result<String, AllocError> {
+    let mut words = String::new(alloc);
+    for number in 0..count {
+        let comma = if number == 0 { "" } else { ", " };
+        let end = if number % 2 == 0 { "x" } else { "(" };
+        let silence = format!(in alloc; "{comma}{number} job=~{number}|{end}")?;
+        words.push_str(silence.as_str())?;
+    }
+    Ok(words)
+}
+
+fn ask_twice(rt: &HostRuntime, held: &Held<MeshSilence>) -> Result<(), Fault> {
+    let mut patterns = PatternCache::new(rt.alloc());
+    say_many(rt, &mut patterns, held)?;
+    say_many(rt, &mut patterns, held)
+}
+
+fn say_many(
+    rt: &HostRuntime,
+    patterns: &mut PatternCache,
+    held: &Held<MeshSilence>,
+) -> Result<(), Fault> {
+    let labels = labels(rt.alloc(), "job=x")?;
+    count_mutes(rt, patterns, held, &labels)
+}
+
+/// Says how many silences mute labels, how many are broken, and how much is kept of their patterns.
+fn count_mutes(
+    rt: &HostRuntime,
+    patterns: &mut PatternCache,
+    held: &Held<MeshSilence>,
+    labels: &Labels,
+) -> Result<(), Fault> {
+    let mutes = patterns.mutes(held, labels, moment("50")?)?;
+    let (ids, broken) = (mutes.ids.as_slice().len(), mutes.broken.as_slice().len());
+    let kept = patterns.size() >> 20;
+    Ok(println!(rt; "{ids} mute, {broken} broken, {kept} MiB kept")?)
 }
