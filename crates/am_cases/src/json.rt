@@ -6,8 +6,8 @@ use am_case_words::moments::{moment, print_moment, say_moment};
 use am_case_words::texts::unescaped;
 use am_case_words::versions::version;
 use am_case_words::words::first;
-use am_moment_text::{read_moment, write_moment};
 use am_silence::{MeshSilence, Posted, State};
+use am_silence_json::moments::{read_moment, write_moment};
 use am_silence_json::{
     BodyError, read_post, write_error, write_posted, write_silence, write_silences,
 };

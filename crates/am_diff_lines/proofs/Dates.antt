@@ -8,9 +8,9 @@ use Rattle.jiff_core.specs.Calendar.{day_count, days_from_civil, days_in_month, 
 use Rattle.jiff_core.proofs.SignedLemmas.{signed_arith}
 use Rattle.jiff_core.proofs.CalendarLemmas.{days_from_civil-day_count, days_in_month_bounds}
 use Rattle.am_version_order.specs.Moments.{AreParts, since_least}
-use Rattle.am_moment_text.specs.declared.clock.Clock.{Clock}
-use Rattle.am_moment_text.specs.Clocks.{IsReal, clock_seconds, second_of_day}
-use Rattle.am_moment_text.specs.Written.{written_text, WritesMoment}
+use Rattle.am_silence_json.specs.declared.moments.clock.Clock.{Clock}
+use Rattle.am_silence_json.specs.Clocks.{IsReal, clock_seconds, second_of_day}
+use Rattle.am_silence_json.specs.Written.{written_text, WritesMoment}
 use Rattle.am_diff_lines.specs.Texts.{greatest_below, clock_of, is_date_of, days_of, moment_text}
 
 -- ---- the greatest number that passes

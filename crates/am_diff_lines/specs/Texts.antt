@@ -2,8 +2,8 @@
 -- has, and of the time of day.
 use Rattle.std.specs.Prelude.{ℕ, zero, suc, ◌+◌, ◌/◌, ◌%◌, ◌==◌, ◌&&◌, nat_le, Bool, List, pos, if◌then◌else◌}
 use Rattle.jiff_core.specs.Calendar.{days_in_month, day_count}
-use Rattle.am_moment_text.specs.declared.clock.Clock.{Clock}
-use Rattle.am_moment_text.specs.Written.{written_text}
+use Rattle.am_silence_json.specs.declared.moments.clock.Clock.{Clock}
+use Rattle.am_silence_json.specs.Written.{written_text}
 
 -- the greatest number below n that passes, or 0 where none does
 unfoldable pub greatest_below : ℕ → (ℕ → Bool) → ℕ

@@ -1,7 +1,7 @@
 //! What holds of the differences of sources, and of their lines.
 
 ghost use Rattle.std.specs.Prelude.{◌≡◌, ℕ, Bool, List, ◌∷◌, All};
-ghost use Rattle.am_moment_text.specs.Written.{WritesMoment};
+ghost use Rattle.am_silence_json.specs.Written.{WritesMoment};
 ghost use Rattle.am_diff.specs.Differences.{AreDifferences, Difference};
 ghost use Rattle.am_diff.specs.Groups.{AreRanked, IsLessBy, part_between};
 ghost use Rattle.am_diff.specs.Sources.{Holding, Source};
@@ -11,7 +11,7 @@ ghost use Rattle.am_diff_lines.specs.Ranked.{ranked};
 ghost use Rattle.am_diff_lines.specs.Written.{AreLines};
 
 use crate::told::Told;
-use am_moment_text::laws::texts_are_unique;
+use am_silence_json::moments::laws::texts_are_unique;
 use am_version_order::Version;
 
 /// Sources have one list of differences, and so their lines are one text.

@@ -3,8 +3,8 @@
 ghost use Rattle.std.specs.Prelude.{◌≡◌};
 ghost use Rattle.am_diff_lines.specs.Texts.{moment_text};
 
-use am_moment_text::laws::texts_are_unique;
-use am_moment_text::{MomentText, write_moment};
+use am_silence_json::moments::laws::texts_are_unique;
+use am_silence_json::moments::{MomentText, write_moment};
 use am_version_order::Moment;
 
 /// The text of a moment as API v2 shows it: UTC, cut to milliseconds.

@@ -1,3 +1,9 @@
+mod Fronts
+mod Sums
+mod Years
+mod Bytes
+mod Again
+mod One
 mod Bodies
 mod Rows
 mod EachMatcher

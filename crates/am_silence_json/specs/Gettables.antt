@@ -10,7 +10,7 @@ use Rattle.am_silence.specs.declared.state.State.{State}
 use Rattle.am_silence.specs.declared.state.State.TheVariants as states
 use Rattle.am_silence.specs.Kinds.{is_regexp}
 use Rattle.am_silence.specs.Mesh.{Mesh}
-use Rattle.am_moment_text.specs.Written.{WritesMoment}
+use Rattle.am_silence_json.specs.Written.{WritesMoment}
 
 -- the label has to match: isEqual
 abbrev pub is_equal : MatcherKind → Bool

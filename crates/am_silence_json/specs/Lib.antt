@@ -1,3 +1,9 @@
+pub mod Digits
+pub mod Clocks
+pub mod Fractions
+pub mod Zones
+pub mod Moments
+pub mod Written
 pub mod Gettables
 pub mod Posts
 pub mod Tokens

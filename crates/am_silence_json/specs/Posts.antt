@@ -10,7 +10,7 @@ use Rattle.am_silence.specs.declared.matcher.Matcher.{Matcher}
 use Rattle.am_silence.specs.declared.matcher.MatcherKind.{MatcherKind}
 use Rattle.am_silence.specs.declared.matcher.MatcherKind.TheVariants as kinds
 use Rattle.am_silence.specs.declared.plan.Posted.{Posted}
-use Rattle.am_moment_text.specs.Moments.{ReadsMoment}
+use Rattle.am_silence_json.specs.Moments.{ReadsMoment}
 use Rattle.am_silence_json.specs.declared.key.Key.{Key}
 use Rattle.am_silence_json.specs.declared.key.Key.TheVariants as keys
 

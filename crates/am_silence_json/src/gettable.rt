@@ -4,12 +4,12 @@ ghost use Rattle.std.specs.Prelude.{◌≡◌, ℕ, [], ◌∷◌, List, OnOk, m
 ghost use Rattle.json.specs.Token.{key, string, begin_array, end_array};
 ghost use Rattle.serde_json.specs.Data.{Data, array};
 ghost use Rattle.serde_json.specs.View.{items_of};
+ghost use Rattle.am_silence_json.specs.Written.{WritesMoment};
 ghost use Rattle.am_silence_json.specs.Gettables.{is_equal, matcher_data, state_text, status_data, IsGettable, AreGettable, posted_data};
 ghost use Rattle.am_silence_json.specs.Tokens.{Adds, data_tokens, row_tokens};
-ghost use Rattle.am_moment_text.specs.Written.{WritesMoment};
 
+use crate::moments::write_moment;
 use crate::tokens::{add, add_text, add_truth};
-use am_moment_text::write_moment;
 use am_silence::{MatcherIter, MatcherKind, MeshSilence, State};
 use am_version_order::{Moment, Version};
 use json::{Token, Writer};

@@ -1,10 +1,11 @@
-//! Silences in JSON: how API v2 shows them, and what is posted.
+//! Silences in JSON: how API v2 shows them, and what is posted; and the texts of the moments in them.
 #![tactic(auto)]
 
 mod error;
 mod gettable;
 mod key;
 mod matchers;
+pub mod moments;
 mod post;
 mod replies;
 mod tokens;

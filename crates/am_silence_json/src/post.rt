@@ -15,7 +15,7 @@ ghost use Rattle.am_silence_json.specs.Borrowed.{HasRest};
 use crate::error::BodyError;
 use crate::key::Key;
 use crate::matchers::{read_matchers, text_in};
-use am_moment_text::read_moment;
+use crate::moments::read_moment;
 use am_silence::{Matchers, Posted};
 use am_version_order::Moment;
 use am_wire::Text;

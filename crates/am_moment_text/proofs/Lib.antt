@@ -1,6 +1,0 @@
-mod Fronts
-mod Sums
-mod Years
-mod Bytes
-mod Again
-mod One

@@ -1,0 +1,5 @@
+use Rattle.am_silence_json.proofs.Again.{texts_read}
+use Rattle.am_silence_json.proofs.moments.laws.texts_are_read.Goals as goal
+
+pub returns : goal.returns
+returns c = texts_read
