@@ -20,8 +20,8 @@ use Rattle.am_gossip.specs.declared.frame.StateKey.TheVariants.{Sil, Nfl}
 use Rattle.am_gossip.specs.Frames.{fits}
 use Rattle.am_gossip.specs.Parts.{writes_part, writes_parts}
 use Rattle.am_gossip.proofs.Limits.{part_holds, states_hold}
-use Rattle.am_rows.specs.Texts.{row_text}
-use Rattle.am_rows.proofs.ReadAgain.{IsReadBack, IsShort, shorts, versions_read}
+use Rattle.am_snapshot.specs.Texts.{row_text}
+use Rattle.am_snapshot.proofs.ReadAgain.{IsReadBack, IsShort, shorts, versions_read}
 use Rattle.am_instance.specs.Deliveries.{Delivery, read_as, before_fault, first_fault, rows_of, rows_in, parts_of}
 use Rattle.am_instance.specs.Deliveries.Delivery.{OfSilence, OfEntry}
 use Rattle.am_instance.specs.Sendings.{delta_of, whole_state}

@@ -6,7 +6,7 @@ ghost use Rattle.am_silence.specs.Mesh.{Mesh, IsMesh, mesh_version};
 ghost use Rattle.am_nflog.specs.Mesh.{Mesh as LogMesh, IsMesh as IsLogMesh, mesh_version as entry_version};
 ghost use Rattle.am_gossip.specs.declared.frame.Frame.TheVariants.{Push, Pull};
 ghost use Rattle.am_gossip.specs.Frames.{fits};
-ghost use Rattle.am_rows.specs.Texts.{row_text};
+ghost use Rattle.am_snapshot.specs.Texts.{row_text};
 ghost use Rattle.am_instance.specs.Deliveries.{Delivery, first_fault, parts_of, rows_in};
 ghost use Rattle.am_instance.specs.Deliveries.Delivery.{OfSilence, OfEntry};
 ghost use Rattle.am_instance.specs.Sendings.{delta_of, whole_state};

@@ -11,7 +11,7 @@ use Rattle.am_gossip.specs.declared.frame.Part.{Part}
 use Rattle.am_gossip.specs.declared.frame.StateKey.{StateKey}
 use Rattle.am_gossip.specs.declared.frame.StateKey.TheVariants.{Sil, Nfl}
 use Rattle.am_gossip.specs.Frames.{fits, states}
-use Rattle.am_rows.specs.Texts.{row_text}
+use Rattle.am_snapshot.specs.Texts.{row_text}
 use Rattle.am_instance.specs.declared.outbox.Missing.{Missing}
 use Rattle.am_instance.specs.declared.outbox.Missing.TheVariants.{Memory, Limit}
 use Rattle.am_instance.specs.declared.reply.Outcome.{Outcome}

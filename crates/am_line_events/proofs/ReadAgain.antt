@@ -21,7 +21,7 @@ use Rattle.am_silence.specs.Again.{mesh_again}
 use Rattle.am_nflog.specs.Mesh.{Mesh as LogMesh, IsMesh as IsLogMesh, mesh_version as entry_version, writes_mesh_entry}
 use Rattle.am_nflog.specs.MeshTable.{reads_mesh_entry}
 use Rattle.am_nflog.specs.Again.{mesh_again as log_again}
-use Rattle.am_rows.specs.Texts.{row_text}
+use Rattle.am_snapshot.specs.Texts.{row_text}
 use Rattle.am_gossip.specs.declared.frame.Part.{Part}
 use Rattle.am_gossip.specs.declared.frame.StateKey.TheVariants.{Sil, Nfl}
 use Rattle.am_instance.specs.Deliveries.{Delivery, before_fault, first_fault, read_as, rows_of}

@@ -6,7 +6,7 @@ use Rattle.am_silence.specs.declared.matcher.MatcherKind.TheVariants as kinds
 use Rattle.am_silence.specs.Mesh.{Mesh, mesh_version}
 use Rattle.am_nflog.specs.declared.receiver.Receiver.{Receiver}
 use Rattle.am_nflog.specs.Mesh.{Mesh as LogMesh, mesh_version as entry_version}
-use Rattle.am_rows.specs.Texts.{row_text}
+use Rattle.am_snapshot.specs.Texts.{row_text}
 use Rattle.am_gossip.specs.declared.frame.Part.{Part}
 use Rattle.am_gossip.specs.declared.frame.StateKey.TheVariants.{Sil, Nfl}
 use Rattle.am_instance.specs.Deliveries.{Delivery}

@@ -5,7 +5,7 @@ ghost use Rattle.am_wire.specs.Inputs.{AreMessages};
 ghost use Rattle.am_wire.specs.Limits.{most};
 ghost use Rattle.am_wire.specs.Writing.{delimited};
 ghost use Rattle.am_wire.specs.declared.error.WireError.TheVariants as errors;
-ghost use Rattle.am_rows.specs.Texts.{row_text};
+ghost use Rattle.am_snapshot.specs.Texts.{row_text};
 ghost use Rattle.am_silence.specs.Mesh.{IsMesh, mesh_version, writes_mesh_silence};
 ghost use Rattle.am_silence.specs.MeshTable.{reads_mesh_silence};
 ghost use Rattle.am_line_events.specs.Versions.{wants, silence_of};

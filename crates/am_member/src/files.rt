@@ -2,7 +2,7 @@
 
 ghost use Rattle.std.specs.Prelude.{◌≡◌, length, IfOk};
 ghost use Rattle.am_merge.specs.Maps.{IsMap};
-ghost use Rattle.am_rows.specs.Texts.{row_text};
+ghost use Rattle.am_snapshot.specs.Texts.{row_text};
 
 use crate::error::FileFault;
 use am_merge::Held;

@@ -1,3 +1,5 @@
+pub mod RowTexts
+pub mod ReadAgain
 pub mod Passing
 pub mod Whole
 pub mod Ends

@@ -14,8 +14,8 @@ use Rattle.am_merge.specs.Maps.{IsMap, at}
 use Rattle.am_merge.proofs.Keys.{IsKeyOrder, IsMap-without, all_weaker, at-Contains}
 use Rattle.am_merge.proofs.Puts.{at-member}
 use Rattle.am_merge.proofs.Joins.{same_map}
-use Rattle.am_rows.specs.Texts.{row_text}
-use Rattle.am_rows.proofs.ReadAgain.{IsReadBack, shorts, versions_read}
+use Rattle.am_snapshot.specs.Texts.{row_text}
+use Rattle.am_snapshot.proofs.ReadAgain.{IsReadBack, shorts, versions_read}
 use Rattle.am_snapshot.specs.Loads.{AreDistinct, IsLoaded, StopsLoad, RepeatsKey, IsOutside}
 use Rattle.am_snapshot.specs.Saving.{IsSavable}
 use Rattle.am_snapshot.specs.declared.error.SnapshotError.{SnapshotError}

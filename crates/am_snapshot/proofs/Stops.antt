@@ -9,10 +9,10 @@ use Rattle.am_wire.specs.declared.reader.RowFault.{RowFault}
 use Rattle.am_wire.specs.declared.reader.RowFault.TheVariants as reading
 use Rattle.am_merge.specs.Maps.{IsMap}
 use Rattle.am_wire.specs.Limits.{most}
-use Rattle.am_rows.specs.Texts.{row_text}
 use Rattle.am_wire.specs.declared.reader.Standing.{Standing}
 use Rattle.am_wire.specs.Fields.{pieces}
 use Rattle.am_wire.specs.Inputs.{sound, message_at, messages_of, AreMessages, StopsAfter}
+use Rattle.am_snapshot.specs.Texts.{row_text}
 use Rattle.am_snapshot.specs.Loads.{AreDistinct, RepeatsKey, StopsLoad, load_fault}
 use Rattle.am_snapshot.specs.Best.{HoldsBest}
 use Rattle.am_snapshot.specs.Rows.{Writes}

@@ -8,8 +8,8 @@ use Rattle.am_wire.specs.declared.reader.RowFault.{RowFault}
 use Rattle.am_wire.specs.declared.reader.RowFault.TheVariants as reading
 use Rattle.am_merge.specs.Maps.{IsMap}
 use Rattle.am_wire.specs.Limits.{most}
-use Rattle.am_rows.specs.Texts.{row_text}
 use Rattle.am_wire.specs.Inputs.{AreMessages, StopsAfter}
+use Rattle.am_snapshot.specs.Texts.{row_text}
 use Rattle.am_snapshot.specs.Best.{HoldsBest}
 use Rattle.am_snapshot.specs.declared.row.WriteFault.{WriteFault}
 use Rattle.am_snapshot.specs.declared.row.WriteFault.TheVariants as writing

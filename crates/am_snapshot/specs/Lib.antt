@@ -1,3 +1,4 @@
+pub mod Texts
 pub mod Writing
 pub mod Rows
 pub mod Saving

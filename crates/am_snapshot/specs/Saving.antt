@@ -6,7 +6,7 @@ use Rattle.std.specs.declared.cmp.Ordering.{Ordering}
 use Rattle.am_version_order.specs.Versions.{Version}
 use Rattle.am_wire.specs.Limits.{most}
 use Rattle.am_merge.specs.Maps.{IsMap}
-use Rattle.am_rows.specs.Texts.{row_text}
+use Rattle.am_snapshot.specs.Texts.{row_text}
 use Rattle.am_snapshot.specs.declared.row.WriteFault.{WriteFault}
 use Rattle.am_snapshot.specs.declared.row.WriteFault.TheVariants as faults
 use Rattle.am_snapshot.specs.declared.error.SnapshotError.{SnapshotError}

@@ -5,7 +5,7 @@ ghost use Rattle.am_wire.specs.declared.error.WireError.{WireError};
 ghost use Rattle.am_wire.specs.declared.reader.RowFault.TheVariants.{Wire, TooLarge};
 ghost use Rattle.am_wire.specs.Inputs.{AreMessages, StopsAfter};
 ghost use Rattle.am_merge.specs.Maps.{IsMap};
-ghost use Rattle.am_rows.specs.Texts.{row_text};
+ghost use Rattle.am_snapshot.specs.Texts.{row_text};
 ghost use Rattle.am_snapshot.specs.Loads.{IsLoaded, StopsLoad, IsOutside};
 ghost use Rattle.am_snapshot.specs.Saving.{IsSavable};
 ghost use Rattle.am_snapshot.specs.declared.error.SnapshotError.{SnapshotError};

@@ -1,8 +1,9 @@
-//! Held versions written as a row of messages, and read again.
+//! Held versions as a row of messages: how long it is, the row in memory, and how it is written and read again.
 #![tactic(auto)]
 
 mod error;
 mod folding;
+mod in_memory;
 pub mod laws;
 mod loading;
 mod outgoing;
@@ -12,6 +13,7 @@ mod saving;
 
 pub use error::SnapshotError;
 pub use folding::{FoldError, Folded, fold, fold_held};
+pub use in_memory::{delimited_bytes, delimited_length, row_bytes, row_length};
 pub use loading::load;
 pub use reading::take_row;
 pub use saving::save;

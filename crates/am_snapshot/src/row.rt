@@ -4,14 +4,14 @@ ghost use Rattle.std.specs.Prelude.{◌≡◌, ◌+◌, ◌<◌, ◌≤◌, ◌^
 ghost use Rattle.std.specs.Option.{SomeIff};
 ghost use Rattle.am_wire.specs.Writing.{delimited};
 ghost use Rattle.am_wire.specs.Limits.{most};
-ghost use Rattle.am_rows.specs.Texts.{row_text};
+ghost use Rattle.am_snapshot.specs.Texts.{row_text};
 ghost use Rattle.am_snapshot.specs.Writing.{Passes, TakesPart};
 ghost use Rattle.am_snapshot.specs.Rows.{Writes};
 ghost use Rattle.am_snapshot.specs.Saving.{IsSavable};
 
+use crate::in_memory::row_length;
 use crate::outgoing::{Outgoing, Stopped};
 use am_merge::Held;
-use am_rows::row_length;
 use am_version_order::Version;
 use am_wire::write_varint;
 use std::alloc::Global;

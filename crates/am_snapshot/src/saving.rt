@@ -3,7 +3,7 @@
 ghost use Rattle.std.specs.Prelude.{◌≡◌, ◌<◌, ◌↔◌, length, IfOk, IfErr, OnOk};
 ghost use Rattle.std.specs.Io.KnownBytes.{Appends};
 ghost use Rattle.am_wire.specs.Limits.{most};
-ghost use Rattle.am_rows.specs.Texts.{row_text};
+ghost use Rattle.am_snapshot.specs.Texts.{row_text};
 ghost use Rattle.am_snapshot.specs.Saving.{IsSavable, StopsSaving};
 
 use crate::error::SnapshotError;

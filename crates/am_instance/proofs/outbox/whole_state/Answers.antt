@@ -3,7 +3,7 @@ use Rattle.std.proofs.Math.Nat.{lt_of_not-le}
 use Rattle.am_gossip.proofs.Limits.{states_over}
 use Rattle.am_silence.specs.Mesh.{mesh_version}
 use Rattle.am_nflog.specs.Mesh.{mesh_version as entry_version}
-use Rattle.am_rows.specs.Texts.{row_text}
+use Rattle.am_snapshot.specs.Texts.{row_text}
 use Rattle.am_instance.proofs.outbox.whole_state.Goals as goal
 
 pub returns-in_default-clause-push_too_long : goal.returns-in_default-clause-push_too_long

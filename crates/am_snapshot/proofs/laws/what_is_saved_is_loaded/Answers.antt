@@ -1,5 +1,5 @@
 use Rattle.am_merge.proofs.Keys.{key_order}
-use Rattle.am_rows.proofs.ReadAgain.{read_back}
+use Rattle.am_snapshot.proofs.ReadAgain.{read_back}
 use Rattle.am_snapshot.proofs.Saved.{saved_loaded, loaded_saved, saved_sound}
 use Rattle.am_snapshot.proofs.laws.what_is_saved_is_loaded.Goals as goal
 

@@ -1,5 +1,5 @@
 use Rattle.std.proofs.Common.{◌≡◌, ◌++◌, ℕ, List}
-use Rattle.am_rows.specs.Texts.{row_text}
+use Rattle.am_snapshot.specs.Texts.{row_text}
 use Rattle.am_snapshot.specs.Writing.{Passes}
 use Rattle.am_snapshot.proofs.row.send_versions.Given as goal
 

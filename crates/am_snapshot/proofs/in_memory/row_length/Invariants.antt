@@ -1,9 +1,9 @@
 use Rattle.std.proofs.Common.{◌≡◌, ◌≤◌, ◌+◌, length}
 use Rattle.am_wire.specs.Limits.{most}
-use Rattle.am_rows.specs.Texts.{row_text}
 use Rattle.std.specs.List.{All}
 use Rattle.am_merge.specs.Maps.{IsMap}
-use Rattle.am_rows.proofs.row_length.Given as goal
+use Rattle.am_snapshot.specs.Texts.{row_text}
+use Rattle.am_snapshot.proofs.in_memory.row_length.Given as goal
 
 abbrev pub invariant-loop-version : goal.invariant-loop-version
 invariant-loop-version g l =

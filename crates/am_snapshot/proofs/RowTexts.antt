@@ -2,7 +2,7 @@
 use Rattle.std.proofs.Common.{◌≡◌, ℕ, ◌≤◌, ◌+◌, List, [], ◌∷◌, ◌++◌, length, sym, ap, ◌∙◌, arith, append-nil, append_assoc, length-append}
 use Rattle.am_version_order.specs.Versions.{Version}
 use Rattle.am_wire.specs.Writing.{delimited}
-use Rattle.am_rows.specs.Texts.{row_text}
+use Rattle.am_snapshot.specs.Texts.{row_text}
 
 module _ {K X : Type 0} (seen : X → Version K) where
   module _ (sent : List ℕ) (left rest held : List X) (v : X) (is : left ≡ v ∷ rest) (whole : sent ++ row_text seen left ≡ row_text seen held) where

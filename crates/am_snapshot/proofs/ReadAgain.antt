@@ -14,7 +14,7 @@ use Rattle.am_wire.specs.Again.Pieces.{pieces-first}
 use Rattle.am_wire.specs.Limits.{most}
 use Rattle.am_wire.specs.Inputs.{sound, message_at, messages_from}
 use Rattle.am_wire.proofs.Exact.{row_read}
-use Rattle.am_rows.specs.Texts.{row_text}
+use Rattle.am_snapshot.specs.Texts.{row_text}
 
 -- bytes behind their length are the first row, whatever follows
 first_row : (bytes : List ℕ) (at : ℕ) (rest : List ℕ) → length bytes ≤ most → row_at at (delimited bytes ++ rest) ≡ Ok (bytes, length (delimited bytes))

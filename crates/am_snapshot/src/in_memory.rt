@@ -1,5 +1,4 @@
 //! The held versions of a map as a row: how long it is, and the row itself.
-#![tactic(auto)]
 
 ghost use Rattle.std.specs.Prelude.{◌≡◌, ◌++◌, ◌≤◌, All, length, OnOk, OnSome, IfOk};
 ghost use Rattle.std.specs.Option.{SomeIff};
@@ -7,7 +6,7 @@ ghost use Rattle.am_merge.specs.Maps.{IsMap};
 ghost use Rattle.am_wire.specs.Limits.{most};
 ghost use Rattle.am_wire.specs.Sizes.{counted};
 ghost use Rattle.am_wire.specs.Writing.{delimited};
-ghost use Rattle.am_rows.specs.Texts.{row_text};
+ghost use Rattle.am_snapshot.specs.Texts.{row_text};
 
 use am_merge::Held;
 use am_version_order::Version;
