@@ -100,7 +100,6 @@ fn of_texts(rt: &HostRuntime, verb: &str, rest: &str) -> Result<(), Fault> {
         "word" => views::word(rt, rest),
         "numbers" => views::numbers_word(rt, rest),
         "texts" => views::texts_word(rt, rest),
-        "refused" => views::refused(rt),
         "schedule" => views::schedule(rt, rest),
         _ => Err(Fault::Words),
     }

@@ -1,12 +1,10 @@
-//! Texts, numbers and lists as words, the lines of refusals, and schedules as they are read.
+//! Texts, numbers and lists as words, and schedules as they are read.
 
 use am_case_words::fault::Fault;
 use am_case_words::texts::{spelled, unescaped};
 use am_case_words::words::number;
 use am_nflog::HashIter;
-use am_output::{Line, Refusal, append_line};
 use am_schedule::{FaultKind, Schedule, parse};
-use am_silence::SilenceError;
 use am_view::{ListedWord, Numbers, Texts, Word};
 use am_wire::Text;
 
@@ -33,26 +31,6 @@ pub fn texts_word(rt: &HostRuntime, text: &str) -> Result<(), Fault> {
         copies.push(Text::copied(rt.alloc(), text)?)?;
     }
     Ok(println!(rt; "{}", Texts(&copies))?)
-}
-
-fn say_line(rt: &HostRuntime, line: &Line<'_>) -> Result<(), Fault> {
-    let mut text = String::new(rt.alloc());
-    append_line(&mut text, line)?;
-    Ok(print!(rt; "{text}")?)
-}
-
-/// `refused`: the lines of refusals that no schedule reaches.
-pub fn refused(rt: &HostRuntime) -> Result<(), Fault> {
-    for error in [
-        SilenceError::NoMatcher,
-        SilenceError::BadPattern,
-        SilenceError::TooLarge,
-        SilenceError::Memory,
-    ] {
-        let (name, refusal) = (Some("a"), Refusal::from(error));
-        say_line(rt, &Line::Refused { name, refusal })?;
-    }
-    Ok(())
 }
 
 /// `schedule TEXT`: how many members and lines a schedule has, or its first fault.

@@ -66,6 +66,7 @@ fn alone(rt: &HostRuntime, verb: &str, rest: &str) -> Result<(), Fault> {
     match verb {
         "send" => sending::send_frames(rt, rest),
         "replay" => replays::replay(rt, rest),
+        "refused" => replays::refused(rt),
         "reply" => requests::reply(rt, rest),
         "carried" => carried::carried(rt, rest),
         "cluster" => clusters::cluster(rt, rest),

@@ -1,11 +1,13 @@
-//! Schedules that are played over readers and writers which give or take few bytes at a time, and fail.
+//! Schedules that are played over readers and writers which give or take few bytes at a time, and fail; and the lines of
+//! refusals.
 
 use crate::requests::{phrases_and_text, say_reply};
 use am_case_words::fakes::{Brittle, Pieces};
 use am_case_words::fault::Fault;
 use am_case_words::texts::unescaped;
 use am_case_words::tries::{Answered, Call, How, how_of, make, writer};
-use am_replay::{ReplayError, run};
+use am_replay::{Line, Refusal, ReplayError, append_line, run};
+use am_silence::SilenceError;
 use std::alloc::Global;
 
 /// A schedule is played.
@@ -56,4 +58,24 @@ fn played(rt: &HostRuntime, text: &[u8], how: &How) -> Result<(), Fault> {
     let mut writer = writer(rt.alloc(), how, 0)?;
     make(rt, &Playing, text, how, &mut writer)?;
     say_reply(rt, writer.taken.as_slice())
+}
+
+fn say_line(rt: &HostRuntime, line: &Line<'_>) -> Result<(), Fault> {
+    let mut text = String::new(rt.alloc());
+    append_line(&mut text, line)?;
+    Ok(print!(rt; "{text}")?)
+}
+
+/// `refused`: the lines of refusals that no schedule reaches.
+pub fn refused(rt: &HostRuntime) -> Result<(), Fault> {
+    for error in [
+        SilenceError::NoMatcher,
+        SilenceError::BadPattern,
+        SilenceError::TooLarge,
+        SilenceError::Memory,
+    ] {
+        let (name, refusal) = (Some("a"), Refusal::from(error));
+        say_line(rt, &Line::Refused { name, refusal })?;
+    }
+    Ok(())
 }

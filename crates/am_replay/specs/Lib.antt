@@ -1,3 +1,5 @@
+pub mod Printed
+pub mod Refusals
 pub mod Faults
 pub mod Inputs
 pub mod Members

@@ -17,12 +17,12 @@ use Rattle.am_cluster.specs.declared.error.SettleError.TheVariants as settle_err
 use Rattle.am_cluster.specs.declared.flight.Flight.{Flight}
 use Rattle.am_cluster.specs.Worlds.{World}
 use Rattle.am_view.specs.Views.{view_text}
-use Rattle.am_output.specs.declared.line.Line.{Line}
-use Rattle.am_output.specs.declared.line.Line.TheVariants as lines
-use Rattle.am_output.specs.declared.refusal.Refusal.{Refusal}
-use Rattle.am_output.specs.declared.refusal.Refusal.TheVariants as refusals
-use Rattle.am_output.specs.Lines.{line_text}
-use Rattle.am_output.specs.Refusals.{kind_of as silence_refusal}
+use Rattle.am_replay.specs.declared.line.Line.{Line}
+use Rattle.am_replay.specs.declared.line.Line.TheVariants as lines
+use Rattle.am_replay.specs.declared.refusal.Refusal.{Refusal}
+use Rattle.am_replay.specs.declared.refusal.Refusal.TheVariants as refusals
+use Rattle.am_replay.specs.Printed.{line_text}
+use Rattle.am_replay.specs.Refusals.{kind_of as silence_refusal}
 use Rattle.am_replay.specs.Members.{stand_named, name_at}
 
 -- a value as a line holds it

@@ -4,14 +4,14 @@ ghost use Rattle.std.specs.Prelude.{◌≡◌, ◌++◌, OnOk, string_bytes};
 ghost use Rattle.std.specs.List.{flat_map};
 ghost use Rattle.am_replay.specs.Texts.{flight_text};
 
+use crate::line::Line;
 use crate::members::name_at;
 use crate::output::tell;
 use am_cluster::{Cluster, Flight};
-use am_output::Line;
 use std::alloc::AllocError;
 
 /// Appends a frame in flight.
-#[tactic(auto, unfolding(am_output::specs::Lines::line_text))]
+#[tactic(auto, unfolding(crate::specs::Printed::line_text))]
 fn tell_flight(out: &mut String, cluster: &Cluster, flight: &Flight) -> Result<(), AllocError>
     ensures { OnOk result (string_bytes out.new ≡ string_bytes out.old ++ flight_text cluster.now flight.now) }
 {

@@ -4,7 +4,8 @@ ghost use Rattle.std.specs.Prelude.{◌≡◌, ◌++◌, OnOk, string_bytes};
 ghost use Rattle.std.specs.Option.{option_copied};
 ghost use Rattle.am_replay.specs.Texts.{Prints, refused_text, told};
 
-use am_output::{Line, Refusal, append_line};
+use crate::line::{Line, append_line};
+use crate::refusal::Refusal;
 use std::alloc::AllocError;
 
 /// Appends a line and its end.
@@ -15,7 +16,7 @@ pub fn tell(out: &mut String, line: &Line<'_>) -> Result<(), AllocError>
 }
 
 /// Appends that a step was refused, of a member or of none. Want of memory, which is no kind of refusal, stays one.
-#[tactic(auto, unfolding(am_output::specs::Lines::line_text))]
+#[tactic(auto, unfolding(crate::specs::Printed::line_text))]
 pub fn tell_refusal(
     out: &mut String,
     name: Option<&str>,

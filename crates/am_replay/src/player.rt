@@ -3,20 +3,21 @@
 ghost use Rattle.std.specs.Prelude.{◌≡◌, ◌++◌, [], IfOk, IfErr, OnOk, string_bytes};
 ghost use Rattle.std.specs.Option.{option_copied};
 ghost use Rattle.am_cluster.specs.Beginnings.{AreNewborn};
-ghost use Rattle.am_output.specs.declared.refusal.Refusal.TheVariants as refusals;
 ghost use Rattle.am_schedule.specs.declared.step.Line.TheVariants as kinds;
+ghost use Rattle.am_replay.specs.declared.refusal.Refusal.TheVariants as refusals;
 ghost use Rattle.am_replay.specs.Lines.{Plays};
 ghost use Rattle.am_replay.specs.Playing.{IsHaltedAt, IsOutput, PlaysAll, Reaches};
 ghost use Rattle.am_replay.specs.Texts.{Prints, settle_refusal, settle_text};
 
 use crate::error::Halt;
 use crate::flights::tell_flights;
+use crate::line::Line as OutputLine;
 use crate::output::{tell, tell_refusal};
 use crate::progress::Progress;
+use crate::refusal::Refusal;
 use crate::replies::{tell_answer, tell_refused};
 use crate::reports::tell_reports;
 use am_cluster::{Cluster, SettleError};
-use am_output::{Line as OutputLine, Refusal};
 use am_schedule::{Line, Schedule, Step, Word};
 use am_version_order::Moment;
 use am_wire::Text;

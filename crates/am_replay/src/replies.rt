@@ -6,12 +6,13 @@ ghost use Rattle.am_replay.specs.Members.{stand_named};
 ghost use Rattle.am_replay.specs.Texts.{Prints, answer_text, ended_text, muted_text, owner_of, refused_text};
 ghost use Rattle.am_replay.specs.Texts.{reply_text, shown_text, step_refusal};
 
+use crate::line::Line;
 use crate::members::member_named;
 use crate::output::{tell, tell_refusal};
+use crate::refusal::Refusal;
 use am_cluster::{Cluster, ClusterError};
 use am_instance::Reply;
 use am_matcher::Mutes;
-use am_output::{Line, Refusal};
 use am_schedule::{Action, Event};
 use am_version_order::Moment;
 use am_view::append_view;
@@ -33,7 +34,7 @@ fn tell_shown(
 }
 
 /// Appends that the silence was ended whose end the event asks for.
-#[tactic(auto, unfolding(am_output::specs::Lines::line_text))]
+#[tactic(auto, unfolding(crate::specs::Printed::line_text))]
 fn tell_ended(out: &mut String, name: &str, event: &Event) -> Result<(), AllocError>
     ensures { OnOk result (string_bytes out.new ≡ string_bytes out.old ++ ended_text name.now event.now) }
 {
@@ -50,7 +51,7 @@ fn tell_ended(out: &mut String, name: &str, event: &Event) -> Result<(), AllocEr
 }
 
 /// Appends which silences mute a label set.
-#[tactic(auto, unfolding(am_output::specs::Lines::line_text))]
+#[tactic(auto, unfolding(crate::specs::Printed::line_text))]
 fn tell_mutes(out: &mut String, name: &str, mutes: &Mutes) -> Result<(), AllocError>
     ensures { OnOk result (string_bytes out.new ≡ string_bytes out.old ++ muted_text name.now mutes.now) }
 {
@@ -63,7 +64,7 @@ fn tell_mutes(out: &mut String, name: &str, mutes: &Mutes) -> Result<(), AllocEr
 }
 
 /// Appends what is printed of the reply of the member of a name to an event.
-#[tactic(auto, unfolding(am_output::specs::Lines::line_text))]
+#[tactic(auto, unfolding(crate::specs::Printed::line_text))]
 fn tell_reply(
     out: &mut String,
     cluster: &Cluster,

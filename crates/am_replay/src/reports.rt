@@ -4,15 +4,15 @@ ghost use Rattle.std.specs.Prelude.{◌≡◌, ◌++◌, OnOk, string_bytes};
 ghost use Rattle.am_replay.specs.Members.{names_of};
 ghost use Rattle.am_replay.specs.Reports.{PrintsReports, report_text};
 
+use crate::line::Line;
 use crate::output::tell;
 use am_cluster::{CalmReport, Cluster};
 use am_instance::Place;
-use am_output::Line;
 use am_wire::Text;
 use std::alloc::AllocError;
 
 /// Appends what is reported of the member of a name.
-#[tactic(auto, unfolding(am_output::specs::Lines::line_text))]
+#[tactic(auto, unfolding(crate::specs::Printed::line_text))]
 fn tell_report(out: &mut String, name: &str, report: CalmReport) -> Result<(), AllocError>
     ensures { OnOk result (string_bytes out.new ≡ string_bytes out.old ++ report_text name.now report.first_fault) }
 {

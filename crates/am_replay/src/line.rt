@@ -1,7 +1,7 @@
 //! The lines that are printed beside views.
 
 ghost use Rattle.std.specs.Prelude.{◌≡◌, ◌++◌, OnOk, codes, string_bytes};
-ghost use Rattle.am_output.specs.Lines.{line_text};
+ghost use Rattle.am_replay.specs.Printed.{line_text};
 
 use crate::names::{decision_name, kind_name, refusal_name, yes_or_no};
 use crate::refusal::Refusal;
@@ -75,7 +75,7 @@ impl Display for Line<'_> {
 
     ghost output = { λ line. Some (line_text line) };
 
-    #[tactic(auto, unfolding(crate::specs::Lines::line_text))]
+    #[tactic(auto, unfolding(crate::specs::Printed::line_text))]
     fn fmt<W: fmt::Write>(&self, f: &mut fmt::Formatter<W>) -> fmt::Result {
         match *self {
             Line::Posted { name, id } => write!(f, "{} posted {}", word(name), word(id)),

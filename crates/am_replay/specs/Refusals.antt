@@ -1,8 +1,8 @@
 -- The kinds of refusals.
 use Rattle.am_silence.specs.declared.error.SilenceError.{SilenceError}
 use Rattle.am_silence.specs.declared.error.SilenceError.TheVariants as errors
-use Rattle.am_output.specs.declared.refusal.Refusal.{Refusal}
-use Rattle.am_output.specs.declared.refusal.Refusal.TheVariants as refusals
+use Rattle.am_replay.specs.declared.refusal.Refusal.{Refusal}
+use Rattle.am_replay.specs.declared.refusal.Refusal.TheVariants as refusals
 
 -- the kind of a refused post or end
 abbrev pub kind_of : SilenceError → Refusal

@@ -1,7 +1,7 @@
 //! How answers are named in a line.
 
 ghost use Rattle.std.specs.Prelude.{◌≡◌};
-ghost use Rattle.am_output.specs.Lines.{decision_word, kind_word, refusal_word, yes_or_no};
+ghost use Rattle.am_replay.specs.Printed.{decision_word, kind_word, refusal_word, yes_or_no};
 
 use crate::refusal::Refusal;
 use am_dedup::{Decision, Reason};

@@ -10,10 +10,10 @@ use Rattle.am_gossip.specs.declared.kind.FrameKind.TheVariants as kinds
 use Rattle.am_view.specs.Words.{word_of}
 use Rattle.am_view.specs.Lists.{texts_word}
 use Rattle.am_view.specs.Views.{owner_words}
-use Rattle.am_output.specs.declared.refusal.Refusal.{Refusal}
-use Rattle.am_output.specs.declared.refusal.Refusal.TheVariants as refusals
-use Rattle.am_output.specs.declared.line.Line.{Line}
-use Rattle.am_output.specs.declared.line.Line.TheVariants as lines
+use Rattle.am_replay.specs.declared.refusal.Refusal.{Refusal}
+use Rattle.am_replay.specs.declared.refusal.Refusal.TheVariants as refusals
+use Rattle.am_replay.specs.declared.line.Line.{Line}
+use Rattle.am_replay.specs.declared.line.Line.TheVariants as lines
 
 -- the word of an answer
 abbrev pub yes_or_no : Bool → List ℕ

@@ -32,7 +32,7 @@ pub enum Refusal {
 
 impl From<SilenceError> for Refusal {
     ghost use Rattle.std.specs.Prelude.{◌≡◌};
-    ghost use Rattle.am_output.specs.Refusals.{kind_of};
+    ghost use Rattle.am_replay.specs.Refusals.{kind_of};
 
     ghost from_gives = { λ error refusal. refusal ≡ kind_of error };
 
