@@ -7,7 +7,7 @@ use Rattle.am_nflog.specs.Mesh.{mesh_version as entry_version}
 use Rattle.am_instance.specs.Configs.{Settings}
 use Rattle.am_instance.specs.Deliveries.{Delivery}
 use Rattle.am_instance.specs.Deliveries.Delivery.{OfSilence, OfEntry}
-use Rattle.am_carried.specs.Contents.{silences_in, entries_in}
+use Rattle.am_record.specs.Contents.{silences_in, entries_in}
 use Rattle.am_schedule.specs.declared.step.Event.{Event as LineEvent}
 use Rattle.am_schedule.specs.declared.step.Event.TheVariants as lines
 use Rattle.am_schedule.specs.declared.step.Versions.{Versions}

@@ -28,7 +28,7 @@ use Rattle.am_runs.specs.Steps.{Step, flights_of, is_at}
 use Rattle.am_runs.specs.Steps.Step.{Took, Ticked}
 use Rattle.am_runs.specs.Members.{Member, stepped, member_of, map_of}
 use Rattle.am_runs.proofs.Pasts.{member_of-push}
-use Rattle.am_carried.specs.Contents.{carries, silences_in, entries_in}
+use Rattle.am_record.specs.Contents.{carries, silences_in, entries_in}
 use Rattle.am_record.specs.Recorded.{AreInFlight, HasGoneThrough, event_step, flights_in, sent_in}
 use Rattle.am_record.proofs.Going.{member_goes_on, own_member}
 use Rattle.am_record.proofs.Lending.{all_fly}

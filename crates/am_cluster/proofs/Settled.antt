@@ -37,8 +37,8 @@ use Rattle.am_instance.specs.Deliveries.Delivery.{OfEntry, OfSilence}
 use Rattle.am_instance.specs.OneStep.{IsStep}
 use Rattle.am_instance.specs.Stands.{Stand}
 use Rattle.am_instance.specs.Steps.{AreSwept, brought, delivers}
-use Rattle.am_carried.specs.Contents.{IsReadable, entries_in, held_in, silences_in}
-use Rattle.am_carried.proofs.Again.{entries_parted, silences_parted, whole_carries}
+use Rattle.am_record.specs.Contents.{IsReadable, entries_in, held_in, silences_in}
+use Rattle.am_record.proofs.Again.{entries_parted, silences_parted, whole_carries}
 use Rattle.am_record.proofs.Making.{frame_makes_nothing}
 use Rattle.am_record.proofs.States.{log_state, silences_state, takings}
 use Rattle.am_runs.specs.declared.step.Source.{Source}

@@ -17,7 +17,7 @@ use Rattle.am_runs.specs.Steps.Step.{Refused}
 use Rattle.am_journal.specs.Accounts.{Account}
 use Rattle.am_journal.specs.Twins.{AreTwins}
 use Rattle.am_journal.proofs.Twinned.{twin_flights}
-use Rattle.am_carried.specs.Contents.{silences_in, entries_in}
+use Rattle.am_record.specs.Contents.{silences_in, entries_in}
 use Rattle.am_record.specs.Recorded.{HasSource, event_step}
 use Rattle.am_cluster.specs.declared.error.ClusterError.{ClusterError}
 use Rattle.am_cluster.specs.declared.error.ClusterError.TheVariants as errors

@@ -7,7 +7,7 @@ use Rattle.am_runs.specs.Steps.{Step, flights_of}
 use Rattle.am_runs.specs.Steps.Step.{Took}
 use Rattle.am_journal.specs.Accounts.{Account}
 use Rattle.am_journal.specs.Reports.{IsPossibleForSilences, IsPossibleForLog}
-use Rattle.am_carried.specs.Contents.{silences_in, entries_in}
+use Rattle.am_record.specs.Contents.{silences_in, entries_in}
 use Rattle.am_record.specs.Recorded.{sent_in}
 use Rattle.am_cluster.specs.declared.sending.Sent.{Sent}
 use Rattle.am_cluster.specs.declared.writing.Entry.{Entry}

@@ -10,7 +10,7 @@ ghost use Rattle.am_instance.specs.Configs.{Settings};
 ghost use Rattle.am_instance.specs.Laws.{HasMaps};
 ghost use Rattle.am_instance.specs.OneStep.{IsStep};
 ghost use Rattle.am_instance.specs.Steps.{brought, fault_of};
-ghost use Rattle.am_carried.specs.Contents.{IsValue, delivery_of, entries_in, silences_in};
+ghost use Rattle.am_record.specs.Contents.{IsValue, delivery_of, entries_in, silences_in};
 ghost use Rattle.am_record.specs.Recorded.{HasSource};
 ghost use Rattle.am_cluster.specs.Acting.{CanAct, HasActed};
 ghost use Rattle.am_cluster.specs.Events.{IsEvent};
@@ -22,9 +22,9 @@ use crate::error::ClusterError;
 use crate::flight::Flight;
 use crate::recording::{Coming, kind_of, write_answer};
 use crate::writing::Entry;
-use am_carried::{ByState, Carried, carried_by, held_are_values};
 use am_instance::{Event, Instance, Outcome, Reply, StepError};
 use am_journal::{Journal, Mark};
+use am_record::carried::{ByState, Carried, carried_by, held_are_values};
 use am_record::laws::{
     collecting_leaves_nothing_out, few_are_made, sent_frames_are_sound, steps_are_possible,
     values_are_delivered,

@@ -2,11 +2,11 @@
 
 use crate::frames::frames;
 use crate::steps::say_all;
-use am_carried::{ByState, Carried, carried_by};
 use am_case_words::fault::Fault;
 use am_case_words::versions::Told;
 use am_case_words::words::{number, parts};
 use am_gossip::Frame;
+use am_record::carried::{ByState, Carried, carried_by};
 
 /// `carried BYTES` and `carried first COUNT of BYTES`
 pub fn carried(rt: &HostRuntime, rest: &str) -> Result<(), Fault> {

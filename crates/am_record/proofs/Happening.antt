@@ -35,7 +35,7 @@ use Rattle.am_instance.specs.Steps.{brought, collects, counts, delivers, last_wa
 use Rattle.am_instance.specs.OneStep.{IsStep}
 use Rattle.am_instance.specs.Laws.{HasMaps}
 use Rattle.std.proofs.lemmas.List.Elements.{All-append}
-use Rattle.am_carried.specs.Contents.{carries, held_in}
+use Rattle.am_record.specs.Contents.{carries, held_in}
 use Rattle.am_record.specs.Recorded.{AreInFlight, AreValues, HasGoneThrough, HasSource, event_step, sent_in}
 use Rattle.am_record.proofs.States.{IsState}
 use Rattle.am_record.proofs.Going.{member_goes_on}

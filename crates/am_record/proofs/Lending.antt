@@ -35,8 +35,8 @@ use Rattle.am_instance.specs.Replies.{listed}
 use Rattle.am_instance.specs.Sendings.{Sends, deltas_to, nothing_sent, sent_by, whole_state}
 use Rattle.am_instance.specs.Stands.{Stand, entry_at, silence_at}
 use Rattle.am_instance.specs.Steps.{brought, collects, delivers, fault_of, made_here, origin}
-use Rattle.am_carried.specs.Contents.{carries, held_in, IsReadable, IsValue}
-use Rattle.am_carried.proofs.Again.{whole_carries, whole_sound}
+use Rattle.am_record.specs.Contents.{carries, held_in, IsReadable, IsValue}
+use Rattle.am_record.proofs.Again.{whole_carries, whole_sound}
 use Rattle.am_record.specs.Recorded.{AreInFlight, HasGoneThrough, event_step, flights_in, sent_in}
 use Rattle.am_record.proofs.Making.{frame_makes_nothing}
 

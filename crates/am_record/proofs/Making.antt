@@ -23,8 +23,8 @@ use Rattle.am_instance.specs.Deliveries.Delivery.{OfSilence, OfEntry}
 use Rattle.am_instance.specs.Stands.{Stand}
 use Rattle.am_instance.specs.Replies.{AreMade, IsDone, IsEnded, IsLogged, IsNothing, IsReply, IsRequestReply, RefusedOr, listed, posted_over, silence_in_view}
 use Rattle.am_instance.specs.Steps.{made_here}
-use Rattle.am_carried.specs.Contents.{silences_in, entries_in}
-use Rattle.am_carried.proofs.Again.{silences_parted, entries_parted}
+use Rattle.am_record.specs.Contents.{silences_in, entries_in}
+use Rattle.am_record.proofs.Again.{silences_parted, entries_parted}
 
 abbrev IsNow : ℕ → Mesh → Type 0
 IsNow now v = v.silence.updated_at ≡ now

@@ -16,8 +16,8 @@ use Rattle.am_instance.specs.OneStep.{IsStep}
 use Rattle.am_instance.specs.Sendings.{Sends, addressed, delta_of, deltas_to, nothing_sent, sent_by, whole_state}
 use Rattle.am_instance.specs.Stands.{Stand, entry_at, silence_at}
 use Rattle.am_instance.specs.Steps.{collects, delivers, knows_peer, last_wanted, made_here, origin, peer_of}
-use Rattle.am_carried.specs.Contents.{IsValue}
-use Rattle.am_carried.proofs.Again.{delta_readable, delta_rows, whole_readable, whole_sound}
+use Rattle.am_record.specs.Contents.{IsValue}
+use Rattle.am_record.proofs.Again.{delta_readable, delta_rows, whole_readable, whole_sound}
 use Rattle.am_record.specs.Recorded.{AreValues}
 use Rattle.am_record.proofs.Making.{frame_makes_nothing}
 use Rattle.am_record.proofs.Sendings.{Delta_holds, IfFits, all_deltas, all_sent, changed_values, last_holds}

@@ -21,8 +21,8 @@ use Rattle.am_collect.specs.Events.Event.{Delivered}
 use Rattle.am_nflog.specs.Keys.{key_cmp}
 use Rattle.std.specs.Ordering.{nat_cmp}
 use Rattle.std.specs.Cmp.Lexicographic.{slice_cmp}
-use Rattle.am_carried.specs.Contents.{carries, held_in, IsValue}
-use Rattle.am_carried.proofs.Again.{delta_carries, delta_readable, whole_carries, whole_readable}
+use Rattle.am_record.specs.Contents.{carries, held_in, IsValue}
+use Rattle.am_record.proofs.Again.{delta_carries, delta_readable, whole_carries, whole_readable}
 use Rattle.am_record.specs.Recorded.{sent_in}
 
 -- ---- what was handed out was wanted, and kept its limit

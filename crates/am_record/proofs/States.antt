@@ -14,8 +14,8 @@ use Rattle.am_runs.specs.Runs.{changed}
 use Rattle.am_instance.specs.Deliveries.{Delivery, to_silences, to_log}
 use Rattle.am_instance.specs.Deliveries.Delivery.{OfSilence, OfEntry}
 use Rattle.am_instance.specs.Changes.{changes, changed_of, only_if}
-use Rattle.am_carried.specs.Contents.{silences_in, entries_in}
-use Rattle.am_carried.proofs.Parting.{silences_append, entries_append}
+use Rattle.am_record.specs.Contents.{silences_in, entries_in}
+use Rattle.am_record.proofs.Parting.{silences_append, entries_append}
 
 -- versions taken one after the other
 abbrev pub takings : {X : Type 0} → ℕ → List X → Events X

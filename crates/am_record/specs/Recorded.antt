@@ -24,7 +24,7 @@ use Rattle.am_instance.specs.Deliveries.{Delivery}
 use Rattle.am_instance.specs.Stands.{Stand}
 use Rattle.am_instance.specs.Steps.{brought, collects, delivers}
 use Rattle.am_instance.specs.Laws.{HasMaps}
-use Rattle.am_carried.specs.Contents.{carries, IsValue}
+use Rattle.am_record.specs.Contents.{carries, IsValue}
 
 -- a map with the moment of its last event is what a past leaves of the empty map
 pub record HasGoneThrough {K X : Type 0} (seen : X → Version K) (cmp : K → K → Ordering) (past : Events X) (kept : Kept X) : Type 0 where

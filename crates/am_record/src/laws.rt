@@ -29,7 +29,7 @@ ghost use Rattle.am_instance.specs.Steps.{brought, counts, delivers, fault_of};
 ghost use Rattle.am_instance.specs.OneStep.{IsStep};
 ghost use Rattle.am_instance.specs.Sendings.{whole_state};
 ghost use Rattle.am_instance.specs.Laws.{HasMaps};
-ghost use Rattle.am_carried.specs.Contents.{carries, entries_in, held_in, silences_in, IsReadable, IsValue};
+ghost use Rattle.am_record.specs.Contents.{carries, entries_in, held_in, silences_in, IsReadable, IsValue};
 ghost use Rattle.am_record.specs.Recorded.{AreInFlight, AreValues, HasGoneThrough, HasSource, event_step, flights_in};
 
 pub use crate::sent::{collecting_leaves_nothing_out, few_are_made, sent_frames_are_sound};

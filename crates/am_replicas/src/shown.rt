@@ -17,11 +17,11 @@ ghost use Rattle.am_instance.specs.Replies.{IsReply, entry_in_view, silence_in_v
 ghost use Rattle.am_cluster.specs.Lives.{OfMember};
 ghost use Rattle.am_replicas.specs.Replicas.{IsCalmBy, entries_taken, silences_taken};
 
-use am_carried::held_are_values;
 use am_cluster::Cluster;
 use am_instance::laws::{equal_views_mute_alike, equal_views_reply_alike, what_is_shown_replies};
 use am_instance::{Instance, Place};
 use am_nflog::MeshEntry;
+use am_record::carried::held_are_values;
 use am_runs::laws::calm_members_show_the_bare_set;
 use am_silence::MeshSilence;
 use am_version_order::Version;

@@ -1,5 +1,5 @@
 use Rattle.std.proofs.Common.{◌≡◌, map, take}
-use Rattle.am_carried.specs.Contents.{entries_in, silences_in}
+use Rattle.am_record.specs.Contents.{entries_in, silences_in}
 use Rattle.am_record.specs.Recorded.{sent_in}
 use Rattle.am_cluster.proofs.sending.sent_in.Given as goal
 

@@ -1,4 +1,4 @@
-use Rattle.am_carried.specs.Contents.{entries_in, silences_in}
+use Rattle.am_record.specs.Contents.{entries_in, silences_in}
 use Rattle.am_record.proofs.Lending.{all_fly}
 use Rattle.am_record.proofs.laws.frames_are_flights.Goals as goal
 

@@ -3,7 +3,7 @@ use Rattle.std.specs.Cmp.Lexicographic.{slice_cmp}
 use Rattle.am_silence.specs.Mesh.{mesh_version}
 use Rattle.am_nflog.specs.Mesh.{mesh_version as entry_version}
 use Rattle.am_nflog.specs.Keys.{key_cmp}
-use Rattle.am_carried.specs.Contents.{carries, entries_in, silences_in}
+use Rattle.am_record.specs.Contents.{carries, entries_in, silences_in}
 use Rattle.am_record.proofs.Lending.{flown}
 use Rattle.am_record.proofs.laws.frames_come_from_their_flights.Goals as goal
 

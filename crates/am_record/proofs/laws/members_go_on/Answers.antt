@@ -5,7 +5,7 @@ use Rattle.am_nflog.specs.Mesh.{mesh_version as entry_version}
 use Rattle.am_nflog.specs.Keys.{key_cmp}
 use Rattle.am_instance.specs.Deliveries.{to_silences, to_log}
 use Rattle.am_instance.specs.Stands.{kept_log, kept_silences}
-use Rattle.am_carried.specs.Contents.{entries_in, silences_in}
+use Rattle.am_record.specs.Contents.{entries_in, silences_in}
 use Rattle.am_record.proofs.States.{log_state, silences_state}
 use Rattle.am_record.proofs.Going.{member_goes_on}
 use Rattle.am_record.proofs.laws.members_go_on.Goals as goal

@@ -1,7 +1,7 @@
 use Rattle.std.proofs.Common.{◌∙◌}
 use Rattle.am_runs.specs.Members.{member_of}
 use Rattle.am_runs.proofs.Pasts.{member_of-push}
-use Rattle.am_carried.specs.Contents.{entries_in, silences_in}
+use Rattle.am_record.specs.Contents.{entries_in, silences_in}
 use Rattle.am_record.specs.Recorded.{event_step}
 use Rattle.am_record.proofs.Going.{other_member, own_member}
 use Rattle.am_record.proofs.laws.only_the_member_changes.Goals as goal

@@ -1,4 +1,0 @@
-pub mod RowAdding
-pub mod Parting
-pub mod PartAdding
-pub mod Again
