@@ -1,3 +1,5 @@
+pub mod Twinned
+pub mod Reported
 pub mod Places
 pub mod Tied
 pub mod Goes

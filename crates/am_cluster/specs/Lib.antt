@@ -1,3 +1,8 @@
+pub mod Twins
+pub mod Marks
+pub mod Accounts
+pub mod Reports
+pub mod Firsts
 pub mod Worlds
 pub mod Ties
 pub mod Beginnings

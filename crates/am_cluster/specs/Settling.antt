@@ -19,7 +19,7 @@ use Rattle.am_nflog.specs.LogKeys.{LogKey}
 use Rattle.am_runs.specs.Settles.{join_of}
 use Rattle.am_runs.specs.declared.step.Source.TheVariants.{Made, Lent}
 use Rattle.am_runs.specs.Steps.Step.{Back, Refused}
-use Rattle.am_journal.specs.Accounts.{Account}
+use Rattle.am_cluster.specs.Accounts.{Account}
 use Rattle.am_cluster.specs.declared.error.ClusterError.{ClusterError}
 use Rattle.am_cluster.specs.declared.error.ClusterError.TheVariants as cluster_errors
 use Rattle.am_cluster.specs.declared.error.SettleError.{SettleError}

@@ -7,16 +7,16 @@ ghost use Rattle.am_instance.specs.declared.error.ConfigError.TheVariants as err
 ghost use Rattle.am_silence.specs.Mesh.{IsMesh};
 ghost use Rattle.am_nflog.specs.Mesh.{IsMesh as IsLogMesh};
 ghost use Rattle.am_runs.specs.Steps.{delivered_in};
-ghost use Rattle.am_journal.specs.Reports.{AreRuns, AreTimely, IsCalmInBoth, IsLineOfFault};
-ghost use Rattle.am_journal.specs.Twins.{AreTwins};
+ghost use Rattle.am_cluster.specs.Reports.{AreRuns, AreTimely, IsCalmInBoth, IsLineOfFault};
+ghost use Rattle.am_cluster.specs.Twins.{AreTwins};
 ghost use Rattle.am_cluster.specs.Beginnings.{AreNewborn, AreUnborn, newborns};
 ghost use Rattle.am_cluster.specs.Ties.{IsWorld};
 ghost use Rattle.am_cluster.specs.Worlds.{replica_at};
 
 use crate::flight::Flight;
+use crate::journal::{CalmReport, Journal};
 use crate::member::Member;
 use am_instance::{Config, ConfigError, Instance, Place};
-use am_journal::{CalmReport, Journal};
 use am_version_order::Interval;
 use am_wire::Text;
 use std::alloc::{AllocError, Global};

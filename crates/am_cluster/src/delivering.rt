@@ -9,10 +9,10 @@ ghost use Rattle.am_cluster.specs.Losing.{IsNoNumber};
 
 use crate::cluster::Cluster;
 use crate::error::ClusterError;
+use crate::journal::Mark;
 use crate::losing::flight_numbered;
 use am_gossip::Frame;
 use am_instance::{Event, Place, Reply};
-use am_journal::Mark;
 use am_runs::Source;
 use am_version_order::Moment;
 use std::alloc::AllocError;

@@ -20,10 +20,10 @@ ghost use Rattle.am_cluster.specs.Recording.{ComesWith, IsNoFault, IsRoomFor};
 use crate::cluster::Cluster;
 use crate::error::ClusterError;
 use crate::flight::Flight;
+use crate::journal::{Journal, Mark};
 use crate::recording::{Coming, kind_of, write_answer};
 use crate::writing::Entry;
 use am_instance::{Event, Instance, Outcome, Reply, StepError};
-use am_journal::{Journal, Mark};
 use am_record::carried::{ByState, Carried, carried_by, held_are_values};
 use am_record::laws::{
     collecting_leaves_nothing_out, few_are_made, sent_frames_are_sound, steps_are_possible,

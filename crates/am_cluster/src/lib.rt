@@ -1,4 +1,4 @@
-//! A cluster of instances: their steps, the frames between them, and what can be told of the run so far.
+//! A cluster of instances: their steps, the frames between them, the journal of the run so far, and what can be told of it.
 #![tactic(auto)]
 
 mod cluster;
@@ -6,6 +6,7 @@ mod delivering;
 mod error;
 mod events;
 mod flight;
+pub mod journal;
 mod lives;
 mod losing;
 mod member;
@@ -15,7 +16,7 @@ mod settle;
 mod steps;
 mod writing;
 
-pub use am_journal::CalmReport;
 pub use cluster::Cluster;
 pub use error::{ClusterError, SettleError};
 pub use flight::Flight;
+pub use journal::CalmReport;

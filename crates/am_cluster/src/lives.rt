@@ -5,7 +5,7 @@ ghost use Rattle.am_cluster.specs.Lives.{IsSave, IsStart, IsStop, OfMember};
 
 use crate::cluster::Cluster;
 use crate::error::ClusterError;
-use am_journal::Mark;
+use crate::journal::Mark;
 use am_version_order::Moment;
 
 impl Cluster {

@@ -15,10 +15,10 @@ ghost use Rattle.am_cluster.specs.declared.recording.Kind.TheVariants as kinds;
 
 use crate::error::ClusterError;
 use crate::flight::Flight;
+use crate::journal::{Journal, Mark};
 use crate::writing::{Delivered, Entry, write_event, write_silent};
 use am_gossip::Frame;
 use am_instance::{Event, Made, Outcome, Place, Reply, StepError, Unsent};
-use am_journal::{Journal, Mark};
 use am_nflog::MeshEntry;
 use am_record::carried::{ByState, Carried};
 use am_runs::Source;

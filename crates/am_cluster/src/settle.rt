@@ -27,10 +27,10 @@ ghost use Rattle.am_cluster.specs.Worlds.{Replica};
 
 use crate::cluster::Cluster;
 use crate::error::{ClusterError, SettleError};
+use crate::journal::{Journal, Mark};
 use crate::member::Member;
 use am_gossip::{Frame, FullState, Part, StateKey};
 use am_instance::{Event, Instance, Place, Reply};
-use am_journal::{Journal, Mark};
 use am_merge::Held;
 use am_record::carried::held_are_values;
 use am_record::carried::laws::what_keeps_its_limit_is_readable;

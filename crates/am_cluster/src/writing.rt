@@ -9,10 +9,10 @@ ghost use Rattle.am_cluster.specs.Worlds.{sent_on};
 ghost use Rattle.am_cluster.specs.Writing.{AreSent, CanWrite, IsReady, IsWritten};
 
 use crate::flight::Flight;
+use crate::journal::Journal;
 use crate::sending::{Sent, send_off, sent_in};
 use am_gossip::Frame;
 use am_instance::Place;
-use am_journal::Journal;
 use am_nflog::MeshEntry;
 use am_runs::{Source, Step};
 use am_silence::MeshSilence;

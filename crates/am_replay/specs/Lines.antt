@@ -4,7 +4,7 @@ use Rattle.std.specs.List.{flat_map}
 use Rattle.am_instance.specs.declared.reply.Reply.{Reply}
 use Rattle.am_schedule.specs.declared.step.Line.{Line}
 use Rattle.am_schedule.specs.declared.step.Line.TheVariants as kinds
-use Rattle.am_journal.specs.Reports.{AreTimely}
+use Rattle.am_cluster.specs.Reports.{AreTimely}
 use Rattle.am_cluster.specs.declared.error.ClusterError.{ClusterError}
 use Rattle.am_cluster.specs.declared.error.SettleError.{SettleError}
 use Rattle.am_cluster.specs.Settling.{IsSettle}

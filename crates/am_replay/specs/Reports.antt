@@ -1,6 +1,6 @@
 -- What is printed at the end: whether each member was calm, or the line of its first fault.
 use Rattle.std.specs.Prelude.{◌≡◌, ℕ, ◌+◌, List, [], ◌∷◌, ◌++◌, length, Option, Some, None, MatchOption}
-use Rattle.am_journal.specs.Reports.{IsCalmInBoth, IsLineOfFault}
+use Rattle.am_cluster.specs.Reports.{IsCalmInBoth, IsLineOfFault}
 use Rattle.am_cluster.specs.Worlds.{World}
 use Rattle.am_replay.specs.declared.line.Line.TheVariants as lines
 use Rattle.am_replay.specs.Members.{names_of}

@@ -4,7 +4,7 @@ use Rattle.am_silence.specs.Mesh.{Mesh}
 use Rattle.am_nflog.specs.Mesh.{Mesh as LogMesh}
 use Rattle.am_runs.specs.Members.{member_of, set_of}
 use Rattle.am_runs.specs.Steps.{Step, moment}
-use Rattle.am_journal.specs.Reports.{IsCalmInBoth}
+use Rattle.am_cluster.specs.Reports.{IsCalmInBoth}
 use Rattle.am_cluster.specs.Worlds.{Replica, World}
 
 -- every silence that was delivered to the member at a place, live or not; a start brings back what was delivered before the save

@@ -7,7 +7,7 @@ ghost use Rattle.am_nflog.specs.LogKeys.{LogKey};
 ghost use Rattle.am_version_order.specs.Versions.{is_below};
 ghost use Rattle.am_merge.specs.Views.{IsBest};
 ghost use Rattle.am_runs.specs.Steps.{delivered_in};
-ghost use Rattle.am_journal.specs.Reports.{AreTimely};
+ghost use Rattle.am_cluster.specs.Reports.{AreTimely};
 ghost use Rattle.am_instance.specs.declared.reply.Made.{Made};
 ghost use Rattle.am_instance.specs.Replies.{IsReply, entry_in_view, silence_in_view};
 ghost use Rattle.am_cluster.specs.Lives.{OfMember};

@@ -1,5 +1,5 @@
 use Rattle.std.proofs.Common.{subst}
-use Rattle.am_journal.specs.Reports.{IsCalmInBoth}
+use Rattle.am_cluster.specs.Reports.{IsCalmInBoth}
 use Rattle.am_cluster.proofs.cluster.Cluster.timely.Goals as goal
 
 pub returns-clause-calm : goal.returns-clause-calm

@@ -1,4 +1,4 @@
-//! What happened so far.
+//! What happened in a cluster so far, told of the silences and of the log, with the line that each step was given.
 
 ghost use Rattle.std.specs.Prelude.{◌≡◌, ◌++◌, ℕ, [], ◌∷◌, ◌+◌, ◌<◌, ◌≤◌, length, IsTrue, ◌↔◌, MatchOption, OnOk, OnErr, All};
 ghost use Rattle.am_runs.specs.Members.{last_of, member_of};
@@ -6,17 +6,22 @@ ghost use Rattle.am_runs.specs.Records.{step_of};
 ghost use Rattle.am_runs.specs.Steps.{delivered_by, delivered_in, flights_by, flights_of};
 ghost use Rattle.am_silence.specs.Mesh.{IsMesh};
 ghost use Rattle.am_nflog.specs.Mesh.{IsMesh as IsLogMesh};
-ghost use Rattle.am_journal.specs.Marks.{step_of_mark};
-ghost use Rattle.am_journal.specs.Reports.{AreRuns, AreTimely, IsCalmInBoth, IsLineOfFault, IsPossibleForLog, IsPossibleForSilences};
-ghost use Rattle.am_journal.specs.Twins.{AreTwins, IsTwin};
+ghost use Rattle.am_cluster.specs.Marks.{step_of_mark};
+ghost use Rattle.am_cluster.specs.Reports.{AreRuns, AreTimely, IsCalmInBoth, IsLineOfFault, IsPossibleForLog, IsPossibleForSilences};
+ghost use Rattle.am_cluster.specs.Twins.{AreTwins, IsTwin};
 
-use crate::laws::{marks_are_told_of_both, twins_tell_same};
-use crate::mark::Mark;
-use crate::report::{CalmReport, earlier};
+pub mod laws;
+mod mark;
+mod report;
+
 use am_nflog::MeshEntry;
 use am_runs::{Run, Step};
 use am_silence::MeshSilence;
 use am_version_order::{Interval, Moment};
+use laws::{marks_are_told_of_both, twins_tell_same};
+pub use mark::Mark;
+pub use report::CalmReport;
+use report::earlier;
 use std::alloc::{AllocError, Global};
 use std::marker::Model;
 
@@ -46,8 +51,8 @@ impl Drop for Journal {
 impl Model for Journal {
     ghost use Rattle.std.specs.Prelude.{◌≡◌, ◌-◌, length, min, vec_len, vec_capacity};
     ghost use Rattle.am_runs.specs.Steps.{flights_of};
-    ghost use Rattle.am_journal.specs.Accounts.{Account};
-    ghost use Rattle.am_journal.specs.Twins.{AreTwins};
+    ghost use Rattle.am_cluster.specs.Accounts.{Account};
+    ghost use Rattle.am_cluster.specs.Twins.{AreTwins};
 
     ghost Value = { Account };
 

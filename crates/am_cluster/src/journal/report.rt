@@ -1,7 +1,7 @@
 //! Whether a member was calm.
 
 ghost use Rattle.std.specs.Prelude.{◌≡◌};
-ghost use Rattle.am_journal.specs.Firsts.{earlier};
+ghost use Rattle.am_cluster.specs.Firsts.{earlier};
 
 /// Whether a member was calm, and where it wasn't.
 #[derive(Clone, Copy, Debug, PartialEq, Eq)]
@@ -13,7 +13,7 @@ pub struct CalmReport {
 }
 
 /// The lesser one of two numbers, or the only one.
-pub(crate) fn earlier(first: Option<usize>, second: Option<usize>) -> Option<usize>
+pub(super) fn earlier(first: Option<usize>, second: Option<usize>) -> Option<usize>
     ensures { result ≡ earlier first second }
 {
     match (first, second) {

@@ -1,7 +1,7 @@
 use Rattle.std.proofs.Common.{sym, subst}
 use Rattle.am_nflog.specs.Mesh.{mesh_version as entry_version}
 use Rattle.am_runs.specs.Runs.{IsCalmAt}
-use Rattle.am_journal.proofs.journal.Journal.timely.Goals as goal
+use Rattle.am_cluster.proofs.journal.Journal.timely.Goals as goal
 
 pub returns-then-timely-clause-calm : goal.returns-then-timely-clause-calm
 returns-then-timely-clause-calm c =

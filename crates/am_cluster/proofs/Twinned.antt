@@ -10,10 +10,10 @@ use Rattle.am_runs.specs.Runs.{IsPossible}
 use Rattle.am_runs.specs.Tests.{acted, last_after, last_from, runs_after, runs_from}
 use Rattle.am_runs.proofs.Starts.{last_told, runs_told}
 use Rattle.am_runs.proofs.Pasts.{flights_of-push}
-use Rattle.am_journal.specs.declared.mark.Mark.{Mark}
-use Rattle.am_journal.specs.declared.mark.Mark.TheVariants as marks
-use Rattle.am_journal.specs.Marks.{step_of_mark}
-use Rattle.am_journal.specs.Twins.{AreTwins, IsTwin}
+use Rattle.am_cluster.specs.declared.journal.mark.Mark.{Mark}
+use Rattle.am_cluster.specs.declared.journal.mark.Mark.TheVariants as marks
+use Rattle.am_cluster.specs.Marks.{step_of_mark}
+use Rattle.am_cluster.specs.Twins.{AreTwins, IsTwin}
 
 module _ {X Y : Type 0} where
   runs_alike : (q : ℕ) (runs : Bool) (step : Step X) (twin : Step Y) → IsTwin step twin → runs_after q runs step ≡ runs_after q runs twin

@@ -2,7 +2,7 @@
 
 ghost use Rattle.std.specs.Prelude.{◌≡◌};
 ghost use Rattle.am_runs.specs.Records.{step_of};
-ghost use Rattle.am_journal.specs.Marks.{step_of_mark};
+ghost use Rattle.am_cluster.specs.Marks.{step_of_mark};
 
 use am_runs::Step;
 use am_version_order::Moment;
@@ -26,7 +26,7 @@ pub enum Mark {
 
 impl Mark {
     /// What it is to the versions of any type.
-    pub(crate) fn step<V>(&self) -> Step<V>
+    pub(super) fn step<V>(&self) -> Step<V>
         ensures { step_of result ≡ step_of_mark self.now }
     {
         match *self {

@@ -10,10 +10,10 @@ use Rattle.am_nflog.specs.Mesh.{Mesh as LogMesh, mesh_version as entry_version}
 use Rattle.am_runs.specs.Steps.{Step, EachStep, IsFirstWithout}
 use Rattle.am_runs.specs.Runs.{IsCalmAt, IsCalmStep, IsFirstFault}
 use Rattle.am_runs.proofs.Cuts.{each_front}
-use Rattle.am_journal.specs.Firsts.{earlier}
-use Rattle.am_journal.specs.Reports.{IsCalmInBoth, IsFirstUncalm}
-use Rattle.am_journal.specs.Twins.{AreTwins}
-use Rattle.am_journal.proofs.Twinned.{twin_length}
+use Rattle.am_cluster.specs.Firsts.{earlier}
+use Rattle.am_cluster.specs.Reports.{IsCalmInBoth, IsFirstUncalm}
+use Rattle.am_cluster.specs.Twins.{AreTwins}
+use Rattle.am_cluster.proofs.Twinned.{twin_length}
 
 module _ {A : Type 0} (P : List A → A → Type 0) (steps : List A) where
   -- it holds of a front of what it holds of

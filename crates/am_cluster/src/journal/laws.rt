@@ -5,10 +5,10 @@ ghost use Rattle.am_silence.specs.Mesh.{Mesh};
 ghost use Rattle.am_nflog.specs.Mesh.{Mesh as LogMesh};
 ghost use Rattle.am_runs.specs.Steps.{Step, flights_of};
 ghost use Rattle.am_runs.specs.Members.{member_of, last_of};
-ghost use Rattle.am_journal.specs.declared.mark.Mark.{Mark};
-ghost use Rattle.am_journal.specs.Marks.{step_of_mark};
-ghost use Rattle.am_journal.specs.Reports.{IsPossibleForLog, IsPossibleForSilences};
-ghost use Rattle.am_journal.specs.Twins.{IsTwin, AreTwins};
+ghost use Rattle.am_cluster.specs.declared.journal.mark.Mark.{Mark};
+ghost use Rattle.am_cluster.specs.Marks.{step_of_mark};
+ghost use Rattle.am_cluster.specs.Reports.{IsPossibleForLog, IsPossibleForSilences};
+ghost use Rattle.am_cluster.specs.Twins.{IsTwin, AreTwins};
 
 /// Both runs tell the same of a member, whether it runs and its last moment, and as many frames were sent in both.
 pub fn twins_tell_same()

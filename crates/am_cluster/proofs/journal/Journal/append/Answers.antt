@@ -1,7 +1,7 @@
 use Rattle.std.proofs.Common.{◌+◌, [], ◌∷◌, ap, sym, ◌∙◌, length, length-append}
 use Rattle.am_runs.specs.Records.{step_of}
-use Rattle.am_journal.proofs.Twinned.{flights_pushed, twin_push}
-use Rattle.am_journal.proofs.journal.Journal.append.Goals as goal
+use Rattle.am_cluster.proofs.Twinned.{flights_pushed, twin_push}
+use Rattle.am_cluster.proofs.journal.Journal.append.Goals as goal
 
 pub invariant_of-self : goal.invariant_of-self
 invariant_of-self c = record {

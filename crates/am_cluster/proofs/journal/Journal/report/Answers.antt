@@ -1,7 +1,7 @@
 use Rattle.std.proofs.Common.{◌<◌, ◌∙◌, sym, subst, ap, refl, arith, length, Some, None}
 use Rattle.std.proofs.lemmas.Option.{slice_get-get_or}
-use Rattle.am_journal.proofs.Reported.{found_told, uncalm_not, uncalm_within}
-use Rattle.am_journal.proofs.journal.Journal.report.Goals as goal
+use Rattle.am_cluster.proofs.Reported.{found_told, uncalm_not, uncalm_within}
+use Rattle.am_cluster.proofs.journal.Journal.report.Goals as goal
 
 pub index-requires : goal.index-requires
 index-requires c =

@@ -1,4 +1,4 @@
-use Rattle.am_journal.proofs.journal.Journal.hangs_together.Goals as goal
+use Rattle.am_cluster.proofs.journal.Journal.hangs_together.Goals as goal
 
 pub returns-clause-silences : goal.returns-clause-silences
 returns-clause-silences c = rw (← c.self.view_is) c.hangs_together.ensures.values

@@ -1,2 +1,0 @@
-pub mod Twinned
-pub mod Reported

@@ -1,9 +1,0 @@
-use Rattle.am_journal.proofs.Twinned.{twin_flights, twin_last, twin_runs}
-use Rattle.am_journal.proofs.laws.twins_tell_same.Goals as goal
-
-pub returns : goal.returns
-returns c = record {
-  runs = twin_runs;
-  last = twin_last;
-  flights = twin_flights;
-}

@@ -1,5 +1,0 @@
-pub mod Twins
-pub mod Marks
-pub mod Accounts
-pub mod Reports
-pub mod Firsts
