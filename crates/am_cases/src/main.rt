@@ -73,7 +73,6 @@ fn of_maps(rt: &HostRuntime, verb: &str, rest: &str) -> Result<(), Fault> {
         "keeper" => maps::keeper(rt, rest),
         "keeper-start" => maps::keeper_start(rt, rest),
         "matches" => matchers::matches(rt, rest),
-        "compiled" => matchers::compiled(rt, rest),
         "verdicts" => matchers::verdicts(rt, rest),
         "kept-verdicts" => matchers::kept_verdicts(rt, rest),
         "filter" => mutes::filter(rt, rest),

@@ -45,23 +45,6 @@ fn is_matched(alloc: Global, compiled: &mut Compiled, word: &str) -> Result<bool
     Ok(compiled.matches(value.as_str())?)
 }
 
-/// `compiled MATCHER`: the parts that a compiled matcher keeps.
-pub fn compiled(rt: &HostRuntime, word: &str) -> Result<(), Fault> {
-    match build(rt.alloc(), word)? {
-        Ok(compiled) => say_parts(rt, compiled.matcher()),
-        Err(refusal) => say_refusal(rt, refusal, BuildError::Memory),
-    }
-}
-
-fn say_parts(rt: &HostRuntime, matcher: &Matcher) -> Result<(), Fault> {
-    let (kind, name, pattern) = (
-        matcher.kind,
-        matcher.name.as_str(),
-        matcher.pattern.as_str(),
-    );
-    Ok(println!(rt; "{kind:?} {name} {pattern}")?)
-}
-
 /// `verdicts LIST; LIST ..`: the verdict on each list of matchers.
 pub fn verdicts(rt: &HostRuntime, lists: &str) -> Result<(), Fault> {
     for (place, words) in lists.split("; ").enumerate() {

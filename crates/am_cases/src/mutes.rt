@@ -171,18 +171,10 @@ fn many_silences(alloc: Global, count: u64) -> Result<String, AllocError> {
 }
 
 fn ask_twice(rt: &HostRuntime, held: &Held<MeshSilence>) -> Result<(), Fault> {
-    let mut patterns = PatternCache::new(rt.alloc());
-    say_many(rt, &mut patterns, held)?;
-    say_many(rt, &mut patterns, held)
-}
-
-fn say_many(
-    rt: &HostRuntime,
-    patterns: &mut PatternCache,
-    held: &Held<MeshSilence>,
-) -> Result<(), Fault> {
     let labels = labels(rt.alloc(), "job=x")?;
-    count_mutes(rt, patterns, held, &labels)
+    let mut patterns = PatternCache::new(rt.alloc());
+    count_mutes(rt, &mut patterns, held, &labels)?;
+    count_mutes(rt, &mut patterns, held, &labels)
 }
 
 /// Says how many silences mute labels, how many are broken, and how much is kept of their patterns.

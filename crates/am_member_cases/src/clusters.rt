@@ -43,19 +43,6 @@ fn say_cluster(rt: &HostRuntime, cluster: &Cluster) -> Result<(), Fault> {
     Ok(())
 }
 
-/// `settle NAME ..`: what such a cluster answers to a settle at the first moment.
-pub fn settle(rt: &HostRuntime, rest: &str) -> Result<(), Fault> {
-    match made(rt.alloc(), rest)? {
-        Ok(cluster) => say_settled(rt, cluster),
-        Err(error) => say_refusal(rt, error, ConfigError::Memory),
-    }
-}
-
-fn say_settled(rt: &HostRuntime, cluster: Cluster) -> Result<(), Fault> {
-    let mut cluster = cluster;
-    settle_at(rt, &mut cluster, Moment::LEAST)
-}
-
 fn settle_at(rt: &HostRuntime, cluster: &mut Cluster, now: Moment) -> Result<(), Fault> {
     match cluster.settle(now, 1) {
         Ok(()) => Ok(println!(rt; "settled")?),
@@ -63,17 +50,17 @@ fn settle_at(rt: &HostRuntime, cluster: &mut Cluster, now: Moment) -> Result<(),
     }
 }
 
-/// `settles MOMENT ..: NAME ..`: what such a cluster answers to a settle at each of the moments in turn, and whether its run
+/// `settle MOMENT ..: NAME ..`: what such a cluster answers to a settle at each of the moments in turn, and whether its run
 /// is timely then.
-pub fn settles(rt: &HostRuntime, rest: &str) -> Result<(), Fault> {
+pub fn settle(rt: &HostRuntime, rest: &str) -> Result<(), Fault> {
     let (moments, names) = parts(rest, ":")?;
     match made(rt.alloc(), names)? {
-        Ok(cluster) => say_settles(rt, cluster, moments),
+        Ok(cluster) => say_settled(rt, cluster, moments),
         Err(error) => say_refusal(rt, error, ConfigError::Memory),
     }
 }
 
-fn say_settles(rt: &HostRuntime, cluster: Cluster, moments: &str) -> Result<(), Fault> {
+fn say_settled(rt: &HostRuntime, cluster: Cluster, moments: &str) -> Result<(), Fault> {
     let mut cluster = cluster;
     for word in moments.split(' ') {
         settle_at(rt, &mut cluster, moment(word)?)?;

@@ -71,7 +71,6 @@ fn alone(rt: &HostRuntime, verb: &str, rest: &str) -> Result<(), Fault> {
         "carried" => carried::carried(rt, rest),
         "cluster" => clusters::cluster(rt, rest),
         "settle" => clusters::settle(rt, rest),
-        "settles" => clusters::settles(rt, rest),
         "steps" => clusters::steps(rt, rest),
         _ => command_words::answer(rt, verb, rest),
     }

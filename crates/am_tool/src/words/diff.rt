@@ -91,10 +91,7 @@ fn compared_of(flags: &ArgMatches<'_>) -> Compared {
 }
 
 /// The sources that the words name.
-fn source_words<'a>(
-    alloc: Global,
-    words: &[&'a str],
-) -> Result<Vec<SourceWord<'a>>, AllocError> {
+fn source_words<'a>(alloc: Global, words: &[&'a str]) -> Result<Vec<SourceWord<'a>>, AllocError> {
     let mut sources = Vec::with_capacity(alloc, words.len())?;
     for word in words {
         sources.push(source_of(word))?;
@@ -121,7 +118,12 @@ fn mistake_of(sources: &[SourceWord<'_>]) -> Option<&'static str> {
     if has_name_twice(sources) {
         return Some(SAME_NAME);
     }
-    if sources.iter().filter(|source| source.file == STANDARD_INPUT).count() > 1 {
+    if sources
+        .iter()
+        .filter(|source| source.file == STANDARD_INPUT)
+        .count()
+        > 1
+    {
         return Some(INPUT_TWICE);
     }
     None
