@@ -38,17 +38,17 @@ def start(command, source, target):
         return subprocess.Popen(command, stdin=i, stdout=o)
 
 
-def seconds(command, source, target):
-    """User and system time of a whole process."""
+def seconds(command, source, target, wanted=0):
+    """User and system time of a whole process, which is to end with a status."""
     child = start(command, source, target)
     _, status, used = os.wait4(child.pid, 0)
-    if status != 0:
+    if os.waitstatus_to_exitcode(status) != wanted:
         raise SystemExit("%s ended with %d" % (command[0], status))
     return used.ru_utime + used.ru_stime
 
 
-def peak(command, source, target):
-    """Peak memory of a run in bytes, as the kernel last showed it before the end. (What it counts for a child that has
+def peak(command, source, target, wanted=0):
+    """Peak memory of a run in bytes, as the kernel last showed it before the end, which is to be with a status. (What it counts for a child that has
     ended would include this process, of which the child is a copy until it runs its program.)"""
     child = start(command, source, target)
     most = 0
@@ -58,15 +58,15 @@ def peak(command, source, target):
                 most = max([most] + [int(line.split()[1]) * 1024 for line in f if line.startswith("VmHWM")])
         except OSError:
             pass
-    if child.returncode != 0:
+    if child.returncode != wanted:
         raise SystemExit("%s ended with %d" % (command[0], child.returncode))
     return most
 
 
-def seen_peak(command, source, target):
+def seen_peak(command, source, target, wanted=0):
     """The peak of a run that lasted long enough to be looked at."""
     while True:
-        most = peak(command, source, target)
+        most = peak(command, source, target, wanted)
         if most:
             return most
 
