@@ -4,7 +4,7 @@
 
 For each size: the row's bytes, the bytes of the winners, and the peak memory of am_tool, all in MiB. Folding holds the
 winners and the version that is being read, so the peak is to stay where it is when the row grows. am_tool is built by
-`./am_tool --help` where it isn't.
+`./am_tool build` where it isn't.
 """
 import argparse
 import os

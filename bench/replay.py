@@ -6,7 +6,7 @@ A schedule is blocks of twelve lines: a silence is posted at one member and deli
 what it holds and one of which says what mutes an alert; the frames are lost, and all members collect once it has expired. So
 there are few silences and few frames at any time, and what grows is the record of the run. For each count of lines: the least
 user and system time of the rounds, the two kinds taken in turn, in microseconds a line, each beside its growth since the count
-before. `--write` prints a schedule instead. am_tool is built by `./am_tool --help` where it isn't.
+before. `--write` prints a schedule instead. am_tool is built by `./am_tool build` where it isn't.
 """
 import argparse
 import os

@@ -5,7 +5,7 @@
 Both read standard input and write standard output, and what they write is compared. For each row: the least user and
 system time of the rounds, the two programs taken in turn, in nanoseconds for each version; the ratio of am_tool to the
 plain program; and the peak memory of both in MiB, with their ratio. The rows have about 190 bytes a version; a tenth or
-nine tenths of the versions have keys of their own. am_tool is built by `./am_tool --help` where it isn't.
+nine tenths of the versions have keys of their own. am_tool is built by `./am_tool build` where it isn't.
 """
 import argparse
 import filecmp
@@ -22,7 +22,7 @@ HEAD = ("state", "order", "versions", "keys", "am_tool ns", "plain ns", "ratio",
 
 def build_ours(state="sil"):
     """The command that folds rows of a state by am_tool, which is built where it isn't."""
-    subprocess.run([os.path.join(TOP, "am_tool"), "--help"], check=True, stdout=subprocess.DEVNULL)
+    subprocess.run([os.path.join(TOP, "am_tool"), "build"], check=True, stdout=subprocess.DEVNULL)
     return [os.path.join(TOP, "crates", "am_tool", "out", "am_tool"), "fold", "--state", state, "--now", "0"]
 
 
