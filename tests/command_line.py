@@ -35,6 +35,7 @@ Commands:
   replay    Plays a schedule on a cluster, and prints what its members answer; so does am_tool without words
   fold      Reads a row of versions, and writes the one that counts of each key, in key order
   show      Reads a snapshot, and prints a line for each version that is live, in key order
+  diff      Reads what several replicas hold, and prints in key order at which keys they differ, and which of them counts
   instance  Runs one member: serves the silences of API v2 to people and tools, and frames to its peers, on 127.0.0.1
   help      Print this message or the help of the given subcommand(s)
 
@@ -70,6 +71,29 @@ Options:
   -h, --help               Print help
 """
 
+DIFF_HELP = """Reads what several replicas hold, and prints in key order at which keys they differ, and which of them counts
+
+Usage: am_tool diff [OPTIONS] --state <STATE> <SOURCE>...
+
+Arguments:
+  <SOURCE>...  NAME=FILE, cut at its first '=', or FILE, which is then its own name; '-' is standard input; 2 to 16 of them
+
+Options:
+      --state <STATE>      The state that the sources are of: silences or the notification log [possible values: sil, nfl]
+      --now <NANOSECONDS>  The moment of the views, in whole nanoseconds since 1970-01-01T00:00:00Z; without it, the clock's
+      --held               Compares all that the sources hold, what has expired too, and not only what they show
+  -h, --help               Print help
+
+Of each key that differs there is a line for each group of sources that hold the same there: first those that have the
+greatest version, which counts, then those that are behind, and by what (update, expiry or bytes), and then those that
+hold nothing.
+
+The status is 0 where nothing is different, and 5 where something is.
+
+Examples:
+  am_tool diff --state sil a=a.sil b=b.sil c=c.sil
+  ssh b cat b.nfl | am_tool diff --state nfl --held a=a.nfl b=-
+"""
 INSTANCE_HELP = r"""Runs one member: serves the silences of API v2 to people and tools, and frames to its peers, on 127.0.0.1
 
 Usage: am_tool instance [OPTIONS] --name <NAME> --listen <PORT> --sil <FILE> --nfl <FILE>
@@ -215,6 +239,8 @@ CASES = [
     (SHOW_LOG + ["0"], SECOND, 1, b"", "am_tool: Wire WrongType 13\n"),
     (["show", "--help"], b"", 0, SHOW_HELP.encode(), ""),
     (["help", "show"], b"", 0, SHOW_HELP.encode(), ""),
+    (["diff", "--help"], b"", 0, DIFF_HELP.encode(), ""),
+    (["help", "diff"], b"", 0, DIFF_HELP.encode(), ""),
     (["show"], b"", 2, b"", MISSING.format("  --state <STATE>\n  --now <NANOSECONDS>\n").replace("fold", "show")),
     (SHOW + ["0", "extra"], b"", 2, b"", UNEXPECTED.format("extra") + SHOW_USAGE),
     (SHOW + ["+5"], SECOND, 2, b"", BAD_NOW),
