@@ -24,7 +24,7 @@ use crate::journal::{Journal, Mark};
 use crate::recording::{Coming, kind_of, write_answer};
 use crate::writing::Entry;
 use am_instance::{Event, Instance, Outcome, Reply, StepError};
-use am_record::carried::{ByState, Carried, carried_by, held_are_values};
+use am_record::carried::{ByState, Carried, carried_by};
 use am_record::laws::{
     collecting_leaves_nothing_out, few_are_made, sent_frames_are_sound, steps_are_possible,
     values_are_delivered,
@@ -85,8 +85,8 @@ fn step_of(instance: &mut Instance, event: Event, now: Moment) -> Result<Outcome
 {
     let answer = instance.step(event, now);
     made_are_values(&answer);
-    held_are_values(instance.silences());
-    held_are_values(instance.log());
+    instance.silences().has_values();
+    instance.log().has_values();
     answer
 }
 

@@ -32,7 +32,6 @@ use crate::member::Member;
 use am_gossip::{Frame, FullState, Part, StateKey};
 use am_instance::{Event, Instance, Place, Reply};
 use am_merge::Held;
-use am_record::carried::held_are_values;
 use am_record::carried::laws::what_keeps_its_limit_is_readable;
 use am_record::laws::lent_maps_come_from_their_lender;
 use am_runs::Source;
@@ -62,8 +61,8 @@ fn frame_of(alloc: Global, instance: &Instance) -> Result<Frame, AllocError>
     ensures maps { HasMaps instance.now }
 {
     what_keeps_its_limit_is_readable();
-    held_are_values(instance.silences());
-    held_are_values(instance.log());
+    instance.silences().has_values();
+    instance.log().has_values();
     let silences = row_of(alloc, instance.silences())?;
     let log = row_of(alloc, instance.log())?;
     let mut parts = Vec::with_capacity(alloc, 2)?;

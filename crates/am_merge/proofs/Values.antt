@@ -1,10 +1,12 @@
 -- What holds of the versions that a map was made of holds of the map's.
-use Rattle.std.proofs.Common.{List, ⊎_elim}
-use Rattle.std.specs.Prelude.{All, Contains}
-use Rattle.std.proofs.lemmas.List.Elements.{All-contains, All-contains_itself, All-weaker}
+use Rattle.std.proofs.Common.{ℕ, List, [], ◌∷◌, take, ⊎_elim}
+use Rattle.std.specs.Prelude.{All, Contains, Result, Ok, Err, OnOk, IfErr}
+use Rattle.std.proofs.lemmas.List.Elements.{All-nil, All-cons, All-contains, All-contains_itself, All-take, All-weaker}
 use Rattle.std.specs.declared.cmp.Ordering.{Ordering}
 use Rattle.am_version_order.specs.Versions.{Version}
 use Rattle.am_merge.specs.Maps.{IsMap, IsJoin}
+use Rattle.am_merge.specs.Takings.{IsPut}
+use Rattle.am_merge.specs.declared.held.MergeError.{MergeError}
 use Rattle.am_merge.proofs.Keys.{IsKeyOrder}
 use Rattle.am_merge.proofs.Joins.{Contains-join}
 
@@ -13,3 +15,11 @@ all_of_join seen cmp keys P a b joined map join all_a all_b =
     All-weaker (Contains joined) P
     (λ v member. ⊎_elim (λ here. All-contains P a v all_a here) (λ there. All-contains P b v all_b there) (Contains-join seen cmp keys a b joined v map join member))
     joined (All-contains_itself joined)
+
+pub all_of_put : {K X : Type 0} (seen : X → Version K) (cmp : K → K → Ordering) → IsKeyOrder cmp → (P : X → Type 0) (map : List X) (v : X) (new : List X) → IsPut seen cmp map v new → All P map → P v → All P new
+all_of_put seen cmp keys P map v new put all own = all_of_join seen cmp keys P map (v ∷ []) new put.order put.joined all (All-cons P v [] own (All-nil P))
+
+-- of a merge that may have stopped
+pub all_of_merge : {K X : Type 0} (seen : X → Version K) (cmp : K → K → Ordering) → IsKeyOrder cmp → (P : X → Type 0) (map other new : List X) (result : Result ℕ MergeError) → IsMap seen cmp new → OnOk result (IsJoin seen cmp map other new) → IfErr result (λ e. IsJoin seen cmp map (take e.taken other) new) → All P map → All P other → All P new
+all_of_merge seen cmp keys P map other new (Ok n) order joined stopped all more = all_of_join seen cmp keys P map other new order joined all more
+all_of_merge seen cmp keys P map other new (Err e) order joined stopped all more = all_of_join seen cmp keys P map (take e.taken other) new order stopped all (All-take P e.taken other more)

@@ -1,6 +1,6 @@
 //! A map from keys to the greatest version of each.
 
-ghost use Rattle.std.specs.Prelude.{◌≡◌, ◌==◌, ◌+◌, ◌<◌, ◌↔◌, [], true, false, length, take, count_by, is_none};
+ghost use Rattle.std.specs.Prelude.{All, ◌≡◌, ◌==◌, ◌+◌, ◌<◌, ◌↔◌, [], true, false, length, take, count_by, is_none};
 ghost use Rattle.std.specs.Prelude.{MatchOption, IfOk, IfErr, OnOk, OnErr, Ok, IsPermutation};
 ghost use Rattle.std.specs.Option.{option_copied};
 ghost use Rattle.am_merge.specs.Maps.{IsMap, IsJoin, IsLeastExpiry, HasTwice, at, if_live, in_bucket, replaces, swept};
@@ -11,7 +11,7 @@ use crate::changes::{
 };
 use crate::iter::{InBucket, Iter, walk_bucket, walk_shelf};
 use crate::shelf::{Shelf, empty_shelf, find, reserve, version_at};
-use am_version_order::{Moment, Version};
+use am_version_order::{Moment, Version, versions_are_values};
 use std::alloc::{AllocError, Global};
 use std::marker::Model;
 
@@ -57,14 +57,15 @@ impl<V: Version> Drop for Held<V> {
 }
 
 impl<V: Version> Model for Held<V> {
-    ghost use Rattle.std.specs.Prelude.{List};
+    ghost use Rattle.std.specs.Prelude.{List, All};
     ghost use Rattle.am_merge.specs.Shelves.{versions, IsShelf};
 
     ghost Value = { List V };
 
     ghost view = { λ held. versions held.shelf };
 
-    ghost invariant = { λ held. IsShelf V.seen V.head_of V.Key.cmp V.bucket_of held.shelf };
+    ghost invariant = { λ held. IsShelf V.seen V.head_of V.Key.cmp V.bucket_of held.shelf
+        × All V.is_value (versions held.shelf) };
 }
 
 impl<V: Version> Held<V> {
@@ -92,6 +93,7 @@ impl<V: Version> Held<V> {
         ensures twice { (result ≡ Err FromVersionsError.DuplicateKey)
             ↔ HasTwice V.seen versions.items }
     {
+        versions_are_values(&versions);
         if !order_by_key(&mut versions) {
             return Err(FromVersionsError::DuplicateKey);
         }
@@ -146,6 +148,15 @@ impl<V: Version> Held<V> {
         }
     }
 
+    /// Says that the versions are values of their type, and stand in the order of their keys, none of which comes
+    /// twice. It does nothing.
+    pub fn has_values(&self)
+        ensures values { All V.is_value self.now }
+        ensures order { IsMap V.seen V.Key.cmp self.now }
+    {
+        let _ = &self.shelf;
+    }
+
     /// The versions in the order of their keys.
     pub fn iter(&self) -> Iter<'_, V>
         ensures items { result ≡ self.now }
@@ -182,6 +193,7 @@ impl<V: Version> Held<V> {
         ensures err { OnErr result (self.new ≡ self.old) }
     {
         let is_live = now < version.expires();
+        let _content = version.canonical();
         let changed = put(&mut self.shelf, version)?;
         Ok(taken_as(is_live, changed))
     }
@@ -202,6 +214,7 @@ impl<V: Version> Held<V> {
         match find(&self.shelf, version.key()) {
             Ok(_) => Ok(false),
             Err(spot) => {
+                let _content = version.canonical();
                 put_new(&mut self.shelf, spot, version)?;
                 Ok(true)
             }
@@ -224,6 +237,8 @@ impl<V: Version> Held<V> {
     {
         let is_first_live = now < first.expires();
         let is_second_live = now < second.expires();
+        let _content = first.canonical();
+        let _content = second.canonical();
         let (first_keys, first_versions) = needs(&self.shelf, &first);
         let (second_keys, second_versions) = needs_after(&self.shelf, &first, &second);
         reserve(

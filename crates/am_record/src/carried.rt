@@ -4,10 +4,8 @@
 mod by_state;
 pub mod laws;
 mod reading;
-mod values;
 mod version;
 
 pub use by_state::ByState;
 pub use reading::carried_by;
-pub use values::held_are_values;
 pub use version::Carried;

@@ -21,7 +21,6 @@ use am_cluster::Cluster;
 use am_instance::laws::{equal_views_mute_alike, equal_views_reply_alike, what_is_shown_replies};
 use am_instance::{Instance, Place};
 use am_nflog::MeshEntry;
-use am_record::carried::held_are_values;
 use am_runs::laws::calm_members_show_the_bare_set;
 use am_silence::MeshSilence;
 use am_version_order::Version;
@@ -49,8 +48,8 @@ fn equal_sets_show_one<V: Version>()
 fn instance_has_maps(instance: &Instance)
     ensures { HasMaps instance.now }
 {
-    held_are_values(instance.silences());
-    held_are_values(instance.log());
+    instance.silences().has_values();
+    instance.log().has_values();
 }
 
 /// So are those of the member at a place.

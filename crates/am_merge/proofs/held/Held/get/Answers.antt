@@ -8,7 +8,7 @@ use Rattle.am_merge.proofs.held.Held.get.Goals as goal
 pub returns-in-Ok : goal.returns-in-Ok
 returns-in-Ok g c =
     rw (← c.self.view_is)
-    (sym (at_found g.V.Version.seen g.V.Key.Ord.cmp (key_order g.met.V.Key.Ord.total g.met.V.Version.exact_keys) (versions c.self.inside.shelf) c.args.key.now (place c.self.inside.shelf.keys c.in-Ok.spot) c.version_at.result.now c.self.invariant.keys.order c.in-Ok.ensures.found.place c.version_at.ensures))
+    (sym (at_found g.V.Version.seen g.V.Key.Ord.cmp (key_order g.met.V.Key.Ord.total g.met.V.Version.exact_keys) (versions c.self.inside.shelf) c.args.key.now (place c.self.inside.shelf.keys c.in-Ok.spot) c.version_at.result.now c.self.invariant.0.keys.order c.in-Ok.ensures.found.place c.version_at.ensures))
 
 pub returns-in-Err : goal.returns-in-Err
 returns-in-Err g c =

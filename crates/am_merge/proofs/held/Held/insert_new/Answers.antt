@@ -16,7 +16,7 @@ returns-in-Ok-clause-answer g c =
     let w = element map i found.in_range in
     subst (λ m. false ≡ is_none (at g.V.Version.seen g.V.Key.Ord.cmp m (g.V.Version.seen c.args.version).key)) c.self.view_is
     (subst (λ k. false ≡ is_none (at g.V.Version.seen g.V.Key.Ord.cmp map k)) c.key.ensures
-    (sym (ap is_none (at_found g.V.Version.seen g.V.Key.Ord.cmp (key_order g.met.V.Key.Ord.total g.met.V.Version.exact_keys) map c.key.result.now i w.0 c.self.invariant.keys.order found w.1))))
+    (sym (ap is_none (at_found g.V.Version.seen g.V.Key.Ord.cmp (key_order g.met.V.Key.Ord.total g.met.V.Version.exact_keys) map c.key.result.now i w.0 c.self.invariant.0.keys.order found w.1))))
 
 pub returns-in_ok-put_new-in-Err-clause-answer : goal.returns-in_ok-put_new-in-Err-clause-answer
 returns-in_ok-put_new-in-Err-clause-answer g c =
