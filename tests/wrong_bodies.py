@@ -6,7 +6,8 @@
 Of these crates, or of all that have some, the edits wrong/CRATE/*.edit are tried; with --named those of
 crates/CRATE/must-fail/ too, which `rt ci` tries one by one. An edit is in the form of must-fail's. Since an edit of a
 body leaves the contracts as they are, many functions are wrong in one check: a batch has one edit a function.
-The check runs on a copy of the repository, over what earlier checks of this checkout kept: check a crate first.
+The check is `rt ci CRATE` on a copy of the repository, over the libraries that earlier runs of it proved on this machine: run
+`rt ci CRATE` first.
 
 Of each edit one of these is told:
 
@@ -88,6 +89,12 @@ def function_at(lines, number):
     return None, number
 
 
+def place_of(lines, name, near):
+    """The line at which the function of a name begins that stood near a line before the text was formatted."""
+    found = [at for at, line in enumerate(lines) if FUNCTION.match(line) and FUNCTION.match(line)[2] == name]
+    return min(found, key=lambda at: abs(at - near))
+
+
 def module_of(file):
     """The words of a module's path, by the file that it stands in."""
     words = file[len("src/") : -len(".rt")].split("/")
@@ -126,9 +133,9 @@ def path_of(crate, file, texts, name, begin):
     return "::".join([crate, *module_of(file), *words, name])
 
 
-def sources(crate):
+def sources(crate, root=TOP):
     """The texts of a crate's sources."""
-    texts, top = {}, f"{TOP}/crates/{crate}"
+    texts, top = {}, f"{root}/crates/{crate}"
     for at, _, names in os.walk(f"{top}/src"):
         for name in names:
             path = os.path.relpath(f"{at}/{name}", top)
@@ -172,6 +179,8 @@ def copy_repository(room):
         for part in PARTS:
             if os.path.isdir(f"{TOP}/crates/{crate}/{part}"):
                 shutil.copytree(f"{TOP}/crates/{crate}/{part}", f"{room}/crates/{crate}/{part}")
+    # (rt ci runs at the top of a repository)
+    os.mkdir(f"{room}/.git")
 
 
 def write_sources(room, crate, texts):
@@ -181,9 +190,11 @@ def write_sources(room, crate, texts):
 
 
 def check(room, crate):
+    """What the gate says of a crate of the copy, which is formatted first, as the gate wants it."""
+    subprocess.run(["rt", "fmt"], cwd=f"{room}/crates/{crate}", stdin=subprocess.DEVNULL, capture_output=True, check=False)
     ran = subprocess.run(
-        ["rt", "check"],
-        cwd=f"{room}/crates/{crate}",
+        ["rt", "ci", crate],
+        cwd=room,
         stdin=subprocess.DEVNULL,
         stdout=subprocess.PIPE,
         stderr=subprocess.STDOUT,
@@ -255,6 +266,7 @@ def judge(edit, said, texts, after):
         open_paths = [OPEN.match(it)[1] for it in said if OPEN.match(it) and "no" in OPEN.match(it)[2].split()]
     for file, name, begin in functions:
         lines = after[file].split("\n")
+        begin = place_of(lines, name, begin)
         path = path_of(edit.crate, file, after, name, begin)
         verdict = Verdict(said, path, file, (begin, end_of(lines, begin)))
         if verdict.is_told and not verdict.is_proved:
@@ -282,6 +294,7 @@ def try_batch(room, crate, batch, texts):
         after = edit.apply(after)
     write_sources(room, crate, after)
     said = check(room, crate)
+    after = sources(crate, room)
     write_sources(room, crate, texts)
     if is_compiled(said):
         for edit in batch:
