@@ -7,3 +7,4 @@ mod One
 mod Bodies
 mod Rows
 mod EachMatcher
+mod EachShown

@@ -1,11 +1,13 @@
--- What is read of a post and still borrowed from it.
-use Rattle.std.specs.Prelude.{◌≡◌, Some}
+-- What is read of a post or of a shown silence, and still borrowed from it.
+use Rattle.std.specs.Prelude.{◌≡◌, List, Some, codes}
 use Rattle.serde_json.specs.Data.{Data}
 use Rattle.am_silence.specs.declared.matcher.Matcher.{Matcher}
 use Rattle.am_silence_json.specs.declared.matchers.Parts.{Parts}
 use Rattle.am_silence_json.specs.declared.post.Rest.{Rest}
 use Rattle.am_silence_json.specs.Posts.{HasMoment, text_in}
-use Rattle.std.specs.Prelude.{codes}
+use Rattle.am_silence.specs.declared.silence.Silence.{Silence}
+use Rattle.am_silence_json.specs.declared.shown.Shown.{Shown}
+use Rattle.am_silence_json.specs.Shown.{HasCut}
 
 -- the matcher of these parts
 abbrev pub matcher_in : Parts → Matcher
@@ -17,3 +19,26 @@ pub record HasRest (d : Data) (r : Rest) : Type 0 where
   pub ends_at : HasMoment (codes "endsAt") d r.ends_at
   pub created_by : text_in (codes "createdBy") d ≡ Some r.created_by.now
   pub comment : text_in (codes "comment") d ≡ Some r.comment.now
+
+-- ---- what a silence shows
+
+-- the object shows these
+pub record HasShown (d : Data) (s : Shown) : Type 0 where
+  pub id : text_in (codes "id") d ≡ Some s.id.now
+  pub starts_at : HasCut (codes "startsAt") d s.starts_at
+  pub ends_at : HasCut (codes "endsAt") d s.ends_at
+  pub updated_at : HasCut (codes "updatedAt") d s.updated_at
+  pub created_by : text_in (codes "createdBy") d ≡ Some s.created_by.now
+  pub comment : text_in (codes "comment") d ≡ Some s.comment.now
+
+-- the silence of these parts and matchers
+abbrev pub shown_silence : Shown → List Matcher → Silence
+shown_silence s matchers = record {
+  id = s.id.now;
+  matchers = matchers;
+  starts_at = s.starts_at;
+  ends_at = s.ends_at;
+  updated_at = s.updated_at;
+  created_by = s.created_by.now;
+  comment = s.comment.now;
+}

@@ -6,5 +6,7 @@ pub mod Moments
 pub mod Written
 pub mod Gettables
 pub mod Posts
+pub mod Shown
+pub mod Lists
 pub mod Tokens
 pub mod Borrowed

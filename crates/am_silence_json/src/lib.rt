@@ -1,16 +1,22 @@
-//! Silences in JSON: how API v2 shows them, and what is posted; and the texts of the moments in them.
+//! Silences in JSON: how API v2 shows them, and what is posted, written and read; and the texts of the moments in them.
 #![tactic(auto)]
 
+mod cut;
 mod error;
 mod gettable;
 mod key;
+mod list_error;
 mod matchers;
 pub mod moments;
 mod post;
 mod replies;
+mod shown;
 mod tokens;
 
+pub use cut::cut_to_shown;
 pub use error::BodyError;
-pub use key::Key;
+pub use key::{Key, ShownKey};
+pub use list_error::ListError;
 pub use post::read_post;
 pub use replies::{write_error, write_posted, write_silence, write_silences};
+pub use shown::read_silences;

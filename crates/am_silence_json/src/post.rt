@@ -25,7 +25,7 @@ use std::alloc::{AllocError, Global};
 use std::str;
 
 /// The moment whose text stands at a key.
-fn moment_in(object: &Value, key: &str) -> Option<Moment>
+pub fn moment_in(object: &Value, key: &str) -> Option<Moment>
     ensures value { IfSome result (HasMoment key.now (view object.now)) }
     ensures only { (m : ℕ) → HasMoment key.now (view object.now) m → result ≡ Some m }
 {
