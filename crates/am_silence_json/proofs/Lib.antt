@@ -8,3 +8,5 @@ mod Bodies
 mod Rows
 mod EachMatcher
 mod EachShown
+mod OneMoment
+mod OneList

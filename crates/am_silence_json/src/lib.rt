@@ -5,6 +5,7 @@ mod cut;
 mod error;
 mod gettable;
 mod key;
+pub mod laws;
 mod list_error;
 mod matchers;
 pub mod moments;
