@@ -4,10 +4,10 @@
     tests/cases.py [FILE ..]
     tests/cases.py --program PATH [FILE ..]
 
-FILE is a cases/SUBJECT.txt, a cases/replay/NAME.schedule or a cases/diff/NAME.txt; all of them if none is given. Those of
-texts go to the programs that PROGRAMS names, which rt ci builds, and schedules and command lines to am_tool. With --program all
-go to PATH, another implementation: texts to its standard input, schedules to that of `PATH replay`, and command lines as they
-are. Prints each difference with its file and line, and at the end how many cases passed.
+FILE is a cases/SUBJECT.txt, a cases/replay/NAME.schedule, a cases/diff/NAME.txt or a cases/show/NAME.txt; all of them if none is
+given. Those of texts go to the programs that PROGRAMS names, which rt ci builds, and schedules and command lines to am_tool. With
+--program all go to PATH, another implementation: texts to its standard input, schedules to that of `PATH replay`, and command
+lines as they are. Prints each difference with its file and line, and at the end how many cases passed.
 """
 
 import argparse
@@ -55,7 +55,10 @@ PROGRAMS = {
 }
 
 # The files of all cases.
-ALL = ["*.txt", "replay/*.schedule", "diff/*.txt"]
+ALL = ["*.txt", "replay/*.schedule", "diff/*.txt", "show/*.txt"]
+
+# The folders of command lines.
+OF_WORDS = {"diff", "show"}
 
 # Files whose cases take inputs of many MiB.
 LARGE = {"instance_large", "rows_large"}
@@ -293,7 +296,7 @@ def subject(path):
 
 def is_of_words(path):
     """Whether the cases of a file are command lines."""
-    return os.path.basename(os.path.dirname(path)) == "diff"
+    return os.path.basename(os.path.dirname(path)) in OF_WORDS
 
 
 def program_of(path):

@@ -1,6 +1,6 @@
 -- Sources have one list of differences; and the lists of a walk.
-use Rattle.std.proofs.Common.{◌≡◌, ℕ, suc, ◌+◌, ◌<◌, Bool, true, false, List, [], ◌∷◌, ◌++◌, Option, Some, None, length, get_or, map, refl, sym, ap, ap₂, ◌∙◌, subst, append_assoc, append-nil, arith}
-use Rattle.std.specs.Prelude.{All, AllPairs, Contains}
+use Rattle.std.proofs.Common.{◌≡◌, ℕ, suc, Bool, true, false, List, [], ◌∷◌, ◌++◌, Option, Some, None, get_or, map, refl, sym, ap, ap₂, ◌∙◌, subst, append_assoc, append-nil, arith}
+use Rattle.std.specs.Prelude.{All, AllPairs}
 use Rattle.std.specs.List.{AllByRecursion, flat_map}
 use Rattle.std.proofs.lemmas.List.{flat_map_more}
 use Rattle.std.proofs.lemmas.List.Elements.{All-contains, recursion_from_All}
@@ -118,16 +118,18 @@ module _ {K X : Type 0} (seen : X → Version K) (cmp : K → K → Ordering) (k
       subst (λ holdings. IsKeyOf seen holdings key) (sym held)
       (key_by key (greatest_within seen None (held_at seen cmp key sources)) refl (subst (λ holdings. is_different seen compared now holdings ≡ true) held differs)))
 
-module _ {K X : Type 0} (seen : X → Version K) (cmp : K → K → Ordering) (compared : Compared) (now : ℕ) (begins : K → List ℕ) (told : X → List ℕ) where
-  -- the differences so far, and those of what is left, are all; and the lines of those so far are written
-  pub record AreTold (all left : List (Side X)) (start text : List ℕ) (found : Bool) : Type 0 where
+-- ---- a piece of text for each difference, of bytes or of what else
+
+module _ {K X C : Type 0} (seen : X → Version K) (cmp : K → K → Ordering) (compared : Compared) (now : ℕ) (piece : Difference K X → List C) where
+  -- the differences so far, and those of what is left, are all; and the pieces of those so far are written
+  pub record AreTold (all left : List (Side X)) (start text : List C) (found : Bool) : Type 0 where
     pub done : List (Difference K X)
     pub same : (differences : List (Difference K X)) → AreDifferences seen cmp compared now (map rest_of left) differences
         → AreDifferences seen cmp compared now (map rest_of all) (done ++ differences)
-    pub text_is : AllByRecursion (λ d. IsKeyOf seen d.holdings d.key) done → text ≡ start ++ flat_map (difference_lines seen begins told) done
+    pub text_is : AllByRecursion (λ d. IsKeyOf seen d.holdings d.key) done → text ≡ start ++ flat_map piece done
     pub found_is : found ≡ is_any done
 
-  pub none_told : (sides : List (Side X)) (start : List ℕ) → AreTold sides sides start start false
+  pub none_told : (sides : List (Side X)) (start : List C) → AreTold sides sides start start false
   none_told sides start = record {
     done = [];
     same = λ differences are. are;
@@ -139,10 +141,10 @@ module _ {K X : Type 0} (seen : X → Version K) (cmp : K → K → Ordering) (c
   some_any [] d = refl
   some_any (first ∷ done) d = refl
 
-  pub told_more : (all left new : List (Side X)) (start text longer : List ℕ) (found : Bool) → AreTold all left start text found
+  pub told_more : (all left new : List (Side X)) (start text longer : List C) (found : Bool) → AreTold all left start text found
       → ((key : K) × ((differences : List (Difference K X)) → AreDifferences seen cmp compared now (map rest_of new) differences
       → AreDifferences seen cmp compared now (map rest_of left) (record { key = key; holdings = map holding_of new } ∷ differences)))
-      → ((key : K) → IsKeyOf seen (map holding_of new) key → longer ≡ text ++ difference_lines seen begins told (record { key = key; holdings = map holding_of new }))
+      → ((key : K) → IsKeyOf seen (map holding_of new) key → longer ≡ text ++ piece (record { key = key; holdings = map holding_of new }))
       → AreTold all new start longer true
   told_more all left new start text longer found before next written =
       let d : Difference K X = record { key = next.0; holdings = map holding_of new } in
@@ -153,22 +155,37 @@ module _ {K X : Type 0} (seen : X → Version K) (cmp : K → K → Ordering) (c
             (before.same (d ∷ differences) (next.1 differences are));
         text_is = λ keys.
             let parts = both_parts (λ (e : Difference K X). IsKeyOf seen e.holdings e.key) before.done (d ∷ []) keys in
-            written next.0 parts.1.0
-            ∙ ap (λ t. t ++ difference_lines seen begins told d) (before.text_is parts.0)
-            ∙ flat_map_more (difference_lines seen begins told) start before.done d;
+            written next.0 parts.1.0 ∙ ap (λ t. t ++ piece d) (before.text_is parts.0) ∙ flat_map_more piece start before.done d;
         found_is = some_any before.done d;
       }
 
   -- at the end of the walk
-  pub told_all : IsKeyOrder cmp → (all left : List (Side X)) (start text : List ℕ) (found : Bool) → AreTold all left start text found
-      → AreDifferences seen cmp compared now (map rest_of left) []
-      → (lines : List ℕ) × AreLines seen cmp begins told compared now (map rest_of all) found lines × (text ≡ start ++ lines)
+  pub record AreAllTold (all : List (Side X)) (start text : List C) (found : Bool) : Type 0 where
+    pub differences : List (Difference K X)
+    pub are : AreDifferences seen cmp compared now (map rest_of all) differences
+    pub any : found ≡ is_any differences
+    pub text_is : text ≡ start ++ flat_map piece differences
+
+  pub told_all : IsKeyOrder cmp → (all left : List (Side X)) (start text : List C) (found : Bool) → AreTold all left start text found
+      → AreDifferences seen cmp compared now (map rest_of left) [] → AreAllTold all start text found
   told_all keys all left start text found before none =
-      let are = subst (λ ds. AreDifferences seen cmp compared now (map rest_of all) ds) (append-nil before.done) (before.same [] none) in (
-        flat_map (difference_lines seen begins told) before.done,
-        record { differences = before.done; all = are; any = before.found_is; text = refl },
-        before.text_is (have_keys seen cmp keys compared now (map rest_of all) before.done are),
-      )
+      let are = subst (λ ds. AreDifferences seen cmp compared now (map rest_of all) ds) (append-nil before.done) (before.same [] none) in record {
+        differences = before.done;
+        are = are;
+        any = before.found_is;
+        text_is = before.text_is (have_keys seen cmp keys compared now (map rest_of all) before.done are);
+      }
+
+-- ---- the lines
+
+module _ {K X : Type 0} (seen : X → Version K) (cmp : K → K → Ordering) (compared : Compared) (now : ℕ) (begins : K → List ℕ) (told : X → List ℕ) where
+  pub all_lines : (all : List (Side X)) (start text : List ℕ) (found : Bool) → AreAllTold seen cmp compared now (difference_lines seen begins told) all start text found
+      → (lines : List ℕ) × AreLines seen cmp begins told compared now (map rest_of all) found lines × (text ≡ start ++ lines)
+  all_lines all start text found are = (
+    flat_map (difference_lines seen begins told) are.differences,
+    record { differences = are.differences; all = are.are; any = are.any; text = refl },
+    are.text_is,
+  )
 
   pub one_text : IsKeyOrder cmp → (sources : List (Source X)) (found other_found : Bool) (lines others : List ℕ)
       → AreLines seen cmp begins told compared now sources found lines → AreLines seen cmp begins told compared now sources other_found others

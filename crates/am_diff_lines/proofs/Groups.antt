@@ -1,20 +1,18 @@
 -- The lines of a difference, from the greatest version down.
-use Rattle.std.proofs.Common.{◌≡◌, ℕ, true, false, List, [], ◌∷◌, ◌++◌, Option, Some, None, drop, map, refl, sym, ap, ◌∙◌, subst, append_assoc, append-nil, ◌⊎◌, inl, inr}
-use Rattle.std.specs.Prelude.{All, AllPairs, Contains, fold}
-use Rattle.std.specs.List.{AllByRecursion, flat_map}
+use Rattle.std.proofs.Common.{◌≡◌, ℕ, true, List, [], ◌∷◌, ◌++◌, Some, None, drop, refl, sym, ap, ◌∙◌, subst, append_assoc, append-nil, ◌⊎◌, inl, inr}
+use Rattle.std.specs.Prelude.{All}
+use Rattle.std.specs.List.{flat_map}
 use Rattle.std.proofs.lemmas.List.Elements.{All-from_recursion}
 use Rattle.am_version_order.specs.Versions.{Version, is_below}
 use Rattle.am_version_order.proofs.Ranks.{below_trans}
 use Rattle.am_merge.proofs.Keys.{all_weaker}
 use Rattle.am_diff.specs.Sources.{Holding}
-use Rattle.am_diff.specs.Differences.{Difference}
 use Rattle.am_diff.specs.Groups.{IsLessBy, greatest_within, part_between}
-use Rattle.am_diff.specs.Walks.{head_of}
 use Rattle.am_diff.proofs.Parts.{less_by_part}
 use Rattle.am_diff.proofs.Ranking.{chain_below}
 use Rattle.am_diff_lines.specs.Ranked.{ranked}
 use Rattle.am_diff_lines.specs.Told.{IsKeyOf, greatest_line, behind_line, missing_line, version_lines, difference_lines}
-use Rattle.am_diff_lines.proofs.Placing.{IsDown, AreUnder, ranked_down, greatest_first, from_head, no_head, next_is}
+use Rattle.am_diff_lines.proofs.Placing.{IsDown, ranked_down, greatest_first, from_head, no_head, next_is}
 
 module _ {K X : Type 0} (seen : X → Version K) where
   -- where the walk over the versions is: at the last one whose line is written
@@ -62,17 +60,17 @@ module _ {K X : Type 0} (seen : X → Version K) where
     under = inr (next_under holdings greatest last v at is);
   }
 
-  -- of the texts of the versions behind the greatest, those behind the last are still to be written
-  pub record IsWritten (line : X → List ℕ) (holdings : List (Holding X)) (greatest last : X) (start text : List ℕ) : Type 0 where
+  -- of the texts of the versions behind the greatest, those behind the last are still to be written; texts of bytes or of what else
+  pub record IsWritten {C : Type 0} (line : X → List C) (holdings : List (Holding X)) (greatest last : X) (start text : List C) : Type 0 where
     pub at : IsAt holdings greatest last
     pub text_is : text ++ flat_map line at.rest ≡ start ++ flat_map line (drop 1 (ranked seen holdings))
 
-  module _ (line : X → List ℕ) (holdings : List (Holding X)) (greatest : X) (start : List ℕ) where
+  module _ {C : Type 0} (line : X → List C) (holdings : List (Holding X)) (greatest : X) (start : List C) where
     pub written_none : greatest_within seen None holdings ≡ Some greatest → IsWritten line holdings greatest greatest start start
     unfolding at_greatest
     written_none is = record { at = at_greatest holdings greatest is; text_is = refl }
 
-    pub written_more : (last v : X) (text new : List ℕ) → IsWritten line holdings greatest last start text → Some v ≡ greatest_within seen (Some last) holdings
+    pub written_more : (last v : X) (text new : List C) → IsWritten line holdings greatest last start text → Some v ≡ greatest_within seen (Some last) holdings
         → new ≡ text ++ line v → IsWritten line holdings greatest v start new
     unfolding at_next
     written_more last v text new before is written = record {
@@ -84,7 +82,7 @@ module _ {K X : Type 0} (seen : X → Version K) where
           ∙ before.text_is;
     }
 
-    pub written_all : (last : X) (text : List ℕ) → IsWritten line holdings greatest last start text → None ≡ greatest_within seen (Some last) holdings
+    pub written_all : (last : X) (text : List C) → IsWritten line holdings greatest last start text → None ≡ greatest_within seen (Some last) holdings
         → text ≡ start ++ flat_map line (drop 1 (ranked seen holdings))
     written_all last text before is =
         let none = no_head seen before.at.rest (sym (next_is seen holdings before.at.done before.at.rest last before.at.all) ∙ sym is) in

@@ -59,7 +59,7 @@ module _ {K X : Type 0} (seen : X → Version K) (here : Option X) where
       ∙ sym (append_assoc (map (λ (h : Holding X). h.name) (cond b (first ∷ []) [])) (holders seen here holdings) last)
       ∙ ap (λ names. names ++ last) (sym (front_kept b first (filter (λ h. is_same seen h.here here) holdings)))
 
-  holders_more : (sides : List (Side X)) (i : ℕ) (d : Side X) → i < length sides
+  pub holders_more : (sides : List (Side X)) (i : ℕ) (d : Side X) → i < length sides
       → holders seen here (map holding_of (take (i + 1) sides))
       ≡ holders seen here (map holding_of (take i sides)) ++ cond (is_same seen (get_or sides i d).here here) ((get_or sides i d).name ∷ []) []
   holders_more sides i d less =

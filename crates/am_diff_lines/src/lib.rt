@@ -10,6 +10,9 @@ mod names;
 mod told;
 mod writing;
 
-pub use inputs::{DiffError, Input, diff_rows};
+pub use inputs::{DiffError, Input, diff_rows, read_sources};
+pub use lines::less_by;
+pub use moments::shown_moment;
+pub use names::{is_held, nothing};
 pub use told::Told;
 pub use writing::{append_differences, write_differences};

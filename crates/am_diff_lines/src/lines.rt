@@ -1,20 +1,19 @@
 //! The lines of a difference.
 
-ghost use Rattle.std.specs.Prelude.{◌≡◌, ◌++◌, true, None, map, OnOk, string_bytes};
-ghost use Rattle.std.specs.Option.{option_copied};
+ghost use Rattle.std.specs.Prelude.{◌≡◌, ◌++◌, true, map, OnOk, string_bytes};
 ghost use Rattle.am_version_order.specs.Versions.{is_below};
 ghost use Rattle.am_diff.specs.Sources.{holding_of};
 ghost use Rattle.am_diff_lines.specs.Told.{behind_line, greatest_line, group_words, less_word, missing_line, part_word};
 
-use crate::names::{append_names, is_held};
+use crate::names::{append_names, is_held, nothing};
 use crate::told::Told;
 use am_diff::{Part, Side, is_behind_by};
-use am_version_order::Moment;
+use am_version_order::{Moment, Version};
 use std::alloc::AllocError;
 
-/// By which part of the order a version is less than a greater one, by its name.
+/// By which part of the order a version is less than a greater one, by its name. It takes no memory.
 #[tactic(auto, unfolding(crate::specs::Told::less_word))]
-fn less_by<V: Told>(version: &V, greatest: &V) -> &'static str
+pub fn less_by<V: Version>(version: &V, greatest: &V) -> &'static str
     requires { is_below (V.seen version.now) (V.seen greatest.now) ≡ true }
     ensures { result.now ≡ less_word (V.seen version.now) (V.seen greatest.now) }
 {
@@ -81,13 +80,6 @@ pub fn append_behind<V: Told>(
     let part = less_by(version, greatest);
     append_group(out, sides, greatest.key(), "behind", version, now)?;
     writeln!(out, " by {part}")
-}
-
-/// No version, of those that the sources may hold.
-fn nothing<'a, V: Told>(_sides: &[Side<'a, V>]) -> Option<&'a V>
-    ensures { option_copied result ≡ None }
-{
-    None
 }
 
 /// Appends the line of the sources that hold nothing, where there are some.

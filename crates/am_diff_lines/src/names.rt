@@ -1,6 +1,6 @@
 //! The names of sources that hold the same.
 
-ghost use Rattle.std.specs.Prelude.{◌≡◌, ◌++◌, [], ◌&&◌, not, map, IfOk, OnOk, string_bytes, if◌then◌else◌};
+ghost use Rattle.std.specs.Prelude.{◌≡◌, ◌++◌, [], ◌&&◌, None, not, map, IfOk, OnOk, string_bytes, if◌then◌else◌};
 ghost use Rattle.std.specs.List.{list_any};
 ghost use Rattle.std.specs.Option.{option_copied};
 ghost use Rattle.am_diff.specs.Differences.{is_same};
@@ -11,6 +11,13 @@ use am_diff::{Side, is_same};
 use am_version_order::Version;
 use am_view::ListedWord;
 use std::alloc::AllocError;
+
+/// No version, of those that the sources may hold.
+pub fn nothing<'a, V: Version>(_sides: &[Side<'a, V>]) -> Option<&'a V>
+    ensures { option_copied result ≡ None }
+{
+    None
+}
 
 /// Whether a source holds this there.
 #[tactic(auto, using(am_diff::proofs::Loops::none_more, am_diff::proofs::Loops::one_here))]

@@ -4,8 +4,8 @@ mod Years
 mod Bytes
 mod Again
 mod One
-mod Bodies
-mod Rows
+pub mod Bodies
+pub mod Rows
 mod EachMatcher
 mod EachShown
 mod OneMoment

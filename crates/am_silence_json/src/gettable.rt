@@ -96,6 +96,10 @@ fn add_moment(out: &mut Writer, name: &str, moment: Moment) -> Result<(), AllocE
 }
 
 /// Adds the silence of a version in a state.
+///
+/// # Errors
+///
+/// [`AllocError`] where memory runs out. A part of the silence may be left.
 pub fn add_silence(out: &mut Writer, version: &MeshSilence, state: State) -> Result<(), AllocError>
     ensures { OnOk result ((d : Data) × IsGettable version.now.silence state d × Adds out.old out.new (data_tokens d)) }
 {

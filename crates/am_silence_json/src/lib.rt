@@ -12,10 +12,11 @@ pub mod moments;
 mod post;
 mod replies;
 mod shown;
-mod tokens;
+pub mod tokens;
 
 pub use cut::cut_to_shown;
 pub use error::BodyError;
+pub use gettable::add_silence;
 pub use key::{Key, ShownKey};
 pub use list_error::ListError;
 pub use post::read_post;

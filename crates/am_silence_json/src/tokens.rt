@@ -10,6 +10,10 @@ use json::{Token, Writer};
 use std::alloc::AllocError;
 
 /// Adds a token.
+///
+/// # Errors
+///
+/// [`AllocError`] where memory runs out.
 pub fn add(out: &mut Writer, token: Token<'_>) -> Result<(), AllocError>
     requires { IsPrintable (token_of token) }
     ensures { OnOk result (Adds out.old out.new (token_of token.entry ∷ [])) }
@@ -19,6 +23,10 @@ pub fn add(out: &mut Writer, token: Token<'_>) -> Result<(), AllocError>
 }
 
 /// Adds a member that is a text.
+///
+/// # Errors
+///
+/// [`AllocError`] where memory runs out. The key may be left.
 pub fn add_text(out: &mut Writer, name: &str, text: &str) -> Result<(), AllocError>
     ensures { OnOk result (Adds out.old out.new (key name.now ∷ string text.now ∷ [])) }
 {
@@ -28,6 +36,10 @@ pub fn add_text(out: &mut Writer, name: &str, text: &str) -> Result<(), AllocErr
 }
 
 /// Adds a member that is a truth value.
+///
+/// # Errors
+///
+/// [`AllocError`] where memory runs out. The key may be left.
 pub fn add_truth(out: &mut Writer, name: &str, truth: bool) -> Result<(), AllocError>
     ensures { OnOk result (Adds out.old out.new (key name.now ∷ boolean truth ∷ [])) }
 {

@@ -18,6 +18,7 @@ use am_nflog::MeshEntry;
 use am_replay::{Progress, run_shown};
 use am_silence::MeshSilence;
 use am_snapshot::{SnapshotError, fold_held};
+use am_told_json::show_json;
 use am_version_order::{Moment, Version};
 use am_view::{show_log, show_silences};
 use am_wire::Message;
@@ -27,7 +28,7 @@ use std::alloc::Global;
 use std::io::{BufReader, Read, Write};
 use std::mem;
 use std::process::ExitCode;
-use words::{Job, RowJob, StateName, Task};
+use words::{Form, Job, RowJob, StateName, Task};
 
 /// Does what the words ask for, and answers the exit status of the program.
 fn run<'a>(rt: &'a HostRuntime, job: Job<'a>) -> u8 {
@@ -89,10 +90,18 @@ fn run_rows(rt: &HostRuntime, job: RowJob) -> Result<u64, Fault> {
         (Task::Fold, StateName::Log) => {
             fold_row::<MeshEntry, _, _>(alloc, &mut input, &mut output, now)
         }
-        (Task::Show, StateName::Silences) => {
+        (Task::Show(Form::Lines), StateName::Silences) => {
             Ok(show_silences(alloc, &mut input, &mut output, now)?)
         }
-        (Task::Show, StateName::Log) => Ok(show_log(alloc, &mut input, &mut output, now)?),
+        (Task::Show(Form::Lines), StateName::Log) => {
+            Ok(show_log(alloc, &mut input, &mut output, now)?)
+        }
+        (Task::Show(Form::Json), StateName::Silences) => {
+            Ok(show_json::<MeshSilence, _, _>(alloc, &mut input, &mut output, now)?)
+        }
+        (Task::Show(Form::Json), StateName::Log) => {
+            Ok(show_json::<MeshEntry, _, _>(alloc, &mut input, &mut output, now)?)
+        }
     }
 }
 

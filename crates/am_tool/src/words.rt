@@ -45,7 +45,16 @@ pub enum Task {
     /// Fold a row of versions, which are taken at the moment.
     Fold,
     /// Show what of a snapshot is live at the moment.
-    Show,
+    Show(Form),
+}
+
+/// How something is printed.
+#[derive(Clone, Copy)]
+pub enum Form {
+    /// In lines of words.
+    Lines,
+    /// As one line of JSON.
+    Json,
 }
 
 /// A state that instances share.
@@ -186,8 +195,10 @@ fn show_command<'a>(alloc: Global) -> Result<Command<'a>, AllocError> {
     let now = "The moment of the view, in whole nanoseconds since 1970-01-01T00:00:00Z";
     Command::new(alloc, SHOW)
         .about(about)
+        .after_help(AFTER_SHOW)
         .arg(state_flag(alloc, state))?
-        .arg(now_flag(alloc, now))
+        .arg(now_flag(alloc, now))?
+        .arg(json_flag(alloc, SHOW_JSON_HELP))
 }
 
 fn state_flag<'a>(alloc: Global, help: &'a str) -> Arg<'a> {
@@ -209,6 +220,13 @@ fn now_flag<'a>(alloc: Global, help: &'a str) -> Arg<'a> {
         .action(ArgAction::Set)
 }
 
+fn json_flag<'a>(alloc: Global, help: &'a str) -> Arg<'a> {
+    Arg::new(alloc, JSON)
+        .long(JSON)
+        .help(help)
+        .action(ArgAction::SetTrue)
+}
+
 fn read_job<'a>(
     alloc: Global,
     command: &mut Command<'a>,
@@ -224,7 +242,7 @@ fn read_job<'a>(
         return Ok(Job::Instance(instance::read_options(alloc, command, flags)?));
     }
     let (task, flags) = match matches.subcommand_matches(SHOW) {
-        Some(flags) => (Task::Show, Some(flags)),
+        Some(flags) => (Task::Show(form_of(flags)), Some(flags)),
         None => (Task::Fold, matches.subcommand_matches(FOLD)),
     };
     let state = flags.map_or(StateName::Silences, |flags| state_of(flags));
@@ -240,6 +258,15 @@ fn state_of(flags: &ArgMatches<'_>) -> StateName {
     match flags.get_str("state") {
         Some("nfl") => StateName::Log,
         _ => StateName::Silences,
+    }
+}
+
+/// The form that the options name.
+fn form_of(flags: &ArgMatches<'_>) -> Form {
+    if flags.get_flag(JSON) {
+        Form::Json
+    } else {
+        Form::Lines
     }
 }
 
@@ -265,6 +292,17 @@ const REPLAY: &str = "replay";
 const FOLD: &str = "fold";
 
 const SHOW: &str = "show";
+
+/// The name of the option for JSON.
+const JSON: &str = "json";
+
+const SHOW_JSON_HELP: &str =
+    "Prints a list in JSON, on one line: silences as API v2 shows them, or entries of the log";
+
+const AFTER_SHOW: &str = "\
+Examples:
+  am_tool show --state sil --now \"$(date +%s%N)\" < silences
+  am_tool show --state sil --now \"$(date +%s%N)\" --json < silences | jq -r '.[].comment'";
 
 const BAD_NOW: &str =
     "invalid value for '--now <NANOSECONDS>': a whole number below 2^64 is wanted, in digits alone";

@@ -1,0 +1,22 @@
+-- Values that are added one after the other.
+use Rattle.std.proofs.Common.{◌≡◌, List, ℕ, [], ◌∷◌, ◌++◌, map, sym, ap, ◌∙◌, refl, append_assoc}
+use Rattle.json.specs.Print.{print}
+use Rattle.json.specs.Written.{Written}
+use Rattle.serde_json.specs.Data.{Data}
+use Rattle.serde_json.specs.Written.{compact_text}
+use Rattle.am_silence_json.specs.Tokens.{Adds, data_tokens, row_tokens}
+use Rattle.am_silence_json.proofs.Bodies.{body_is}
+
+-- the next value, and those that are left
+pub value_more : {A : Type 0} (value : A → Data) {a b : Written} {left others : List A} {x : A} → left ≡ x ∷ others → Adds a b (data_tokens (value x))
+    → b.tokens ++ row_tokens (map value others) ≡ a.tokens ++ row_tokens (map value left)
+value_more value {a} {b} {left} {others} {x} first added =
+    ap (λ ts. ts ++ row_tokens (map value others)) added.tokens
+    ∙ append_assoc a.tokens (data_tokens (value x)) (row_tokens (map value others))
+    ∙ ap (λ xs. a.tokens ++ row_tokens (map value xs)) (sym first)
+
+-- the line of a value whose tokens were added to a new writer
+pub line_is : (first last : Written) (line start : List ℕ) (d : Data) → first.before ≡ start → start ≡ [] → first.tokens ≡ [] → Adds first last (data_tokens d)
+    → line ≡ last.before ++ print last.tokens ++ 10 ∷ [] → line ≡ compact_text d ++ 10 ∷ []
+line_is first last line start d before none tokens added e =
+    e ∙ ap (λ text. text ++ 10 ∷ []) (body_is first last [] (last.before ++ print last.tokens) d (before ∙ none) tokens added refl)
