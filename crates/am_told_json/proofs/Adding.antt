@@ -1,5 +1,6 @@
 -- Values that are added one after the other.
 use Rattle.std.proofs.Common.{◌≡◌, List, ℕ, [], ◌∷◌, ◌++◌, map, sym, ap, ◌∙◌, refl, append_assoc}
+use Rattle.std.specs.List.{flat_map}
 use Rattle.json.specs.Print.{print}
 use Rattle.json.specs.Written.{Written}
 use Rattle.serde_json.specs.Data.{Data}
@@ -20,3 +21,12 @@ pub line_is : (first last : Written) (line start : List ℕ) (d : Data) → firs
     → line ≡ last.before ++ print last.tokens ++ 10 ∷ [] → line ≡ compact_text d ++ 10 ∷ []
 line_is first last line start d before none tokens added e =
     e ∙ ap (λ text. text ++ 10 ∷ []) (body_is first last [] (last.before ++ print last.tokens) d (before ∙ none) tokens added refl)
+
+-- values whose tokens were added one after the other
+map_rows : {A : Type 0} (value : A → Data) (xs : List A) → flat_map (λ x. data_tokens (value x)) xs ≡ row_tokens (map value xs)
+map_rows value [] = refl
+map_rows value (x ∷ xs) = ap (λ ts. data_tokens (value x) ++ ts) (map_rows value xs)
+
+pub row_of : {A : Type 0} (value : A → Data) (xs : List A) {a b : Written} → b.before ≡ a.before → b.tokens ≡ a.tokens ++ flat_map (λ x. data_tokens (value x)) xs
+    → Adds a b (row_tokens (map value xs))
+row_of value xs {a} {b} before tokens = record { before = before; tokens = tokens ∙ ap (λ ts. a.tokens ++ ts) (map_rows value xs) }

@@ -1,2 +1,5 @@
 pub mod Adding
 pub mod OneValue
+pub mod Named
+pub mod Grouped
+pub mod AllDifferences

@@ -1,2 +1,4 @@
 pub mod Values
 pub mod Views
+pub mod Groups
+pub mod Written

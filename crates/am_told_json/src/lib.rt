@@ -1,11 +1,16 @@
 //! What is told of silences and of entries of the log, in JSON: the view of a map, and the differences of several.
 #![tactic(auto)]
 
+mod difference;
 mod entry;
+mod groups;
 mod in_json;
 mod shown;
+mod sources;
 mod tokens;
 mod view;
+mod writing;
 
 pub use in_json::InJson;
 pub use view::{show_json, write_view_json};
+pub use writing::{diff_json, write_differences_json};

@@ -2,12 +2,13 @@
 
 use crate::fault::{self, Fault, SourceFault, snapshot_error};
 use crate::status;
-use crate::words::{DiffJob, STANDARD_INPUT, SourceWord, StateName};
+use crate::words::{DiffJob, Form, STANDARD_INPUT, SourceWord, StateName};
 use am_diff_lines::{DiffError, Input, diff_rows};
 use am_member::{FileFault, later_moment};
 use am_nflog::MeshEntry;
 use am_silence::MeshSilence;
 use am_snapshot::SnapshotError;
+use am_told_json::diff_json;
 use am_version_order::Moment;
 use std::fs::{self, File};
 use std::io::{self, BufReader, Read, Stdin};
@@ -100,7 +101,7 @@ fn open(rt: &HostRuntime, file: &str) -> Result<BufReader<Origin>, FileFault> {
     Ok(BufReader::new(rt.alloc(), origin)?)
 }
 
-/// Writes the lines of all differences to standard output, and answers whether there is one.
+/// Writes all differences to standard output, and answers whether there is one.
 fn compare(
     rt: &HostRuntime,
     job: &DiffJob<'_>,
@@ -109,12 +110,18 @@ fn compare(
 ) -> Result<bool, DiffError> {
     let alloc = rt.alloc();
     let mut output = rt.stdout();
-    match job.state {
-        StateName::Silences => {
+    match (job.form, job.state) {
+        (Form::Lines, StateName::Silences) => {
             diff_rows::<MeshSilence, _, _>(alloc, inputs, job.compared, now, &mut output)
         }
-        StateName::Log => {
+        (Form::Lines, StateName::Log) => {
             diff_rows::<MeshEntry, _, _>(alloc, inputs, job.compared, now, &mut output)
+        }
+        (Form::Json, StateName::Silences) => {
+            diff_json::<MeshSilence, _, _>(alloc, inputs, job.compared, now, &mut output)
+        }
+        (Form::Json, StateName::Log) => {
+            diff_json::<MeshEntry, _, _>(alloc, inputs, job.compared, now, &mut output)
         }
     }
 }

@@ -1,6 +1,9 @@
 //! The words of `diff`.
 
-use super::{BAD_NOW, StateName, WordsError, mistake, moment_of, now_flag, state_flag, state_of};
+use super::{
+    BAD_NOW, Form, StateName, WordsError, form_of, json_flag, mistake, moment_of, now_flag,
+    state_flag, state_of,
+};
 use am_diff::Compared;
 use am_version_order::Moment;
 use clap::{Arg, ArgAction, ArgMatches, Command};
@@ -24,6 +27,7 @@ pub struct SourceWord<'a> {
 pub struct DiffJob<'a> {
     pub state: StateName,
     pub compared: Compared,
+    pub form: Form,
     /// The moment; without it, the clock's.
     pub now: Option<Moment>,
     pub sources: Vec<SourceWord<'a>>,
@@ -37,6 +41,7 @@ pub fn command<'a>(alloc: Global) -> Result<Command<'a>, AllocError> {
         .arg(state_flag(alloc, STATE_HELP))?
         .arg(now_flag(alloc, NOW_HELP).required(false))?
         .arg(held_flag(alloc))?
+        .arg(json_flag(alloc, JSON_HELP))?
         .arg(sources(alloc))
 }
 
@@ -77,6 +82,7 @@ pub fn read_job<'a>(
     Ok(DiffJob {
         state: state_of(flags),
         compared: compared_of(flags),
+        form: form_of(flags),
         now,
         sources,
     })
@@ -158,6 +164,9 @@ const NOW_HELP: &str =
 const HELD_HELP: &str =
     "Compares all that the sources hold, what has expired too, and not only what they show";
 
+const JSON_HELP: &str =
+    "Prints the differences as a list in JSON, on one line, in place of the lines";
+
 const SOURCES_HELP: &str =
     "NAME=FILE, cut at its first '=', or FILE, which is then its own name; '-' is standard input; 2 to 16 of them";
 
@@ -170,7 +179,8 @@ The status is 0 where nothing is different, and 5 where something is.
 
 Examples:
   am_tool diff --state sil a=a.sil b=b.sil c=c.sil
-  ssh b cat b.nfl | am_tool diff --state nfl --held a=a.nfl b=-";
+  ssh b cat b.nfl | am_tool diff --state nfl --held a=a.nfl b=-
+  am_tool diff --state sil --json a=a.sil b=b.sil | jq -r '.[].key.id'";
 
 const BAD_NUMBER: &str = "invalid values for '<SOURCE>...': 2 to 16 sources are wanted";
 
