@@ -63,12 +63,17 @@ Options:
 
 SHOW_HELP = """Reads a snapshot, and prints a line for each version that is live, in key order
 
-Usage: am_tool show --state <STATE> --now <NANOSECONDS>
+Usage: am_tool show [OPTIONS] --state <STATE> --now <NANOSECONDS>
 
 Options:
       --state <STATE>      The state that the snapshot is of: silences or the notification log [possible values: sil, nfl]
       --now <NANOSECONDS>  The moment of the view, in whole nanoseconds since 1970-01-01T00:00:00Z
+      --json               Prints a list in JSON, on one line: silences as API v2 shows them, or entries of the log
   -h, --help               Print help
+
+Examples:
+  am_tool show --state sil --now "$(date +%s%N)" < silences
+  am_tool show --state sil --now "$(date +%s%N)" --json < silences | jq -r '.[].comment'
 """
 
 DIFF_HELP = """Reads what several replicas hold, and prints in key order at which keys they differ, and which of them counts
@@ -82,6 +87,7 @@ Options:
       --state <STATE>      The state that the sources are of: silences or the notification log [possible values: sil, nfl]
       --now <NANOSECONDS>  The moment of the views, in whole nanoseconds since 1970-01-01T00:00:00Z; without it, the clock's
       --held               Compares all that the sources hold, what has expired too, and not only what they show
+      --json               Prints the differences as a list in JSON, on one line, in place of the lines
   -h, --help               Print help
 
 Of each key that differs there is a line for each group of sources that hold the same there: first those that have the
@@ -93,6 +99,7 @@ The status is 0 where nothing is different, and 5 where something is.
 Examples:
   am_tool diff --state sil a=a.sil b=b.sil c=c.sil
   ssh b cat b.nfl | am_tool diff --state nfl --held a=a.nfl b=-
+  am_tool diff --state sil --json a=a.sil b=b.sil | jq -r '.[].key.id'
 """
 INSTANCE_HELP = r"""Runs one member: serves the silences of API v2 to people and tools, and frames to its peers, on 127.0.0.1
 

@@ -1,5 +1,5 @@
 -- All differences, one value after the other, and their line.
-use Rattle.std.proofs.Common.{◌≡◌, ℕ, List, [], ◌∷◌, ◌++◌, map}
+use Rattle.std.proofs.Common.{◌≡◌, ℕ, Bool, List, [], ◌∷◌, ◌++◌, map, sym, ap, ◌∙◌}
 use Rattle.std.specs.declared.cmp.Ordering.{Ordering}
 use Rattle.json.specs.Print.{print}
 use Rattle.json.specs.Token.{begin_array, end_array}
@@ -9,13 +9,14 @@ use Rattle.serde_json.specs.View.{items_of}
 use Rattle.am_version_order.specs.Versions.{Version}
 use Rattle.am_diff.specs.Sources.{Side, Source, rest_of}
 use Rattle.am_diff.specs.declared.compared.Compared.{Compared}
-use Rattle.am_diff_lines.proofs.Differing.{AreAllTold}
+use Rattle.am_merge.proofs.Keys.{IsKeyOrder}
+use Rattle.am_diff_lines.specs.Told.{is_any}
+use Rattle.am_diff_lines.proofs.Differing.{AreAllTold, one_list}
 use Rattle.am_silence_json.specs.Tokens.{Adds, data_tokens}
 use Rattle.am_silence_json.proofs.Bodies.{list_is}
-use Rattle.am_told_json.specs.Groups.{difference_data}
+use Rattle.am_told_json.specs.Groups.{difference_data, differences_line}
 use Rattle.am_told_json.specs.Written.{AreAdded, IsLine}
 use Rattle.am_told_json.proofs.Adding.{line_is, row_of}
-use Rattle.std.specs.Prelude.{Bool}
 
 module _ {K X : Type 0} (seen : X → Version K) (cmp : K → K → Ordering) (key_data : K → Data) (name : List ℕ) (value : X → Data) (compared : Compared) (now : ℕ) where
   pub all_added : (all : List (Side X)) (a b : Written) (found : Bool) → b.before ≡ a.before
@@ -40,3 +41,12 @@ module _ {K X : Type 0} (seen : X → Version K) (cmp : K → K → Ordering) (k
         any = row.any;
         text = line_is first last line start (array (items_of values)) before none tokens (list_is first a b last values opening row.added closing) e;
       }
+
+  pub one_line : IsKeyOrder cmp → (sources : List (Source X)) (found other_found : Bool) (line other : List ℕ)
+      → IsLine seen cmp key_data name value compared now sources found line → IsLine seen cmp key_data name value compared now sources other_found other
+      → (found ≡ other_found) × (line ≡ other)
+  one_line keys sources found other_found line other are also =
+      let same = one_list seen cmp keys compared now sources are.differences also.differences are.all also.all in (
+        are.any ∙ ap is_any same ∙ sym also.any,
+        are.text ∙ ap (λ ds. differences_line seen name value key_data ds) same ∙ sym also.text,
+      )

@@ -1,6 +1,6 @@
 //! Entries of the log.
 
-ghost use Rattle.std.specs.Prelude.{◌≡◌, [], ◌∷◌, ◌++◌, OnOk, codes, map};
+ghost use Rattle.std.specs.Prelude.{[], ◌∷◌, OnOk, codes, map};
 ghost use Rattle.json.specs.Token.{key, string};
 ghost use Rattle.base64.specs.Engines.{standard};
 ghost use Rattle.base64.specs.GeneralPurpose.{encode_of};

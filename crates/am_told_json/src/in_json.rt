@@ -1,6 +1,6 @@
 //! Versions as values of JSON.
 
-ghost use Rattle.std.specs.Prelude.{◌≡◌, ℕ, List, ◌∷◌, OnOk};
+ghost use Rattle.std.specs.Prelude.{◌≡◌, ℕ, List, OnOk};
 ghost use Rattle.serde_json.specs.Data.{Data};
 ghost use Rattle.am_silence_json.specs.Tokens.{Adds, data_tokens};
 

@@ -5,6 +5,7 @@ mod difference;
 mod entry;
 mod groups;
 mod in_json;
+pub mod laws;
 mod shown;
 mod sources;
 mod tokens;

@@ -1,6 +1,6 @@
 //! The names of sources that hold the same.
 
-ghost use Rattle.std.specs.Prelude.{◌≡◌, [], ◌∷◌, map, OnOk, codes, if◌then◌else◌};
+ghost use Rattle.std.specs.Prelude.{[], ◌∷◌, map, OnOk, codes, if◌then◌else◌};
 ghost use Rattle.std.specs.Option.{option_copied};
 ghost use Rattle.json.specs.Token as tokens;
 ghost use Rattle.serde_json.specs.Data.{string};

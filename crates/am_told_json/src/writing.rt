@@ -1,12 +1,11 @@
 //! All differences, written.
 
-ghost use Rattle.std.specs.Prelude.{◌≡◌, ◌∷◌, List, map, All, IfOk, IfErr, ℕ};
+ghost use Rattle.std.specs.Prelude.{ℕ, List, map, All, IfOk, IfErr};
 ghost use Rattle.std.specs.Io.KnownBytes.{Appends};
 ghost use Rattle.std.specs.List.{AllZip};
 ghost use Rattle.am_merge.specs.Maps.{IsMap};
 ghost use Rattle.am_diff.specs.Sources.{Source, rest_of};
 ghost use Rattle.am_diff_lines.specs.Reads.{IsRead};
-ghost use Rattle.am_silence_json.specs.Tokens.{Adds, row_tokens};
 ghost use Rattle.am_told_json.specs.Written.{AreAdded, IsLine, StopsLine, StopsDiff};
 
 use crate::difference::add_difference;
