@@ -71,10 +71,20 @@ unread_planned stand posted bits now error is = λ other.
     (judged.0, judged.1, comes_first _ _ _ _ _ _ _ _ error is)
 
 -- a post that was planned and carried out
+-- no refusal whatever the patterns are is for want of memory
+unread_aside : (a b c : Bool) (error : SilenceError) (R : Type 0) → (silence_errors.NotFound when a before silence_errors.NoMatcher when b before silence_errors.EmptyName when c) ≡ Some error → error ≡ silence_errors.Memory → R
+unread_aside true b c error R is memory = absurd cc
+unread_aside false true c error R is memory = absurd cc
+unread_aside false false true error R is memory = absurd cc
+unread_aside false false false error R is memory = absurd cc
+
+pub unread_is_told : (held : Option Mesh) (posted : Posted) (error : SilenceError) → unread_refusal held posted ≡ Some error → error ≡ silence_errors.Memory → unread_refusal held posted ≡ None
+unread_is_told held posted error is memory = unread_aside _ _ _ error _ is memory
+
 pub post_done : (old new : Stand) (posted : Posted) (bits now : ℕ) (plan : Plan) (result : Result Outcome StepError) → IsPlanned old posted bits now (Ok plan) →
     IfOk result (λ outcome. IsPutHere old (versions plan) (replies.Posted (posted_id plan)) now outcome new) → IfErr result (λ e. e ≡ Memory 0) → OnErr result (new ≡ old) →
-    IsWork old (events.Request (requests.Post posted bits)) now result new
-post_done old new posted bits now plan (Ok outcome) plans put memory unchanged =
+    unread_refusal (posted_over now old.silences posted.id) posted ≡ None → IsWork old (events.Request (requests.Post posted bits)) now result new
+post_done old new posted bits now plan (Ok outcome) plans put memory unchanged read =
     made_work old new (events.Request (requests.Post posted bits)) now outcome (map OfSilence (versions plan)) refl refl refl refl refl
     (made_silences outcome.made (versions plan) put.made) put.delivered put.sent (record {
       verdict = plans.0;
@@ -82,12 +92,13 @@ post_done old new posted bits now plan (Ok outcome) plans put memory unchanged =
       answer = subst (λ r. RefusedOr r (IsDone (planned (posted_over now old.silences posted.id) (post_of posted now bits old.config.retention))) outcome.reply outcome.made) (sym plans.2)
           (subst (λ p. IsDone p outcome.reply outcome.made) plans.3 (record { answer = put.answer; copies = put.made }));
     })
-post_done old new posted bits now plan (Err e) plans put memory unchanged = stopped_work old new (events.Request (requests.Post posted bits)) now e memory unchanged refl
+post_done old new posted bits now plan (Err e) plans put memory unchanged read = stopped_work old new (events.Request (requests.Post posted bits)) now e memory unchanged read
 
 -- a post that was refused
 pub post_refused : (old : Stand) (posted : Posted) (bits now : ℕ) (error : SilenceError) (result : Result Outcome StepError) → IsPlanned old posted bits now (Err error) →
-    IfOk result (IsTurnedAway error) → IfErr result (λ e. (e ≡ Memory 0) × (error ≡ silence_errors.Memory)) → IsWork old (events.Request (requests.Post posted bits)) now result old
-post_refused old posted bits now error (Ok outcome) plans away memory =
+    IfOk result (IsTurnedAway error) → IfErr result (λ e. (e ≡ Memory 0) × (error ≡ silence_errors.Memory)) →
+    (error ≡ silence_errors.Memory → unread_refusal (posted_over now old.silences posted.id) posted ≡ None) → IsWork old (events.Request (requests.Post posted bits)) now result old
+post_refused old posted bits now error (Ok outcome) plans away memory read =
     let why = plans away.other in
     quiet_work old (events.Request (requests.Post posted bits)) now outcome refl refl refl refl away.unsent away.nothing (record {
       verdict = why.0;
@@ -95,7 +106,7 @@ post_refused old posted bits now error (Ok outcome) plans away memory =
       answer = subst (λ r. RefusedOr r (IsDone (planned (posted_over now old.silences posted.id) (post_of posted now bits old.config.retention))) outcome.reply outcome.made) (sym why.2)
           (record { answer = away.answer; nothing = away.nothing });
     })
-post_refused old posted bits now error (Err e) plans away memory = stopped_work old old (events.Request (requests.Post posted bits)) now e memory.0 refl refl
+post_refused old posted bits now error (Err e) plans away memory read = stopped_work old old (events.Request (requests.Post posted bits)) now e memory.0 refl (read memory.1)
 
 -- a silence that was ended
 pub delete_done : (old new : Stand) (id : List ℕ) (now : ℕ) (held : Option Mesh) (v : Mesh) (result : Result Outcome StepError) → held ≡ silence_in_view now old.silences id →

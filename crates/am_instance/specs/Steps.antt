@@ -33,7 +33,7 @@ use Rattle.am_instance.specs.Deliveries.{Delivery, events_at, to_silences, to_lo
 use Rattle.am_instance.specs.Deliveries.Delivery.{OfSilence, OfEntry}
 use Rattle.am_instance.specs.Changes.{changes, changed_of, silences_after, log_after}
 use Rattle.am_instance.specs.Sendings.{Sent, Sends, deltas_to, nothing_sent, sent_by, whole_state}
-use Rattle.am_instance.specs.Replies.{IsReply, IsNothing, AreMade, listed, not_found, posted_over, silence_in_view}
+use Rattle.am_instance.specs.Replies.{IsReply, IsNothing, AreMade, listed, not_found, posted_over, silence_in_view, unread_refusal}
 use Rattle.am_instance.specs.declared.reply.Reply.{Reply}
 use Rattle.am_instance.specs.declared.reply.Reply.TheVariants as replies
 use Rattle.am_merge.specs.declared.held.Taken.{Taken}
@@ -81,12 +81,15 @@ pub record IsAccepted (old : Stand) (event : Event) (now : ℕ) : Type 0 where
   pub known : knows_peer old.config (peer_of event) ≡ true
   pub sound : fault_of old.config now event ≡ None
 
--- Why a request is refused, where no memory is needed to find that out: the silence that is asked for is not in view, or the
--- one that is to be ended can't be ended so. (What a post is refused for takes memory to find.)
+-- Why a request is refused, where no memory is needed to find that out: the silence that is asked for is not in view, the one
+-- that is to be ended can't be ended so, or a post is refused whatever its patterns are. (What else a post is refused for takes
+-- memory to find.)
 abbrev pub refused_anyway : Stand → Event → ℕ → Option SilenceError
 refused_anyway stand (events.Request (requests.Get id)) now = not_found (silence_in_view now stand.silences id)
 refused_anyway stand (events.Request (requests.Delete id)) now =
     end_refusal (silence_in_view now stand.silences id) now stand.config.retention
+refused_anyway stand (events.Request (requests.Post posted bits)) now =
+    unread_refusal (posted_over now stand.silences posted.id) posted
 refused_anyway stand _ now = None
 
 -- Memory ran out before anything was taken; or once some of what was brought was taken, and not all of it, in which there is
