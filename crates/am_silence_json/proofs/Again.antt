@@ -74,7 +74,7 @@ moment_again c nanos m real parts e =
       moment = rw (none_ahead (clock_seconds c)) (cut_is (clock_seconds c) nanos m parts e);
     }
 
-real_bounds : (c : Clock) → IsReal c → (c.year < 10000) × (c.month < 100) × (c.day < 100)
+pub real_bounds : (c : Clock) → IsReal c → (c.year < 10000) × (c.month < 100) × (c.day < 100)
 real_bounds c real =
     let date = real.date in
     (omega (arith, ints, date.0.1), omega (arith, ints, date.1.1), omega (arith, ints, date.2.1, days_in_month_bounds (pos c.year) c.month))

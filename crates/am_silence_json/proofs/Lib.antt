@@ -10,3 +10,6 @@ mod EachMatcher
 mod EachShown
 mod OneMoment
 mod OneList
+mod ShownAgain
+mod GettableTexts
+mod GettableBytes
