@@ -15,7 +15,7 @@ use Rattle.am_silence.specs.declared.state.State.TheVariants as states
 use Rattle.am_silence.specs.Matchers.{IsMatcher}
 use Rattle.am_silence.specs.Silences.{IsSilence}
 use Rattle.am_silence.specs.Mesh.{Mesh, IsMesh}
-use Rattle.am_silence_json.specs.Gettables.{matcher_data, state_text, gettable_data, IsGettable, AreGettable}
+use Rattle.am_silence_json.specs.Gettables.{matcher_data, state_text, IsGettable, AreGettable}
 use Rattle.am_silence_json.specs.Written.{WritesMoment}
 use Rattle.am_silence_json.proofs.Again.{real_bounds}
 use Rattle.am_silence_json.proofs.Bytes.{utf8_text}

@@ -13,3 +13,5 @@ mod OneList
 mod ShownAgain
 mod GettableTexts
 mod GettableBytes
+mod Refused
+mod ListAgain

@@ -1,7 +1,6 @@
 -- A body lists one list of versions.
 use Rattle.std.proofs.Common.{◌≡◌, ℕ, List, [], ◌∷◌, Some, refl, sym, ap, ap₂, ◌∙◌}
-use Rattle.serde_json.specs.Data.{Data, array, Items, item, no_items}
-use Rattle.serde_json.specs.Read.{read}
+use Rattle.serde_json.specs.Data.{Data, array}
 use Rattle.serde_json.specs.View.{items_of}
 use Rattle.am_silence.specs.Mesh.{Mesh}
 use Rattle.am_silence_json.specs.Posts.{HasMoment}
@@ -17,7 +16,7 @@ moments_same key d m n h k =
 cuts_same : {key : List ℕ} {d : Data} {m n : ℕ} → HasCut key d m → HasCut key d n → m ≡ n
 cuts_same {key} {d} h k = h.cut ∙ ap cut_moment (moments_same key d h.whole k.whole h.here k.here) ∙ sym k.cut
 
-versions_same : (d : Data) (m n : Mesh) → IsShown d m → IsShown d n → m ≡ n
+pub versions_same : (d : Data) (m n : Mesh) → IsShown d m → IsShown d n → m ≡ n
 versions_same d m n h k =
     let id : m.silence.id ≡ n.silence.id = cc (h.id, k.id) in
     let matchers : m.silence.matchers ≡ n.silence.matchers = cc (h.matchers, k.matchers) in
@@ -35,7 +34,7 @@ lists_same (d ∷ ds) [] ns h k = absurd h
 lists_same (d ∷ ds) (m ∷ ms) [] h k = absurd k
 lists_same (d ∷ ds) (m ∷ ms) (n ∷ ns) h k = ap₂ (λ x xs. x ∷ xs) (versions_same d m n h.0 k.0) (lists_same ds ms ns h.1 k.1)
 
-items_tell : (ds es : List Data) → items_of ds ≡ items_of es → ds ≡ es
+pub items_tell : (ds es : List Data) → items_of ds ≡ items_of es → ds ≡ es
 items_tell [] [] e = refl
 items_tell [] (d ∷ es) e = cc
 items_tell (d ∷ ds) [] e = cc

@@ -1,5 +1,5 @@
 -- A text spells one moment.
-use Rattle.std.proofs.Common.{◌≡◌, ℕ, ◌/◌, ◌%◌, ◌<◌, List, drop, pos, inl, inr, arith, refl, sym, ap, ◌∙◌}
+use Rattle.std.proofs.Common.{◌≡◌, ℕ, ◌/◌, ◌%◌, List, drop, pos, inl, inr, arith, refl, sym, ap, ◌∙◌}
 use Rattle.std.proofs.lemmas.Int.{ints}
 use Rattle.am_version_order.specs.Moments.{since_least}
 use Rattle.am_silence_json.specs.declared.moments.clock.Clock.{Clock}
@@ -9,7 +9,7 @@ use Rattle.am_silence_json.specs.declared.moments.read.DateTime.{DateTime}
 use Rattle.am_silence_json.specs.Digits.{HasTwo}
 use Rattle.am_silence_json.specs.Clocks.{IsClockText}
 use Rattle.am_silence_json.specs.Fractions.{IsFraction}
-use Rattle.am_silence_json.specs.Zones.{IsZone, IsNumeric, IsSign}
+use Rattle.am_silence_json.specs.Zones.{IsZone, IsSign}
 use Rattle.am_silence_json.specs.Moments.{IsDateTime, ReadsMoment, utc_seconds}
 
 two_same : {text : List ℕ} {place n k : ℕ} → HasTwo text place n → HasTwo text place k → n ≡ k

@@ -10,7 +10,7 @@ use Rattle.am_silence.specs.declared.state.State.{State}
 use Rattle.am_silence.specs.Kinds.{is_regexp}
 use Rattle.am_silence.specs.Mesh.{Mesh}
 use Rattle.am_silence_json.specs.Gettables.{is_equal, matcher_data, gettable_data, IsGettable, AreGettable}
-use Rattle.am_silence_json.specs.Posts.{kind_of, matcher_of, matchers_of, text_in, HasMoment}
+use Rattle.am_silence_json.specs.Posts.{kind_of, matcher_of, matchers_of, text_in}
 use Rattle.am_silence_json.specs.Shown.{HasCut, IsShown, AreShown, cut_moment, cut_to_shown}
 use Rattle.am_silence_json.specs.Written.{WritesMoment}
 use Rattle.am_silence_json.proofs.Again.{texts_read}
@@ -58,7 +58,7 @@ gettable_shown m state starts ends updated s e u =
       expires_at = refl;
     }
 
-one_again : (m : Mesh) (state : State) (d : Data) → IsGettable m.silence state d → IsShown d (cut_to_shown m)
+pub one_again : (m : Mesh) (state : State) (d : Data) → IsGettable m.silence state d → IsShown d (cut_to_shown m)
 one_again m state d h = rw h.value (gettable_shown m state h.starts h.ends h.updated h.starts_at h.ends_at h.updated_at)
 
 -- what is written of silences shows them

@@ -5,9 +5,12 @@ use Rattle.serde_json.specs.Data.{Data, array}
 use Rattle.serde_json.specs.Find.{as_array}
 use Rattle.serde_json.specs.Read.{read}
 use Rattle.serde_json.specs.View.{items_of}
+use Rattle.am_silence.specs.declared.state.State.{State}
 use Rattle.am_silence.specs.Mesh.{Mesh}
 use Rattle.am_silence_json.specs.declared.key.ShownKey.{ShownKey}
-use Rattle.am_silence_json.specs.Shown.{IsShown, AreShown, FitsMessage, IsFirstUnshown, IsTooLarge}
+use Rattle.am_silence_json.specs.declared.list_error.ListError.{ListError}
+use Rattle.am_silence_json.specs.declared.list_error.ListError.TheVariants as errors
+use Rattle.am_silence_json.specs.Shown.{IsShown, AreShown, FitsMessage, cut_to_shown, IsFirstUnshown, IsTooLarge}
 
 -- the body is the text of this value
 pub record IsJsonText (body : List ℕ) (d : Data) : Type 0 where
@@ -52,3 +55,11 @@ pub record IsTooLargeAt (ds : List Data) (place : ℕ) : Type 0 where
   pub object : Data
   pub first : IsFirst ds place object
   pub large : IsTooLarge object
+
+-- the error says that what is shown of a row is too large
+pub record IsRowTooLarge (rows : List (Mesh × State)) (e : ListError) : Type 0 where
+  pub place : ℕ
+  pub row : Mesh × State
+  pub error : e ≡ errors.TooLarge place
+  pub here : slice_get rows place ≡ Some row
+  pub large : ¬ FitsMessage (cut_to_shown row.0)
