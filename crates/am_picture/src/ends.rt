@@ -1,0 +1,133 @@
+//! What is told of the members at the end of a picture.
+
+use crate::lanes::runs_at_end;
+use crate::layout::{edge_of, lane_of};
+use crate::sheet::{Sheet, append_text, append_title};
+use am_instance::{Instance, Place};
+use am_version_order::Moment;
+use am_view::append_view;
+use std::alloc::AllocError;
+
+/// How far to the right of the last step it stands.
+const SPOT: i32 = 44;
+
+/// How many lines of a view are shown.
+const MOST_LINES: usize = 4;
+
+/// How many characters of a line are shown.
+const MOST_OF_LINE: usize = 48;
+
+/// Appends at the right, for each member, whether it was calm, and what it shows at the latest moment of all.
+pub fn append_ends(sheet: &Sheet<'_>, out: &mut String) -> Result<(), AllocError> {
+    let now = latest_moment(sheet);
+    append_end_head(sheet, out, now)?;
+    for place in 0..sheet.names().len() {
+        append_end(sheet, out, place as Place, now)?;
+    }
+    Ok(())
+}
+
+/// The latest moment at which a member stands.
+fn latest_moment(sheet: &Sheet<'_>) -> Moment {
+    let mut latest = Moment::LEAST;
+    for place in 0..sheet.names().len() {
+        if let Some(instance) = sheet.cluster.instance(place as Place) {
+            latest = later_of(latest, instance.last());
+        }
+    }
+    latest
+}
+
+fn later_of(first: Moment, second: Moment) -> Moment {
+    if first < second { second } else { first }
+}
+
+/// Appends the head above what is told at the end.
+fn append_end_head(sheet: &Sheet<'_>, out: &mut String, now: Moment) -> Result<(), AllocError> {
+    let x = edge_of(sheet.scene.marks.len());
+    let (seconds, nanos) = now.parts();
+    write!(
+        out,
+        "<g transform=\"translate({x} 16)\"><text class=\"dim\" x=\"{SPOT}\">at the end"
+    )?;
+    if seconds >= 0 {
+        write!(out, ", at {seconds}")?;
+    }
+    if nanos > 0 {
+        write!(out, ".{nanos:09}")?;
+    }
+    out.push_str("</text></g>\n")
+}
+
+/// Appends what is told of a member.
+fn append_end(
+    sheet: &Sheet<'_>,
+    out: &mut String,
+    place: Place,
+    now: Moment,
+) -> Result<(), AllocError> {
+    let (x, y) = (edge_of(sheet.scene.marks.len()), lane_of(place));
+    write!(out, "<g transform=\"translate({x} {y})\">")?;
+    match sheet.cluster.instance(place) {
+        Some(instance) if runs_at_end(sheet, place) => append_shown(sheet, out, instance, now)?,
+        _ => write!(
+            out,
+            "<text class=\"dim\" x=\"{SPOT}\" y=\"-12\">stopped</text>"
+        )?,
+    }
+    append_calm(sheet, out, place)?;
+    out.push_str("</g>\n")
+}
+
+/// Appends whether a member was calm.
+fn append_calm(sheet: &Sheet<'_>, out: &mut String, place: Place) -> Result<(), AllocError> {
+    match sheet.cluster.calm(place).first_fault {
+        Some(line) => write!(
+            out,
+            "<text class=\"bad\" x=\"{SPOT}\" y=\"-24\">uncalm, line {line}</text>"
+        ),
+        None => write!(
+            out,
+            "<text class=\"good\" x=\"{SPOT}\" y=\"-24\">calm</text>"
+        ),
+    }
+}
+
+/// Appends what a member shows, and the whole of it as a title.
+fn append_shown(
+    sheet: &Sheet<'_>,
+    out: &mut String,
+    instance: &Instance,
+    now: Moment,
+) -> Result<(), AllocError> {
+    let mut view = String::new(sheet.alloc);
+    append_view(&mut view, instance.silences(), instance.log(), None, now)?;
+    append_title(sheet.alloc, out, view.as_str())?;
+    append_lines(sheet, out, view.as_str())
+}
+
+/// Appends the first lines of a view.
+fn append_lines(sheet: &Sheet<'_>, out: &mut String, view: &str) -> Result<(), AllocError> {
+    let lines: Vec<&str> = view.lines().collect(sheet.alloc)?;
+    if lines.is_empty() {
+        return write!(
+            out,
+            "<text class=\"dim\" x=\"{SPOT}\" y=\"-12\">shows nothing</text>"
+        );
+    }
+    let mut y = -12i32;
+    let fits = lines.len() <= MOST_LINES;
+    let shown = if fits { lines.len() } else { MOST_LINES - 1 };
+    for line in &lines[..shown] {
+        append_text(sheet.alloc, out, "end", SPOT, y, line, MOST_OF_LINE)?;
+        y = y.saturating_add(12);
+    }
+    if fits {
+        return Ok(());
+    }
+    let more = lines.len() - shown;
+    write!(
+        out,
+        "<text class=\"dim\" x=\"{SPOT}\" y=\"{y}\">\u{2026} and {more} more</text>"
+    )
+}

@@ -1,0 +1,20 @@
+//! A picture of a schedule that is played, as SVG: a lane for each member, and from left to right what each line did.
+#![tactic(auto)]
+
+mod arrows;
+mod ends;
+mod error;
+mod escape;
+mod lanes;
+mod layout;
+mod mark;
+mod marks;
+mod picture;
+mod playing;
+mod refusal;
+mod scene;
+mod sheet;
+
+pub use error::PictureError;
+pub use escape::{append_escaped, append_shortened};
+pub use picture::picture_of;

@@ -1,0 +1,168 @@
+//! Pictures of schedules.
+
+ghost use Rattle.std.specs.Prelude.{◌≡◌, ◌≤◌, IfErr, OnOk, length};
+ghost use Rattle.am_picture.specs.Pictures.{IsPictured, StopsPicture};
+
+use crate::arrows::append_frames;
+use crate::ends::append_ends;
+use crate::error::PictureError;
+use crate::lanes::{append_fault_lines, append_lanes};
+use crate::layout::{MOST_STEPS, edge_of, height_of, lane_of, middle_of, width_of};
+use crate::marks::{append_marks, append_settles};
+use crate::playing::{newborn, play};
+use crate::sheet::{Sheet, Stroke, open_stroke};
+use am_schedule::{Schedule, parse};
+use std::alloc::{AllocError, Global};
+use std::str;
+
+/// The picture of the schedule that a text is, as SVG.
+///
+/// # Errors
+///
+/// The first [`PictureError`] that applies, before anything is played but for want of memory.
+pub fn picture_of(alloc: Global, text: &[u8]) -> Result<String, PictureError>
+    ensures pictured { OnOk result (IsPictured text.now) }
+    ensures stopped { IfErr result (StopsPicture text.now) }
+{
+    let schedule = parse(alloc, text)?;
+    let steps = schedule.lines.as_slice().len();
+    if steps > MOST_STEPS {
+        return Err(PictureError::TooManySteps { steps });
+    }
+    Ok(draw(alloc, &schedule, text)?)
+}
+
+/// Plays a schedule, and draws what was played.
+fn draw(alloc: Global, schedule: &Schedule, text: &[u8]) -> Result<String, AllocError> {
+    let mut cluster = newborn(alloc, schedule)?;
+    let scene = play(alloc, &mut cluster, schedule)?;
+    let lines = lines_of(alloc, text)?;
+    let sheet = Sheet {
+        alloc,
+        cluster: &cluster,
+        scene: &scene,
+        lines: &lines,
+    };
+    let mut out = String::new(alloc);
+    append_picture(&sheet, &mut out)?;
+    Ok(out)
+}
+
+/// The lines of a text that is UTF-8.
+fn lines_of(alloc: Global, text: &[u8]) -> Result<Vec<&str>, AllocError> {
+    match str::from_utf8(text) {
+        Ok(text) => text.split('\n').collect(alloc),
+        Err(_) => Ok(Vec::new(alloc)),
+    }
+}
+
+/// Appends the whole picture.
+fn append_picture(sheet: &Sheet<'_>, out: &mut String) -> Result<(), AllocError> {
+    append_front(sheet, out)?;
+    append_grid(sheet, out)?;
+    append_lanes(sheet, out)?;
+    append_settles(sheet, out)?;
+    append_frames(sheet, out)?;
+    append_marks(sheet, out)?;
+    append_fault_lines(sheet, out)?;
+    append_ends(sheet, out)?;
+    append_back(sheet, out)
+}
+
+/// Appends what comes before all marks.
+fn append_front(sheet: &Sheet<'_>, out: &mut String) -> Result<(), AllocError> {
+    let steps = sheet.scene.marks.len();
+    let (width, height) = (width_of(steps), height_of(sheet.names().len()));
+    writeln!(
+        out,
+        "<svg xmlns=\"http://www.w3.org/2000/svg\" width=\"{width}\" height=\"{height}\" viewBox=\"0 0 {width} {height}\">"
+    )?;
+    writeln!(
+        out,
+        "<title>A schedule of {steps} steps, as it was played</title>"
+    )?;
+    out.push_str(STYLE)?;
+    writeln!(
+        out,
+        "<rect class=\"ground\" width=\"{width}\" height=\"{height}\"/>"
+    )
+}
+
+/// Appends a faint line down from the head of each step.
+fn append_grid(sheet: &Sheet<'_>, out: &mut String) -> Result<(), AllocError> {
+    let Some(last) = sheet.names().len().checked_sub(1) else {
+        return Ok(());
+    };
+    for column in 0..sheet.scene.marks.len() {
+        append_grid_line(out, column, last as u64)?;
+    }
+    Ok(())
+}
+
+fn append_grid_line(out: &mut String, column: usize, last: u64) -> Result<(), AllocError> {
+    let x = middle_of(column);
+    let stroke = Stroke {
+        x1: x,
+        y1: 70,
+        x2: x,
+        y2: lane_of(last),
+    };
+    open_stroke(out, "grid", &stroke)?;
+    out.push_str("</line>\n")
+}
+
+/// Appends what comes behind all marks.
+fn append_back(sheet: &Sheet<'_>, out: &mut String) -> Result<(), AllocError> {
+    let y = height_of(sheet.names().len());
+    writeln!(
+        out,
+        "<g transform=\"translate(8 {y})\"><text class=\"dim\" y=\"-10\">{LEGEND}</text></g>\n</svg>"
+    )
+}
+
+const LEGEND: &str =
+    "arrow: a frame, from its sending to a delivery · dashed: still in flight · cross: lost · gap: stopped · red: uncalm from there on";
+
+const STYLE: &str = "<style>
+text{font:11px monospace;fill:#24292f}
+line{stroke-linecap:round}
+.ground{fill:#ffffff}
+.grid{stroke:#eaeef2}
+.lane{stroke:#8c959f;stroke-width:2}
+.lane.bad{stroke:#cf222e;stroke-width:3}
+.settle{stroke:#8250df;stroke-width:6;stroke-opacity:.35}
+.frame{fill:none;stroke:#0969da;stroke-width:1.2}
+.tip{marker-end:url(#tip)}
+.fly{stroke-dasharray:4 4}
+#tip path{fill:#0969da}
+.mark circle{fill:#24292f}
+.no circle{fill:#ffffff;stroke:#cf222e;stroke-width:2}
+.cross{stroke:#cf222e;stroke-width:2}
+.mark text,.head{text-anchor:middle}
+.mark .left{text-anchor:end}
+.mark .right{text-anchor:start}
+.mark text,.fault{paint-order:stroke;stroke:#ffffff;stroke-width:3px;stroke-linejoin:round}
+.head,.dim{fill:#57606a}
+.name{font-weight:bold}
+.good{fill:#1a7f37}
+.bad,.fault,.no text{fill:#cf222e}
+@media (prefers-color-scheme:dark){
+text{fill:#e6edf3}
+.ground{fill:#0d1117}
+.grid{stroke:#21262d}
+.lane{stroke:#8b949e}
+.lane.bad{stroke:#ff7b72}
+.settle{stroke:#bc8cff}
+.frame{stroke:#58a6ff}
+#tip path{fill:#58a6ff}
+.mark circle{fill:#e6edf3}
+.no circle{fill:#0d1117;stroke:#ff7b72}
+.cross{stroke:#ff7b72}
+.mark text,.fault{stroke:#0d1117}
+.head,.dim{fill:#9198a1}
+.good{fill:#56d364}
+.bad,.fault,.no text{fill:#ff7b72}
+}
+</style>
+<defs><marker id=\"tip\" viewBox=\"0 0 8 8\" refX=\"12\" refY=\"4\" markerWidth=\"8\" markerHeight=\"8\" markerUnits=\"userSpaceOnUse\" orient=\"auto\"><path d=\"M0 0L8 4L0 8z\"/></marker></defs>
+";

@@ -1,0 +1,98 @@
+//! What a picture is drawn of, and its parts in XML.
+
+ghost use Rattle.std.specs.Prelude.{◌+◌, ◌*◌, ◌<◌, ◌^◌};
+
+use crate::escape::{append_escaped, append_shortened};
+use crate::scene::Scene;
+use am_cluster::Cluster;
+use am_instance::Place;
+use am_wire::Text;
+use std::alloc::{AllocError, Global};
+
+/// What a picture is drawn of: the cluster as it stands at the end, what was played, and the lines of the text.
+#[derive(Clone, Copy)]
+pub struct Sheet<'a> {
+    pub alloc: Global,
+    pub cluster: &'a Cluster,
+    pub scene: &'a Scene,
+    pub lines: &'a [&'a str],
+}
+
+impl<'a> Sheet<'a> {
+    /// The names of the members, by their places.
+    pub fn names(&self) -> &'a [Text] {
+        match self.cluster.instance(0) {
+            Some(instance) => instance.config().members(),
+            None => &[],
+        }
+    }
+
+    /// The name of the member at a place.
+    pub fn name(&self, place: Place) -> &'a str {
+        match self.names().get(place as usize) {
+            Some(name) => name.as_str(),
+            None => "",
+        }
+    }
+
+    /// The text of the line of a number, counted from 1.
+    pub fn line(&self, number: u64) -> &'a str {
+        match number.checked_sub(1) {
+            Some(index) => self.lines.get(index as usize).copied().unwrap_or(""),
+            None => "",
+        }
+    }
+}
+
+/// Two spots.
+#[derive(Clone, Copy)]
+pub struct Stroke {
+    pub x1: u64,
+    pub y1: u64,
+    pub x2: u64,
+    pub y2: u64,
+}
+
+/// Appends a line between two spots, up to what it holds.
+pub fn open_stroke(out: &mut String, class: &str, stroke: &Stroke) -> Result<(), AllocError> {
+    let (x1, y1, x2, y2) = (stroke.x1, stroke.y1, stroke.x2, stroke.y2);
+    write!(
+        out,
+        "<line class=\"{class}\" x1=\"{x1}\" y1=\"{y1}\" x2=\"{x2}\" y2=\"{y2}\">"
+    )
+}
+
+/// Appends a line from one spot to another that is the steeper the nearer it comes, up to what it holds.
+pub fn open_curve(out: &mut String, class: &str, stroke: &Stroke) -> Result<(), AllocError>
+    requires x { stroke.now.x1 + 3 * stroke.now.x2 < 2 ^ 64 }
+    requires y { 3 * stroke.now.y1 + stroke.now.y2 < 2 ^ 64 }
+{
+    let (x1, y1, x2, y2) = (stroke.x1, stroke.y1, stroke.x2, stroke.y2);
+    let (x, y) = ((x1 + 3 * x2) / 4, (3 * y1 + y2) / 4);
+    write!(
+        out,
+        "<path class=\"{class}\" d=\"M{x1} {y1}Q{x} {y} {x2} {y2}\">"
+    )
+}
+
+/// Appends a text at a spot, of at most so many characters.
+pub fn append_text(
+    alloc: Global,
+    out: &mut String,
+    class: &str,
+    x: i32,
+    y: i32,
+    text: &str,
+    most: usize,
+) -> Result<(), AllocError> {
+    write!(out, "<text class=\"{class}\" x=\"{x}\" y=\"{y}\">")?;
+    append_shortened(alloc, out, text, most)?;
+    out.push_str("</text>")
+}
+
+/// Appends a title.
+pub fn append_title(alloc: Global, out: &mut String, text: &str) -> Result<(), AllocError> {
+    out.push_str("<title>")?;
+    append_escaped(alloc, out, text)?;
+    out.push_str("</title>")
+}
