@@ -45,10 +45,11 @@ Options:
 
 REPLAY_HELP = """Plays a schedule on a cluster, and prints what its members answer; so does am_tool without words
 
-Usage: am_tool replay
+Usage: am_tool replay [OPTIONS]
 
 Options:
-  -h, --help  Print help
+      --picture <FILE>  Also draws what was played, in this file as SVG; a schedule of over 2,000 steps is refused then
+  -h, --help            Print help
 """
 
 FOLD_HELP = """Reads a row of versions, and writes the one that counts of each key, in key order
@@ -133,7 +134,7 @@ INSTANCE_USAGE = (
 
 USAGE = "\nUsage: am_tool <COMMAND>\n\nFor more information, try '--help'.\n"
 FOLD_USAGE = "\nUsage: am_tool fold --state <STATE> --now <NANOSECONDS>\n\nFor more information, try '--help'.\n"
-REPLAY_USAGE = "\nUsage: am_tool replay\n\nFor more information, try '--help'.\n"
+REPLAY_USAGE = "\nUsage: am_tool replay [OPTIONS]\n\nFor more information, try '--help'.\n"
 SHOW_USAGE = FOLD_USAGE.replace("fold", "show")
 
 TWICE = "error: the argument '{}' cannot be used multiple times\n" + FOLD_USAGE
@@ -192,6 +193,7 @@ CASES = [
     (["help", "fold"], b"", 0, FOLD_HELP.encode(), ""),
     (FOLD + ["--help"], FIRST, 0, FOLD_HELP.encode(), ""),
     # a flag twice, or none
+    (["replay", "--picture", "a", "--picture", "b"], b"", 2, b"", TWICE.format("--picture <FILE>").replace(FOLD_USAGE, REPLAY_USAGE)),
     (FOLD + ["--state", "sil"], b"", 2, b"", TWICE.format("--state <STATE>")),
     (FOLD + ["--now", "1"], b"", 2, b"", TWICE.format("--now <NANOSECONDS>")),
     (["fold"], b"", 2, b"", MISSING.format("  --state <STATE>\n  --now <NANOSECONDS>\n")),

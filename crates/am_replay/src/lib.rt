@@ -19,6 +19,7 @@ mod reports;
 pub use am_cluster::{CalmReport, Cluster, ClusterError, Flight, SettleError};
 pub use am_view::write_view;
 pub use error::ReplayError;
+pub use input::read_input;
 pub use line::{Line, append_line};
 pub use progress::Progress;
 pub use refusal::Refusal;

@@ -6,6 +6,7 @@ use crate::status;
 use am_connection::Fault as ConnectionFault;
 use am_instance::ConfigError;
 use am_member::{FileFault, SendFault};
+use am_picture::PictureError;
 use am_replay::ReplayError;
 use am_snapshot::{FoldError, SnapshotError};
 use am_view::Word;
@@ -25,6 +26,10 @@ pub enum Fault {
     Snapshot(SnapshotError),
     /// In a schedule, or in what was written of it.
     Replay(ReplayError),
+    /// A schedule has so many steps, too many for a picture.
+    TooManySteps(usize),
+    /// In the file of a picture.
+    Picture(FileFault),
     /// A peer is not NAME=PORT.
     Peer,
     /// The names of the members are at fault.
@@ -57,7 +62,10 @@ impl Fault {
         match self {
             Fault::Snapshot(error) => status_of_snapshot(error),
             Fault::Replay(error) => status_of_replay(error),
-            Fault::Silences(fault) | Fault::Log(fault) => status_of_file(fault),
+            Fault::TooManySteps(_) => status::REFUSED,
+            Fault::Silences(fault) | Fault::Log(fault) | Fault::Picture(fault) => {
+                status_of_file(fault)
+            }
             Fault::Config(ConfigError::Memory) => status::MEMORY,
             Fault::Peer | Fault::Config(_) => status::WORDS,
             _ => status::OUTSIDE,
@@ -102,6 +110,16 @@ impl From<SnapshotError> for Fault {
 impl From<ReplayError> for Fault {
     fn from(error: ReplayError) -> Fault {
         Fault::Replay(error)
+    }
+}
+
+impl From<PictureError> for Fault {
+    fn from(error: PictureError) -> Fault {
+        match error {
+            PictureError::Schedule(error) => Fault::Replay(ReplayError::Schedule(error)),
+            PictureError::TooManySteps { steps } => Fault::TooManySteps(steps),
+            PictureError::Memory => Fault::Replay(ReplayError::Memory { line: 0 }),
+        }
     }
 }
 
@@ -153,6 +171,11 @@ impl fmt::Display for Fault {
         match *self {
             Fault::Snapshot(error) => lines::write_snapshot_error(error, f),
             Fault::Replay(error) => lines::write_replay_error(error, f),
+            Fault::TooManySteps(steps) => write!(f, "TooManySteps {steps}"),
+            Fault::Picture(fault) => {
+                write!(f, "Picture ")?;
+                lines::write_file_fault(fault, f)
+            }
             Fault::Peer => write!(f, "Peer"),
             Fault::Config(error) => lines::write_config_error(error, f),
             Fault::Silences(fault) => {

@@ -10,6 +10,7 @@ ghost use Rattle.am_snapshot.specs.Folds.{IsFold};
 mod diff;
 mod fault;
 mod member;
+mod picture;
 mod progress;
 mod status;
 mod words;
@@ -33,7 +34,8 @@ use words::{Form, Job, RowJob, StateName, Task};
 /// Does what the words ask for, and answers the exit status of the program.
 fn run<'a>(rt: &'a HostRuntime, job: Job<'a>) -> u8 {
     match job {
-        Job::Replay => status_of(rt, replay(rt)),
+        Job::Replay(None) => status_of(rt, replay(rt)),
+        Job::Replay(Some(file)) => status_of(rt, picture::run(rt, file)),
         Job::Rows(job) => match run_rows(rt, job) {
             Ok(_) => status::DONE,
             Err(fault) => fault::report(rt, fault),

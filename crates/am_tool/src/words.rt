@@ -21,8 +21,8 @@ use std::{env, io};
 /// What the words ask for.
 #[derive(Drop)]
 pub enum Job<'a> {
-    /// The schedule that stands on standard input is to be played.
-    Replay,
+    /// The schedule that stands on standard input is to be played, and drawn where a file is named.
+    Replay(Option<&'a str>),
     /// Something is to be done with the row that stands on standard input.
     Rows(RowJob),
     /// Sources are to be compared.
@@ -105,7 +105,7 @@ impl From<clap::Error> for WordsError {
 /// The job that the words of the command line ask for; without words a schedule is played.
 pub fn job_of<'a>(alloc: Global, words: &'a [String]) -> Result<Job<'a>, WordsError> {
     if words.len() <= 1 {
-        return Ok(Job::Replay);
+        return Ok(Job::Replay(None));
     }
     let mut command = command(alloc)?;
     let matches = command.try_get_matches_from_mut(words)?;
@@ -166,17 +166,29 @@ fn command<'a>(alloc: Global) -> Result<Command<'a>, AllocError> {
     Command::new(alloc, "am_tool")
         .about("The state that instances of Alertmanager share")
         .subcommand_required(true)
-        .subcommand(replay_command(alloc))?
+        .subcommand(replay_command(alloc)?)?
         .subcommand(fold_command(alloc)?)?
         .subcommand(show_command(alloc)?)?
         .subcommand(diff::command(alloc)?)?
         .subcommand(instance::command(alloc)?)
 }
 
-fn replay_command<'a>(alloc: Global) -> Command<'a> {
+fn replay_command<'a>(alloc: Global) -> Result<Command<'a>, AllocError> {
     let about =
         "Plays a schedule on a cluster, and prints what its members answer; so does am_tool without words";
-    Command::new(alloc, REPLAY).about(about)
+    Command::new(alloc, REPLAY)
+        .about(about)
+        .arg(picture_option(alloc))
+}
+
+fn picture_option<'a>(alloc: Global) -> Arg<'a> {
+    Arg::new(alloc, PICTURE)
+        .long(PICTURE)
+        .value_name("FILE")
+        .help(
+            "Also draws what was played, in this file as SVG; a schedule of over 2,000 steps is refused then",
+        )
+        .action(ArgAction::Set)
 }
 
 fn fold_command<'a>(alloc: Global) -> Result<Command<'a>, AllocError> {
@@ -232,8 +244,8 @@ fn read_job<'a>(
     command: &mut Command<'a>,
     matches: &ArgMatches<'a>,
 ) -> Result<Job<'a>, WordsError> {
-    if matches.subcommand_matches(REPLAY).is_some() {
-        return Ok(Job::Replay);
+    if let Some(flags) = matches.subcommand_matches(REPLAY) {
+        return Ok(Job::Replay(flags.get_str(PICTURE)));
     }
     if let Some(flags) = matches.subcommand_matches(diff::NAME) {
         return Ok(Job::Diff(diff::read_job(alloc, command, flags)?));
@@ -288,6 +300,9 @@ fn mistake(command: &mut Command<'_>, text: &str) -> WordsError {
 
 /// The names of the tasks.
 const REPLAY: &str = "replay";
+
+/// The option of a replay that names a picture's file.
+const PICTURE: &str = "picture";
 
 const FOLD: &str = "fold";
 

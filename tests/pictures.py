@@ -1,0 +1,204 @@
+#!/usr/bin/env python3
+"""Has the built am_tool draw schedules, and looks at what it drew.
+
+    tests/pictures.py [--write] [PROGRAM]
+
+PROGRAM is crates/am_tool/out/am_tool if it isn't given. The pictures of docs/pictures/*.schedule are compared with the files
+beside them, byte for byte; with --write they are written there instead. Of each schedule of cases/replay the picture is
+counted through, by what its lines and what is printed of them say. Prints what is not as it should be, and at the end how
+many cases passed.
+"""
+
+import glob
+import os
+import re
+import sys
+import tempfile
+import xml.etree.ElementTree as ElementTree
+
+from members import TOP, choose, run
+from tally import check, compare, finish
+
+PICTURES = f"{TOP}/docs/pictures"
+SCHEDULES = f"{TOP}/cases/replay"
+SVG = "{http://www.w3.org/2000/svg}"
+
+# How many steps a picture has at most, and how many characters of a name it shows.
+MOST = 2_000
+NAME = 17
+
+# Names and words that XML doesn't take as they are: the last has characters that XML hasn't, and one that ends lines.
+ODD = ["a<b>&c", "\"d'", "</svg>", "]]>\t\x01\r\ufffe"]
+READ = ["a<b>&c", "\"d'", "</svg>", "]]>\t\ufffd\r\ufffd"]
+
+
+def drawn(schedule, folder, name="picture.svg"):
+    """What comes of a schedule that is played and drawn, and the picture, or None where there is none."""
+    path = f"{folder}/{name}"
+    if os.path.exists(path):
+        os.remove(path)
+    ran = run(["replay", "--picture", path], input=schedule)
+    if not os.path.exists(path):
+        return ran, None
+    with open(path, "rb") as file:
+        return ran, file.read()
+
+
+def named(folder, ending):
+    return sorted(glob.glob(f"{folder}/*.{ending}"))
+
+
+def bytes_of(path):
+    with open(path, "rb") as file:
+        return file.read()
+
+
+def titles(tree):
+    return [title.text or "" for title in tree.iter(f"{SVG}title")]
+
+
+def of_class(tree, tag, *names):
+    """The elements of a tag whose class has all these names."""
+    return [it for it in tree.iter(SVG + tag) if set(names) <= set(it.get("class", "").split())]
+
+
+def steps_of(schedule):
+    """The lines of a schedule that are neither the cluster's nor a version's nor a comment, each with its number."""
+    lines = enumerate(schedule.decode().split("\n"), 1)
+    return [(number, line) for number, line in lines if re.match("(at|stop|save|lose|timely|frames)( |$)", line)]
+
+
+def test_documents(folder, writes):
+    """The pictures of the documents are what is drawn, each time."""
+    for path in named(PICTURES, "schedule"):
+        schedule, wanted = bytes_of(path), path.replace(".schedule", ".svg")
+        ran, picture = drawn(schedule, folder)
+        if writes:
+            with open(wanted, "wb") as file:
+                file.write(picture)
+        compare(f"{path} is played as without a picture", ran, run(["replay"], input=schedule))
+        check(f"{path} is drawn as {wanted}", picture == bytes_of(wanted), "see tests/pictures.py --write")
+        compare(f"{path} is drawn alike once more", drawn(schedule, folder)[1] == picture, True)
+
+
+def test_counts(folder):
+    """Each step has a mark, which tells its line, each delivery an arrow, and each lane its colour."""
+    for path in named(SCHEDULES, "schedule") + named(PICTURES, "schedule"):
+        schedule = bytes_of(path)
+        (status, output, _), picture = drawn(schedule, folder)
+        compare(f"{path} is played as without a picture", (status, output), run(["replay"], input=schedule)[:2])
+        if status:
+            compare(f"{path}, which is at fault, has no picture", picture, None)
+            continue
+        count_through(path, schedule, output.decode(), ElementTree.fromstring(picture))
+
+
+def count_through(path, schedule, output, tree):
+    steps = steps_of(schedule)
+    marks = of_class(tree, "g", "mark")
+    told = [mark.find(f"{SVG}title").text.split("\nrefused: ")[0] for mark in marks]
+    compare(f"{path}: the marks", told, [f"line {number}: {line}" for number, line in steps])
+    compare(f"{path}: refusals", len(of_class(tree, "g", "no")), len(re.findall(r"(?m)(^| )refused \w+$", output)))
+    gone = len(re.findall("(?m)^refused NoFrame$", output))
+    ways = len([line for _, line in steps if re.search(" (deliver|from) ", line)])
+    losses = len([line for _, line in steps if line.startswith("lose ")])
+    compare(f"{path}: frames", len(of_class(tree, "path", "tip")) + len(of_class(tree, "path", "cross")) + gone, ways + losses)
+    members = re.findall(r"(?m)^(?:un)?calm .*$", output)
+    faults = re.findall(r"(?m)^uncalm \S+ (line \d+)$", output)
+    compare(f"{path}: members", len(of_class(tree, "text", "name")), len(members))
+    compare(f"{path}: calm", len(of_class(tree, "text", "good")), len(members) - len(faults))
+    compare(f"{path}: lines of faults", [it.text for it in of_class(tree, "text", "fault")], faults)
+    compare(f"{path}: uncalm", [it.text for it in of_class(tree, "text", "bad")], [f"uncalm, {fault}" for fault in faults])
+
+
+def test_frames(folder):
+    """A frame is drawn to each of its deliveries, to where it is lost, and dashed where it was never delivered."""
+    schedule = (
+        "cluster 100 15 a b c d\n"
+        "at 10 a post - 00000000000000000000000000000001 10 60 job db\n"
+        "at 11 deliver 1\nat 12 deliver 1\nlose 1\nlose 2\n"
+    )
+    _, picture = drawn(schedule.encode(), folder)
+    tree = ElementTree.fromstring(picture)
+    frames = [frame.find(f"{SVG}title").text for frame in of_class(tree, "path", "frame")]
+    sent = "frame {}, a Delta from {} to {}, sent by line {}, {}"
+    wanted = [
+        sent.format(1, "a", "b", 2, "lost by line 5"),
+        sent.format(2, "a", "c", 2, "lost by line 6"),
+        sent.format(3, "a", "d", 2, "still in flight"),
+        sent.format(4, "b", "c", 3, "still in flight"),
+        sent.format(5, "b", "d", 3, "still in flight"),
+        sent.format(1, "a", "b", 2, "delivered by line 3"),
+        sent.format(1, "a", "b", 2, "delivered by line 4"),
+    ]
+    compare("the frames of a post", frames, wanted)
+    compare("those in flight are dashed", len(of_class(tree, "path", "fly")), 3)
+    compare("those lost end in a cross", len(of_class(tree, "path", "cross")), 2)
+
+
+def test_gaps(folder):
+    """A lane has a line for each time in which its member ran, and tells at the end that it is stopped."""
+    schedule = b"cluster 1 1 a b\nstop a\nat 5 a start\nstop a\nstop a\nat 4 a start\nat 6 b start\n"
+    _, picture = drawn(schedule, folder)
+    tree = ElementTree.fromstring(picture)
+    lanes = [(it.get("y1"), it.get("class")) for it in of_class(tree, "line", "lane")]
+    heights = sorted({height for height, _ in lanes}, key=int)
+    compare("times in which members ran", [height for height, _ in lanes], [heights[0]] * 2 + [heights[1]])
+    compare("who is stopped at the end", [it.text for it in tree.iter(f"{SVG}text") if it.text == "stopped"], ["stopped"])
+
+
+def test_texts(folder):
+    """Texts are escaped, and long ones are cut; titles have them whole."""
+    names = ODD + ["x" * NAME, "y" * (NAME + 1), "é" * 100]
+    schedule = f"cluster 1 1 {' '.join(names)}\n" + "".join(f"at 1 {name} show\n" for name in names)
+    (status, _, error), picture = drawn(schedule.encode(), folder)
+    compare("odd names are drawn", (status, error), (0, ""))
+    tree = ElementTree.fromstring(picture)
+    read = sorted(zip(names, READ + names[len(ODD):]), key=lambda pair: pair[0].encode())
+    shown = [name if len(name) <= NAME else name[: NAME - 1] + "…" for _, name in read]
+    compare("names as they are shown", [it.text for it in of_class(tree, "text", "name")], shown)
+    found = titles(tree)
+    for name, wanted in read:
+        check(f"the name {name!r} in a title", wanted in found, found)
+    for number, name in enumerate(READ, 2):
+        check(f"the line of {name!r} in a title", f"line {number}: at 1 {name} show" in found, found)
+
+
+def test_limits(folder):
+    """More steps than a picture has are refused before anything is played, and so is what can't be written."""
+    head = b"cluster 1 1 a b\nsil v x 1 1 2 3 n w\n# no step\n"
+    step = b"at 1 a tick\n"
+    refused = (1, b"", f"am_tool: TooManySteps {MOST + 1}\n")
+    compare("a step too many", drawn(head + step * (MOST + 1), folder), (refused, None))
+    # without a picture this one takes minutes
+    settles = b"cluster 1 1 " + b" ".join(b"%d" % n for n in range(16)) + b"\n" + b"at 1 settle\n" * 1_000_000
+    compare("a million steps", drawn(settles, folder), ((1, b"", "am_tool: TooManySteps 1000000\n"), None))
+    (status, output, _), picture = drawn(head + step * MOST, folder)
+    compare("the most steps", (status, output), (0, b"calm a\ncalm b\n"))
+    compare("their marks", len(of_class(ElementTree.fromstring(picture), "g", "mark")), MOST)
+    (status, output, _), picture = drawn(b"cluster 1 1 a\n", folder)
+    compare("no step", (status, output), (0, b"calm a\n"))
+    compare("no marks", len(of_class(ElementTree.fromstring(picture), "g", "mark")), 0)
+    fault = (1, b"", "am_tool: Schedule Words 2\n")
+    compare("a schedule at fault", drawn(b"cluster 1 1 a\nat 1 a\n", folder), (fault, None))
+    nowhere = (3, b"", "am_tool: Picture File NotFound\n")
+    compare("a folder that isn't there", drawn(head + step, folder, "no/picture.svg"), (nowhere, None))
+    full = run(["replay", "--picture", "/dev/full"], input=head + step)
+    compare("a disk that is full", full, (3, b"", "am_tool: Picture File StorageFull\n"))
+
+
+def main():
+    writes = "--write" in sys.argv[1:]
+    choose("pictures", [word for word in sys.argv[1:] if word != "--write"])
+    with tempfile.TemporaryDirectory() as folder:
+        test_documents(folder, writes)
+        test_counts(folder)
+        test_frames(folder)
+        test_gaps(folder)
+        test_texts(folder)
+        test_limits(folder)
+    finish("pictures")
+
+
+if __name__ == "__main__":
+    main()
