@@ -1,15 +1,17 @@
-//! Moments and silences in JSON: what is shown, and what is posted.
+//! Moments and silences in JSON: what is shown, written and read, and what is posted.
 
 use am_case_words::fault::{Fault, say_refusal};
 use am_case_words::matchers::print_matchers;
 use am_case_words::moments::{moment, print_moment, say_moment};
 use am_case_words::texts::unescaped;
-use am_case_words::versions::version;
+use am_case_words::versions::{say, version};
 use am_case_words::words::first;
 use am_silence::{MeshSilence, Posted, State};
+use am_silence_json::laws::reads_again;
 use am_silence_json::moments::{read_moment, write_moment};
 use am_silence_json::{
-    BodyError, read_post, write_error, write_posted, write_silence, write_silences,
+    BodyError, ListError, cut_to_shown, read_post, read_silences, write_error, write_posted,
+    write_silence, write_silences,
 };
 use std::alloc::{AllocError, Global};
 
@@ -25,7 +27,8 @@ pub fn moment_text(rt: &HostRuntime, rest: &str) -> Result<(), Fault> {
     }
 }
 
-/// `json shows STATE SILENCE`, `json lists STATE SILENCE, ..`, `json posted ID`, `json fault TEXT` and `json post BODY`.
+/// `json shows STATE SILENCE`, `json lists STATE SILENCE, ..`, `json posted ID`, `json fault TEXT`, `json post BODY`,
+/// `json reads BODY`, `json cut SILENCE` and `json again STATE SILENCE, ..`.
 pub fn json(rt: &HostRuntime, rest: &str) -> Result<(), Fault> {
     match first(rest) {
         ("shows", row) => shows(rt, row),
@@ -33,6 +36,9 @@ pub fn json(rt: &HostRuntime, rest: &str) -> Result<(), Fault> {
         ("posted", id) => say_body(rt, write_posted(Vec::new(rt.alloc()), id)),
         ("fault", text) => say_body(rt, write_error(Vec::new(rt.alloc()), text)),
         ("post", body) => post(rt, body),
+        ("reads", body) => reads(rt, body),
+        ("cut", words) => cut(rt, words),
+        ("again", rows) => again(rt, rows),
         _ => Err(Fault::Words),
     }
 }
@@ -69,14 +75,54 @@ fn push(alloc: Global, rows: &mut Vec<(MeshSilence, State)>, row: &str) -> Resul
     Ok(rows.push((version(alloc, words)?, state))?)
 }
 
-fn lists(rt: &HostRuntime, text: &str) -> Result<(), Fault> {
-    let mut rows = Vec::new(rt.alloc());
+/// Silences in their states, parted by `, `.
+fn rows(alloc: Global, text: &str) -> Result<Vec<(MeshSilence, State)>, Fault> {
+    let mut rows = Vec::new(alloc);
     for row in text.split(", ") {
         if !row.is_empty() {
-            push(rt.alloc(), &mut rows, row)?;
+            push(alloc, &mut rows, row)?;
         }
     }
+    Ok(rows)
+}
+
+fn lists(rt: &HostRuntime, text: &str) -> Result<(), Fault> {
+    let rows = rows(rt.alloc(), text)?;
     say_body(rt, write_silences(Vec::new(rt.alloc()), rows.as_slice()))
+}
+
+/// The versions that the body of a list is read into; the body is a text with escapes.
+fn reads(rt: &HostRuntime, body: &str) -> Result<(), Fault> {
+    let body = unescaped(rt.alloc(), body)?;
+    say_read(rt, read_silences(rt.alloc(), body.as_slice()))
+}
+
+/// The versions that a list is read into which was written of these rows.
+fn again(rt: &HostRuntime, text: &str) -> Result<(), Fault> {
+    let rows = rows(rt.alloc(), text)?;
+    say_read(rt, reads_again(rt.alloc(), rows.as_slice()))
+}
+
+/// Says each version, or why there are none, and how that is spelled.
+fn say_read(rt: &HostRuntime, read: Result<Vec<MeshSilence>, ListError>) -> Result<(), Fault> {
+    match read {
+        Ok(silences) => say_each(rt, silences.as_slice()),
+        Err(ListError::Memory) => Err(Fault::Memory),
+        Err(fault) => Ok(println!(rt; "{fault:?}: {fault}")?),
+    }
+}
+
+fn say_each(rt: &HostRuntime, silences: &[MeshSilence]) -> Result<(), Fault> {
+    for silence in silences {
+        say(rt, silence)?;
+    }
+    Ok(())
+}
+
+/// What is shown of a version, as a version.
+fn cut(rt: &HostRuntime, words: &str) -> Result<(), Fault> {
+    let version = version::<MeshSilence>(rt.alloc(), words)?;
+    say(rt, &cut_to_shown(rt.alloc(), &version)?)
 }
 
 /// What is posted by a body, a text with escapes.
