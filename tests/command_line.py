@@ -135,7 +135,7 @@ INSTANCE_USAGE = (
 USAGE = "\nUsage: am_tool <COMMAND>\n\nFor more information, try '--help'.\n"
 FOLD_USAGE = "\nUsage: am_tool fold --state <STATE> --now <NANOSECONDS>\n\nFor more information, try '--help'.\n"
 REPLAY_USAGE = "\nUsage: am_tool replay [OPTIONS]\n\nFor more information, try '--help'.\n"
-SHOW_USAGE = FOLD_USAGE.replace("fold", "show")
+SHOW_USAGE = FOLD_USAGE.replace("fold", "show [OPTIONS]")
 
 TWICE = "error: the argument '{}' cannot be used multiple times\n" + FOLD_USAGE
 MISSING = "error: the following required arguments were not provided:\n{}" + FOLD_USAGE
