@@ -33,6 +33,17 @@ from wire import EMPTY_PUSH, TICK, delta, field, greeting, timestamp
 # What is on standard error where memory ran out.
 MEMORY = "am_tool: Memory\n"
 
+# The silence and the entry as JSON.
+SECOND_IN_JSON = (
+    b'[{"comment":"","createdBy":"","endsAt":"1970-01-01T00:01:40.000Z","id":"a",'
+    b'"matchers":[{"isEqual":true,"isRegex":false,"name":"job","value":"x"}],'
+    b'"startsAt":"1970-01-01T00:00:10.000Z","status":{"state":"active"},"updatedAt":"1970-01-01T00:00:20.000Z"}]\n'
+)
+ENTRY_IN_JSON = (
+    b'[{"groupKey":"Zw==","receiver":{"groupName":"r","integration":"w","idx":0},"timestamp":"1970-01-01T00:00:10.000Z",'
+    b'"expiresAt":"1970-01-01T00:03:20.000Z","firingAlerts":["1","2"],"resolvedAlerts":[]}]\n'
+)
+
 # Words, standard input, and standard output. Where am_tool has no such command a row says so, and is not tried.
 JOBS = [
     (["fold", "--state", "sil", "--now", "0"], SECOND + FIRST, SECOND),
@@ -40,6 +51,8 @@ JOBS = [
     (["fold", "--state", "nfl", "--now", "0"], ENTRY, ENTRY),
     (["show", "--state", "sil", "--now", "50000000000"], SECOND, b"sil a active\n"),
     (["show", "--state", "nfl", "--now", "50000000000"], ENTRY, b"nfl g r w 0 1,2 -\n"),
+    (["show", "--state", "sil", "--now", "50000000000", "--json"], SECOND, SECOND_IN_JSON),
+    (["show", "--state", "nfl", "--now", "50000000000", "--json"], ENTRY, ENTRY_IN_JSON),
     (["replay"], ORDERS, ORDERS_OUTPUT),
     (["replay"], RESTARTED, RESTARTED_OUTPUT),
     (["replay"], SETTLED, SETTLED_OUTPUT),
