@@ -4,6 +4,7 @@
 
 mod clock;
 mod error;
+mod fetching;
 mod files;
 mod peer;
 mod queue;
@@ -13,6 +14,7 @@ mod turns;
 
 pub use clock::{later_moment, next_moment};
 pub use error::{FileFault, SendFault};
+pub use fetching::{FetchFault, Server, fetch, server_of};
 pub use files::{load_file, save_file};
 pub use peer::{Peer, number_within, peer_of, port_of};
 pub use queue::{Parted, part_frames};

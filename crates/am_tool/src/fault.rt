@@ -5,9 +5,12 @@ mod lines;
 use crate::status;
 use am_connection::Fault as ConnectionFault;
 use am_instance::ConfigError;
-use am_member::{FileFault, SendFault};
+use am_live::ReplyError;
+use am_live::asking::ReadError;
+use am_member::{FetchFault, FileFault, SendFault};
 use am_picture::PictureError;
 use am_replay::ReplayError;
+use am_silence_json::ListError;
 use am_snapshot::{FoldError, SnapshotError};
 use am_view::Word;
 use std::fmt;
@@ -146,23 +149,79 @@ pub fn snapshot_error(error: FoldError) -> SnapshotError {
     }
 }
 
+/// Why a source was not read.
+#[derive(Clone, Copy)]
+pub enum InputFault {
+    File(FileFault),
+    /// The server was not asked, or its reply not read.
+    Fetch(FetchFault),
+    /// The reply has no list.
+    Reply(ReplyError),
+    /// The list is at fault.
+    List(ListError),
+}
+
+impl InputFault {
+    /// The exit status of the program.
+    fn status(self) -> u8 {
+        match self {
+            InputFault::File(fault) => status_of_file(fault),
+            InputFault::Fetch(FetchFault::Reply(ReadError::Memory))
+            | InputFault::List(ListError::Memory) => status::MEMORY,
+            InputFault::Fetch(FetchFault::Reply(ReadError::TooLarge)) => status::REFUSED,
+            InputFault::Fetch(_) => status::OUTSIDE,
+            InputFault::Reply(_) | InputFault::List(_) => status::REFUSED,
+        }
+    }
+}
+
+impl From<FileFault> for InputFault {
+    fn from(fault: FileFault) -> InputFault {
+        InputFault::File(fault)
+    }
+}
+
+impl From<SnapshotError> for InputFault {
+    fn from(error: SnapshotError) -> InputFault {
+        InputFault::File(FileFault::Snapshot(error))
+    }
+}
+
+impl From<FetchFault> for InputFault {
+    fn from(fault: FetchFault) -> InputFault {
+        InputFault::Fetch(fault)
+    }
+}
+
+impl From<ReplyError> for InputFault {
+    fn from(error: ReplyError) -> InputFault {
+        InputFault::Reply(error)
+    }
+}
+
+impl From<ListError> for InputFault {
+    fn from(error: ListError) -> InputFault {
+        InputFault::List(error)
+    }
+}
+
 /// A fault of a source, which is told by its name.
 #[derive(Clone, Copy)]
 pub struct SourceFault<'a> {
     pub name: &'a str,
-    pub fault: FileFault,
+    pub fault: InputFault,
 }
 
 /// Prints a fault of a source on standard error, and answers the exit status of the program.
 pub fn report_source<R: Eprint>(rt: &R, fault: &SourceFault<'_>) -> u8 {
     let _ = eprintln!(rt; "am_tool: {fault}");
-    status_of_file(fault.fault)
+    fault.fault.status()
 }
 
 impl fmt::Display for SourceFault<'_> {
     fn fmt<W: fmt::Write>(&self, f: &mut fmt::Formatter<W>) -> fmt::Result {
         write!(f, "{} ", Word(self.name.as_bytes()))?;
-        lines::write_file_fault(self.fault, f)
+        lines::write_input_fault(self.fault, f)
     }
 }
 

@@ -58,7 +58,7 @@ pub enum Form {
 }
 
 /// A state that instances share.
-#[derive(Clone, Copy)]
+#[derive(Clone, Copy, PartialEq, Eq)]
 pub enum StateName {
     /// The silences, `sil`.
     Silences,

@@ -1,11 +1,15 @@
 //! Faults of the libraries, as their names and numbers.
 
+use super::InputFault;
 use am_connection::{Fault, SendError};
 use am_gossip::FrameError;
 use am_instance::{ConfigError, StepError};
-use am_member::{FileFault, SendFault};
+use am_live::ReplyError;
+use am_live::asking::ReadError;
+use am_member::{FetchFault, FileFault, SendFault};
 use am_replay::ReplayError;
 use am_schedule::FaultKind;
+use am_silence_json::ListError;
 use am_snapshot::SnapshotError;
 use am_wire::WireError;
 use std::fmt::{self, Formatter};
@@ -70,6 +74,36 @@ pub fn write_config_error<W: fmt::Write>(error: ConfigError, f: &mut Formatter<W
         ConfigError::LongName => write!(f, "LongName"),
         ConfigError::SameName => write!(f, "SameName"),
         ConfigError::Memory => write!(f, "Memory"),
+    }
+}
+
+pub fn write_input_fault<W: fmt::Write>(fault: InputFault, f: &mut Formatter<W>) -> fmt::Result {
+    match fault {
+        InputFault::File(fault) => write_file_fault(fault, f),
+        InputFault::Fetch(fault) => write_fetch_fault(fault, f),
+        InputFault::Reply(ReplyError::NoHead) => write!(f, "Reply"),
+        InputFault::Reply(ReplyError::Status(code)) => write!(f, "Status {code}"),
+        InputFault::List(error) => write_list_error(error, f),
+    }
+}
+
+fn write_fetch_fault<W: fmt::Write>(fault: FetchFault, f: &mut Formatter<W>) -> fmt::Result {
+    match fault {
+        FetchFault::Connect(kind) => write!(f, "Connect {kind:?}"),
+        FetchFault::Write { written } => write!(f, "Write {written}"),
+        FetchFault::Reply(ReadError::Read { at }) => write!(f, "Read {at}"),
+        FetchFault::Reply(ReadError::TooLarge) => write!(f, "TooLarge"),
+        FetchFault::Reply(ReadError::Memory) => write!(f, "Memory"),
+    }
+}
+
+fn write_list_error<W: fmt::Write>(error: ListError, f: &mut Formatter<W>) -> fmt::Result {
+    match error {
+        ListError::BadJson => write!(f, "BadJson"),
+        ListError::NoList => write!(f, "NoList"),
+        ListError::Wrong(place, key) => write!(f, "Silence {place} {key}"),
+        ListError::TooLarge(place) => write!(f, "Silence {place} TooLarge"),
+        ListError::Memory => write!(f, "Memory"),
     }
 }
 

@@ -1,13 +1,16 @@
 //! The words of `diff`.
 
+use super::instance::{option, time_limit};
 use super::{
     BAD_NOW, Form, StateName, WordsError, form_of, json_flag, mistake, moment_of, now_flag,
     state_flag, state_of,
 };
 use am_diff::Compared;
+use am_member::{Server, server_of};
 use am_version_order::Moment;
 use clap::{Arg, ArgAction, ArgMatches, Command};
 use std::alloc::{AllocError, Global};
+use std::time::Duration;
 
 /// The name of the command.
 pub const NAME: &str = "diff";
@@ -15,11 +18,27 @@ pub const NAME: &str = "diff";
 /// The file that is standard input.
 pub const STANDARD_INPUT: &str = "-";
 
-/// A source: its name, and its file.
+/// What a source begins with that is a server.
+const SCHEME: &str = "http://";
+
+/// A source: its name, and its file, or the address of a server behind `http://`.
 #[derive(Clone, Copy, Debug)]
 pub struct SourceWord<'a> {
     pub name: &'a str,
     pub file: &'a str,
+}
+
+impl<'a> SourceWord<'a> {
+    /// What stands behind `http://`, without a slash at its end, where the source is a server.
+    fn host(&self) -> Option<&'a str> {
+        let host = self.file.strip_prefix(SCHEME)?;
+        Some(host.strip_suffix("/").unwrap_or(host))
+    }
+
+    /// The server that the source is, if it is one.
+    pub fn server(&self) -> Option<Server<'a>> {
+        server_of(self.host()?)
+    }
 }
 
 /// Which sources are to be compared.
@@ -31,6 +50,15 @@ pub struct DiffJob<'a> {
     /// The moment; without it, the clock's.
     pub now: Option<Moment>,
     pub sources: Vec<SourceWord<'a>>,
+    /// For how long a connection to a server may last.
+    pub time_limit: Duration,
+}
+
+impl DiffJob<'_> {
+    /// Whether a source is a server.
+    pub fn is_live(&self) -> bool {
+        are_live(&self.sources)
+    }
 }
 
 /// The command with its options.
@@ -42,6 +70,7 @@ pub fn command<'a>(alloc: Global) -> Result<Command<'a>, AllocError> {
         .arg(now_flag(alloc, NOW_HELP).required(false))?
         .arg(held_flag(alloc))?
         .arg(json_flag(alloc, JSON_HELP))?
+        .arg(option(alloc, "time-limit", "S", TIME_LIMIT_HELP).default_value("5"))?
         .arg(sources(alloc))
 }
 
@@ -74,9 +103,13 @@ pub fn read_job<'a>(
         },
         None => None,
     };
+    let time_limit = match time_limit(flags) {
+        Ok(time_limit) => time_limit,
+        Err(text) => return Err(mistake(command, text)),
+    };
     let words = flags.get_strs(SOURCES).unwrap_or(&[]);
     let sources = source_words(alloc, words)?;
-    if let Some(text) = mistake_of(&sources) {
+    if let Some(text) = mistake_of(&sources).or(live_mistake_of(flags, &sources)) {
         return Err(mistake(command, text));
     }
     Ok(DiffJob {
@@ -85,7 +118,28 @@ pub fn read_job<'a>(
         form: form_of(flags),
         now,
         sources,
+        time_limit,
     })
+}
+
+/// Whether one of the sources is a server.
+fn are_live(sources: &[SourceWord<'_>]) -> bool {
+    sources.iter().any(|source| source.host().is_some())
+}
+
+/// What is said where a server can't be compared so, or has no address.
+fn live_mistake_of(flags: &ArgMatches<'_>, sources: &[SourceWord<'_>]) -> Option<&'static str> {
+    if !are_live(sources) {
+        return None;
+    }
+    if state_of(flags) == StateName::Log || flags.get_flag("held") {
+        return Some(SHOWN_ALONE);
+    }
+    let is_nowhere = |source: &SourceWord<'_>| source.host().is_some() && source.server().is_none();
+    if sources.iter().any(is_nowhere) {
+        return Some(BAD_SERVER);
+    }
+    None
 }
 
 fn compared_of(flags: &ArgMatches<'_>) -> Compared {
@@ -167,17 +221,24 @@ const HELD_HELP: &str =
 const JSON_HELP: &str =
     "Prints the differences as a list in JSON, on one line, in place of the lines";
 
+const TIME_LIMIT_HELP: &str = "For how many seconds a connection to a server may last, 1 to 3600";
+
 const SOURCES_HELP: &str =
-    "NAME=FILE, cut at its first '=', or FILE, which is then its own name; '-' is standard input; 2 to 16 of them";
+    "NAME=FILE, cut at its first '=', or FILE, which is then its own name; '-' is standard input, and http://HOST:PORT a server; 2 to 16 of them";
 
 const AFTER: &str = "\
 Of each key that differs there is a line for each group of sources that hold the same there: first those that have the
 greatest version, which counts, then those that are behind, and by what (update, expiry or bytes), and then those that
 hold nothing.
 
+A server is a member or an Alertmanager, at an address of IPv4, of IPv6 in brackets, or localhost: what it lists at
+/api/v2/silences is compared. Beside a server all sources are compared by what API v2 shows of them: moments are cut to
+milliseconds, and a silence counts until its end.
+
 The status is 0 where nothing is different, and 5 where something is.
 
 Examples:
+  am_tool diff --state sil a=http://127.0.0.1:9093 b=http://10.0.0.2:9093 c=c.sil
   am_tool diff --state sil a=a.sil b=b.sil c=c.sil
   ssh b cat b.nfl | am_tool diff --state nfl --held a=a.nfl b=-
   am_tool diff --state sil --json a=a.sil b=b.sil | jq -r '.[].key.id'";
@@ -185,5 +246,11 @@ Examples:
 const BAD_NUMBER: &str = "invalid values for '<SOURCE>...': 2 to 16 sources are wanted";
 
 const SAME_NAME: &str = "invalid values for '<SOURCE>...': two sources have one name";
+
+const SHOWN_ALONE: &str =
+    "invalid values for '<SOURCE>...': of a server only the silences that it shows are compared, so neither --held nor --state nfl goes with one";
+
+const BAD_SERVER: &str =
+    "invalid values for '<SOURCE>...': http://HOST:PORT is wanted, with an address or localhost as HOST";
 
 const INPUT_TWICE: &str = "invalid values for '<SOURCE>...': '-' is named twice";

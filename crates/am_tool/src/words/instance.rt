@@ -63,7 +63,7 @@ fn limits<'a>(alloc: Global, command: Command<'a>) -> Result<Command<'a>, AllocE
         .arg(option(alloc, "time-limit", "S", TIME_LIMIT_HELP).default_value("5"))
 }
 
-fn option<'a>(alloc: Global, name: &'a str, value: &'a str, help: &'a str) -> Arg<'a> {
+pub fn option<'a>(alloc: Global, name: &'a str, value: &'a str, help: &'a str) -> Arg<'a> {
     Arg::new(alloc, name)
         .long(name)
         .value_name(value)
@@ -109,13 +109,13 @@ fn read_numbers(flags: &ArgMatches<'_>) -> Result<Numbers, &'static str> {
     let retention = seconds(flags, "retention").ok_or(BAD_RETENTION)?;
     let peer_timeout = seconds(flags, "peer-timeout").ok_or(BAD_PEER_TIMEOUT)?;
     let connections = connections(flags).ok_or(BAD_CONNECTIONS)?;
-    let time_limit = number(flags, "time-limit", 3_600).ok_or(BAD_TIME_LIMIT)?;
+    let time_limit = time_limit(flags)?;
     Ok(Numbers {
         port: port as u16,
         retention,
         peer_timeout,
         connections,
-        time_limit: Duration::from_secs(time_limit),
+        time_limit,
     })
 }
 
@@ -124,6 +124,12 @@ fn number(flags: &ArgMatches<'_>, name: &str, most: u64) -> Option<u64>
     ensures { IfSome result (λ n. (1 ≤ n) × (n ≤ most)) }
 {
     number_within(1, most, flags.get_str(name)?)
+}
+
+/// For how long one connection may last, or what is said of a word that says none.
+pub fn time_limit(flags: &ArgMatches<'_>) -> Result<Duration, &'static str> {
+    let seconds = number(flags, "time-limit", 3_600).ok_or(BAD_TIME_LIMIT)?;
+    Ok(Duration::from_secs(seconds))
 }
 
 /// So many seconds.

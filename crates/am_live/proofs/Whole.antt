@@ -1,0 +1,23 @@
+-- What a limit leaves whole, and what stands in a window.
+use Rattle.std.proofs.Common.{◌≡◌, ℕ, ◌<◌, ◌≤◌, List, [], ◌++◌, Option, Some, None, length, take, min, sym, ap, ◌∙◌, subst, arith}
+use Rattle.std.specs.Prelude.{IfSome, option_map}
+use Rattle.std.proofs.lemmas.List.{length-take, take_all}
+
+-- what is shorter than the limit was not cut
+pub uncut : (limit : ℕ) (bytes : List ℕ) → length (take limit bytes) < limit → take limit bytes ≡ bytes
+uncut limit bytes few =
+    let least = length-take limit bytes in
+    let few : min limit (length bytes) < limit = subst (λ n. n < limit) least few in
+    take_all limit bytes (omega (min, arith))
+
+-- so the bytes that a limited reader gave are all, where they are fewer
+pub all_of : (limit : ℕ) (known : Option (List ℕ)) (got : List ℕ) → IfSome (option_map (take limit) known) (λ bytes. got ≡ [] ++ bytes) → length got < limit → IfSome known (λ bytes. got ≡ bytes)
+all_of limit None got is few = tt
+all_of limit (Some bytes) got is few = is ∙ uncut limit bytes (subst (λ xs. length xs < limit) is few)
+
+-- the front of a list is not longer than it
+pub within : (n : ℕ) (bytes : List ℕ) (m : ℕ) → m ≤ length (take n bytes) → m ≤ length bytes
+within n bytes m fits =
+    let least = length-take n bytes in
+    let fits : m ≤ min n (length bytes) = subst (λ k. m ≤ k) least fits in
+    omega (min, arith)

@@ -1,0 +1,15 @@
+-- What API v2 shows of the versions of a row.
+use Rattle.std.specs.Prelude.{ℕ, List, map}
+use Rattle.am_wire.specs.Inputs.{AreMessages}
+use Rattle.am_silence.specs.Mesh.{Mesh, mesh_version}
+use Rattle.am_silence.specs.MeshTable.{reads_mesh_silence}
+use Rattle.am_silence_json.specs.Shown.{cut_to_shown}
+use Rattle.am_snapshot.specs.Best.{HoldsBest}
+
+-- the row's versions are folded, each that counts is cut to what is shown of it, and these are held
+pub record IsShownOfRow (input : List ℕ) (shown : List Mesh) : Type 0 where
+  pub versions : List Mesh
+  pub folded : List Mesh
+  pub read : AreMessages reads_mesh_silence input versions
+  pub best : HoldsBest mesh_version versions folded
+  pub cut : HoldsBest mesh_version (map cut_to_shown folded) shown

@@ -1,0 +1,114 @@
+//! What a server of API v2 replies.
+
+use crate::timed::{Timed, end_after, left_until};
+use am_http::send;
+use am_live::asking::{ReadError, read_reply, request_text};
+use std::alloc::{AllocError, Global};
+use std::io::{self, ErrorKind};
+use std::net::{Ipv4Addr, Ipv6Addr, Net, SocketAddr, TcpStream};
+use std::rt::Clock;
+use std::time::{Duration, Instant};
+use thiserror::Error;
+
+/// A server: its host and port as they are written, and where it listens.
+#[derive(Clone, Copy, Debug)]
+pub struct Server<'a> {
+    pub host: &'a str,
+    pub address: SocketAddr,
+    /// Where it is looked for if nothing listens there.
+    pub other: Option<SocketAddr>,
+}
+
+/// The host that is this machine.
+const LOCALHOST: &str = "localhost";
+
+/// The server at an address with its port: of IPv4, of IPv6 in brackets, or `localhost`, which is 127.0.0.1, or else `[::1]`.
+pub fn server_of(host: &str) -> Option<Server<'_>> {
+    if let Some((name, digits)) = host.rsplit_once(':') {
+        if name == LOCALHOST {
+            let port = crate::peer::port_of(digits)?;
+            return Some(Server {
+                host,
+                address: SocketAddr::from((Ipv4Addr::LOCALHOST, port)),
+                other: Some(SocketAddr::from((Ipv6Addr::LOCALHOST, port))),
+            });
+        }
+    }
+    match host.parse::<SocketAddr>() {
+        Ok(address) => Some(Server {
+            host,
+            address,
+            other: None,
+        }),
+        Err(_) => None,
+    }
+}
+
+/// Why the reply of a server was not read.
+#[derive(Clone, Copy, Debug, PartialEq, Eq, Error)]
+pub enum FetchFault {
+    /// There is no connection.
+    #[error("the connection is refused: {0}")]
+    Connect(ErrorKind),
+    #[error("a write failed after {written} bytes")]
+    Write { written: u64 },
+    #[error("{0}")]
+    Reply(ReadError),
+}
+
+impl From<io::Error> for FetchFault {
+    fn from(error: io::Error) -> FetchFault {
+        FetchFault::Connect(error.kind())
+    }
+}
+
+impl From<AllocError> for FetchFault {
+    fn from(_: AllocError) -> FetchFault {
+        FetchFault::Reply(ReadError::Memory)
+    }
+}
+
+impl From<ReadError> for FetchFault {
+    fn from(error: ReadError) -> FetchFault {
+        FetchFault::Reply(error)
+    }
+}
+
+/// Asks a server for all its silences, and reads its reply until it closes the connection, all within the limit.
+///
+/// # Errors
+///
+/// [`FetchFault`]: why there is no connection, or not all was written or read.
+pub fn fetch<R: Net<Stream = TcpStream> + Clock>(
+    alloc: Global,
+    rt: &R,
+    server: &Server<'_>,
+    limit: Duration,
+) -> Result<Vec<u8>, FetchFault> {
+    let end = end_after(rt, limit)?;
+    let stream = connect(rt, server, end)?;
+    let request = request_text(alloc, server.host)?;
+    let mut writer = Timed::new(rt, &stream, end, limit);
+    if let Err(fault) = send(&mut writer, &request) {
+        return Err(FetchFault::Write {
+            written: fault.written,
+        });
+    }
+    let reader = Timed::new(rt, &stream, end, limit);
+    Ok(read_reply(alloc, reader)?)
+}
+
+/// A connection to a server.
+fn connect<R: Net<Stream = TcpStream> + Clock>(
+    rt: &R,
+    server: &Server<'_>,
+    end: Instant,
+) -> Result<TcpStream, FetchFault> {
+    let first = TcpStream::connect_timeout(rt, &server.address, left_until(rt, end)?);
+    match (first, server.other) {
+        (Err(_), Some(other)) => {
+            Ok(TcpStream::connect_timeout(rt, &other, left_until(rt, end)?)?)
+        }
+        (first, _) => Ok(first?),
+    }
+}
