@@ -7,4 +7,4 @@ mod reply;
 mod shown;
 
 pub use reply::{ReplyError, body_of};
-pub use shown::{shown_of_list, shown_of_row};
+pub use shown::{held_of, shown_of_row};

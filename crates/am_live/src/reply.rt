@@ -1,10 +1,10 @@
 //! The reply of a server, in the bytes that came until it closed its connection.
 
-ghost use Rattle.std.specs.Prelude.{◌≡◌, IfOk, IfErr, take};
-ghost use Rattle.am_live.specs.Replies.{HasReply, IsRefused};
+ghost use Rattle.std.specs.Prelude.{◌≡◌, ◌≤◌, IfOk, IfErr, IfSome, IfNone, length, take, drop};
+ghost use Rattle.am_live.specs.Replies.{HasReply, HasNoReply, IsRefused};
 
 use httparse::Status;
-use httparse::spans::{EMPTY_HEADER_SPAN, parse_response};
+use httparse::spans::{EMPTY_HEADER_SPAN, ResponseSpans, parse_response};
 use thiserror::Error;
 
 /// The most bytes of a head.
@@ -37,6 +37,19 @@ fn window(reply: &[u8]) -> &[u8]
     }
 }
 
+/// The head at the front of a reply.
+fn head_of(reply: &[u8]) -> Option<ResponseSpans>
+    ensures fits { IfSome result (λ head. head.len ≤ length (take MOST_HEAD_BYTES reply.now)) }
+    ensures head { IfSome result (λ head. HasReply reply.now head.code (drop head.len reply.now)) }
+    ensures none { IfNone result (HasNoReply reply.now) }
+{
+    let mut fields = [EMPTY_HEADER_SPAN; MOST_FIELDS];
+    match parse_response(window(reply), &mut fields) {
+        Ok(Status::Complete(head)) => Some(head),
+        _ => None,
+    }
+}
+
 /// The body of a reply of status 200: what stands behind its head (RFC 9112, section 6.3: a reply whose connection is
 /// closed ends there).
 ///
@@ -47,10 +60,12 @@ pub fn body_of(reply: &[u8]) -> Result<&[u8], ReplyError>
     ensures body { IfOk result (λ body. HasReply reply.now 200 body.now) }
     ensures refused { IfErr result (IsRefused reply.now) }
 {
-    let mut fields = [EMPTY_HEADER_SPAN; MOST_FIELDS];
-    match parse_response(window(reply), &mut fields) {
-        Ok(Status::Complete(head)) if head.code == OK => Ok(&reply[head.len..]),
-        Ok(Status::Complete(head)) => Err(ReplyError::Status(head.code)),
-        _ => Err(ReplyError::NoHead),
+    match head_of(reply) {
+        Some(head) if head.code == OK => {
+            let (_, body) = reply.split_at(head.len);
+            Ok(body)
+        }
+        Some(head) => Err(ReplyError::Status(head.code)),
+        None => Err(ReplyError::NoHead),
     }
 }

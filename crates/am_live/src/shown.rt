@@ -13,7 +13,7 @@ use am_merge::Held;
 use am_silence::MeshSilence;
 use am_silence_json::cut_to_shown;
 use am_snapshot::{FoldError, take_row};
-use am_version_order::Moment;
+use am_version_order::{Moment, Version};
 use am_wire::WireError;
 use std::alloc::{AllocError, Global};
 use std::io::Read;
@@ -23,9 +23,9 @@ use std::io::Read;
 /// # Errors
 ///
 /// [`AllocError`] where memory runs out.
-pub fn shown_of_list(alloc: Global, list: Vec<MeshSilence>) -> Result<Held<MeshSilence>, AllocError>
-    ensures order { IfOk result (IsMap mesh_version (slice_cmp nat_cmp)) }
-    ensures best { IfOk result (HoldsBest mesh_version list.items) }
+pub fn held_of<V: Version>(alloc: Global, list: Vec<V>) -> Result<Held<V>, AllocError>
+    ensures order { IfOk result (IsMap V.seen V.Key.cmp) }
+    ensures best { IfOk result (HoldsBest V.seen list.items) }
 {
     let mut held = Held::new(alloc);
     for version in list {
@@ -64,7 +64,7 @@ pub fn shown_of_row<R: Read>(alloc: Global, reader: &mut R) -> Result<Held<MeshS
 {
     let held = take_row::<MeshSilence, _>(alloc, reader)?;
     let list = cut_all(alloc, &held)?;
-    match shown_of_list(alloc, list) {
+    match held_of(alloc, list) {
         Ok(held) => Ok(held),
         Err(_) => Err(FoldError::Memory),
     }

@@ -5,7 +5,7 @@ use crate::status;
 use crate::words::{DiffJob, Form, STANDARD_INPUT, SourceWord, StateName};
 use am_diff::{Compared, Replica};
 use am_diff_lines::{DiffError, Input, diff_rows, write_differences};
-use am_live::{body_of, shown_of_list, shown_of_row};
+use am_live::{body_of, held_of, shown_of_row};
 use am_member::{FileFault, Server, fetch, later_moment};
 use am_merge::Held;
 use am_nflog::MeshEntry;
@@ -176,7 +176,7 @@ fn shown_by_server(
 ) -> Result<Held<MeshSilence>, InputFault> {
     let reply = fetch(rt.alloc(), rt, server, time_limit)?;
     let list = read_silences(rt.alloc(), body_of(&reply)?)?;
-    match shown_of_list(rt.alloc(), list) {
+    match held_of(rt.alloc(), list) {
         Ok(held) => Ok(held),
         Err(_) => Err(InputFault::from(SnapshotError::Memory)),
     }

@@ -1,5 +1,5 @@
 use Rattle.am_live.proofs.Whole.{within}
 use Rattle.am_live.proofs.reply.body_of.Goals as goal
 
-pub slice_bounds-result-count : goal.slice_bounds-result-count
-slice_bounds-result-count c = within 16384 c.args.reply.now c.in-Ok-Complete.head.len ?
+pub split_at-requires : goal.split_at-requires
+split_at-requires c = within 16384 c.args.reply.now c.in-Some.head.len c.in-Some.ensures.fits
