@@ -5,8 +5,8 @@
 
 PROGRAM is crates/am_tool/out/am_tool if it isn't given; ./am_tool and rt ci build it. The replicas are three of Debian's
 prometheus-alertmanager on loopback; where it isn't installed nothing is tried. First all are peers. Then c is on its own, while
-silences are made, changed and ended and a group is notified: `am_tool diff` has to tell of just these. Then all are peers again,
-and nothing is told. Last a file is changed by hand, which no replica tells its peers, and mended by `am_tool fold`. It takes two
+silences are made, changed and ended and a group is notified: `am_tool diff` has to tell of just these, of the replicas while
+they run and of their files. Then all are peers again, and nothing is told. Last a file is changed by hand, which no replica tells its peers, and mended by `am_tool fold`. It takes two
 minutes or so. Prints each case that fails, and at the end how many passed.
 """
 
@@ -147,6 +147,10 @@ def files(replicas, state):
     return {it.name: f"{it.folder}/{FILES[state]}" for it in replicas}
 
 
+def servers(replicas):
+    return {it.name: f"http://127.0.0.1:{it.web}" for it in replicas}
+
+
 def nothing(title, state, sources, *words):
     compare(title, diff(state, sources, *words), (0, [], ""))
 
@@ -192,7 +196,7 @@ def test_together(three):
 
 
 def drift(three, keys):
-    """Changes what c doesn't hear of, and at c what the others don't; answers what a and c then show."""
+    """Changes what c doesn't hear of, and at c what the others don't; answers what a and c then show, and what is told of all."""
     a, b, c = three
     start([a, b], [c])
     keys["new"] = b.post("new", "made at b")
@@ -208,7 +212,7 @@ def drift(three, keys):
     same([c], [key for name, key in keys.items() if name != "new"])
     # (no call of the API tells whether b has the entry)
     time.sleep(2)
-    shown = a.listed(), c.listed()
+    shown = a.listed(), c.listed(), diff("sil", servers(three))
     stop(three)
     return shown
 
@@ -222,18 +226,25 @@ def end(replica, key):
     compare(f"{replica.name} ends it by amtool", members.outcome(words)[::2], (0, ""))
 
 
-def test_apart(three, keys):
-    """What was changed while c was on its own is told, and nothing else."""
-    at_a, at_c = drift(three, keys)
-    here, there = ({name: shown.get(key) for name, key in keys.items()} for shown in (at_a, at_c))
-    wanted = {
-        "ended": [line(there["ended"], "greatest", "c"), line(here["ended"], "behind", "a,b", by="update")],
+def told(keys, here, there, ended):
+    """The lines of what differs between a and b here and c there, where what has ended is told in this state."""
+    lines = {
+        "ended": [line(there["ended"], "greatest", "c", ended), line(here["ended"], "behind", "a,b", by="update")],
         "changed": [line(here["changed"], "greatest", "a,b"), line(there["changed"], "behind", "c", by="update")],
-        "both": [line(there["both"], "greatest", "c"), line(here["both"], "behind", "a,b", by="update")],
+        "both": [line(there["both"], "greatest", "c", ended), line(here["both"], "behind", "a,b", by="update")],
         "new": [line(here["new"], "greatest", "a,b"), line(here["new"], "missing", "c")],
         "lonely": [line(there["lonely"], "greatest", "c"), line(there["lonely"], "missing", "a,b")],
     }
-    lines = [it for name in sorted(wanted, key=keys.get) for it in wanted[name]]
+    return [it for name in sorted(lines, key=keys.get) for it in lines[name]]
+
+
+def test_apart(three, keys):
+    """What was changed while c was on its own is told, and nothing else."""
+    at_a, at_c, asked = drift(three, keys)
+    here, there = ({name: shown.get(key) for name, key in keys.items()} for shown in (at_a, at_c))
+    # what has ended counts no longer where servers are asked
+    compare("servers, c on its own", asked, (5, told(keys, here, there, "gone"), ""))
+    lines = told(keys, here, there, "expired")
     silences = files(three, "sil")
     compare("silences, c on its own", diff("sil", silences), (5, lines, ""))
     compare("all that is held of them", diff("sil", silences, "--held"), (5, lines, ""))
@@ -259,6 +270,7 @@ def test_again(three, keys, top):
         fold(three, state, path)
     start(three)
     same(three, keys.values())
+    nothing("servers, all being peers again", "sil", servers(three))
     stop(three)
     for state, path in folds.items():
         nothing(f"{state}, all being peers again", state, files(three, state))
