@@ -45,9 +45,9 @@ def outcome(command, **how):
     where they do not go to a pipe."""
     if "input" not in how:
         how.setdefault("stdin", subprocess.DEVNULL)
-    how = {"stdout": subprocess.PIPE, "stderr": subprocess.PIPE, **how}
+    how = {"stdout": subprocess.PIPE, "stderr": subprocess.PIPE, "timeout": PATIENCE, **how}
     try:
-        ran = subprocess.run(command, check=False, timeout=PATIENCE, **how)
+        ran = subprocess.run(command, check=False, **how)
     except subprocess.TimeoutExpired:
         return "no end", b"", ""
     return ran.returncode, ran.stdout, None if ran.stderr is None else ran.stderr.decode("utf-8", "backslashreplace")

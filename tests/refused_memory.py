@@ -11,6 +11,7 @@ more over what stands then, and has to be answered as where nothing is refused. 
 many requests each row makes, and at the end how many rows passed. What is wanted is written by hand, from docs/FORMATS.md.
 """
 
+import bisect
 import collections
 import concurrent.futures
 import json
@@ -129,6 +130,18 @@ class Lanes:
         finally:
             self.free.append(counts)
 
+    def fork(self, words, given, tries, step):
+        """A run that reads the file `given` and forks at each step-th request; what comes of those goes to the file `tries`."""
+        counts = self.free.pop()
+        try:
+            counts.begin(0)
+            environment = {**counts.environment(self.library), "TRIES": tries, "STEP": str(step)}
+            with open(given, "rb") as file:
+                ran = outcome(words, stdin=file, env=environment, timeout=cases_of.PATIENCE)
+            return Ran(*ran, counts.asked(), counts.refused())
+        finally:
+            self.free.append(counts)
+
     def all_of(self, words, given):
         """The run to which nothing is refused, and those to which each of its requests is, in turn."""
         whole = self.run(words, given, 0)
@@ -142,6 +155,9 @@ class Lanes:
 # Requests that are refused at most of a file, evenly over all that it makes: an instance, a map or a reader is met by
 # each kind of case many times.
 MOST_OF_A_FILE = 1_500
+
+# What memory.c says of a try: its request and the bytes that were printed before it, what is printed then, the status.
+TRY = re.compile(rb"\x01 (\d+) (\d+)\n(.*?)\x02 (\d+)\n", re.DOTALL)
 
 FRAME = re.compile(r"to \S+ ")
 UNSENT = re.compile(r"unsent (\d+) 0")
@@ -260,48 +276,76 @@ def answers_of(output):
     return found, is_told
 
 
-def judge_cases(ran, cases):
-    """What a run of a file says of the request that was refused; None where it isn't right."""
-    found, is_told = answers_of(ran.output)
-    if (ran.status, len(found), ran.refused) != (0, len(cases), 1):
-        return None
-    kinds = {how_refused(lines[1:], [line for _, line in case.wanted]) for case, lines in zip(cases, found)}
-    kinds.discard("as wanted")
-    if None in kinds or len(kinds) + is_told > 1:
-        return None
-    return "made again" if is_told else next(iter(kinds), "not needed")
+Try = collections.namedtuple("Try", "number status cases found is_told")
 
 
-def test_cases(lanes):
+def tries_of_file(path, output, cases):
+    """The tries of a run that printed this: each with the case in which its request was refused and the one after it."""
+    starts = [it.start() for it in re.finditer(rb"^> ", output, re.MULTILINE)] or [0]
+    with open(path, "rb") as file:
+        rows = TRY.findall(file.read())
+    for number, printed, text, status in rows:
+        before = output[: int(printed)]
+        begun = bisect.bisect_left(starts, len(before))
+        # (while the input is read no case has begun)
+        first = max(begun - 1, 0)
+        found, is_told = answers_of(before[starts[first] :] + text)
+        yield Try(int(number), int(status), cases[first : begun + 1], found, is_told)
+
+
+def judge_try(tried):
+    """What a try says of the request that was refused; None where it isn't right."""
+    if tried.status != 0 or len(tried.found) != len(tried.cases):
+        return None
+    kinds = [how_refused(lines[1:], wanted_of(case)) for case, lines in zip(tried.cases, tried.found)]
+    if any(kind != "as wanted" for kind in kinds[0 if tried.is_told else 1 :]):
+        return None
+    if tried.is_told:
+        return "made again"
+    return "not needed" if kinds[0] == "as wanted" else kinds[0]
+
+
+def wanted_of(case):
+    return [line for _, line in case.wanted]
+
+
+def try_cases(lanes, folder, name):
+    """The tries of a file of cases: how many requests it makes, what was wrong, and how many tries there are of each kind."""
+    cases = cases_of.read_cases(f"{TOP}/cases/{name}.txt")
+    words, given, tries = [cases_of.PROGRAMS[name]], f"{folder}/{name}.cases", f"{folder}/{name}.tries"
+    with open(given, "w", encoding="utf-8") as file:
+        file.write("".join(f"{case.words}\n" for case in cases))
+    asked = lanes.run(words, b"".join(f"{case.words}\n".encode() for case in cases), 0).asked
+    step = max(1, -(-asked // MOST_OF_A_FILE))
+    whole = lanes.fork(words, given, tries, step)
+    faults, kinds = [], collections.Counter()
+    found = [lines[1:] for lines in answers_of(whole.output)[0]]
+    if (whole.status, whole.asked, found) != (0, asked, [wanted_of(case) for case in cases]):
+        faults.append(f"nothing refused: status {whole.status}, {whole.asked} requests and not {asked}, {whole.error}")
+    for tried in tries_of_file(tries, whole.output, cases):
+        kind = judge_try(tried)
+        kinds[kind] += 1
+        if kind is None:
+            faults.append(f"{tried.number}: {differing(tried)}")
+    if not kinds["made again"] or kinds.total() != len(range(1, asked + 1, step)):
+        faults.append(f"{kinds.total()} tries, and no case of it may have been refused a request")
+    return asked, faults, kinds
+
+
+def test_cases(lanes, folder):
     """Each file of cases that is not about large inputs, by its program."""
-    for name, program in sorted(cases_of.PROGRAMS.items()):
-        if name in cases_of.LARGE:
-            continue
-        cases = cases_of.read_cases(f"{TOP}/cases/{name}.txt")
-        given = "".join(f"{case.words}\n" for case in cases).encode()
-        whole = lanes.run([program], given, 0)
-        step = max(1, -(-whole.asked // MOST_OF_A_FILE))
-        numbers = range(1, whole.asked + 1, step)
-        faults, kinds = [], collections.Counter()
-        for number, ran in zip(numbers, lanes.pool.map(lambda n: lanes.run([program], given, n), numbers)):
-            kind = judge_cases(ran, cases)
-            kinds[kind] += 1
-            if kind is None:
-                faults.append(f"{number}: {differing(ran, cases)}")
-        if not kinds["made again"]:
-            faults.append("no case of it was refused a request")
+    names = sorted(set(cases_of.PROGRAMS) - cases_of.LARGE)
+    for name, (asked, faults, kinds) in zip(names, lanes.pool.map(lambda name: try_cases(lanes, folder, name), names)):
         said = ", ".join(f"{count} {kind}" for kind, count in sorted(kinds.items(), key=str))
-        settle(f"cases/{name}.txt", faults, f"{len(numbers)} of {whole.asked} requests: {said}")
+        settle(f"cases/{name}.txt", faults, f"{kinds.total()} of {asked} requests: {said}")
 
 
-def differing(ran, cases):
-    """What is told of a run that isn't right: its first case that is answered otherwise."""
-    found, _ = answers_of(ran.output)
-    for case, lines in zip(cases, found):
-        wanted = [line for _, line in case.wanted]
-        if how_refused(lines[1:], wanted) is None:
-            return f"line {case.line}, wanted {wanted}, found {lines[1:]}"
-    return f"status {ran.status}, {len(found)} of {len(cases)} cases, {ran.refused} refused, {ran.error}"
+def differing(tried):
+    """What is told of a try that isn't right: its first case that is answered otherwise."""
+    for case, lines in zip(tried.cases, tried.found):
+        if how_refused(lines[1:], wanted_of(case)) is None:
+            return f"line {case.line}, wanted {wanted_of(case)}, found {lines[1:]}"
+    return f"status {tried.status}, {len(tried.found)} of {len(tried.cases)} cases"
 
 
 # ---- the program
@@ -483,7 +527,7 @@ def main():
     with tempfile.TemporaryDirectory() as folder:
         library = compiled(folder)
         lanes = Lanes(folder, library)
-        test_cases(lanes)
+        test_cases(lanes, folder)
         test_jobs(lanes)
         for test in (test_starts, test_connections):
             place = f"{folder}/{test.__name__}"
