@@ -82,22 +82,28 @@ DIFF_HELP = """Reads what several replicas hold, and prints in key order at whic
 Usage: am_tool diff [OPTIONS] --state <STATE> <SOURCE>...
 
 Arguments:
-  <SOURCE>...  NAME=FILE, cut at its first '=', or FILE, which is then its own name; '-' is standard input; 2 to 16 of them
+  <SOURCE>...  NAME=FILE, cut at its first '=', or FILE, which is then its own name; '-' is standard input, and http://HOST:PORT a server; 2 to 16 of them
 
 Options:
       --state <STATE>      The state that the sources are of: silences or the notification log [possible values: sil, nfl]
       --now <NANOSECONDS>  The moment of the views, in whole nanoseconds since 1970-01-01T00:00:00Z; without it, the clock's
       --held               Compares all that the sources hold, what has expired too, and not only what they show
       --json               Prints the differences as a list in JSON, on one line, in place of the lines
+      --time-limit <S>     For how many seconds a connection to a server may last, 1 to 3600 [default: 5]
   -h, --help               Print help
 
 Of each key that differs there is a line for each group of sources that hold the same there: first those that have the
 greatest version, which counts, then those that are behind, and by what (update, expiry or bytes), and then those that
 hold nothing.
 
+A server is a member or an Alertmanager, at an address of IPv4, of IPv6 in brackets, or localhost: what it lists at
+/api/v2/silences is compared. Beside a server all sources are compared by what API v2 shows of them: moments are cut to
+milliseconds, and a silence counts until its end.
+
 The status is 0 where nothing is different, and 5 where something is.
 
 Examples:
+  am_tool diff --state sil a=http://127.0.0.1:9093 b=http://10.0.0.2:9093 c=c.sil
   am_tool diff --state sil a=a.sil b=b.sil c=c.sil
   ssh b cat b.nfl | am_tool diff --state nfl --held a=a.nfl b=-
   am_tool diff --state sil --json a=a.sil b=b.sil | jq -r '.[].key.id'
