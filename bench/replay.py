@@ -1,12 +1,13 @@
 """Plays schedules of three members by am_tool, with and without a `timely` at the end.
 
-    python3 bench/replay.py [--rounds N] [--counts N ..] [--write COUNT]
+    python3 bench/replay.py [--rounds N] [--counts N ..] [--held N ..] [--write COUNT]
 
 A schedule is blocks of twelve lines: a silence is posted at one member and delivered to the two others, one of which shows
 what it holds and one of which says what mutes an alert; the frames are lost, and all members collect once it has expired. So
 there are few silences and few frames at any time, and what grows is the record of the run. For each count of lines: the least
 user and system time of the rounds, the two kinds taken in turn, in microseconds a line, each beside its growth since the count
-before. `--write` prints a schedule instead. am_tool is built by `./am_tool build` where it isn't.
+before. Then, for each number of silences that one member holds: the time of their posts, in microseconds a line, and what each
+line more costs that changes nothing. `--write` prints a schedule instead. am_tool is built by `./am_tool build` where it isn't.
 """
 import argparse
 import os
@@ -17,7 +18,10 @@ import run
 
 LINE = "%9s %12s %7s %12s %7s"
 HEAD = ("lines", "us a line", "growth", "with timely", "growth")
+HELD_LINE = "%9s %12s %12s"
+HELD_HEAD = ("held", "us a post", "us a line")
 SECONDS = 3
+MORE = 50_000
 
 
 def block(number):
@@ -48,10 +52,31 @@ def write(count, is_asked, path):
         f.writelines(line + "\n" for line in lines_of(count, is_asked))
 
 
+def held_lines(held, more):
+    """One member that holds so many silences, and so many lines that change nothing."""
+    yield "cluster 1 15 a"
+    for number in range(held):
+        yield "at 10 a post - %032x 10 100000 job v%d" % (number + 1, number)
+    for _ in range(more):
+        yield "at 11 a mutes job=none"
+
+
+def measure_held(command, folder, held, rounds):
+    """Microseconds of a post, and of a line more, at so many silences."""
+    sources = [os.path.join(folder, name) for name in ("posts", "more")]
+    for source, more in zip(sources, (0, MORE)):
+        with open(source, "w") as f:
+            f.writelines(line + "\n" for line in held_lines(held, more))
+    times = zip(*([run.seconds(command, source, os.devnull) for source in sources] for _ in range(rounds)))
+    posts, whole = map(min, times)
+    return posts / held * 1e6, (whole - posts) / MORE * 1e6
+
+
 def main():
     p = argparse.ArgumentParser(description=__doc__, formatter_class=argparse.RawDescriptionHelpFormatter)
     p.add_argument("--rounds", type=int, default=3)
     p.add_argument("--counts", type=int, nargs="+", default=[1000, 10000, 100000])
+    p.add_argument("--held", type=int, nargs="*", default=[1000, 16000, 64000])
     p.add_argument("--write", type=int, metavar="COUNT", help="print a schedule of so many lines, and measure nothing")
     a = p.parse_args()
     if a.write:
@@ -70,6 +95,9 @@ def main():
             growth = ["" if before is None else "%.2f" % (now / before) for now, before in zip(took, last)]
             print(LINE % (count, "%.2f" % took[0], growth[0], "%.2f" % took[1], growth[1]), flush=True)
             last = took
+        print(HELD_LINE % HELD_HEAD)
+        for held in a.held:
+            print(HELD_LINE % (held, *("%.2f" % it for it in measure_held(command, folder, held, a.rounds))), flush=True)
 
 
 if __name__ == "__main__":
