@@ -7,9 +7,11 @@ PROGRAM is crates/am_tool/out/am_tool if it isn't given. A block below a line `<
 with status 0; one below `<!-- prints -->` is what the block before it printed, and one below `<!-- prints among others -->`
 are lines of that, in this order. The blocks of a document are run one after the other in one folder, where the files stand
 that the documents speak of; `am_tool diff` has the moment NOW, and its status 5, that something differs, is none here. The
-ports of members are free ones. Blocks with curl are left out where curl is not there. The last line says how many passed.
+ports of members are free ones. Blocks with curl are left out where curl is not there. Each block of Rust in docs/LIBRARY.md
+has to stand in a source of the programs of cases. The last line says how many passed.
 """
 
+import glob
 import os
 import re
 import shutil
@@ -64,8 +66,7 @@ fi
 
 def blocks(path):
     """The marked blocks of a document: what the mark says, the number of its line, and the text."""
-    with open(f"{TOP}/{path}", encoding="utf-8") as file:
-        lines = file.read().split("\n")
+    lines = content(f"{TOP}/{path}").split("\n")
     for number, line in enumerate(lines, 1):
         mark = MARK.fullmatch(line)
         if mark:
@@ -109,8 +110,7 @@ class Shell:
             return status, out.read().rstrip("\n")
 
     def error(self):
-        with open(f"{self.folder}/error", encoding="utf-8") as file:
-            return file.read()
+        return content(f"{self.folder}/error")
 
     def end(self):
         for group in self.groups:
@@ -147,8 +147,21 @@ def try_document(path, shell):
             check(name, all(line in rest for line in text.split("\n")), printed)
 
 
+def content(path):
+    with open(path, encoding="utf-8") as file:
+        return file.read()
+
+
+def test_quotes():
+    """What docs/LIBRARY.md quotes is code."""
+    sources = [content(it) for it in glob.glob(f"{TOP}/crates/am_*case*/src/*.rt")]
+    for block in re.findall(r"```rust\n(.*?)```", content(f"{TOP}/docs/LIBRARY.md"), re.DOTALL):
+        check("docs/LIBRARY.md", any(block in it for it in sources), block)
+
+
 def main():
     members.choose("documents", sys.argv[1:])
+    test_quotes()
     for path in DOCUMENTS:
         count(any(blocks(path)))
         with tempfile.TemporaryDirectory() as folder:
