@@ -1,6 +1,7 @@
 -- What a request does, put together of its parts.
-use Rattle.std.proofs.Common.{◌≡◌, ℕ, List, [], ◌∷◌, Bool, true, false, map, ap, refl, sym, subst, ◌∙◌}
-use Rattle.std.specs.Prelude.{◌≢◌, Option, Some, None, Result, Ok, Err, IfOk, IfErr, OnOk, OnErr, is_some}
+use Rattle.std.proofs.Common.{◌≡◌, ℕ, List, [], ◌∷◌, Bool, true, false, true≢false, map, ap, refl, sym, subst, ◌∙◌}
+use Rattle.std.specs.Prelude.{◌≢◌, Option, Some, None, Result, Ok, Err, IfOk, IfErr, OnOk, OnErr, is_some, if◌then◌else◌}
+use Rattle.std.proofs.lemmas.List.Folds.{list_any-from_Any}
 use Rattle.am_silence.specs.Mesh.{Mesh}
 use Rattle.am_silence.specs.Ids.{id_text}
 use Rattle.am_silence.specs.Plans.{post_of, planned, versions, ended_of}
@@ -8,9 +9,12 @@ use Rattle.am_silence.specs.Refusals.{◌when◌, ◌before◌, refusal, early_r
 use Rattle.am_silence.specs.declared.plan.Posted.{Posted}
 use Rattle.am_silence.specs.declared.plan.Plan.{Plan}
 use Rattle.am_silence.specs.declared.plan.Verdict.{Verdict}
+use Rattle.am_silence.specs.declared.plan.Verdict.TheVariants as verdicts
+use Rattle.am_silence.specs.declared.matcher.Matcher.{Matcher}
+use Rattle.am_silence.specs.Kinds.{is_regexp}
 use Rattle.am_silence.specs.declared.error.SilenceError.{SilenceError}
 use Rattle.am_silence.specs.declared.error.SilenceError.TheVariants as silence_errors
-use Rattle.am_matcher.specs.Matching.{IsVerdict}
+use Rattle.am_matcher.specs.Matching.{has_regexp, IsVerdict}
 use Rattle.am_matcher.proofs.Verdicts.{has_verdict}
 use Rattle.am_instance.specs.declared.error.StepError.{StepError}
 use Rattle.am_instance.specs.declared.error.StepError.TheVariants.{Memory}
@@ -22,7 +26,7 @@ use Rattle.am_instance.specs.declared.reply.Outcome.{Outcome}
 use Rattle.am_instance.specs.Deliveries.Delivery.{OfSilence}
 use Rattle.am_instance.specs.Stands.{Stand, silence_at}
 use Rattle.am_instance.specs.Replies.{RefusedOr, IsDone, IsEnded, posted_id, posted_over, unread_refusal, silence_in_view}
-use Rattle.am_instance.specs.Steps.{IsWork, IsPlanned, IsPutHere, IsTurnedAway}
+use Rattle.am_instance.specs.Steps.{IsWork, IsPlanned, IsPutHere, IsTurnedAway, plain_verdict, post_refusal, refused_anyway}
 use Rattle.am_instance.proofs.Works.{made_work, quiet_work, stopped_work, made_silences}
 
 -- a plan that was carried out, as that of the versions and the reply that it names
@@ -30,6 +34,14 @@ pub carried : (result : Result Outcome StepError) (old new : Stand) (vs ws : Lis
     IfOk result (λ outcome. IsPutHere old vs one now outcome new) → IfOk result (λ outcome. IsPutHere old ws other now outcome new)
 carried result old new vs ws one other now same reply done =
     subst (λ r. IfOk result (λ outcome. IsPutHere old ws r now outcome new)) reply (subst (λ xs. IfOk result (λ outcome. IsPutHere old xs one now outcome new)) same done)
+
+-- whether a post is refused doesn't depend on how what is held is told
+pub refusal_is : (stand : Stand) (posted : Posted) (bits now : ℕ) (verdict : Verdict) (held : Option Mesh) (id_held : Bool) →
+    held ≡ posted_over now stand.silences posted.id → id_held ≡ is_some (silence_at stand.silences (id_text bits)) →
+    post_refusal stand posted bits now verdict ≡ refusal held verdict id_held (post_of posted now bits stand.config.retention)
+refusal_is stand posted bits now verdict held id_held is known =
+    ap (λ (h : Option Mesh). refusal h verdict (is_some (silence_at stand.silences (id_text bits))) (post_of posted now bits stand.config.retention)) (sym is)
+    ∙ ap (λ (b : Bool). refusal held verdict b (post_of posted now bits stand.config.retention)) (sym known)
 
 -- what a call answered, with the verdict on what is posted
 pub planned_by : (stand : Stand) (posted : Posted) (bits now : ℕ) (verdict : Verdict) (held : Option Mesh) (id_held : Bool) (result : Result Plan SilenceError) →
@@ -41,16 +53,22 @@ pub planned_by : (stand : Stand) (posted : Posted) (bits now : ℕ) (verdict : V
 planned_by stand posted bits now verdict held id_held (Ok plan) judged is known plans accepted refused = (
   verdict,
   judged,
-  ap (λ (h : Option Mesh). refusal h verdict (is_some (silence_at stand.silences (id_text bits))) (post_of posted now bits stand.config.retention)) (sym is)
-      ∙ ap (λ (b : Bool). refusal held verdict b (post_of posted now bits stand.config.retention)) (sym known) ∙ accepted,
+  refusal_is stand posted bits now verdict held id_held is known ∙ accepted,
   plans ∙ ap (λ (h : Option Mesh). planned h (post_of posted now bits stand.config.retention)) is,
 )
 planned_by stand posted bits now verdict held id_held (Err e) judged is known plans accepted refused = λ other. (
   verdict,
   judged,
-  ap (λ (h : Option Mesh). refusal h verdict (is_some (silence_at stand.silences (id_text bits))) (post_of posted now bits stand.config.retention)) (sym is)
-      ∙ ap (λ (b : Bool). refusal held verdict b (post_of posted now bits stand.config.retention)) (sym known) ∙ refused other,
+  refusal_is stand posted bits now verdict held id_held is known ∙ refused other,
 )
+
+-- what finds no memory isn't refused for another cause
+pub refused_for_memory : (stand : Stand) (posted : Posted) (bits now : ℕ) (verdict : Verdict) (held : Option Mesh) (id_held : Bool) (result : Result Plan SilenceError) →
+    held ≡ posted_over now stand.silences posted.id → id_held ≡ is_some (silence_at stand.silences (id_text bits)) →
+    IfErr result (λ e. e ≡ silence_errors.Memory → refusal held verdict id_held (post_of posted now bits stand.config.retention) ≡ None) →
+    IfErr result (λ e. e ≡ silence_errors.Memory → post_refusal stand posted bits now verdict ≡ None)
+refused_for_memory stand posted bits now verdict held id_held (Ok plan) is known none = none
+refused_for_memory stand posted bits now verdict held id_held (Err e) is known none = λ memory. refusal_is stand posted bits now verdict held id_held is known ∙ none memory
 
 -- what comes first of refusals is the refusal, whatever comes behind it
 comes_first : (missing none nameless : Bool) (patterns times older fresh size : Option SilenceError) (error : SilenceError) →
@@ -70,7 +88,6 @@ unread_planned stand posted bits now error is = λ other.
     let judged = has_verdict posted.matchers in
     (judged.0, judged.1, comes_first _ _ _ _ _ _ _ _ error is)
 
--- a post that was planned and carried out
 -- no refusal whatever the patterns are is for want of memory
 unread_aside : (a b c : Bool) (error : SilenceError) (R : Type 0) → (silence_errors.NotFound when a before silence_errors.NoMatcher when b before silence_errors.EmptyName when c) ≡ Some error → error ≡ silence_errors.Memory → R
 unread_aside true b c error R is memory = absurd cc
@@ -78,9 +95,33 @@ unread_aside false true c error R is memory = absurd cc
 unread_aside false false true error R is memory = absurd cc
 unread_aside false false false error R is memory = absurd cc
 
-pub unread_is_told : (held : Option Mesh) (posted : Posted) (error : SilenceError) → unread_refusal held posted ≡ Some error → error ≡ silence_errors.Memory → unread_refusal held posted ≡ None
-unread_is_told held posted error is memory = unread_aside _ _ _ error _ is memory
+-- the verdict on matchers without a regular expression is the plain one
+plain_is : (matchers : List Matcher) (verdict : Verdict) → has_regexp matchers ≡ false → IsVerdict matchers verdict → verdict ≡ plain_verdict matchers
+plain_is matchers verdicts.Bad none (k, m, within, is, broken) = absurd (true≢false (sym (list_any-from_Any (λ m. is_regexp m.kind) matchers (k, m, within, is, broken.0)) ∙ none))
+plain_is matchers verdicts.AllEmpty none (sound, all) = ap (λ (b : Bool). if b then verdicts.AllEmpty else verdicts.Fine) (sym all)
+plain_is matchers verdicts.Fine none (sound, all) = ap (λ (b : Bool). if b then verdicts.AllEmpty else verdicts.Fine) (sym all)
 
+either_way : (test : Bool) (one other : Option SilenceError) → (test ≡ true → one ≡ None) → (test ≡ false → other ≡ None) → (if test then one else other) ≡ None
+either_way true one other first second = first refl
+either_way false one other first second = second refl
+
+-- a post whose patterns are compiled isn't refused anyway, where it isn't refused whatever they are
+pub compiled_anyway : (stand : Stand) (posted : Posted) (bits now : ℕ) → has_regexp posted.matchers ≡ true → unread_refusal (posted_over now stand.silences posted.id) posted ≡ None →
+    refused_anyway stand (events.Request (requests.Post posted bits)) now ≡ None
+compiled_anyway stand posted bits now regexp read = either_way (has_regexp posted.matchers) _ _ (λ _. read) (λ none. absurd (true≢false (sym regexp ∙ none)))
+
+-- a post that isn't refused by a verdict on its matchers isn't refused anyway
+pub judged_anyway : (stand : Stand) (posted : Posted) (bits now : ℕ) (verdict : Verdict) → IsVerdict posted.matchers verdict →
+    unread_refusal (posted_over now stand.silences posted.id) posted ≡ None → post_refusal stand posted bits now verdict ≡ None →
+    refused_anyway stand (events.Request (requests.Post posted bits)) now ≡ None
+judged_anyway stand posted bits now verdict judged read accepted = either_way (has_regexp posted.matchers) _ _ (λ _. read)
+    (λ none. ap (post_refusal stand posted bits now) (sym (plain_is posted.matchers verdict none judged)) ∙ accepted)
+
+pub unread_is_told : (stand : Stand) (posted : Posted) (bits now : ℕ) (error : SilenceError) → unread_refusal (posted_over now stand.silences posted.id) posted ≡ Some error →
+    error ≡ silence_errors.Memory → refused_anyway stand (events.Request (requests.Post posted bits)) now ≡ None
+unread_is_told stand posted bits now error is memory = unread_aside _ _ _ error _ is memory
+
+-- a post that was planned and carried out
 pub post_done : (old new : Stand) (posted : Posted) (bits now : ℕ) (plan : Plan) (result : Result Outcome StepError) → IsPlanned old posted bits now (Ok plan) →
     IfOk result (λ outcome. IsPutHere old (versions plan) (replies.Posted (posted_id plan)) now outcome new) → IfErr result (λ e. e ≡ Memory 0) → OnErr result (new ≡ old) →
     unread_refusal (posted_over now old.silences posted.id) posted ≡ None → IsWork old (events.Request (requests.Post posted bits)) now result new
@@ -92,12 +133,13 @@ post_done old new posted bits now plan (Ok outcome) plans put memory unchanged r
       answer = subst (λ r. RefusedOr r (IsDone (planned (posted_over now old.silences posted.id) (post_of posted now bits old.config.retention))) outcome.reply outcome.made) (sym plans.2)
           (subst (λ p. IsDone p outcome.reply outcome.made) plans.3 (record { answer = put.answer; copies = put.made }));
     })
-post_done old new posted bits now plan (Err e) plans put memory unchanged read = stopped_work old new (events.Request (requests.Post posted bits)) now e memory unchanged read
+post_done old new posted bits now plan (Err e) plans put memory unchanged read = stopped_work old new (events.Request (requests.Post posted bits)) now e memory unchanged
+    (judged_anyway old posted bits now plans.0 plans.1 read plans.2)
 
 -- a post that was refused
 pub post_refused : (old : Stand) (posted : Posted) (bits now : ℕ) (error : SilenceError) (result : Result Outcome StepError) → IsPlanned old posted bits now (Err error) →
     IfOk result (IsTurnedAway error) → IfErr result (λ e. (e ≡ Memory 0) × (error ≡ silence_errors.Memory)) →
-    (error ≡ silence_errors.Memory → unread_refusal (posted_over now old.silences posted.id) posted ≡ None) → IsWork old (events.Request (requests.Post posted bits)) now result old
+    (error ≡ silence_errors.Memory → refused_anyway old (events.Request (requests.Post posted bits)) now ≡ None) → IsWork old (events.Request (requests.Post posted bits)) now result old
 post_refused old posted bits now error (Ok outcome) plans away memory read =
     let why = plans away.other in
     quiet_work old (events.Request (requests.Post posted bits)) now outcome refl refl refl refl away.unsent away.nothing (record {

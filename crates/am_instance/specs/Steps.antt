@@ -2,6 +2,7 @@
 use Rattle.std.specs.Prelude.{◌≡◌, ◌≢◌, ◌⊎◌, ◌≤◌, ◌<◌, ◌+◌, ℕ, Bool, true, false, ◌&&◌, List, [], ◌∷◌, ◌++◌, map}
 use Rattle.std.specs.Prelude.{length, take, nat_lt, ⊤, is_some, Option, Some, None, option_map, Result, Ok, Err}
 use Rattle.std.specs.Prelude.{if◌then◌else◌}
+use Rattle.std.specs.List.{list_all}
 use Rattle.am_wire.specs.Limits.{most}
 use Rattle.std.specs.Ordering.{nat_cmp}
 use Rattle.std.specs.Cmp.Lexicographic.{slice_cmp}
@@ -41,12 +42,14 @@ use Rattle.am_merge.specs.declared.held.Taken.TheVariants as takens
 use Rattle.am_silence.specs.declared.plan.Posted.{Posted}
 use Rattle.am_silence.specs.declared.plan.Plan.{Plan}
 use Rattle.am_silence.specs.declared.plan.Verdict.{Verdict}
+use Rattle.am_silence.specs.declared.plan.Verdict.TheVariants as verdicts
+use Rattle.am_silence.specs.declared.matcher.Matcher.{Matcher}
 use Rattle.am_silence.specs.declared.error.SilenceError.{SilenceError}
 use Rattle.am_silence.specs.declared.error.SilenceError.TheVariants as silence_errors
 use Rattle.am_silence.specs.Ids.{id_text}
 use Rattle.am_silence.specs.Plans.{post_of, planned}
 use Rattle.am_silence.specs.Refusals.{refusal, end_refusal}
-use Rattle.am_matcher.specs.Matching.{IsVerdict}
+use Rattle.am_matcher.specs.Matching.{matches_value, has_regexp, IsVerdict}
 
 -- ---- when a step is refused
 
@@ -81,15 +84,27 @@ pub record IsAccepted (old : Stand) (event : Event) (now : ℕ) : Type 0 where
   pub known : knows_peer old.config (peer_of event) ≡ true
   pub sound : fault_of old.config now event ≡ None
 
+-- what is known of a post: the silence in view of its id, and whether its fresh id is held
+abbrev pub post_refusal : Stand → Posted → ℕ → ℕ → Verdict → Option SilenceError
+post_refusal stand posted bits now verdict =
+    refusal (posted_over now stand.silences posted.id) verdict (is_some (silence_at stand.silences (id_text bits)))
+    (post_of posted now bits stand.config.retention)
+
+-- the verdict on matchers without a regular expression
+abbrev pub plain_verdict : List Matcher → Verdict
+plain_verdict matchers = if list_all (λ m. matches_value m []) matchers then verdicts.AllEmpty else verdicts.Fine
+
 -- Why a request is refused, where no memory is needed to find that out: the silence that is asked for is not in view, the one
--- that is to be ended can't be ended so, or a post is refused whatever its patterns are. (What else a post is refused for takes
--- memory to find.)
+-- that is to be ended can't be ended so, or a post is refused. (Of a post with a regular expression, which is compiled, only
+-- what comes before its patterns counts.)
 abbrev pub refused_anyway : Stand → Event → ℕ → Option SilenceError
 refused_anyway stand (events.Request (requests.Get id)) now = not_found (silence_in_view now stand.silences id)
 refused_anyway stand (events.Request (requests.Delete id)) now =
     end_refusal (silence_in_view now stand.silences id) now stand.config.retention
 refused_anyway stand (events.Request (requests.Post posted bits)) now =
-    unread_refusal (posted_over now stand.silences posted.id) posted
+    if has_regexp posted.matchers
+    then unread_refusal (posted_over now stand.silences posted.id) posted
+    else post_refusal stand posted bits now (plain_verdict posted.matchers)
 refused_anyway stand _ now = None
 
 -- Memory ran out before anything was taken; or once some of what was brought was taken, and not all of it, in which there is
@@ -270,12 +285,6 @@ pub record IsLoggedHere (old : Stand) (entry : LogMesh) (now : ℕ) (outcome : O
   pub made : outcome.made.log ≡ Some entry
   pub delivered : Delivers now (OfEntry entry ∷ []) old new
   pub sent : Sends (deltas_here old now (OfEntry entry ∷ [])) nothing_sent (sent_by outcome)
-
--- what is known of a post: the silence in view of its id, and whether its fresh id is held
-abbrev pub post_refusal : Stand → Posted → ℕ → ℕ → Verdict → Option SilenceError
-post_refusal stand posted bits now verdict =
-    refusal (posted_over now stand.silences posted.id) verdict (is_some (silence_at stand.silences (id_text bits)))
-    (post_of posted now bits stand.config.retention)
 
 -- the plan of a post, or why it is refused
 abbrev pub IsPlanned : Stand → Posted → ℕ → ℕ → Result Plan SilenceError → Type 0

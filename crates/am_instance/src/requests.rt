@@ -1,11 +1,12 @@
 //! What people and tools ask of an instance.
 
-ghost use Rattle.std.specs.Prelude.{◌≡◌, ◌==◌, [], ◌∷◌, length, is_some, OnErr, IfOk, IfErr};
+ghost use Rattle.std.specs.Prelude.{◌≡◌, ◌==◌, [], ◌∷◌, length, is_some, None, true, OnErr, IfOk, IfErr};
 ghost use Rattle.std.specs.List.{list_any};
 ghost use Rattle.std.specs.Option.{option_copied};
+ghost use Rattle.am_silence.specs.Ids.{id_text};
 ghost use Rattle.am_silence.specs.Plans.{versions};
 ghost use Rattle.am_silence.specs.declared.error.SilenceError.TheVariants as silence_errors;
-ghost use Rattle.am_matcher.specs.Matching.{IsVerdict};
+ghost use Rattle.am_matcher.specs.Matching.{has_regexp, IsVerdict};
 ghost use Rattle.am_instance.specs.Stands.{silence_at};
 ghost use Rattle.am_instance.specs.declared.error.StepError.TheVariants as errors;
 ghost use Rattle.am_instance.specs.declared.event.Event.TheVariants as events;
@@ -16,7 +17,7 @@ ghost use Rattle.am_instance.specs.declared.reply.Reply.TheVariants as replies;
 ghost use Rattle.am_instance.specs.Changes.{only_if};
 ghost use Rattle.am_instance.specs.Sendings.{Sends, deltas_to, nothing_sent, sent_by};
 ghost use Rattle.am_instance.specs.Replies.{AreMade, IsNothing, posted_id, posted_over, unread_refusal};
-ghost use Rattle.am_instance.specs.Steps.{IsPlanned, IsPutHere, IsTurnedAway, IsWork, is_changed};
+ghost use Rattle.am_instance.specs.Steps.{IsPlanned, IsPutHere, IsTurnedAway, IsWork, is_changed, post_refusal};
 
 use crate::error::StepError;
 use crate::event::Request;
@@ -105,6 +106,7 @@ impl Instance {
     /// The verdict on posted matchers.
     fn judge(&mut self, matchers: &Matchers) -> Result<Verdict, AllocError>
         ensures verdict { IfOk result (IsVerdict matchers.now) }
+        ensures memory { OnErr result (has_regexp matchers.now ≡ true) }
         ensures same { self.new ≡ self.old }
     {
         self.patterns.verdict(matchers)
@@ -119,14 +121,27 @@ impl Instance {
         now: Moment,
     ) -> Result<Plan, SilenceError>
         requires { IsVerdict posted.matchers verdict }
-        ensures { IsPlanned self.now posted bits now result }
+        ensures planned { IsPlanned self.now posted bits now result }
+        ensures memory { IfErr result (λ e. e ≡ silence_errors.Memory → post_refusal self.now posted bits now verdict ≡ None) }
     {
-        let alloc = self.alloc;
-        let fresh = Text::copied(alloc, fresh_id(bits).as_str())?;
-        let id_held = is_held(&self.silences, &fresh);
+        let id_held = self.is_fresh_held(bits);
         let held = posted_over(&self.silences, posted.id.as_ref(), now);
         let retention = self.config.retention();
-        plan_post(alloc, held, posted, verdict, now, bits, id_held, retention)
+        plan_post(
+            self.alloc, held, posted, verdict, now, bits, id_held, retention,
+        )
+    }
+
+    /// Whether the identifier that random bits give is held, live or not. Where there is no memory for a copy of it, all
+    /// that are held are looked at.
+    fn is_fresh_held(&self, bits: u128) -> bool
+        ensures { result ≡ is_some (silence_at self.now.silences (id_text bits)) }
+    {
+        let fresh = fresh_id(bits);
+        match Text::copied(self.alloc, fresh.as_str()) {
+            Ok(id) => is_held(&self.silences, &id),
+            Err(_) => is_among(&self.silences, fresh.as_str()),
+        }
     }
 
     /// Takes the versions of a plan, the new silence first.
@@ -214,6 +229,18 @@ fn is_held(silences: &Held<MeshSilence>, id: &Text) -> bool
     ensures { result ≡ is_some (silence_at silences.now id.now) }
 {
     silences.get(id).is_some()
+}
+
+/// As [`is_held`], one after the other. It takes no memory.
+fn is_among(silences: &Held<MeshSilence>, id: &str) -> bool
+    ensures { result ≡ is_some (silence_at silences.now id.now) }
+{
+    for silence in silences.iter() {
+        if silence.key().as_str().cmp(id).is_eq() {
+            return true;
+        }
+    }
+    false
 }
 
 /// The silence in view of the identifier that is posted, where one is.

@@ -1,5 +1,5 @@
 -- Matchers that are judged one after the other: m comes before the others.
-use Rattle.std.proofs.Common.{◌≡◌, ℕ, suc, Bool, true, false, ◌&&◌, cond, find, List, [], ◌∷◌, reverse, Option, Some, None, All, Any, refl, sym, ap, subst, ◌∙◌, arith}
+use Rattle.std.proofs.Common.{◌≡◌, ℕ, suc, Bool, true, false, ◌&&◌, ◌||◌, cond, find, List, [], ◌∷◌, reverse, Option, Some, None, All, Any, refl, sym, ap, subst, ◌∙◌, arith}
 use Rattle.std.specs.Prelude.{if◌then◌else◌}
 use Rattle.std.specs.Option.{option_map_or, option_or}
 use Rattle.std.proofs.lemmas.List.{reverse-append}
@@ -9,11 +9,16 @@ use Rattle.am_silence.specs.declared.matcher.Matcher.{Matcher}
 use Rattle.am_matcher.specs.declared.labels.Label.{Label}
 use Rattle.am_matcher.specs.Texts.{is_text}
 use Rattle.am_matcher.specs.Labels.{last_named, value_in}
-use Rattle.am_matcher.specs.Matching.{matches_value, match_all, IsSoundMatcher, IsBrokenMatcher}
+use Rattle.am_silence.specs.Kinds.{is_regexp}
+use Rattle.am_matcher.specs.Matching.{matches_value, has_regexp, match_all, IsSoundMatcher, IsBrokenMatcher}
 
 and_next : (before matches rest : Bool) → ((before && matches) && rest) ≡ (before && (matches && rest))
 and_next true matches rest = refl
 and_next false matches rest = refl
+
+or_later : (here later : Bool) → later ≡ true → (here || later) ≡ true
+or_later true later found = refl
+or_later false later found = found
 
 -- the first of two options, or what is so far
 last_or : (found : Option Matcher) (m : Matcher) (test : Bool) (before : List ℕ)
@@ -39,6 +44,12 @@ module _ {left others : List Matcher} {m : Matcher} (first : left ≡ m ∷ othe
 
   pub any_broken-later : Any IsBrokenMatcher others → Any IsBrokenMatcher left
   any_broken-later (k, x, within, is, broken) = subst (Any IsBrokenMatcher) (sym first) (suc k, x, omega (arith, within), is, broken)
+
+  pub has_regexp-first : is_regexp m.kind ≡ true → has_regexp left ≡ true
+  has_regexp-first is = ap has_regexp first ∙ ap (λ (b : Bool). b || has_regexp others) is
+
+  pub has_regexp-later : has_regexp others ≡ true → has_regexp left ≡ true
+  has_regexp-later found = ap has_regexp first ∙ or_later (is_regexp m.kind) (has_regexp others) found
 
   -- of a name the last matcher counts
   pub pattern-first : (name before : List ℕ)

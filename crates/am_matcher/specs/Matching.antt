@@ -1,6 +1,6 @@
 -- What matchers say of labels.
 use Rattle.std.specs.Prelude.{◌≡◌, ℕ, Bool, true, false, not, List, [], Option, Some, None, All, Any}
-use Rattle.std.specs.List.{list_all}
+use Rattle.std.specs.List.{list_all, list_any}
 use Rattle.std.specs.Option.{option_map_or}
 use Rattle.am_silence.specs.declared.matcher.Matcher.{Matcher}
 use Rattle.am_silence.specs.declared.matcher.MatcherKind.{MatcherKind}
@@ -27,6 +27,10 @@ is_met kind pattern value = elim kind [
 -- the value is as the matcher wants it
 abbrev pub matches_value : Matcher → List ℕ → Bool
 matches_value m value = is_met m.kind m.pattern value
+
+-- a regular expression decides for one of them
+abbrev pub has_regexp : List Matcher → Bool
+has_regexp matchers = list_any (λ m. is_regexp m.kind) matchers
 
 -- where a regular expression decides, its pattern is read
 abbrev pub IsSoundMatcher : Matcher → Type 0

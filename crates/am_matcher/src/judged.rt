@@ -1,9 +1,9 @@
 //! Matchers that are asked once.
 
-ghost use Rattle.std.specs.Prelude.{◌≡◌, List, ℕ, Bool, [], true, false, All, Any, IfOk, OnOk, IsErrOf};
+ghost use Rattle.std.specs.Prelude.{◌≡◌, List, ℕ, Bool, [], true, false, All, Any, IfOk, OnOk, OnErr, IsErrOf};
 ghost use Rattle.am_silence.specs.Kinds.{is_regexp};
 ghost use Rattle.am_matcher.specs.Labels.{value_in};
-ghost use Rattle.am_matcher.specs.Matching.{matches_value, IsSoundMatcher, IsBrokenMatcher, match_all, IsVerdict};
+ghost use Rattle.am_matcher.specs.Matching.{matches_value, has_regexp, IsSoundMatcher, IsBrokenMatcher, match_all, IsVerdict};
 ghost use Rattle.am_matcher.specs.Uses.{PatternsPass, TextsPass};
 
 use crate::cache::PatternCache;
@@ -22,6 +22,7 @@ fn judge(
     ensures answer { IfOk result (λ yes. yes ≡ matches_value matcher.now (value_in labels.now matcher.now.name)) }
     ensures sound { OnOk result (IsSoundMatcher matcher.now) }
     ensures broken { IsErrOf result BuildError.BadPattern → IsBrokenMatcher matcher.now }
+    ensures failed { OnErr result (is_regexp matcher.now.kind ≡ true) }
     ensures same { keeps ≡ false → patterns.new ≡ patterns.old }
     ensures kept { (test : List ℕ → Bool) → (is_regexp matcher.now.kind ≡ true → test matcher.now.pattern ≡ true) →
         TextsPass test patterns.old → TextsPass test patterns.new }
@@ -49,6 +50,7 @@ pub fn judge_all(
     ensures answer { IfOk result (λ yes. yes ≡ match_all matchers.entry labels.now) }
     ensures sound { OnOk result (All IsSoundMatcher matchers.entry) }
     ensures broken { IsErrOf result BuildError.BadPattern → Any IsBrokenMatcher matchers.entry }
+    ensures failed { OnErr result (has_regexp matchers.entry ≡ true) }
     ensures same { keeps ≡ false → patterns.new ≡ patterns.old }
     ensures kept { (test : List ℕ → Bool) → PatternsPass test matchers.entry →
         TextsPass test patterns.old → TextsPass test patterns.new }
@@ -66,9 +68,10 @@ impl PatternCache {
     ///
     /// # Errors
     ///
-    /// [`AllocError`] where memory runs out.
+    /// [`AllocError`] where memory runs out. Without a regular expression no memory is needed.
     pub fn verdict(&mut self, matchers: &Matchers) -> Result<Verdict, AllocError>
         ensures verdict { IfOk result (IsVerdict matchers.now) }
+        ensures memory { OnErr result (has_regexp matchers.now ≡ true) }
         ensures same { self.new ≡ self.old }
     {
         match judge_all(self, matchers.iter(), &[], false) {
@@ -86,9 +89,10 @@ impl PatternCache {
 ///
 /// # Errors
 ///
-/// [`AllocError`] where memory runs out.
+/// [`AllocError`] where memory runs out. Without a regular expression no memory is needed.
 pub fn verdict(alloc: Global, matchers: &Matchers) -> Result<Verdict, AllocError>
-    ensures { IfOk result (IsVerdict matchers.now) }
+    ensures verdict { IfOk result (IsVerdict matchers.now) }
+    ensures memory { OnErr result (has_regexp matchers.now ≡ true) }
 {
     PatternCache::new(alloc).verdict(matchers)
 }

@@ -1,6 +1,6 @@
 use Rattle.std.proofs.Common.{◌∙◌}
-use Rattle.am_matcher.proofs.Judgements.{match_all-first, all_sound-first, any_broken-first, any_broken-later}
-use Rattle.am_matcher.proofs.HandedOn.{handed_on}
+use Rattle.am_matcher.proofs.Judgements.{match_all-first, all_sound-first, any_broken-first, any_broken-later, has_regexp-first, has_regexp-later}
+use Rattle.am_matcher.proofs.HandedOn.{handed_on, on_err}
 use Rattle.am_matcher.proofs.Uses.{first_passes, others_pass}
 use Rattle.am_matcher.proofs.judged.judge_all.Goals as goal
 
@@ -14,6 +14,7 @@ loop-matcher-preserved c =
           ∙ before.answer;
       sound = λ rest. before.sound (all_sound-first first judged.sound rest);
       broken = λ rest. before.broken (any_broken-later first rest);
+      failed = λ found. before.failed (has_regexp-later first found);
       same = λ no. judged.same no ∙ before.same no;
       rest = λ test pass. others_pass first test (before.rest test pass);
       kept = λ test pass old. judged.kept test (first_passes first test (before.rest test pass)) (before.kept test pass old);
@@ -23,6 +24,11 @@ pub returns-in_err-matches-clause-broken : goal.returns-in_err-matches-clause-br
 returns-in_err-matches-clause-broken c bad =
     c.loop-matcher.invariant.broken
     (any_broken-first c.in-Some.ensures.steps (c.in_err-matches.ensures.broken (handed_on c.from_residual.result c.in_err-matches.field-0.0 _ c.from_residual.ensures.1 bad)))
+
+pub returns-in_err-matches-clause-failed : goal.returns-in_err-matches-clause-failed
+returns-in_err-matches-clause-failed c =
+    on_err c.from_residual.result
+    (c.loop-matcher.invariant.failed (has_regexp-first c.in-Some.ensures.steps c.in_err-matches.ensures.failed))
 
 pub returns-in_err-matches-clause-same : goal.returns-in_err-matches-clause-same
 returns-in_err-matches-clause-same c = λ no. c.in_err-matches.ensures.same no ∙ c.loop-matcher.invariant.same no
