@@ -12,8 +12,8 @@ use am_nflog::MeshEntry;
 use am_silence::MeshSilence;
 use am_snapshot::laws::what_is_saved_is_loaded;
 use am_snapshot::{FoldError, SnapshotError, fold, load, save, take_row};
+use am_told::{show_log, show_silences};
 use am_version_order::{Moment, Version};
-use am_view::{show_log, show_silences};
 use am_wire::Message;
 use std::alloc::Global;
 

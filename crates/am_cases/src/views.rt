@@ -5,7 +5,7 @@ use am_case_words::texts::{spelled, unescaped};
 use am_case_words::words::number;
 use am_nflog::HashIter;
 use am_schedule::{FaultKind, Schedule, parse};
-use am_view::{ListedWord, Numbers, Texts, Word};
+use am_told::{ListedWord, Numbers, Texts, Word};
 use am_wire::Text;
 
 /// `word TEXT`: a text as a word, and as a word of a list.

@@ -22,8 +22,8 @@ use Rattle.am_instance.specs.Stands.{Stand}
 use Rattle.am_instance.specs.Steps.{brought, delivers, fault_of}
 use Rattle.am_instance.specs.OneStep.{IsStep}
 use Rattle.am_runs.specs.declared.step.Source.{Source}
-use Rattle.am_record.specs.Contents.{IsValue}
-use Rattle.am_record.specs.Recorded.{AreInFlight, AreValues}
+use Rattle.am_steps.specs.Contents.{IsValue}
+use Rattle.am_steps.specs.Recorded.{AreInFlight, AreValues}
 use Rattle.am_cluster.specs.declared.error.ClusterError.{ClusterError}
 use Rattle.am_cluster.specs.declared.recording.Kind.TheVariants as kinds
 use Rattle.am_cluster.specs.Events.{IsTold, drops}

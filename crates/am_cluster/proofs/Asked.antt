@@ -7,14 +7,14 @@ use Rattle.am_nflog.specs.Mesh.{mesh_version as entry_version}
 use Rattle.am_instance.specs.Configs.{Settings}
 use Rattle.am_instance.specs.Deliveries.{Delivery}
 use Rattle.am_instance.specs.Deliveries.Delivery.{OfSilence, OfEntry}
-use Rattle.am_record.specs.Contents.{silences_in, entries_in}
+use Rattle.am_steps.specs.Contents.{silences_in, entries_in}
 use Rattle.am_schedule.specs.declared.step.Event.{Event as LineEvent}
 use Rattle.am_schedule.specs.declared.step.Event.TheVariants as lines
 use Rattle.am_schedule.specs.declared.step.Versions.{Versions}
-use Rattle.am_line_events.specs.declared.asked.Asked.{Asked}
-use Rattle.am_line_events.specs.Events.{Brings, IsSentBefore, asked_by, brought_by, from, pull}
-use Rattle.am_line_events.specs.Places.{place_named}
-use Rattle.am_line_events.specs.Versions.{sent_at, updated, versions_of}
+use Rattle.am_steps.specs.declared.asked.Asked.{Asked}
+use Rattle.am_steps.specs.Events.{Brings, IsSentBefore, asked_by, brought_by, from, pull}
+use Rattle.am_steps.specs.Places.{place_named}
+use Rattle.am_steps.specs.Versions.{sent_at, updated, versions_of}
 use Rattle.am_cluster.specs.Steps.{Fits}
 
 -- what holds of all deliveries holds of those of a state

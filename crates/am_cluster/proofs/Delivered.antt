@@ -8,7 +8,7 @@ use Rattle.am_instance.specs.declared.event.Event.TheVariants as events
 use Rattle.am_instance.specs.declared.reply.Reply.{Reply}
 use Rattle.am_runs.specs.declared.step.Source.TheVariants.{Arrived}
 use Rattle.am_runs.specs.Steps.{flights_of}
-use Rattle.am_record.specs.Contents.{carries, silences_in, entries_in}
+use Rattle.am_steps.specs.Contents.{carries, silences_in, entries_in}
 use Rattle.am_cluster.specs.declared.delivering.Arrival.{Arrival}
 use Rattle.am_cluster.specs.declared.error.ClusterError.{ClusterError}
 use Rattle.am_cluster.specs.declared.flight.Flight.{Flight}

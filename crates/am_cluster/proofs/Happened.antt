@@ -28,11 +28,11 @@ use Rattle.am_runs.specs.Steps.{Step, flights_of, is_at}
 use Rattle.am_runs.specs.Steps.Step.{Took, Ticked}
 use Rattle.am_runs.specs.Members.{Member, stepped, member_of, map_of}
 use Rattle.am_runs.proofs.Pasts.{member_of-push}
-use Rattle.am_record.specs.Contents.{carries, silences_in, entries_in}
-use Rattle.am_record.specs.Recorded.{AreInFlight, HasGoneThrough, event_step, flights_in, sent_in}
-use Rattle.am_record.proofs.Going.{member_goes_on, own_member}
-use Rattle.am_record.proofs.Lending.{all_fly}
-use Rattle.am_record.proofs.States.{log_state, silences_state}
+use Rattle.am_steps.specs.Contents.{carries, silences_in, entries_in}
+use Rattle.am_steps.specs.Recorded.{AreInFlight, HasGoneThrough, event_step, flights_in, sent_in}
+use Rattle.am_steps.proofs.Going.{member_goes_on, own_member}
+use Rattle.am_steps.proofs.Lending.{all_fly}
+use Rattle.am_steps.proofs.States.{log_state, silences_state}
 use Rattle.am_cluster.specs.declared.flight.Flight.{Flight}
 use Rattle.am_cluster.specs.Worlds.{Replica, World, replica_at, sent_on, with_replica, written}
 use Rattle.am_cluster.specs.Events.{with_stand}

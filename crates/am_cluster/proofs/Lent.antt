@@ -12,8 +12,8 @@ use Rattle.am_instance.specs.Stands.{Stand, kept_silences, kept_log}
 use Rattle.am_runs.specs.declared.step.Source.TheVariants.{Lent}
 use Rattle.am_runs.specs.Members.{member_of}
 use Rattle.am_runs.specs.Runs.{AreFrom}
-use Rattle.am_record.specs.Contents.{carries, silences_in, entries_in}
-use Rattle.am_record.specs.Recorded.{HasGoneThrough}
+use Rattle.am_steps.specs.Contents.{carries, silences_in, entries_in}
+use Rattle.am_steps.specs.Recorded.{HasGoneThrough}
 use Rattle.am_cluster.specs.Worlds.{Replica, World, replica_at}
 use Rattle.am_cluster.specs.Lives.{OfMember}
 use Rattle.am_cluster.specs.Settling.{CanLend}

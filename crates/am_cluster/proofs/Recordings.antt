@@ -13,9 +13,9 @@ use Rattle.am_instance.specs.Deliveries.Delivery.{OfSilence, OfEntry}
 use Rattle.am_instance.specs.Replies.{IsNothing, listed}
 use Rattle.am_instance.specs.Steps.{brought, collects, delivers, made_here}
 use Rattle.am_runs.specs.Steps.Step.{Took, Ticked}
-use Rattle.am_record.specs.Contents.{delivery_of, silences_in, entries_in}
-use Rattle.am_record.specs.declared.carried.version.Carried.{Carried}
-use Rattle.am_record.specs.Recorded.{AreInFlight, sent_in}
+use Rattle.am_steps.specs.Contents.{delivery_of, silences_in, entries_in}
+use Rattle.am_steps.specs.declared.carried.version.Carried.{Carried}
+use Rattle.am_steps.specs.Recorded.{AreInFlight, sent_in}
 use Rattle.am_cluster.specs.Accounts.{Account}
 use Rattle.am_cluster.specs.Reports.{IsPossibleForSilences, IsPossibleForLog}
 use Rattle.am_cluster.specs.declared.recording.Kind.{Kind}

@@ -37,10 +37,10 @@ use Rattle.am_instance.specs.Deliveries.Delivery.{OfEntry, OfSilence}
 use Rattle.am_instance.specs.OneStep.{IsStep}
 use Rattle.am_instance.specs.Stands.{Stand}
 use Rattle.am_instance.specs.Steps.{AreSwept, brought, delivers}
-use Rattle.am_record.specs.Contents.{IsReadable, entries_in, held_in, silences_in}
-use Rattle.am_record.proofs.Again.{entries_parted, silences_parted, whole_carries}
-use Rattle.am_record.proofs.Making.{frame_makes_nothing}
-use Rattle.am_record.proofs.States.{log_state, silences_state, takings}
+use Rattle.am_steps.specs.Contents.{IsReadable, entries_in, held_in, silences_in}
+use Rattle.am_steps.proofs.Again.{entries_parted, silences_parted, whole_carries}
+use Rattle.am_steps.proofs.Making.{frame_makes_nothing}
+use Rattle.am_steps.proofs.States.{log_state, silences_state, takings}
 use Rattle.am_runs.specs.declared.step.Source.{Source}
 use Rattle.am_runs.specs.declared.step.Source.TheVariants.{Lent, Made}
 use Rattle.am_runs.specs.Settles.{join_of}

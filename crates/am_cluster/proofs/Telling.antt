@@ -14,8 +14,8 @@ use Rattle.am_instance.specs.Steps.{fault_of}
 use Rattle.am_runs.specs.declared.step.Source.{Source}
 use Rattle.am_runs.specs.Steps.{Step, flights_of}
 use Rattle.am_runs.specs.Steps.Step.{Refused}
-use Rattle.am_record.specs.Contents.{silences_in, entries_in}
-use Rattle.am_record.specs.Recorded.{HasSource, event_step}
+use Rattle.am_steps.specs.Contents.{silences_in, entries_in}
+use Rattle.am_steps.specs.Recorded.{HasSource, event_step}
 use Rattle.am_cluster.specs.Accounts.{Account}
 use Rattle.am_cluster.specs.Twins.{AreTwins}
 use Rattle.am_cluster.proofs.Twinned.{twin_flights}

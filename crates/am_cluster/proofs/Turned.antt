@@ -15,7 +15,7 @@ use Rattle.am_instance.specs.Deliveries.{Delivery, events_at, to_silences}
 use Rattle.am_instance.specs.Stands.{Stand}
 use Rattle.am_instance.specs.Steps.{collects, delivers, knows_peer, peer_of}
 use Rattle.am_instance.specs.OneStep.{IsStep}
-use Rattle.am_record.proofs.States.{last_arrivals}
+use Rattle.am_steps.proofs.States.{last_arrivals}
 use Rattle.am_runs.specs.declared.step.Source.{Source}
 use Rattle.am_runs.specs.declared.step.Source.TheVariants.{Lent, Made}
 use Rattle.am_cluster.specs.declared.error.ClusterError.{ClusterError}

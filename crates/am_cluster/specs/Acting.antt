@@ -14,8 +14,8 @@ use Rattle.am_instance.specs.Stands.{Stand, kept_log, kept_silences}
 use Rattle.am_instance.specs.Steps.{fault_of}
 use Rattle.am_instance.specs.OneStep.{IsStep}
 use Rattle.am_runs.specs.Members.{member_of}
-use Rattle.am_record.specs.Contents.{entries_in, silences_in}
-use Rattle.am_record.specs.Recorded.{HasGoneThrough, HasSource}
+use Rattle.am_steps.specs.Contents.{entries_in, silences_in}
+use Rattle.am_steps.specs.Recorded.{HasGoneThrough, HasSource}
 use Rattle.am_cluster.specs.Accounts.{Account}
 use Rattle.am_cluster.specs.declared.error.ClusterError.{ClusterError}
 use Rattle.am_cluster.specs.declared.flight.Flight.{Flight}

@@ -11,8 +11,8 @@ use Rattle.am_instance.specs.OneStep.{IsStep}
 use Rattle.am_runs.specs.declared.step.Source.{Source}
 use Rattle.am_runs.specs.declared.step.Source.TheVariants.{Lent}
 use Rattle.am_runs.specs.Steps.Step.{Refused}
-use Rattle.am_record.specs.Contents.{silences_in, entries_in}
-use Rattle.am_record.specs.Recorded.{event_step}
+use Rattle.am_steps.specs.Contents.{silences_in, entries_in}
+use Rattle.am_steps.specs.Recorded.{event_step}
 use Rattle.am_cluster.specs.declared.error.ClusterError.{ClusterError}
 use Rattle.am_cluster.specs.declared.error.ClusterError.TheVariants as errors
 use Rattle.am_cluster.specs.Worlds.{Replica, World, with_flights, with_replica, written}

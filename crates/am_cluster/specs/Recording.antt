@@ -11,10 +11,10 @@ use Rattle.am_instance.specs.declared.reply.Reply.{Reply}
 use Rattle.am_instance.specs.Replies.{IsNothing}
 use Rattle.am_instance.specs.Steps.{brought, collects, delivers}
 use Rattle.am_runs.specs.Steps.{flights_of}
-use Rattle.am_record.specs.Contents.{delivery_of, silences_in, entries_in}
-use Rattle.am_record.specs.declared.carried.version.Carried.{Carried}
-use Rattle.am_record.specs.States.{Sorted}
-use Rattle.am_record.specs.Recorded.{AreInFlight, event_step}
+use Rattle.am_steps.specs.Contents.{delivery_of, silences_in, entries_in}
+use Rattle.am_steps.specs.declared.carried.version.Carried.{Carried}
+use Rattle.am_steps.specs.States.{Sorted}
+use Rattle.am_steps.specs.Recorded.{AreInFlight, event_step}
 use Rattle.am_cluster.specs.Accounts.{Account}
 use Rattle.am_cluster.specs.Reports.{IsPossibleForSilences, IsPossibleForLog}
 use Rattle.am_cluster.specs.declared.error.ClusterError.{ClusterError}

@@ -12,7 +12,7 @@ use Rattle.am_instance.specs.Laws.{HasMaps}
 use Rattle.am_instance.specs.Stands.{Stand, entry_at, log_in_view, silence_at, silences_in_view}
 use Rattle.am_snapshot.specs.Texts.{row_text}
 use Rattle.am_wire.specs.Limits.{most}
-use Rattle.am_record.specs.Contents.{IsReadable}
+use Rattle.am_steps.specs.Contents.{IsReadable}
 use Rattle.am_silence.specs.Mesh.{Mesh, mesh_version}
 use Rattle.am_nflog.specs.Mesh.{Mesh as LogMesh, mesh_version as entry_version}
 use Rattle.am_nflog.specs.LogKeys.{LogKey}

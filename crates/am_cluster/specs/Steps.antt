@@ -6,8 +6,8 @@ use Rattle.am_silence.specs.Mesh.{Mesh, mesh_version}
 use Rattle.am_nflog.specs.Mesh.{Mesh as LogMesh, mesh_version as entry_version}
 use Rattle.am_nflog.specs.Keys.{key_cmp}
 use Rattle.am_runs.specs.Steps.{Step}
-use Rattle.am_record.specs.Contents.{silences_in, entries_in}
-use Rattle.am_record.specs.Recorded.{HasSource}
+use Rattle.am_steps.specs.Contents.{silences_in, entries_in}
+use Rattle.am_steps.specs.Recorded.{HasSource}
 use Rattle.am_schedule.specs.declared.step.Action.{Action}
 use Rattle.am_schedule.specs.declared.step.Action.TheVariants as actions
 use Rattle.am_schedule.specs.declared.step.Event.{Event}
@@ -15,10 +15,10 @@ use Rattle.am_instance.specs.declared.event.Event.TheVariants as events
 use Rattle.am_instance.specs.declared.reply.Reply.{Reply}
 use Rattle.am_instance.specs.declared.reply.Reply.TheVariants.{Nothing}
 use Rattle.am_runs.specs.declared.step.Source.TheVariants.{Made}
-use Rattle.am_line_events.specs.declared.asked.Asked.{Asked}
-use Rattle.am_line_events.specs.declared.asked.Asked.TheVariants as asked
-use Rattle.am_line_events.specs.Events.{asked_by}
-use Rattle.am_line_events.specs.Places.{place_named}
+use Rattle.am_steps.specs.declared.asked.Asked.{Asked}
+use Rattle.am_steps.specs.declared.asked.Asked.TheVariants as asked
+use Rattle.am_steps.specs.Events.{asked_by}
+use Rattle.am_steps.specs.Places.{place_named}
 use Rattle.am_cluster.specs.declared.error.ClusterError.{ClusterError}
 use Rattle.am_cluster.specs.declared.error.ClusterError.TheVariants as errors
 use Rattle.am_cluster.specs.Delivering.{IsDelivery, IsRefused}

@@ -16,8 +16,8 @@ use Rattle.am_instance.specs.Stands.{kept_silences, kept_log}
 use Rattle.am_instance.specs.Deliveries.{first_fault, rows_in, parts_of}
 use Rattle.am_runs.specs.Steps.{flights_of}
 use Rattle.am_runs.specs.Members.{Member, member_of, map_of}
-use Rattle.am_record.specs.Recorded.{HasGoneThrough}
-use Rattle.am_record.specs.Contents.{carries, silences_in, entries_in}
+use Rattle.am_steps.specs.Recorded.{HasGoneThrough}
+use Rattle.am_steps.specs.Contents.{carries, silences_in, entries_in}
 use Rattle.am_cluster.specs.declared.flight.Flight.{Flight}
 use Rattle.am_cluster.specs.Worlds.{Replica, World, replica_at}
 

@@ -5,8 +5,8 @@ use Rattle.am_nflog.specs.Mesh.{Mesh as LogMesh}
 use Rattle.am_gossip.specs.declared.frame.Frame.{Frame}
 use Rattle.am_runs.specs.Steps.{Step, flights_of}
 use Rattle.am_runs.specs.Steps.Step.{Took}
-use Rattle.am_record.specs.Contents.{silences_in, entries_in}
-use Rattle.am_record.specs.Recorded.{sent_in}
+use Rattle.am_steps.specs.Contents.{silences_in, entries_in}
+use Rattle.am_steps.specs.Recorded.{sent_in}
 use Rattle.am_cluster.specs.Accounts.{Account}
 use Rattle.am_cluster.specs.Reports.{IsPossibleForSilences, IsPossibleForLog}
 use Rattle.am_cluster.specs.declared.sending.Sent.{Sent}

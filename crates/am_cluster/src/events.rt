@@ -10,8 +10,8 @@ ghost use Rattle.am_instance.specs.Configs.{Settings};
 ghost use Rattle.am_instance.specs.Laws.{HasMaps};
 ghost use Rattle.am_instance.specs.OneStep.{IsStep};
 ghost use Rattle.am_instance.specs.Steps.{brought, fault_of};
-ghost use Rattle.am_record.specs.Contents.{IsValue, delivery_of, entries_in, silences_in};
-ghost use Rattle.am_record.specs.Recorded.{HasSource};
+ghost use Rattle.am_steps.specs.Contents.{IsValue, delivery_of, entries_in, silences_in};
+ghost use Rattle.am_steps.specs.Recorded.{HasSource};
 ghost use Rattle.am_cluster.specs.Acting.{CanAct, HasActed};
 ghost use Rattle.am_cluster.specs.Events.{IsEvent};
 ghost use Rattle.am_cluster.specs.Lives.{OfMember};
@@ -24,12 +24,12 @@ use crate::journal::{Journal, Mark};
 use crate::recording::{Coming, kind_of, write_answer};
 use crate::writing::Entry;
 use am_instance::{Event, Instance, Outcome, Reply, StepError};
-use am_record::carried::{ByState, Carried, carried_by};
-use am_record::laws::{
+use am_runs::Source;
+use am_steps::carried::{ByState, Carried, carried_by};
+use am_steps::laws::{
     collecting_leaves_nothing_out, few_are_made, sent_frames_are_sound, steps_are_possible,
     values_are_delivered,
 };
-use am_runs::Source;
 use am_version_order::{Moment, Version, versions_are_values};
 use std::alloc::{AllocError, Global};
 

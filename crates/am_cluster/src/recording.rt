@@ -1,7 +1,7 @@
 //! How the answer of an instance is written down.
 
 ghost use Rattle.std.specs.Prelude.{◌≡◌, ◌≤◌, ◌++◌, ℕ, List, [], false, length, map, take, Ok, Err, OnErr, OnOk};
-ghost use Rattle.am_record.specs.Contents.{delivery_of, entries_in, silences_in};
+ghost use Rattle.am_steps.specs.Contents.{delivery_of, entries_in, silences_in};
 ghost use Rattle.am_instance.specs.declared.event.Event.{Event as Happening};
 ghost use Rattle.am_instance.specs.Replies.{IsNothing, listed};
 ghost use Rattle.am_instance.specs.Steps.{collects, made_here};
@@ -20,8 +20,8 @@ use crate::writing::{Delivered, Entry, write_event, write_silent};
 use am_gossip::Frame;
 use am_instance::{Event, Made, Outcome, Place, Reply, StepError, Unsent};
 use am_nflog::MeshEntry;
-use am_record::carried::{ByState, Carried};
 use am_runs::Source;
+use am_steps::carried::{ByState, Carried};
 use std::alloc::{AllocError, Global};
 
 /// What an event has to do with versions.

@@ -1,16 +1,16 @@
 //! Frames that a step sends, as they are written down and as they fly.
 
 ghost use Rattle.std.specs.Prelude.{◌≡◌, ◌+◌, ◌-◌, ◌++◌, ◌≤◌, map, length, vec_capacity, vec_len, IfOk};
-ghost use Rattle.am_record.specs.Contents.{carries, entries_in, silences_in};
-ghost use Rattle.am_record.specs.Recorded.{sent_in};
+ghost use Rattle.am_steps.specs.Contents.{carries, entries_in, silences_in};
+ghost use Rattle.am_steps.specs.Recorded.{sent_in};
 ghost use Rattle.am_cluster.specs.Worlds.{sent_on};
 
 use crate::flight::Flight;
 use am_gossip::Frame;
 use am_instance::Place;
 use am_nflog::MeshEntry;
-use am_record::carried::{ByState, carried_by};
 use am_silence::MeshSilence;
+use am_steps::carried::{ByState, carried_by};
 use am_version_order::Moment;
 use std::alloc::{AllocError, Global};
 

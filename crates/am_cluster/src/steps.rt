@@ -1,16 +1,16 @@
 //! The steps of a schedule.
 
 ghost use Rattle.std.specs.Prelude.{◌≡◌, ◌<◌, IfOk, IfSome, length};
-ghost use Rattle.am_line_events.specs.Events.{IsSound, asked_by};
+ghost use Rattle.am_steps.specs.Events.{IsSound, asked_by};
 ghost use Rattle.am_cluster.specs.Lives.{OfMember};
 ghost use Rattle.am_cluster.specs.Steps.{Fits, IsDone, IsStepped, place_in, quiet};
 
 use crate::cluster::Cluster;
 use crate::error::ClusterError;
 use am_instance::{Config, Event, Reply};
-use am_line_events::{Asked, place_named, to_event};
 use am_runs::Source;
 use am_schedule::{Action, Event as LineEvent, Step};
+use am_steps::{Asked, place_named, to_event};
 use am_version_order::Moment;
 use std::alloc::AllocError;
 

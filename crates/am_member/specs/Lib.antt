@@ -1,3 +1,10 @@
+pub mod Replies
+pub mod Requests
+pub mod Shown
+pub mod Outgoing
+pub mod Incoming
+pub mod Hearing
+pub mod Serving
 pub mod Faults
 pub mod Moments
 pub mod Peers

@@ -2,7 +2,7 @@
 
 ghost use Rattle.std.specs.Prelude.{◌≡◌};
 
-use am_connection::SendError;
+use crate::fault::SendError;
 use am_snapshot::SnapshotError;
 use std::io::{self, ErrorKind};
 use thiserror::Error;

@@ -1,8 +1,8 @@
 //! What a server of API v2 replies.
 
+use crate::asking::{ReadError, read_reply, request_text};
 use crate::timed::{Timed, end_after, left_until};
 use am_http::send;
-use am_live::asking::{ReadError, read_reply, request_text};
 use std::alloc::{AllocError, Global};
 use std::io::{self, ErrorKind};
 use std::net::{Ipv4Addr, Ipv6Addr, Net, SocketAddr, TcpStream};

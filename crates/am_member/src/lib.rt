@@ -1,22 +1,42 @@
-//! A member of a cluster on this machine: the moments of its events, its connections over sockets with a limit of
-//! time, what it sends to its peers, and the files of its state.
+//! A member of a cluster on this machine: the moments of its events, what comes of a connection and what a peer sends to
+//! another, over any reader and writer and over sockets with a limit of time, the files of its state, and what it asks a
+//! server of API v2.
 #![tactic(auto)]
 
+pub mod asking;
 mod clock;
+mod ended;
 mod error;
+mod fault;
 mod fetching;
 mod files;
+mod gathered;
+mod greeting;
+mod hearing;
+pub mod laws;
 mod peer;
 mod queue;
+mod reading;
+mod reply;
 mod sending;
+mod serving;
+mod shown;
+mod steps;
 mod timed;
 mod turns;
+mod writing;
 
 pub use clock::{later_moment, next_moment};
+pub use ended::Ended;
 pub use error::{FileFault, SendFault};
+pub use fault::{Fault, SendError};
 pub use fetching::{FetchFault, Server, fetch, server_of};
 pub use files::{load_file, save_file};
 pub use peer::{Peer, number_within, peer_of, port_of};
 pub use queue::{Parted, part_frames};
+pub use reply::{ReplyError, body_of};
 pub use sending::send_to;
+pub use serving::connection;
+pub use shown::{held_of, shown_of_row};
 pub use turns::{attend, turn};
+pub use writing::send;

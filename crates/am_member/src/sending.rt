@@ -1,11 +1,11 @@
 //! What goes to a peer.
 
 ghost use Rattle.std.specs.Prelude.{◌≡◌, length, IfOk};
-ghost use Rattle.am_connection.specs.Outgoing.{outgoing_text};
+ghost use Rattle.am_member.specs.Outgoing.{outgoing_text};
 
 use crate::error::SendFault;
 use crate::timed::{Timed, end_after, left_until};
-use am_connection::send;
+use crate::writing::send;
 use am_gossip::Frame;
 use std::alloc::Global;
 use std::net::{Ipv4Addr, Net, Shutdown, SocketAddr, TcpStream};

@@ -1,10 +1,11 @@
 //! One connection over a socket.
 
 ghost use Rattle.std.specs.Prelude.{◌≡◌, None, IfOk, OnErr};
-ghost use Rattle.am_connection.specs.Serving.{IsServed};
+ghost use Rattle.am_member.specs.Serving.{IsServed};
 
+use crate::ended::Ended;
+use crate::serving::connection;
 use crate::timed::{Timed, end_after};
-use am_connection::{Ended, connection};
 use am_instance::Instance;
 use am_version_order::Moment;
 use std::alloc::Global;

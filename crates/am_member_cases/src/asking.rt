@@ -7,9 +7,9 @@ use am_case_words::fakes::{Brittle, Pieces};
 use am_case_words::fault::Fault;
 use am_case_words::moments::print_moment;
 use am_case_words::tries::{Answered, Call};
-use am_connection::{Fault as Cause, connection};
 use am_gossip::{Frame, FrameError};
 use am_instance::{Config, Instance, Place, StepError};
+use am_member::{Fault as Cause, connection};
 use am_version_order::Moment;
 use std::alloc::Global;
 

@@ -6,7 +6,7 @@ use am_case_words::fault::Fault;
 use am_case_words::versions::Told;
 use am_case_words::words::{number, parts};
 use am_gossip::Frame;
-use am_record::carried::{ByState, Carried, carried_by};
+use am_steps::carried::{ByState, Carried, carried_by};
 
 /// `carried BYTES` and `carried first COUNT of BYTES`
 pub fn carried(rt: &HostRuntime, rest: &str) -> Result<(), Fault> {

@@ -6,10 +6,10 @@ use am_case_words::matchers::matchers;
 use am_case_words::moments::{moment, seconds};
 use am_case_words::words::{first, number, numbers, parts};
 use am_instance::{Config, Event, Place, Request};
-use am_line_events::place_named;
 use am_matcher::{Filter, FilterError, Label, Labels};
 use am_nflog::Hashes;
 use am_silence::Posted;
+use am_steps::place_named;
 use am_wire::{Bytes, Text};
 use std::alloc::Global;
 

@@ -6,12 +6,12 @@ use am_case_words::moments::{print_moment, say_moment};
 use am_case_words::words::say_bytes;
 use am_gossip::Frame;
 use am_instance::{Config, Event, Request};
-use am_line_events::{Asked, place_named, to_event, version_count};
 use am_matcher::Labels;
 use am_nflog::{Hashes, Receiver};
 use am_runs::Source;
 use am_schedule::{Action, Event as LineEvent, FaultKind, Line, Schedule, parse};
 use am_silence::Posted;
+use am_steps::{Asked, place_named, to_event, version_count};
 use am_wire::Bytes;
 use std::alloc::Global;
 

@@ -6,8 +6,8 @@ use am_case_words::fakes::{Brittle, Pieces};
 use am_case_words::fault::Fault;
 use am_case_words::tries::{Answered, Call, How, how_of, make, writer};
 use am_case_words::words::{cut, say_bytes};
-use am_connection::{SendError, send};
 use am_gossip::Frame;
+use am_member::{SendError, send};
 use std::alloc::Global;
 
 /// Frames that go out behind the greeting of a name.

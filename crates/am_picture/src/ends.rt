@@ -4,8 +4,8 @@ use crate::lanes::runs_at_end;
 use crate::layout::{edge_of, lane_of};
 use crate::sheet::{Sheet, append_text, append_title};
 use am_instance::{Instance, Place};
+use am_told::append_view;
 use am_version_order::Moment;
-use am_view::append_view;
 use std::alloc::AllocError;
 
 /// How far to the right of the last step it stands.

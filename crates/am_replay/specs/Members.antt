@@ -1,7 +1,7 @@
 -- The members of a cluster by their names and places.
 use Rattle.std.specs.Prelude.{ℕ, List, [], Option, Some, None, slice_get, option_map, unwrap_or}
 use Rattle.am_instance.specs.Stands.{Stand}
-use Rattle.am_line_events.specs.Places.{place_named}
+use Rattle.am_steps.specs.Places.{place_named}
 use Rattle.am_cluster.specs.Worlds.{World, replica_at}
 
 -- where the instance of the member at a place stands

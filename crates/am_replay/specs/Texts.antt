@@ -16,7 +16,7 @@ use Rattle.am_cluster.specs.declared.error.SettleError.{SettleError}
 use Rattle.am_cluster.specs.declared.error.SettleError.TheVariants as settle_errors
 use Rattle.am_cluster.specs.declared.flight.Flight.{Flight}
 use Rattle.am_cluster.specs.Worlds.{World}
-use Rattle.am_view.specs.Views.{view_text}
+use Rattle.am_told.specs.Views.{view_text}
 use Rattle.am_replay.specs.declared.line.Line.{Line}
 use Rattle.am_replay.specs.declared.line.Line.TheVariants as lines
 use Rattle.am_replay.specs.declared.refusal.Refusal.{Refusal}

@@ -17,7 +17,7 @@ mod replies;
 mod reports;
 
 pub use am_cluster::{CalmReport, Cluster, ClusterError, Flight, SettleError};
-pub use am_view::write_view;
+pub use am_told::write_view;
 pub use error::ReplayError;
 pub use input::read_input;
 pub use line::{Line, append_line};

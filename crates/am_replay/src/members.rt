@@ -6,7 +6,7 @@ ghost use Rattle.am_replay.specs.Members.{name_at, stand_named};
 
 use am_cluster::Cluster;
 use am_instance::{Config, Instance, Place};
-use am_line_events::place_named;
+use am_steps::place_named;
 
 /// The name that a configuration has for the member at a place, which there is.
 fn name_in(config: &Config, place: Place) -> &str

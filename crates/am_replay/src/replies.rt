@@ -14,8 +14,8 @@ use am_cluster::{Cluster, ClusterError};
 use am_instance::Reply;
 use am_matcher::Mutes;
 use am_schedule::{Action, Event};
+use am_told::append_view;
 use am_version_order::Moment;
-use am_view::append_view;
 use std::alloc::AllocError;
 
 /// Appends what the member of a name shows.

@@ -6,7 +6,7 @@ use Rattle.am_merge.specs.Maps.{at, if_live}
 use Rattle.am_merge.specs.Views.{IsViewAt}
 use Rattle.am_collect.specs.Kept.{Kept}
 use Rattle.am_runs.specs.Members.{Member, last_of, map_of, set_of}
-use Rattle.am_record.specs.Recorded.{HasGoneThrough}
+use Rattle.am_steps.specs.Recorded.{HasGoneThrough}
 
 module _ {K X : Type 0} (seen : X → Version K) (cmp : K → K → Ordering) where
   -- what is shown of a past is shown of the map that the past leaves

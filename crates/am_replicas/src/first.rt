@@ -10,7 +10,7 @@ ghost use Rattle.am_runs.specs.Steps.{Step, delivered_in, moment};
 ghost use Rattle.am_runs.specs.Members.{member_of, set_of};
 ghost use Rattle.am_runs.specs.Runs.{IsRun};
 ghost use Rattle.am_runs.specs.Timely.{IsTimely};
-ghost use Rattle.am_record.specs.Recorded.{HasGoneThrough};
+ghost use Rattle.am_steps.specs.Recorded.{HasGoneThrough};
 ghost use Rattle.am_instance.specs.Stands.{Stand, kept_log};
 ghost use Rattle.am_instance.specs.declared.event.Event.{Event};
 ghost use Rattle.am_instance.specs.declared.reply.Made.{Made};

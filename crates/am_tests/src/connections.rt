@@ -1,10 +1,9 @@
 //! Connections over sockets of this process: the system keeps what was written to one until the other end reads it.
 
 use crate::members::{PEER, at, instance};
-use am_connection::Fault;
 use am_gossip::Frame;
 use am_instance::Instance;
-use am_member::{SendFault, send_to, turn};
+use am_member::{Fault, SendFault, send_to, turn};
 use std::io::{self, Read, Write};
 use std::net::{Ipv4Addr, TcpListener, TcpStream};
 use std::time::Duration;

@@ -1,8 +1,8 @@
 //! Connections of 134,217,728 bytes, as many as one may have, and of more.
 
 use crate::members::{PEER, at, instance};
-use am_connection::{Fault, connection};
 use am_instance::Instance;
+use am_member::{Fault, connection};
 use std::alloc::{AllocError, Global};
 use std::io::{self, Read};
 

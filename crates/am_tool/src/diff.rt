@@ -3,16 +3,16 @@
 use crate::fault::{self, Fault, InputFault, SourceFault, snapshot_error};
 use crate::status;
 use crate::words::{DiffJob, Form, STANDARD_INPUT, SourceWord, StateName};
-use am_diff::{Compared, Replica};
-use am_diff_lines::{DiffError, Input, diff_rows, write_differences};
-use am_live::{body_of, held_of, shown_of_row};
-use am_member::{FileFault, Server, fetch, later_moment};
+use am_member::{FileFault, Server, body_of, fetch, held_of, later_moment, shown_of_row};
 use am_merge::Held;
 use am_nflog::MeshEntry;
 use am_silence::MeshSilence;
 use am_silence_json::read_silences;
 use am_snapshot::SnapshotError;
-use am_told_json::{diff_json, write_differences_json};
+use am_told::{
+    Compared, DiffError, Input, Replica, diff_json, diff_rows, write_differences,
+    write_differences_json,
+};
 use am_version_order::Moment;
 use std::fs::{self, File};
 use std::io::{self, BufReader, Read, Stdin};

@@ -3,16 +3,14 @@
 mod lines;
 
 use crate::status;
-use am_connection::Fault as ConnectionFault;
 use am_instance::ConfigError;
-use am_live::ReplyError;
-use am_live::asking::ReadError;
-use am_member::{FetchFault, FileFault, SendFault};
+use am_member::asking::ReadError;
+use am_member::{Fault as ConnectionFault, FetchFault, FileFault, ReplyError, SendFault};
 use am_picture::PictureError;
 use am_replay::ReplayError;
 use am_silence_json::ListError;
 use am_snapshot::{FoldError, SnapshotError};
-use am_view::Word;
+use am_told::Word;
 use std::fmt;
 use std::io::ErrorKind;
 

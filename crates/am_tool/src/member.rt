@@ -4,10 +4,9 @@ mod start;
 mod started;
 
 use crate::fault::{self, Fault};
-use am_connection::Ended;
 use am_gossip::Frame;
 use am_instance::{Instance, Place, Unsent};
-use am_member::{Parted, attend, next_moment, part_frames, save_file, send_to};
+use am_member::{Ended, Parted, attend, next_moment, part_frames, save_file, send_to};
 use rand::rngs::StdRng;
 use rand_core::Rng;
 pub use start::run;

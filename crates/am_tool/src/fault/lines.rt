@@ -1,12 +1,10 @@
 //! Faults of the libraries, as their names and numbers.
 
 use super::InputFault;
-use am_connection::{Fault, SendError};
 use am_gossip::FrameError;
 use am_instance::{ConfigError, StepError};
-use am_live::ReplyError;
-use am_live::asking::ReadError;
-use am_member::{FetchFault, FileFault, SendFault};
+use am_member::asking::ReadError;
+use am_member::{Fault, FetchFault, FileFault, ReplyError, SendError, SendFault};
 use am_replay::ReplayError;
 use am_schedule::FaultKind;
 use am_silence_json::ListError;

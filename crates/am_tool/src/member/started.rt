@@ -1,7 +1,7 @@
 //! What is printed of a member that has started.
 
 use crate::words::Options;
-use am_view::Word;
+use am_told::Word;
 use std::fmt;
 
 /// A member that listens, and how many versions it has loaded.

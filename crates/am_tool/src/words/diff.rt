@@ -5,8 +5,8 @@ use super::{
     BAD_NOW, Form, StateName, WordsError, form_of, json_flag, mistake, moment_of, now_flag,
     state_flag, state_of,
 };
-use am_diff::Compared;
 use am_member::{Server, server_of};
+use am_told::Compared;
 use am_version_order::Moment;
 use clap::{Arg, ArgAction, ArgMatches, Command};
 use std::alloc::{AllocError, Global};

@@ -1,6 +1,6 @@
 use Rattle.std.proofs.Common.{◌≡◌, map, take}
-use Rattle.am_record.specs.Contents.{entries_in, silences_in}
-use Rattle.am_record.specs.Recorded.{sent_in}
+use Rattle.am_steps.specs.Contents.{entries_in, silences_in}
+use Rattle.am_steps.specs.Recorded.{sent_in}
 use Rattle.am_cluster.proofs.sending.sent_in.Given as goal
 
 abbrev pub invariant-loop-frame : goal.invariant-loop-frame

@@ -5,8 +5,8 @@ use Rattle.std.specs.Cmp.Lexicographic.{slice_cmp}
 use Rattle.am_silence.specs.Mesh.{mesh_version}
 use Rattle.am_nflog.specs.Mesh.{mesh_version as entry_version}
 use Rattle.am_nflog.specs.Keys.{key_cmp}
-use Rattle.am_record.specs.Contents.{silences_in, entries_in}
-use Rattle.am_record.specs.Recorded.{HasSource}
+use Rattle.am_steps.specs.Contents.{silences_in, entries_in}
+use Rattle.am_steps.specs.Recorded.{HasSource}
 use Rattle.am_runs.specs.Steps.Step.{Refused}
 use Rattle.am_cluster.specs.Ties.{IsWorld}
 use Rattle.am_cluster.proofs.Goes.{goes_on_idle}

@@ -1,4 +1,0 @@
-pub mod Making
-pub mod Listening
-pub mod Greeted
-pub mod Names

@@ -1,4 +1,0 @@
-pub mod Outgoing
-pub mod Incoming
-pub mod Hearing
-pub mod Serving

@@ -1,4 +1,0 @@
-pub mod Sources
-pub mod Differences
-pub mod Groups
-pub mod Walks

@@ -1,4 +1,0 @@
-pub mod Places
-pub mod Versions
-pub mod Events
-pub mod Laws

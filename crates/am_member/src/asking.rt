@@ -1,0 +1,63 @@
+//! Asking a server for its silences, over any reader and writer.
+
+ghost use Rattle.std.specs.Prelude.{◌≡◌, ◌<◌, ◌≤◌, ℕ, List, length, IfOk, IfErr, IfSome, IsErrOf, OnOk};
+ghost use Rattle.am_member.specs.Requests.{request_text, most_reply};
+ghost use Rattle.am_member.specs.declared.asking.ReadError.TheVariants as errors;
+
+use std::alloc::{AllocError, Global};
+use std::io::{ErrorKind, Read};
+use thiserror::Error;
+
+/// The most bytes of a reply: a head, and a list of 67,108,864 bytes.
+pub const MOST_REPLY_BYTES: usize = 67_125_248;
+
+/// Why a reply was not read whole.
+#[derive(Clone, Copy, Debug, PartialEq, Eq, Error)]
+pub enum ReadError {
+    #[error("a read failed after {at} bytes")]
+    Read { at: usize },
+    #[error("more than 67,125,248 bytes")]
+    TooLarge,
+    #[error("out of memory")]
+    Memory,
+}
+
+/// The request for all silences, of a server at this host and port. It is of HTTP/1.0 (RFC 1945), so that no reply comes in
+/// chunks, and the server closes the connection behind its reply.
+///
+/// # Errors
+///
+/// [`AllocError`] where memory runs out.
+pub fn request_text(alloc: Global, host: &str) -> Result<Vec<u8>, AllocError>
+    ensures { IfOk result (λ text. text.items ≡ request_text host.now) }
+{
+    let mut text = Vec::new(alloc);
+    text.extend_from_slice(b"GET /api/v2/silences HTTP/1.0\r\nHost: ")?;
+    text.extend_from_slice(host.as_bytes())?;
+    text.extend_from_slice(b"\r\nAccept: application/json\r\nConnection: close\r\n\r\n")?;
+    Ok(text)
+}
+
+/// Reads a reply until the server closes the connection.
+///
+/// # Errors
+///
+/// [`ReadError::Read`] where a read fails; [`ReadError::TooLarge`] once byte 67,125,249 came; [`ReadError::Memory`].
+pub fn read_reply<R: Read + Drop>(alloc: Global, reader: R) -> Result<Vec<u8>, ReadError>
+    ensures all { IfOk result (λ reply. IfSome (R.remaining reader) (λ bytes. reply.items ≡ bytes)) }
+    ensures few { IfOk result (λ reply. length reply.items ≤ most_reply) }
+    ensures too_large { IsErrOf result errors.TooLarge → IfSome (R.remaining reader) (λ bytes. most_reply < length bytes) }
+{
+    let mut reply = Vec::new(alloc);
+    let mut limited = reader.take(MOST_REPLY_BYTES as u64 + 1);
+    if let Err(error) = limited.read_to_end(&mut reply) {
+        return Err(match error.kind() {
+            ErrorKind::OutOfMemory => ReadError::Memory,
+            _ => ReadError::Read { at: reply.len() },
+        });
+    }
+    if reply.len() > MOST_REPLY_BYTES {
+        return Err(ReadError::TooLarge);
+    }
+    Ok(reply)
+}

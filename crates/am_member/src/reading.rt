@@ -1,0 +1,44 @@
+//! The bytes of a connection, piece by piece.
+
+ghost use Rattle.std.specs.Prelude.{◌≡◌, ◌<◌, ◌≤◌, length};
+ghost use Rattle.am_member.specs.Incoming.{most_bytes};
+ghost use Rattle.am_member.specs.Hearing.{IsPiece};
+
+use crate::fault::Fault;
+use std::io;
+
+/// The most bytes that a connection gives.
+const MOST_BYTES: u64 = 134_217_728;
+
+/// Reads behind the last byte that a connection may give.
+fn read_past<R: io::Read>(reader: &mut R, piece: &mut [u8]) -> Result<usize, Fault>
+    requires { 0 < length piece.old }
+    ensures { IsPiece most_bytes (R.remaining reader.old) (R.remaining reader.new) piece.new result }
+{
+    match reader.read(&mut piece[..1]) {
+        Ok(0) => Ok(0),
+        Ok(_) => Err(Fault::TooLarge),
+        Err(_) => Err(Fault::Read { at: MOST_BYTES }),
+    }
+}
+
+/// Reads once, behind `count` bytes of a connection: how many bytes stand at the front of the piece then, none at the
+/// end of the input.
+///
+/// # Errors
+///
+/// [`Fault::Read`] where the read fails, and [`Fault::TooLarge`] where byte 134,217,729 came.
+pub fn read_piece<R: io::Read>(reader: &mut R, piece: &mut [u8], count: u64) -> Result<usize, Fault>
+    requires some { 0 < length piece.old }
+    requires within { count ≤ most_bytes }
+    ensures { IsPiece count (R.remaining reader.old) (R.remaining reader.new) piece.new result }
+{
+    let room = (MOST_BYTES - count).min(piece.len() as u64) as usize;
+    if room == 0 {
+        return read_past(reader, piece);
+    }
+    match reader.read(&mut piece[..room]) {
+        Ok(count) => Ok(count),
+        Err(_) => Err(Fault::Read { at: count }),
+    }
+}

@@ -1,0 +1,148 @@
+-- Which versions are in the frames that a step sent.
+use Rattle.std.proofs.Common.{◌≡◌, ◌⊎◌, inl, inr, ℕ, List, [], ◌∷◌, ◌++◌, Bool, true, false, refl, sym, subst}
+use Rattle.std.specs.Prelude.{All, Contains, Option, slice_index_or}
+use Rattle.std.proofs.lemmas.List.Elements.{All-nil, All-cons, All-head, All-tail, All-append, All-contains_itself, Contains-append_left, Contains-append_right}
+use Rattle.am_silence.specs.Mesh.{Mesh, IsMesh, mesh_version}
+use Rattle.am_nflog.specs.Mesh.{Mesh as LogMesh, IsMesh as IsLogMesh, mesh_version as entry_version}
+use Rattle.am_nflog.specs.LogKeys.{LogKey}
+use Rattle.am_gossip.specs.declared.frame.Frame.{Frame}
+use Rattle.am_gossip.specs.declared.frame.Frame.TheVariants as frames
+use Rattle.am_gossip.specs.Frames.{fits}
+use Rattle.am_instance.specs.declared.event.Event.{Event}
+use Rattle.am_instance.specs.declared.event.Event.TheVariants as events
+use Rattle.am_instance.specs.Deliveries.{Delivery}
+use Rattle.am_instance.specs.Deliveries.Delivery.{OfSilence, OfEntry}
+use Rattle.am_instance.specs.Changes.{changes, changed_of, only_if}
+use Rattle.am_instance.specs.Sendings.{IsSent, Sends, Sent, addressed, delta_of, deltas_to, one_more, whole_state}
+use Rattle.am_instance.specs.Stands.{Stand}
+use Rattle.am_instance.specs.Steps.{last_wanted}
+use Rattle.am_collect.specs.Events.{after}
+use Rattle.am_collect.specs.Events.Event.{Delivered}
+use Rattle.am_nflog.specs.Keys.{key_cmp}
+use Rattle.std.specs.Ordering.{nat_cmp}
+use Rattle.std.specs.Cmp.Lexicographic.{slice_cmp}
+use Rattle.am_steps.specs.Contents.{carries, held_in, IsValue}
+use Rattle.am_steps.proofs.Again.{delta_carries, delta_readable, whole_carries, whole_readable}
+use Rattle.am_steps.specs.Recorded.{sent_in}
+
+-- ---- what was handed out was wanted, and kept its limit
+
+module _ (P : ℕ × Frame → Type 0) where
+  -- it holds of a frame, where that keeps its limit
+  abbrev pub IfFits : ℕ × Frame → Type 0
+  IfFits wanted = fits wanted.1 ≡ true → P wanted
+
+  one_sent : (wanted : ℕ × Frame) (fitting : Bool) (old new : Sent) → fits wanted.1 ≡ fitting → IfFits wanted → All P old.frames → IsSent wanted old new → All P new.frames
+  one_sent wanted true old new is holds all sent = by_end (sent.fitting is)
+    where
+      by_end : (new ≡ record old { frames = old.frames ++ wanted ∷ [] }) ⊎ (new ≡ record old { memory = one_more old.memory }) → All P new.frames
+      by_end (inl handed) = subst (λ (s : Sent). All P s.frames) (sym handed) (All-append P old.frames (wanted ∷ []) all (All-cons P wanted [] (holds is) (All-nil P)))
+      by_end (inr lost) = subst (λ (s : Sent). All P s.frames) (sym lost) all
+  one_sent wanted false old new is holds all sent = subst (λ (s : Sent). All P s.frames) (sym (sent.too_long is)) all
+
+  pub all_sent : (ws : List (ℕ × Frame)) (old new : Sent) → All IfFits ws → All P old.frames → Sends ws old new → All P new.frames
+  all_sent [] old new holds all sent = subst (λ (s : Sent). All P s.frames) (sym sent) all
+  all_sent (w ∷ ws) old new holds all sent =
+      all_sent ws sent.0 new (All-tail IfFits w ws holds) (one_sent w (fits w.1) old sent.0 refl (All-head IfFits w ws holds) all sent.1) sent.2
+
+  -- ---- the Deltas
+  module _ (frame : Frame) (holds : (place : ℕ) → fits frame ≡ true → P (place, frame)) where
+    all_addressed : (places : List ℕ) → All IfFits (addressed places frame)
+    all_addressed [] = All-nil IfFits
+    all_addressed (place ∷ places) = All-cons IfFits (place, frame) (addressed places frame) (holds place) (all_addressed places)
+
+  abbrev pub Delta_holds : Delivery → Type 0
+  Delta_holds d = (place : ℕ) → fits (delta_of d) ≡ true → P (place, delta_of d)
+
+  pub all_deltas : (places : List ℕ) (ds : List Delivery) → All Delta_holds ds → All IfFits (deltas_to places ds)
+  all_deltas places [] holds = All-nil IfFits
+  all_deltas places (d ∷ ds) holds =
+      All-append IfFits (addressed places (delta_of d)) (deltas_to places ds) (all_addressed (delta_of d) (All-head Delta_holds d ds holds) places)
+      (all_deltas places ds (All-tail Delta_holds d ds holds))
+
+  -- ---- both maps
+  one_wanted : (place : ℕ) (frame : Frame) → (fits frame ≡ true → P (place, frame)) → All IfFits ((place, frame) ∷ [])
+  one_wanted place frame holds = All-cons IfFits (place, frame) [] holds (All-nil IfFits)
+
+  pub last_holds : (event : Event) (new : Stand)
+      → ((place : ℕ) → fits (frames.Pull (whole_state new.silences new.log)) ≡ true → P (place, frames.Pull (whole_state new.silences new.log)))
+      → ((place : ℕ) → fits (frames.Push (whole_state new.silences new.log)) ≡ true → P (place, frames.Push (whole_state new.silences new.log)))
+      → All IfFits (last_wanted event new)
+  last_holds (events.Request request) new pull push = All-nil IfFits
+  last_holds (events.Frame sender (frames.Delta part)) new pull push = All-nil IfFits
+  last_holds (events.Frame sender (frames.Push parts)) new pull push = one_wanted sender (frames.Pull (whole_state new.silences new.log)) (pull sender)
+  last_holds (events.Frame sender (frames.Pull parts)) new pull push = All-nil IfFits
+  last_holds (events.Frame sender frames.Tick) new pull push = All-nil IfFits
+  last_holds (events.Notified group_key receiver firing resolved repeat) new pull push = All-nil IfFits
+  last_holds (events.Decide group_key receiver firing resolved repeat send_resolved) new pull push = All-nil IfFits
+  last_holds (events.Mutes labels) new pull push = All-nil IfFits
+  last_holds events.Show new pull push = All-nil IfFits
+  last_holds events.Tick new pull push = All-nil IfFits
+  last_holds (events.PullFrom place) new pull push = one_wanted place (frames.Push (whole_state new.silences new.log)) (push place)
+
+-- ---- values among those that change a map
+values_only : (test : Bool) (d : Delivery) (ds : List Delivery) → IsValue d → All IsValue ds → All IsValue (only_if test d ++ ds)
+values_only true d ds is are = All-cons IsValue d ds is are
+values_only false d ds is are = are
+
+pub changed_values : (now : ℕ) (silences : List ℕ → Option Mesh) (log : LogKey → Option LogMesh) (ds : List Delivery) → All IsValue ds → All IsValue (changed_of now silences log ds)
+changed_values now silences log [] are = All-nil IsValue
+changed_values now silences log (OfSilence v ∷ ds) are =
+    values_only (changes mesh_version now silences v) (OfSilence v) _ (All-head IsValue (OfSilence v) ds are)
+    (changed_values now (after mesh_version (slice_cmp nat_cmp) silences (Delivered v) now) log ds (All-tail IsValue (OfSilence v) ds are))
+changed_values now silences log (OfEntry e ∷ ds) are =
+    values_only (changes entry_version now log e) (OfEntry e) _ (All-head IsValue (OfEntry e) ds are)
+    (changed_values now silences (after entry_version key_cmp log (Delivered e) now) ds (All-tail IsValue (OfEntry e) ds are))
+
+-- ---- of one state
+module _ {X : Type 0} (pick : List Delivery → List X) (append : (ds es : List Delivery) → pick (ds ++ es) ≡ pick ds ++ pick es) where
+  -- what is picked of each version is among what is picked of all
+  abbrev IsPickedOf : List Delivery → Delivery → Type 0
+  IsPickedOf ds d = All (Contains (pick ds)) (pick (d ∷ []))
+
+  pub each_picked : (ds : List Delivery) → All (IsPickedOf ds) ds
+  each_picked [] = All-nil (IsPickedOf [])
+  each_picked (d ∷ ds) =
+      let split : pick (d ∷ ds) ≡ pick (d ∷ []) ++ pick ds = append (d ∷ []) ds in
+      All-cons (IsPickedOf (d ∷ ds)) d ds
+      (λ k x within. subst (λ (xs : List X). Contains xs (slice_index_or (pick (d ∷ [])) k x)) (sym split)
+      (Contains-append_left (pick (d ∷ [])) (pick ds) _ (All-contains_itself (pick (d ∷ [])) k x within)))
+      (λ k e within j x inside. subst (λ (xs : List X). Contains xs (slice_index_or (pick (slice_index_or ds k e ∷ [])) j x)) (sym split)
+      (Contains-append_right (pick (d ∷ [])) (pick ds) _ (each_picked ds k e within j x inside)))
+
+  -- each version in a frame is among those that changed the map, or is held
+  module _ (Held : X → Type 0) (cs : List Delivery) (changed : List X) (same : pick cs ≡ changed) where
+    abbrev pub IsKnown : X → Type 0
+    IsKnown v = Contains changed v ⊎ Held v
+
+    abbrev pub AreKnown : ℕ × Frame → Type 0
+    AreKnown frame = All IsKnown (pick (carries frame.1))
+
+    delta_known : (d : Delivery) → IsValue d → IsPickedOf cs d → Delta_holds AreKnown d
+    delta_known d value among place fitting =
+        subst (λ (ds : List Delivery). All IsKnown (pick ds)) (sym (delta_carries d (delta_readable d value fitting)))
+        (λ k x within. inl (subst (λ (xs : List X). Contains xs (slice_index_or (pick (d ∷ [])) k x)) same (among k x within)))
+
+    pub deltas_known : All IsValue cs → All (Delta_holds AreKnown) cs
+    deltas_known values k d within = delta_known _ (values k d within) (each_picked cs k d within)
+
+    module _ (new : Stand) (held : List X) (parted : pick (held_in new.silences new.log) ≡ held) (all_held : All Held held) (is : All IsMesh new.silences) (are : All IsLogMesh new.log) where
+      all_known : All IsKnown (pick (held_in new.silences new.log))
+      all_known = subst (All IsKnown) (sym parted) (λ k x within. inr (all_held k x within))
+
+      pub pull_known : (place : ℕ) → fits (frames.Pull (whole_state new.silences new.log)) ≡ true → AreKnown (place, frames.Pull (whole_state new.silences new.log))
+      pull_known place fitting =
+          let both = whole_readable new.silences new.log is are fitting in
+          subst (λ (ds : List Delivery). All IsKnown (pick ds)) (sym (whole_carries new.silences new.log both.0 both.1)) all_known
+
+      pub push_known : (place : ℕ) → fits (frames.Push (whole_state new.silences new.log)) ≡ true → AreKnown (place, frames.Push (whole_state new.silences new.log))
+      push_known place fitting =
+          let both = whole_readable new.silences new.log is are fitting in
+          subst (λ (ds : List Delivery). All IsKnown (pick ds)) (sym (whole_carries new.silences new.log both.0 both.1)) all_known
+
+-- said of the lists of versions
+pub all_picked : {X : Type 0} (pick : List Delivery → List X) (P : List X → Type 0) (fs : List (ℕ × Frame)) → All (λ frame. P (pick (carries frame.1))) fs → All P (sent_in pick fs)
+all_picked pick P [] all = All-nil P
+all_picked pick P (f ∷ fs) all =
+    let Q : ℕ × Frame → Type 0 = λ frame. P (pick (carries frame.1)) in
+    All-cons P (pick (carries f.1)) (sent_in pick fs) (All-head Q f fs all) (all_picked pick P fs (All-tail Q f fs all))

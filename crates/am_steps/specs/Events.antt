@@ -1,0 +1,102 @@
+-- What the lines of a schedule ask of a member.
+use Rattle.std.specs.Prelude.{◌≡◌, ◌≤◌, ℕ, Bool, List, [], map, All, Option, Some, None}
+use Rattle.am_silence.specs.declared.plan.Posted.{Posted}
+use Rattle.am_matcher.specs.declared.labels.Label.{Label}
+use Rattle.am_gossip.specs.declared.frame.Frame.TheVariants as frames
+use Rattle.am_runs.specs.declared.step.Source.TheVariants as sources
+use Rattle.am_instance.specs.Configs.{Settings}
+use Rattle.am_instance.specs.Deliveries.{Delivery}
+use Rattle.am_instance.specs.Steps.{fault_of, brought}
+use Rattle.am_instance.specs.declared.event.Event.{Event}
+use Rattle.am_instance.specs.declared.event.Event.TheVariants as events
+use Rattle.am_instance.specs.declared.event.Request.TheVariants as requests
+use Rattle.am_schedule.specs.declared.step.Versions.{Versions}
+use Rattle.am_schedule.specs.declared.step.PostLine.{PostLine}
+use Rattle.am_schedule.specs.declared.step.GroupLine.{GroupLine}
+use Rattle.am_schedule.specs.declared.step.Pair.{Pair}
+use Rattle.am_schedule.specs.declared.step.Event.{Event as LineEvent}
+use Rattle.am_schedule.specs.declared.step.Event.TheVariants as lines
+use Rattle.am_steps.specs.declared.asked.Asked.{Asked}
+use Rattle.am_steps.specs.declared.asked.Asked.TheVariants as asked
+use Rattle.am_steps.specs.Places.{place_named}
+use Rattle.am_steps.specs.Versions.{wants, receiver_of, versions_of, part_of, updated, sent_at}
+
+-- a step that brings no versions
+abbrev pub made : Event → Asked
+made event = asked.Event event sources.Made
+
+-- a Delta of the versions comes from the member at a place
+abbrev pub delta_from : ℕ → Versions → Event
+delta_from sender versions = events.Frame sender (frames.Delta (part_of versions))
+
+-- it counts as sent at the least update moment of the versions
+abbrev pub from : Option ℕ → Versions → Asked
+from None versions = asked.NoMember
+from (Some sender) versions = asked.Event (delta_from sender versions) (sources.Written (sent_at (versions_of versions)))
+
+-- what is posted: one matcher, and no author or comment
+abbrev pub posted : PostLine → Posted
+posted line = record {
+  id = line.id;
+  matchers = wants line.name line.value;
+  starts_at = line.starts;
+  ends_at = line.ends;
+  created_by = [];
+  comment = [];
+}
+
+-- a group is notified
+abbrev pub notified : GroupLine → Event
+notified group = events.Notified group.group (receiver_of group.receiver) group.firing group.resolved group.repeat
+
+-- whether a group is to be notified
+abbrev pub decide : GroupLine → Bool → Event
+decide group wanted = events.Decide group.group (receiver_of group.receiver) group.firing group.resolved group.repeat wanted
+
+-- a pair of words of a line, as a label
+abbrev pub label_of : Pair → Label
+label_of pair = record { name = pair.name; value = pair.value }
+
+-- a Push goes to a peer, which answers with its own state
+abbrev pub pull : Option ℕ → Asked
+pull None = asked.NoMember
+pull (Some place) = made (events.PullFrom place)
+
+-- what a line asks of a member with this configuration
+abbrev pub asked_by : Settings → LineEvent → Asked
+asked_by config (lines.From peer versions) = from (place_named config peer) versions
+asked_by config (lines.Post line) = made (events.Request (requests.Post (posted line) line.bits))
+asked_by config (lines.Expire id) = made (events.Request (requests.Delete id))
+asked_by config (lines.Notified group) = made (notified group)
+asked_by config (lines.Decide group wanted) = made (decide group wanted)
+asked_by config (lines.Mutes labels) = made (events.Mutes (map label_of labels))
+asked_by config lines.Show = made events.Show
+asked_by config lines.Tick = made events.Tick
+asked_by config (lines.Pull peer) = pull (place_named config peer)
+asked_by config lines.Start = asked.Start
+
+-- the versions that a line brings
+abbrev pub brought_by : LineEvent → List Delivery
+brought_by (lines.From peer versions) = versions_of versions
+brought_by _ = []
+
+-- an event has no fault of its own, whatever the instance and the moment
+abbrev pub IsFaultless : Event → Type 0
+IsFaultless event = (config : Settings) (now : ℕ) → fault_of config now event ≡ None
+
+-- what is asked has no fault of its own
+abbrev pub IsSound : Asked → Type 0
+IsSound (asked.Event event source) = IsFaultless event
+IsSound asked.Start = Unit {0}
+IsSound asked.NoMember = Unit {0}
+
+-- the event brings just these versions
+abbrev pub Brings : Asked → List Delivery → Type 0
+Brings (asked.Event event source) versions = brought event ≡ versions
+Brings asked.Start versions = Unit {0}
+Brings asked.NoMember versions = Unit {0}
+
+-- what was written counts as sent when none of these versions was made yet, or just then
+abbrev pub IsSentBefore : Asked → List Delivery → Type 0
+IsSentBefore (asked.Event event (sources.Written sent)) versions = All (λ v. sent ≤ updated v) versions
+IsSentBefore _ versions = Unit {0}

@@ -1,0 +1,54 @@
+//! What holds of the versions that frames carry.
+
+ghost use Rattle.std.specs.Prelude.{◌≡◌, ◌≤◌, ◌++◌, ◌∷◌, [], List, length, map, All, Ok, None, true};
+ghost use Rattle.am_wire.specs.Limits.{most};
+ghost use Rattle.am_silence.specs.Mesh.{Mesh, IsMesh, mesh_version};
+ghost use Rattle.am_nflog.specs.Mesh.{Mesh as LogMesh, IsMesh as IsLogMesh, mesh_version as entry_version};
+ghost use Rattle.am_gossip.specs.declared.frame.Frame.TheVariants.{Push, Pull};
+ghost use Rattle.am_gossip.specs.Frames.{fits};
+ghost use Rattle.am_snapshot.specs.Texts.{row_text};
+ghost use Rattle.am_instance.specs.Deliveries.{Delivery, first_fault, parts_of, rows_in};
+ghost use Rattle.am_instance.specs.Deliveries.Delivery.{OfSilence, OfEntry};
+ghost use Rattle.am_instance.specs.Sendings.{delta_of, whole_state};
+ghost use Rattle.am_steps.specs.Contents.{carries, entries_in, held_in, silences_in, IsReadable, IsValue};
+
+/// A Delta of a version carries just that version, and nothing in it is at fault.
+pub fn deltas_carry_their_version()
+    ensures rows { (d : Delivery) → IsReadable d → rows_in (parts_of (delta_of d)) ≡ Ok d ∷ [] }
+    ensures carried { (d : Delivery) → IsReadable d → carries (delta_of d) ≡ d ∷ [] }
+{}
+
+/// A Push or a Pull of both maps carries all their versions, and nothing in it is at fault.
+pub fn whole_states_carry_both_maps()
+    ensures sound { (silences : List Mesh) (log : List LogMesh) → All IsReadable (map OfSilence silences) →
+        All IsReadable (map OfEntry log) →
+        first_fault (rows_in (whole_state silences log)) ≡ None }
+    ensures push { (silences : List Mesh) (log : List LogMesh) → All IsReadable (map OfSilence silences) →
+        All IsReadable (map OfEntry log) →
+        carries (Push (whole_state silences log)) ≡ held_in silences log }
+    ensures pull { (silences : List Mesh) (log : List LogMesh) → All IsReadable (map OfSilence silences) →
+        All IsReadable (map OfEntry log) →
+        carries (Pull (whole_state silences log)) ≡ held_in silences log }
+{}
+
+/// Values are read again where a frame of them keeps its limit, or the row of their map is no longer than a row may be.
+pub fn what_keeps_its_limit_is_readable()
+    ensures delta { (d : Delivery) → IsValue d → fits (delta_of d) ≡ true → IsReadable d }
+    ensures push { (silences : List Mesh) (log : List LogMesh) → All IsMesh silences → All IsLogMesh log →
+        fits (Push (whole_state silences log)) ≡ true →
+        All IsReadable (map OfSilence silences) × All IsReadable (map OfEntry log) }
+    ensures pull { (silences : List Mesh) (log : List LogMesh) → All IsMesh silences → All IsLogMesh log →
+        fits (Pull (whole_state silences log)) ≡ true →
+        All IsReadable (map OfSilence silences) × All IsReadable (map OfEntry log) }
+    ensures silences { (silences : List Mesh) → All IsMesh silences → length (row_text mesh_version silences) ≤ most →
+        All IsReadable (map OfSilence silences) }
+    ensures log { (log : List LogMesh) → All IsLogMesh log → length (row_text entry_version log) ≤ most → All IsReadable (map OfEntry log) }
+{}
+
+/// The versions of both maps, parted by their state, are the maps again; and what comes behind others is parted behind them.
+pub fn states_are_parted()
+    ensures silences { (silences : List Mesh) (log : List LogMesh) → silences_in (held_in silences log) ≡ silences }
+    ensures log { (silences : List Mesh) (log : List LogMesh) → entries_in (held_in silences log) ≡ log }
+    ensures silences_then { (ds es : List Delivery) → silences_in (ds ++ es) ≡ silences_in ds ++ silences_in es }
+    ensures log_then { (ds es : List Delivery) → entries_in (ds ++ es) ≡ entries_in ds ++ entries_in es }
+{}

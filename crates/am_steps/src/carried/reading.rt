@@ -1,0 +1,96 @@
+//! How the versions of a frame are read.
+
+ghost use Rattle.std.specs.Prelude.{◌≡◌, ◌++◌, map, is_none, All, OnOk, IfOk};
+ghost use Rattle.am_wire.specs.Inputs.{messages_of};
+ghost use Rattle.am_instance.specs.Deliveries.{before_fault, first_fault, rows_in, rows_of};
+ghost use Rattle.am_steps.specs.Contents.{carries, delivery_of, IsValue};
+
+use crate::carried::version::{Carried, Carry};
+use am_gossip::{Frame, Part, StateKey};
+use am_nflog::MeshEntry;
+use am_silence::MeshSilence;
+use am_wire::{Messages, WireError};
+use std::alloc::{AllocError, Global};
+
+/// The versions in the rows of a frame, in their order, up to the first fault.
+///
+/// # Errors
+///
+/// [`AllocError`] where memory runs out.
+pub fn carried_by(alloc: Global, frame: &Frame) -> Result<Vec<Carried>, AllocError>
+    ensures versions { IfOk result (λ versions. map delivery_of versions.items ≡ carries frame.now) }
+    ensures values { IfOk result (λ versions. All IsValue (map delivery_of versions.items)) }
+{
+    let mut versions = Vec::new(alloc);
+    append_frame(alloc, frame, &mut versions)?;
+    Ok(versions)
+}
+
+/// Adds the versions of a frame.
+fn append_frame(alloc: Global, frame: &Frame, versions: &mut Vec<Carried>) -> Result<(), AllocError>
+    ensures added { OnOk result (map delivery_of versions.new.items ≡ map delivery_of versions.old.items ++ carries frame.now) }
+    ensures values { OnOk result (All IsValue (map delivery_of versions.old.items) → All IsValue (map delivery_of versions.new.items)) }
+{
+    match frame {
+        Frame::Delta(part) => {
+            append_part(alloc, part, versions)?;
+            Ok(())
+        }
+        Frame::Push(state) | Frame::Pull(state) => append_parts(alloc, state.parts(), versions),
+        Frame::Tick => Ok(()),
+    }
+}
+
+/// Adds the versions in the rows of parts, up to the first fault.
+fn append_parts(
+    alloc: Global,
+    parts: &[Part],
+    versions: &mut Vec<Carried>,
+) -> Result<(), AllocError>
+    ensures added { OnOk result (map delivery_of versions.new.items
+        ≡ map delivery_of versions.old.items ++ before_fault (rows_in parts.now)) }
+    ensures values { OnOk result (All IsValue (map delivery_of versions.old.items) → All IsValue (map delivery_of versions.new.items)) }
+{
+    for part in parts {
+        if !append_part(alloc, part, versions)? {
+            return Ok(());
+        }
+    }
+    Ok(())
+}
+
+/// Adds the versions in the row of a part up to the first fault, and answers whether there is none.
+#[tactic(auto, unfolding(am_instance::specs::Deliveries::rows_of))]
+fn append_part(alloc: Global, part: &Part, versions: &mut Vec<Carried>) -> Result<bool, AllocError>
+    ensures added { OnOk result (map delivery_of versions.new.items
+        ≡ map delivery_of versions.old.items ++ before_fault (rows_of part.now)) }
+    ensures sound { IfOk result (λ sound. sound ≡ is_none (first_fault (rows_of part.now))) }
+    ensures values { OnOk result (All IsValue (map delivery_of versions.old.items) → All IsValue (map delivery_of versions.new.items)) }
+{
+    let row = part.bytes.as_slice();
+    match part.key {
+        StateKey::Sil => append_row::<MeshSilence>(alloc, row, versions),
+        StateKey::Nfl => append_row::<MeshEntry>(alloc, row, versions),
+    }
+}
+
+/// Adds the versions of a row up to the first fault, and answers whether there is none.
+fn append_row<V: Carry>(
+    alloc: Global,
+    row: &[u8],
+    versions: &mut Vec<Carried>,
+) -> Result<bool, AllocError>
+    ensures added { OnOk result (map delivery_of versions.new.items
+        ≡ map delivery_of versions.old.items ++ map V.delivered (before_fault (messages_of V.reads row.now))) }
+    ensures sound { IfOk result (λ sound. sound ≡ is_none (first_fault (messages_of V.reads row.now))) }
+    ensures values { OnOk result (All IsValue (map delivery_of versions.old.items) → All IsValue (map delivery_of versions.new.items)) }
+{
+    for message in Messages::<V>::new(alloc, row) {
+        match message {
+            Ok(version) => versions.push(version.carried())?,
+            Err(WireError::Memory) => return Err(AllocError),
+            Err(_) => return Ok(false),
+        }
+    }
+    Ok(true)
+}

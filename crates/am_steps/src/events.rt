@@ -1,0 +1,84 @@
+//! The events of lines.
+
+ghost use Rattle.std.specs.Prelude.{◌≡◌, map, IfOk};
+ghost use Rattle.am_steps.specs.Events.{Brings, IsSentBefore, IsSound, asked_by, brought_by, label_of, pull};
+
+use crate::asked::{Asked, made};
+use crate::groups::{decide, notified};
+use crate::places::place_named;
+use crate::silences::post;
+use crate::texts::text_of;
+use crate::written::from;
+use am_instance::{Config, Event, Place, Request};
+use am_matcher::{Label, Labels};
+use am_schedule::{Event as LineEvent, Pair};
+use std::alloc::{AllocError, Global};
+
+/// The label of a pair.
+fn label_of(alloc: Global, pair: &Pair) -> Result<Label, AllocError>
+    ensures { IfOk result (λ label. label ≡ label_of pair.now) }
+{
+    Ok(Label {
+        name: text_of(alloc, &pair.name)?,
+        value: text_of(alloc, &pair.value)?,
+    })
+}
+
+/// The labels of pairs.
+fn labels_of(alloc: Global, pairs: &[Pair]) -> Result<Labels, AllocError>
+    ensures { IfOk result (λ labels. labels ≡ map label_of pairs.now) }
+{
+    let mut labels = Vec::with_capacity(alloc, pairs.len())?;
+    for pair in pairs {
+        labels.push(label_of(alloc, pair)?)?;
+    }
+    Ok(Labels::new(labels))
+}
+
+/// A Push goes to the member at a place.
+fn pull(place: Option<Place>) -> Asked
+    ensures { result ≡ pull place }
+{
+    match place {
+        Some(place) => made(Event::PullFrom(place)),
+        None => Asked::NoMember,
+    }
+}
+
+/// What a line of a schedule asks of the member with this configuration.
+///
+/// # Errors
+///
+/// [`AllocError`] where memory runs out.
+pub fn to_event(alloc: Global, config: &Config, event: &LineEvent) -> Result<Asked, AllocError>
+    ensures asked { IfOk result (λ asked. asked ≡ asked_by config.now event.now) }
+    ensures sound { IfOk result IsSound }
+    ensures brought { IfOk result (λ asked. Brings asked (brought_by event.now)) }
+    ensures sent { IfOk result (λ asked. IsSentBefore asked (brought_by event.now)) }
+{
+    match event {
+        LineEvent::From { peer, versions } => match place_named(config, peer.as_str()) {
+            Some(sender) => from(alloc, sender, versions),
+            None => Ok(Asked::NoMember),
+        },
+        LineEvent::Post(line) => Ok(made(Event::Request(Request::Post {
+            posted: post(alloc, line)?,
+            bits: line.bits,
+        }))),
+        LineEvent::Expire { id } => Ok(made(Event::Request(Request::Delete {
+            id: text_of(alloc, id)?,
+        }))),
+        LineEvent::Notified(group) => Ok(made(notified(alloc, group)?)),
+        LineEvent::Decide {
+            group,
+            resolved_wanted,
+        } => Ok(made(decide(alloc, group, *resolved_wanted)?)),
+        LineEvent::Mutes { labels } => Ok(made(Event::Mutes {
+            labels: labels_of(alloc, labels.as_slice())?,
+        })),
+        LineEvent::Show => Ok(made(Event::Show)),
+        LineEvent::Tick => Ok(made(Event::Tick)),
+        LineEvent::Pull { peer } => Ok(pull(place_named(config, peer.as_str()))),
+        LineEvent::Start => Ok(Asked::Start),
+    }
+}

@@ -1,0 +1,100 @@
+//! What a `from` line writes.
+
+ghost use Rattle.std.specs.Prelude.{◌≡◌, [], ◌∷◌, length, map, Some, None, IfOk};
+ghost use Rattle.am_instance.specs.Deliveries.{before_fault, first_fault, rows_in};
+ghost use Rattle.am_steps.specs.Versions.{least, part_of, sent_at, versions_of};
+ghost use Rattle.am_steps.specs.Events.{Brings, IsSentBefore, IsSound, brought_by, from};
+
+use crate::asked::Asked;
+use crate::log::log_row;
+use crate::silences::silence_row;
+use am_gossip::{Frame, Part, StateKey};
+use am_instance::{Event, Place};
+use am_runs::Source;
+use am_schedule::{Event as LineEvent, LogLine, Shared, SilenceLine, Versions};
+use am_version_order::Moment;
+use std::alloc::{AllocError, Global};
+
+/// How many versions the event of a line brings. It takes no memory.
+pub fn version_count(event: &LineEvent) -> usize
+    ensures { result ≡ length (brought_by event.now) }
+{
+    match event {
+        LineEvent::From { versions, .. } => match versions {
+            Versions::Silences(lines) => lines.as_slice().len(),
+            Versions::Log(lines) => lines.as_slice().len(),
+        },
+        _ => 0,
+    }
+}
+
+/// The least update moment of silences.
+#[tactic(auto, using(crate::proofs::Least::least_low))]
+fn first_silence(lines: &[Shared<SilenceLine>]) -> Moment
+    ensures { result ≡ least (map (λ line. line.updated) lines.now) }
+{
+    let mut first = Moment::GREATEST;
+    for line in lines {
+        first = first.min(line.get().updated);
+    }
+    first
+}
+
+/// The least update moment of log versions.
+#[tactic(auto, using(crate::proofs::Least::least_low))]
+fn first_entry(lines: &[Shared<LogLine>]) -> Moment
+    ensures { result ≡ least (map (λ line. line.updated) lines.now) }
+{
+    let mut first = Moment::GREATEST;
+    for line in lines {
+        first = first.min(line.get().updated);
+    }
+    first
+}
+
+/// When the frame of these versions counts as sent.
+#[tactic(auto, using(crate::proofs::Least::silence_updates, crate::proofs::Least::entry_updates))]
+fn sent_at(versions: &Versions) -> Moment
+    ensures { result ≡ sent_at (versions_of versions.now) }
+{
+    match versions {
+        Versions::Silences(lines) => first_silence(lines.as_slice()),
+        Versions::Log(lines) => first_entry(lines.as_slice()),
+    }
+}
+
+/// The part that has these versions.
+fn part(alloc: Global, versions: &Versions) -> Result<Part, AllocError>
+    ensures part { IfOk result (λ part. part ≡ part_of versions.now) }
+    ensures clean { IfOk result (λ part. first_fault (rows_in (part ∷ [])) ≡ None) }
+    ensures read { IfOk result (λ part. before_fault (rows_in (part ∷ [])) ≡ versions_of versions.now) }
+{
+    match versions {
+        Versions::Silences(lines) => Ok(Part {
+            key: StateKey::Sil,
+            bytes: silence_row(alloc, lines.as_slice())?,
+        }),
+        Versions::Log(lines) => Ok(Part {
+            key: StateKey::Nfl,
+            bytes: log_row(alloc, lines.as_slice())?,
+        }),
+    }
+}
+
+/// A Delta of these versions comes from a member.
+pub(crate) fn from(alloc: Global, sender: Place, versions: &Versions) -> Result<Asked, AllocError>
+    ensures asked { IfOk result (λ asked. asked ≡ from (Some sender) versions.now) }
+    ensures sound { IfOk result IsSound }
+    ensures brought { IfOk result (λ asked. Brings asked (versions_of versions.now)) }
+    ensures sent { IfOk result (λ asked. IsSentBefore asked (versions_of versions.now)) }
+{
+    let sent = sent_at(versions);
+    let part = part(alloc, versions)?;
+    Ok(Asked::Event {
+        event: Event::Frame {
+            sender,
+            frame: Frame::Delta(part),
+        },
+        source: Source::Written(sent),
+    })
+}

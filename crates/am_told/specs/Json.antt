@@ -1,0 +1,5 @@
+-- What is told in JSON.
+pub mod Values
+pub mod Views
+pub mod Groups
+pub mod Written

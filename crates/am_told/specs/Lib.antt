@@ -1,0 +1,16 @@
+pub mod Sources
+pub mod Differences
+pub mod Groups
+pub mod Walks
+pub mod Words
+pub mod Lists
+pub mod Views
+pub mod WordLaws
+pub mod Shows
+pub mod Texts
+pub mod Ranked
+pub mod Told
+pub mod Versions
+pub mod Written
+pub mod Reads
+pub mod Json

@@ -1,0 +1,16 @@
+//! What is told of silences and of entries of the log, in JSON: the view of a map, and the differences of several.
+
+mod difference;
+mod entry;
+mod groups;
+pub mod laws;
+mod shown;
+mod sources;
+mod tokens;
+mod values;
+mod view;
+mod writing;
+
+pub use values::InJson;
+pub use view::{show_json, write_view_json};
+pub use writing::{diff_json, write_differences_json};

@@ -1,0 +1,136 @@
+//! Sources whose rows are read.
+
+ghost use Rattle.std.specs.Prelude.{◌≡◌, ℕ, List, [], ◌∷◌, ◌++◌, OnOk, IfOk, IfErr, IfSome};
+ghost use Rattle.std.specs.List.{AllZip};
+ghost use Rattle.std.specs.Io.KnownBytes.{Appends};
+ghost use Rattle.am_wire.specs.Inputs.{StopsAfter};
+ghost use Rattle.am_told.specs.Sources.{Source};
+ghost use Rattle.am_told.specs.Reads.{IsRead, StopsDiff, StopsReading};
+ghost use Rattle.am_told.specs.Written.{AreLines};
+
+use crate::compared::Compared;
+use crate::replica::Replica;
+use crate::told::Told;
+use crate::writing::write_differences;
+use am_snapshot::{FoldError, SnapshotError, take_row};
+use am_version_order::{Moment, Version};
+use am_wire::{Message, RowFault};
+use std::alloc::{AllocError, Global};
+use std::io::{Read, Write};
+use std::mem;
+use thiserror::Error;
+
+/// A source whose row is to be read.
+#[derive(Drop)]
+pub struct Input<'n, R: Drop> {
+    pub name: &'n str,
+    pub reader: R,
+}
+
+/// Why sources were not compared; the first fault that stands.
+#[derive(Clone, Copy, Debug, PartialEq, Eq, Error)]
+pub enum DiffError {
+    /// In the row of a source, by its number from 0 on.
+    #[error("in source {number}: {fault}")]
+    Source { number: usize, fault: FoldError },
+    #[error("a write failed after {written} bytes")]
+    Write { written: u64 },
+    #[error("out of memory")]
+    Memory,
+}
+
+impl From<AllocError> for DiffError {
+    ghost use Rattle.am_told.specs.declared.inputs.DiffError.TheVariants.{Memory};
+
+    ghost from_gives = { λ _ e. e ≡ Memory };
+
+    fn from(_e: AllocError) -> DiffError {
+        DiffError::Memory
+    }
+}
+
+/// Reads a source.
+fn read_source<'n, V: Version + Message, R: Read + Drop>(
+    alloc: Global,
+    input: &mut Input<'n, R>,
+) -> Result<Replica<'n, V>, RowFault>
+    ensures read { IfOk result (IsRead V.seen V.Key.cmp V.reads R.remaining input.old) }
+    ensures fault { IfErr result (λ fault. IfSome (R.remaining input.old.reader) (λ bytes.
+        (versions : List V) × StopsAfter V.reads bytes versions (R.remaining input.new.reader) fault)) }
+{
+    let held = take_row(alloc, &mut input.reader)?;
+    Ok(Replica::new(input.name, held))
+}
+
+/// Adds a source that is read.
+fn push<'n, V: Version>(
+    replicas: &mut Vec<Replica<'n, V>>,
+    replica: Replica<'n, V>,
+) -> Result<(), AllocError>
+    ensures { OnOk result (replicas.new.items ≡ replicas.old.items ++ replica.entry ∷ []) }
+{
+    Ok(replicas.push(replica)?)
+}
+
+/// Reads sources, one after the other: of each it takes every version, as a fold does.
+///
+/// It holds the version that is being read and the winners.
+///
+/// # Errors
+///
+/// [`DiffError::Source`] with the first fault of the first source that is at fault, and [`DiffError::Memory`].
+pub fn read_sources<'n, V: Version + Message, R: Read + Drop>(
+    alloc: Global,
+    inputs: &mut [Input<'n, R>],
+) -> Result<Vec<Replica<'n, V>>, DiffError>
+    ensures read { IfOk result (λ replicas.
+        AllZip (IsRead V.seen V.Key.cmp V.reads R.remaining) inputs.old replicas.items) }
+    ensures stopped { IfErr result (StopsReading V.reads R.remaining inputs.old inputs.new) }
+{
+    let mut replicas = Vec::with_capacity(alloc, inputs.len())?;
+    for input in inputs.iter_mut() {
+        match read_source(alloc, input) {
+            Ok(replica) => push(&mut replicas, replica)?,
+            Err(fault) => {
+                return Err(DiffError::Source {
+                    number: replicas.len(),
+                    fault: FoldError::from(fault),
+                });
+            }
+        }
+    }
+    Ok(replicas)
+}
+
+/// Reads sources, and then writes the lines of all their differences, as [`write_differences`] does. Answers whether there is
+/// a difference.
+///
+/// What was read is forgotten: the process is to end then, and its memory with it.
+///
+/// # Errors
+///
+/// Those of [`read_sources`], before a byte goes out, and then those of [`write_differences`].
+pub fn diff_rows<V: Told + Message, R: Read + Drop, W: Write>(
+    alloc: Global,
+    inputs: &mut [Input<'_, R>],
+    compared: Compared,
+    now: Moment,
+    writer: &mut W,
+) -> Result<bool, DiffError>
+    ensures lines { IfOk result (λ found. (sources : List (Source V)) ×
+        AllZip (IsRead V.seen V.Key.cmp V.reads R.remaining) inputs.old sources ×
+        (lines : List ℕ) × AreLines V.seen V.Key.cmp V.begins (V.told now) compared now sources found lines ×
+        Appends (W.contents writer.old) (W.contents writer.new) lines) }
+
+    ensures stopped { IfErr result (StopsDiff V.seen V.Key.cmp V.reads R.remaining V.begins (V.told now) compared now
+        inputs.old inputs.new W.contents writer.old writer.new) }
+{
+    let replicas: Vec<Replica<'_, V>> = read_sources(alloc, inputs)?;
+    let written = write_differences(alloc, &replicas, compared, now, writer);
+    mem::forget(replicas);
+    match written {
+        Ok(found) => Ok(found),
+        Err(SnapshotError::Write { written }) => Err(DiffError::Write { written }),
+        Err(_) => Err(DiffError::Memory),
+    }
+}

@@ -1,0 +1,44 @@
+//! What is told of maps: views and snapshots as lines, and the differences of several sources, both in lines and in JSON.
+#![tactic(auto)]
+
+mod compared;
+mod difference;
+pub mod difference_laws;
+mod differences;
+mod group_lines;
+mod groups;
+pub mod in_json;
+mod inputs;
+pub mod line_laws;
+mod lists;
+mod moments;
+mod names;
+mod part;
+mod replica;
+mod show;
+mod side;
+mod told;
+mod view;
+mod view_lines;
+pub mod word_laws;
+mod words;
+mod writing;
+
+pub use compared::Compared;
+pub use differences::{is_same, next_difference};
+pub use group_lines::less_by;
+pub use groups::{greatest_of, is_behind_by, next_below};
+pub use in_json::{InJson, diff_json, show_json, write_differences_json, write_view_json};
+pub use inputs::{DiffError, Input, diff_rows, read_sources};
+pub use lists::{Numbers, Texts};
+pub use moments::shown_moment;
+pub use names::{is_held, nothing};
+pub use part::Part;
+pub use replica::{Replica, sides_of};
+pub use show::{show_log, show_silences};
+pub use side::Side;
+pub use told::Told;
+pub use view::{append_view, write_view};
+pub use view_lines::Owner;
+pub use words::{ListedWord, Word};
+pub use writing::{append_differences, write_differences};

@@ -1,0 +1,101 @@
+//! What is told of versions.
+
+ghost use Rattle.std.specs.Prelude.{◌≡◌, ℕ, List, ◌++◌, OnOk, string_bytes};
+ghost use Rattle.am_told.specs.Versions.{shown_state};
+
+use crate::lists::Numbers;
+use crate::moments::shown_moment;
+use crate::words::Word;
+use am_nflog::{LogKey, MeshEntry};
+use am_silence::{MeshSilence, State};
+use am_version_order::{Moment, Version};
+use am_wire::Text;
+use std::alloc::AllocError;
+
+/// A version that is told in a line.
+pub trait Told: Version {
+    /// The words with which each line of a key begins.
+    ghost begins: { Self.Key → List ℕ };
+
+    /// The words of a version at a moment.
+    ghost told: { ℕ → Self → List ℕ };
+
+    /// Appends the words with which each line of a key begins.
+    ///
+    /// # Errors
+    ///
+    /// [`AllocError`] where memory runs out. A part of the words may be left.
+    fn append_key(out: &mut String, key: &Self::Key) -> Result<(), AllocError>
+        ensures { OnOk result (string_bytes out.new ≡ string_bytes out.old ++ begins key.now) };
+
+    /// Appends the words of a version at a moment.
+    ///
+    /// # Errors
+    ///
+    /// [`AllocError`] where memory runs out. A part of the words may be left.
+    fn append_told(&self, out: &mut String, now: Moment) -> Result<(), AllocError>
+        ensures { OnOk result (string_bytes out.new ≡ string_bytes out.old ++ told now self.now) };
+}
+
+/// The state of a silence at a moment, and `gone` where its version isn't live then.
+fn shown_state(silence: &MeshSilence, now: Moment) -> &'static str
+    ensures { result.now ≡ shown_state now silence.now }
+{
+    if now >= silence.expires() {
+        return "gone";
+    }
+    match silence.state_at(now) {
+        State::Pending => "pending",
+        State::Active => "active",
+        State::Expired => "expired",
+    }
+}
+
+impl Told for MeshSilence {
+    ghost use Rattle.am_told.specs.Versions.{begins_silence, told_silence};
+
+    ghost begins = { begins_silence };
+
+    ghost told = { told_silence };
+
+    fn append_key(out: &mut String, key: &Text) -> Result<(), AllocError> {
+        let id = Word(key.as_str().as_bytes());
+        write!(out, "sil {id}")
+    }
+
+    #[tactic(auto, unfolding(crate::specs::Versions::told_silence))]
+    fn append_told(&self, out: &mut String, now: Moment) -> Result<(), AllocError> {
+        let state = shown_state(self, now);
+        let updated = shown_moment(self.updated_at());
+        let ends = shown_moment(self.ends_at());
+        let (updated, ends) = (updated.as_str(), ends.as_str());
+        write!(out, "{state} {updated} {ends}")
+    }
+}
+
+impl Told for MeshEntry {
+    ghost use Rattle.am_told.specs.Versions.{begins_entry, told_entry};
+
+    ghost begins = { begins_entry };
+
+    ghost told = { told_entry };
+
+    #[tactic(auto, unfolding(crate::specs::Views::key_words))]
+    fn append_key(out: &mut String, key: &LogKey) -> Result<(), AllocError> {
+        let group = Word(key.group_key());
+        let name = Word(key.group_name().as_bytes());
+        let integration = Word(key.integration().as_bytes());
+        let idx = key.idx();
+        write!(out, "nfl {group} {name} {integration} {idx}")
+    }
+
+    #[tactic(auto, unfolding(crate::specs::Versions::told_entry))]
+    fn append_told(&self, out: &mut String, _now: Moment) -> Result<(), AllocError> {
+        let updated = shown_moment(self.timestamp());
+        let expires = shown_moment(self.expires_at());
+        let (updated, expires) = (updated.as_str(), expires.as_str());
+        let firing = Numbers(self.firing_alerts());
+        let resolved = Numbers(self.resolved_alerts());
+        write!(out, "{updated} {expires} {firing} {resolved}")
+    }
+}

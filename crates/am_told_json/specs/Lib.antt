@@ -1,4 +1,0 @@
-pub mod Values
-pub mod Views
-pub mod Groups
-pub mod Written

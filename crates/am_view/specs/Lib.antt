@@ -1,5 +1,0 @@
-pub mod Words
-pub mod Lists
-pub mod Views
-pub mod Laws
-pub mod Shows
