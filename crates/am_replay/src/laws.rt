@@ -1,14 +1,14 @@
 //! What holds of all runs of a cluster, of clusters as they stand, and of all steps of an instance.
 
+pub use am_cluster_laws::{
+    first_is_told_after_a_spread, first_is_told_exactly, first_is_told_where_old_ones_ended,
+    members_agree_on_what_is_old, members_reply_as_the_bare_sets, members_show_the_bare_sets,
+    members_with_equal_sets_mute_alike, members_with_equal_sets_reply_alike,
+};
 pub use am_instance::laws::{
     calm_steps_reply_as_the_bare_sets, cuts_change_no_event, equal_sets_show_alike,
     equal_views_mute_alike, equal_views_reply_alike, steps_show_the_bare_sets,
     what_is_shown_replies,
-};
-pub use am_replicas::{
-    first_is_told_after_a_spread, first_is_told_exactly, first_is_told_where_old_ones_ended,
-    members_agree_on_what_is_old, members_reply_as_the_bare_sets, members_show_the_bare_sets,
-    members_with_equal_sets_mute_alike, members_with_equal_sets_reply_alike,
 };
 pub use am_runs::laws::{
     calm_members_show_the_bare_set, nothing_shown_after_a_spread, nothing_shown_exactly,

@@ -11,7 +11,7 @@ use Rattle.am_merge.specs.Views.{IsInView, IsViewAt}
 use Rattle.am_runs.proofs.Agrees.{nothing_told}
 use Rattle.am_instance.specs.declared.reply.Reply.{Reply}
 use Rattle.am_instance.specs.declared.reply.Reply.TheVariants as replies
-use Rattle.am_replicas.specs.Firsts.{is_first}
+use Rattle.am_cluster_laws.specs.Firsts.{is_first}
 
 -- the cases of a decision over an entry, one for each of the tests
 cases : (unlisted empty told wanted late : Bool) →

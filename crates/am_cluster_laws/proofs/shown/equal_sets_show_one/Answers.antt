@@ -1,5 +1,5 @@
 use Rattle.am_collect.proofs.Greatest.{same_view}
-use Rattle.am_replicas.proofs.shown.equal_sets_show_one.Goals as goal
+use Rattle.am_cluster_laws.proofs.shown.equal_sets_show_one.Goals as goal
 
 pub returns : goal.returns
 returns g c set other now key one two same values here there =

@@ -6,8 +6,8 @@ use Rattle.am_nflog.specs.Mesh.{mesh_version as entry_version}
 use Rattle.am_nflog.specs.Keys.{key_cmp}
 use Rattle.am_runs.specs.Members.{member_of}
 use Rattle.am_instance.specs.Stands.{kept_silences, kept_log}
-use Rattle.am_replicas.proofs.Held.{last_by, shown_of}
-use Rattle.am_replicas.proofs.shown.members_show_the_bare_sets.Goals as goal
+use Rattle.am_cluster_laws.proofs.Held.{last_by, shown_of}
+use Rattle.am_cluster_laws.proofs.shown.members_show_the_bare_sets.Goals as goal
 
 pub returns-clause-silences : goal.returns-clause-silences
 returns-clause-silences c = λ place now id replica found by.

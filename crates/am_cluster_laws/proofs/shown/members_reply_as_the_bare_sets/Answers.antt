@@ -1,5 +1,5 @@
-use Rattle.am_replicas.specs.Replicas.{entries_taken, silences_taken}
-use Rattle.am_replicas.proofs.shown.members_reply_as_the_bare_sets.Goals as goal
+use Rattle.am_cluster_laws.specs.Replicas.{entries_taken, silences_taken}
+use Rattle.am_cluster_laws.proofs.shown.members_reply_as_the_bare_sets.Goals as goal
 
 pub returns : goal.returns
 returns c = λ now event reply made replica found calm asks replied.

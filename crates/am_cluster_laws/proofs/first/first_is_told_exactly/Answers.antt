@@ -1,9 +1,9 @@
 use Rattle.am_dedup.specs.Decisions.{set_of}
 use Rattle.am_instance.specs.Replies.{entry_in_view}
-use Rattle.am_replicas.specs.Firsts.{key_of}
-use Rattle.am_replicas.specs.Replicas.{entries_taken}
-use Rattle.am_replicas.proofs.Asking.{told_first}
-use Rattle.am_replicas.proofs.first.first_is_told_exactly.Goals as goal
+use Rattle.am_cluster_laws.specs.Firsts.{key_of}
+use Rattle.am_cluster_laws.specs.Replicas.{entries_taken}
+use Rattle.am_cluster_laws.proofs.Asking.{told_first}
+use Rattle.am_cluster_laws.proofs.first.first_is_told_exactly.Goals as goal
 
 pub returns : goal.returns
 returns c = λ place now asked reply made replica found by answered.

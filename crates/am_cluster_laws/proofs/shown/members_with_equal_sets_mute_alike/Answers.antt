@@ -1,6 +1,6 @@
 use Rattle.am_instance.specs.Replies.{entry_in_view, silence_in_view}
-use Rattle.am_replicas.specs.Replicas.{entries_taken, silences_taken}
-use Rattle.am_replicas.proofs.shown.members_with_equal_sets_mute_alike.Goals as goal
+use Rattle.am_cluster_laws.specs.Replicas.{entries_taken, silences_taken}
+use Rattle.am_cluster_laws.proofs.shown.members_with_equal_sets_mute_alike.Goals as goal
 
 pub returns : goal.returns
 returns c = λ now labels ids broken others broken_too one found two there here too silences values entries log_values first second id muted sound.

@@ -15,7 +15,7 @@ ghost use Rattle.am_instance.specs.Bare.{IsBareReply, asks_shown};
 ghost use Rattle.am_instance.specs.Laws.{HasMaps, asks_views};
 ghost use Rattle.am_instance.specs.Replies.{IsReply, entry_in_view, silence_in_view};
 ghost use Rattle.am_cluster.specs.Lives.{OfMember};
-ghost use Rattle.am_replicas.specs.Replicas.{IsCalmBy, entries_taken, silences_taken};
+ghost use Rattle.am_cluster_laws.specs.Replicas.{IsCalmBy, entries_taken, silences_taken};
 
 use am_cluster::Cluster;
 use am_instance::laws::{equal_views_mute_alike, equal_views_reply_alike, what_is_shown_replies};

@@ -11,8 +11,8 @@ use Rattle.am_runs.specs.Runs.{IsRun}
 use Rattle.am_runs.specs.Steps.{delivered_in}
 use Rattle.am_runs.specs.Timely.{IsTimely}
 use Rattle.am_cluster.specs.Ties.{IsTied}
-use Rattle.am_replicas.proofs.Held.{agree_of}
-use Rattle.am_replicas.proofs.later.members_agree_on_what_is_old.Goals as goal
+use Rattle.am_cluster_laws.proofs.Held.{agree_of}
+use Rattle.am_cluster_laws.proofs.later.members_agree_on_what_is_old.Goals as goal
 
 pub returns-clause-silences : goal.returns-clause-silences
 returns-clause-silences c = λ spread flight now key positive goes timely old place other one found two there runs runs_too.

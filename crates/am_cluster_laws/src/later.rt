@@ -11,8 +11,8 @@ ghost use Rattle.am_cluster.specs.Reports.{AreTimely};
 ghost use Rattle.am_instance.specs.declared.reply.Made.{Made};
 ghost use Rattle.am_instance.specs.Replies.{IsReply, entry_in_view, silence_in_view};
 ghost use Rattle.am_cluster.specs.Lives.{OfMember};
-ghost use Rattle.am_replicas.specs.Replicas.{GoesOnAt, entries_taken};
-ghost use Rattle.am_replicas.specs.Firsts.{Asked, asks, is_first, key_of};
+ghost use Rattle.am_cluster_laws.specs.Replicas.{GoesOnAt, entries_taken};
+ghost use Rattle.am_cluster_laws.specs.Firsts.{Asked, asks, is_first, key_of};
 
 use crate::first::first_is_told_after_a_spread;
 use am_cluster::Cluster;

@@ -5,9 +5,9 @@ use Rattle.am_nflog.specs.Keys.{key_cmp}
 use Rattle.am_dedup.specs.Decisions.{set_of}
 use Rattle.am_instance.specs.Replies.{entry_in_view}
 use Rattle.am_runs.specs.Members.{map_of, member_of}
-use Rattle.am_replicas.specs.Firsts.{key_of}
-use Rattle.am_replicas.proofs.Asking.{first_alone}
-use Rattle.am_replicas.proofs.first.first_is_told_after_a_spread.Goals as goal
+use Rattle.am_cluster_laws.specs.Firsts.{key_of}
+use Rattle.am_cluster_laws.proofs.Asking.{first_alone}
+use Rattle.am_cluster_laws.proofs.first.first_is_told_after_a_spread.Goals as goal
 
 pub returns : goal.returns
 returns c = λ members spread flight now before rest step entry positive run timely moment_is has old place runs stand asked made gone key answered.

@@ -17,8 +17,8 @@ ghost use Rattle.am_instance.specs.declared.reply.Made.{Made};
 ghost use Rattle.am_instance.specs.declared.reply.Reply.{Reply};
 ghost use Rattle.am_instance.specs.Replies.{IsReply};
 ghost use Rattle.am_cluster.specs.Lives.{OfMember};
-ghost use Rattle.am_replicas.specs.Replicas.{IsCalmBy, entries_taken};
-ghost use Rattle.am_replicas.specs.Firsts.{Asked, asks, is_first, key_of, something_fires};
+ghost use Rattle.am_cluster_laws.specs.Replicas.{IsCalmBy, entries_taken};
+ghost use Rattle.am_cluster_laws.specs.Firsts.{Asked, asks, is_first, key_of, something_fires};
 
 use crate::shown::members_show_the_bare_sets;
 use am_cluster::Cluster;

@@ -5,7 +5,7 @@ use Rattle.am_nflog.specs.Keys.{key_cmp}
 use Rattle.am_runs.specs.Runs.{IsRun}
 use Rattle.am_runs.specs.Steps.{delivered_in}
 use Rattle.am_runs.specs.Timely.{IsTimely}
-use Rattle.am_replicas.proofs.later.first_is_told_where_old_ones_ended.Goals as goal
+use Rattle.am_cluster_laws.proofs.later.first_is_told_where_old_ones_ended.Goals as goal
 
 pub returns : goal.returns
 returns c = λ spread flight now entry asked made place positive goes timely has old key replica found runs answered.
