@@ -228,28 +228,28 @@ impl fmt::Display for Fault {
         match *self {
             Fault::Snapshot(error) => lines::write_snapshot_error(error, f),
             Fault::Replay(error) => lines::write_replay_error(error, f),
-            Fault::TooManySteps(steps) => write!(f, "TooManySteps {steps}"),
+            Fault::TooManySteps(steps) => lines::numbered(f, "TooManySteps", steps),
             Fault::Picture(fault) => {
-                write!(f, "Picture ")?;
+                f.write_str("Picture ")?;
                 lines::write_file_fault(fault, f)
             }
-            Fault::Peer => write!(f, "Peer"),
+            Fault::Peer => f.write_str("Peer"),
             Fault::Config(error) => lines::write_config_error(error, f),
             Fault::Silences(fault) => {
-                write!(f, "Silences ")?;
+                f.write_str("Silences ")?;
                 lines::write_file_fault(fault, f)
             }
             Fault::Log(fault) => {
-                write!(f, "Log ")?;
+                f.write_str("Log ")?;
                 lines::write_file_fault(fault, f)
             }
-            Fault::Random(kind) => write!(f, "Random {kind:?}"),
+            Fault::Random(kind) => lines::of_kind(f, "Random", kind),
             Fault::Listen(kind, port) => write!(f, "Listen {kind:?} {port}"),
-            Fault::Accept(kind) => write!(f, "Accept {kind:?}"),
+            Fault::Accept(kind) => lines::of_kind(f, "Accept", kind),
             Fault::Connection(fault) => lines::write_connection_fault(fault, f),
-            Fault::Clock(kind) => write!(f, "Clock {kind:?}"),
-            Fault::UnsentMemory(frames) => write!(f, "Unsent Memory {frames}"),
-            Fault::UnsentLimit(frames) => write!(f, "Unsent Limit {frames}"),
+            Fault::Clock(kind) => lines::of_kind(f, "Clock", kind),
+            Fault::UnsentMemory(frames) => lines::numbered(f, "Unsent Memory", frames),
+            Fault::UnsentLimit(frames) => lines::numbered(f, "Unsent Limit", frames),
             Fault::Send(fault, port) => lines::write_send_fault(fault, port, f),
         }
     }

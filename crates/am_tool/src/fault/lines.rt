@@ -10,31 +10,46 @@ use am_schedule::FaultKind;
 use am_silence_json::ListError;
 use am_snapshot::SnapshotError;
 use am_wire::WireError;
-use std::fmt::{self, Formatter};
+use std::fmt::{self, Display, Formatter};
+use std::io::ErrorKind;
+
+/// A name and a number.
+pub fn numbered<W: fmt::Write, N: Display + Drop>(
+    f: &mut Formatter<W>,
+    name: &str,
+    number: N,
+) -> fmt::Result {
+    write!(f, "{name} {number}")
+}
+
+/// A name and the kind of the system's refusal.
+pub fn of_kind<W: fmt::Write>(f: &mut Formatter<W>, name: &str, kind: ErrorKind) -> fmt::Result {
+    write!(f, "{name} {kind:?}")
+}
 
 pub fn write_snapshot_error<W: fmt::Write>(
     error: SnapshotError,
     f: &mut Formatter<W>,
 ) -> fmt::Result {
     match error {
-        SnapshotError::Read { at } => write!(f, "Read {at}"),
-        SnapshotError::Write { written } => write!(f, "Write {written}"),
+        SnapshotError::Read { at } => numbered(f, "Read", at),
+        SnapshotError::Write { written } => numbered(f, "Write", written),
         SnapshotError::Wire(error) => write_wire_error(error, f),
-        SnapshotError::DuplicateKey => write!(f, "DuplicateKey"),
-        SnapshotError::TooLarge => write!(f, "TooLarge"),
-        SnapshotError::Memory => write!(f, "Memory"),
+        SnapshotError::DuplicateKey => f.write_str("DuplicateKey"),
+        SnapshotError::TooLarge => f.write_str("TooLarge"),
+        SnapshotError::Memory => f.write_str("Memory"),
     }
 }
 
 pub fn write_replay_error<W: fmt::Write>(error: ReplayError, f: &mut Formatter<W>) -> fmt::Result {
     match error {
-        ReplayError::Read { at } => write!(f, "Read {at}"),
+        ReplayError::Read { at } => numbered(f, "Read", at),
         ReplayError::Schedule(error) => {
             write!(f, "Schedule {} {}", kind_name(error.kind), error.line)
         }
-        ReplayError::TooLarge => write!(f, "TooLarge"),
-        ReplayError::Memory { line } => write!(f, "Memory {line}"),
-        ReplayError::Write { written } => write!(f, "Write {written}"),
+        ReplayError::TooLarge => f.write_str("TooLarge"),
+        ReplayError::Memory { line } => numbered(f, "Memory", line),
+        ReplayError::Write { written } => numbered(f, "Write", written),
     }
 }
 
@@ -52,26 +67,26 @@ fn kind_name(kind: FaultKind) -> &'static str {
 
 fn write_wire_error<W: fmt::Write>(error: WireError, f: &mut Formatter<W>) -> fmt::Result {
     match error {
-        WireError::Truncated { at } => write!(f, "Wire Truncated {at}"),
-        WireError::LongVarint { at } => write!(f, "Wire LongVarint {at}"),
-        WireError::FieldNumber { at } => write!(f, "Wire FieldNumber {at}"),
-        WireError::WireType { at } => write!(f, "Wire WireType {at}"),
-        WireError::WrongType { at } => write!(f, "Wire WrongType {at}"),
-        WireError::NotUtf8 { at } => write!(f, "Wire NotUtf8 {at}"),
-        WireError::Timestamp { at } => write!(f, "Wire Timestamp {at}"),
-        WireError::MatcherType { at } => write!(f, "Wire MatcherType {at}"),
-        WireError::MissingMessage { field } => write!(f, "Wire MissingMessage {field}"),
-        WireError::TooLarge => write!(f, "Wire TooLarge"),
-        WireError::Memory => write!(f, "Memory"),
+        WireError::Truncated { at } => numbered(f, "Wire Truncated", at),
+        WireError::LongVarint { at } => numbered(f, "Wire LongVarint", at),
+        WireError::FieldNumber { at } => numbered(f, "Wire FieldNumber", at),
+        WireError::WireType { at } => numbered(f, "Wire WireType", at),
+        WireError::WrongType { at } => numbered(f, "Wire WrongType", at),
+        WireError::NotUtf8 { at } => numbered(f, "Wire NotUtf8", at),
+        WireError::Timestamp { at } => numbered(f, "Wire Timestamp", at),
+        WireError::MatcherType { at } => numbered(f, "Wire MatcherType", at),
+        WireError::MissingMessage { field } => numbered(f, "Wire MissingMessage", field),
+        WireError::TooLarge => f.write_str("Wire TooLarge"),
+        WireError::Memory => f.write_str("Memory"),
     }
 }
 
 pub fn write_config_error<W: fmt::Write>(error: ConfigError, f: &mut Formatter<W>) -> fmt::Result {
     match error {
-        ConfigError::EmptyName => write!(f, "EmptyName"),
-        ConfigError::LongName => write!(f, "LongName"),
-        ConfigError::SameName => write!(f, "SameName"),
-        ConfigError::Memory => write!(f, "Memory"),
+        ConfigError::EmptyName => f.write_str("EmptyName"),
+        ConfigError::LongName => f.write_str("LongName"),
+        ConfigError::SameName => f.write_str("SameName"),
+        ConfigError::Memory => f.write_str("Memory"),
     }
 }
 
@@ -79,51 +94,51 @@ pub fn write_input_fault<W: fmt::Write>(fault: InputFault, f: &mut Formatter<W>)
     match fault {
         InputFault::File(fault) => write_file_fault(fault, f),
         InputFault::Fetch(fault) => write_fetch_fault(fault, f),
-        InputFault::Reply(ReplyError::NoHead) => write!(f, "Reply"),
-        InputFault::Reply(ReplyError::Status(code)) => write!(f, "Status {code}"),
+        InputFault::Reply(ReplyError::NoHead) => f.write_str("Reply"),
+        InputFault::Reply(ReplyError::Status(code)) => numbered(f, "Status", code),
         InputFault::List(error) => write_list_error(error, f),
     }
 }
 
 fn write_fetch_fault<W: fmt::Write>(fault: FetchFault, f: &mut Formatter<W>) -> fmt::Result {
     match fault {
-        FetchFault::Connect(kind) => write!(f, "Connect {kind:?}"),
-        FetchFault::Write { written } => write!(f, "Write {written}"),
-        FetchFault::Reply(ReadError::Read { at }) => write!(f, "Read {at}"),
-        FetchFault::Reply(ReadError::TooLarge) => write!(f, "TooLarge"),
-        FetchFault::Reply(ReadError::Memory) => write!(f, "Memory"),
+        FetchFault::Connect(kind) => of_kind(f, "Connect", kind),
+        FetchFault::Write { written } => numbered(f, "Write", written),
+        FetchFault::Reply(ReadError::Read { at }) => numbered(f, "Read", at),
+        FetchFault::Reply(ReadError::TooLarge) => f.write_str("TooLarge"),
+        FetchFault::Reply(ReadError::Memory) => f.write_str("Memory"),
     }
 }
 
 fn write_list_error<W: fmt::Write>(error: ListError, f: &mut Formatter<W>) -> fmt::Result {
     match error {
-        ListError::BadJson => write!(f, "BadJson"),
-        ListError::NoList => write!(f, "NoList"),
+        ListError::BadJson => f.write_str("BadJson"),
+        ListError::NoList => f.write_str("NoList"),
         ListError::Wrong(place, key) => write!(f, "Silence {place} {key}"),
         ListError::TooLarge(place) => write!(f, "Silence {place} TooLarge"),
-        ListError::Memory => write!(f, "Memory"),
+        ListError::Memory => f.write_str("Memory"),
     }
 }
 
 pub fn write_file_fault<W: fmt::Write>(fault: FileFault, f: &mut Formatter<W>) -> fmt::Result {
     match fault {
-        FileFault::File(kind) => write!(f, "File {kind:?}"),
+        FileFault::File(kind) => of_kind(f, "File", kind),
         FileFault::Snapshot(error) => write_snapshot_error(error, f),
     }
 }
 
 pub fn write_connection_fault<W: fmt::Write>(fault: Fault, f: &mut Formatter<W>) -> fmt::Result {
     match fault {
-        Fault::Read { at } => write!(f, "Read {at}"),
-        Fault::Write { written } => write!(f, "Write {written}"),
-        Fault::TooLarge => write!(f, "TooLarge"),
+        Fault::Read { at } => numbered(f, "Read", at),
+        Fault::Write { written } => numbered(f, "Write", written),
+        Fault::TooLarge => f.write_str("TooLarge"),
         Fault::Frame(error) => {
-            write!(f, "Frame ")?;
+            f.write_str("Frame ")?;
             write_frame_error(error, f)
         }
-        Fault::UnknownName => write!(f, "UnknownName"),
+        Fault::UnknownName => f.write_str("UnknownName"),
         Fault::Step(error) => {
-            write!(f, "Step ")?;
+            f.write_str("Step ")?;
             write_step_error(error, f)
         }
     }
@@ -131,12 +146,12 @@ pub fn write_connection_fault<W: fmt::Write>(fault: Fault, f: &mut Formatter<W>)
 
 fn write_frame_error<W: fmt::Write>(error: FrameError, f: &mut Formatter<W>) -> fmt::Result {
     match error {
-        FrameError::Kind => write!(f, "Kind"),
-        FrameError::Length => write!(f, "Length"),
+        FrameError::Kind => f.write_str("Kind"),
+        FrameError::Length => f.write_str("Length"),
         FrameError::Wire(error) => write_wire_error(error, f),
-        FrameError::UnknownState => write!(f, "UnknownState"),
-        FrameError::Ended => write!(f, "Ended"),
-        FrameError::Memory => write!(f, "Memory"),
+        FrameError::UnknownState => f.write_str("UnknownState"),
+        FrameError::Ended => f.write_str("Ended"),
+        FrameError::Memory => f.write_str("Memory"),
     }
 }
 
@@ -146,12 +161,12 @@ fn write_step_error<W: fmt::Write>(error: StepError, f: &mut Formatter<W>) -> fm
             let (seconds, nanos) = last.parts();
             write!(f, "MomentBack {seconds} {nanos}")
         }
-        StepError::UnknownPeer => write!(f, "UnknownPeer"),
+        StepError::UnknownPeer => f.write_str("UnknownPeer"),
         StepError::Frame(error) => {
-            write!(f, "Frame ")?;
+            f.write_str("Frame ")?;
             write_frame_error(error, f)
         }
-        StepError::Memory { taken } => write!(f, "Memory {taken}"),
+        StepError::Memory { taken } => numbered(f, "Memory", taken),
     }
 }
 
@@ -163,7 +178,7 @@ pub fn write_send_fault<W: fmt::Write>(
     match fault {
         SendFault::Connect(kind) => write!(f, "Connect {kind:?} {port}"),
         SendFault::Send(SendError::Write { written }) => write!(f, "Send Write {port} {written}"),
-        SendFault::Send(SendError::Memory) => write!(f, "Send Memory {port}"),
-        SendFault::Send(SendError::Length) => write!(f, "Send Length {port}"),
+        SendFault::Send(SendError::Memory) => numbered(f, "Send Memory", port),
+        SendFault::Send(SendError::Length) => numbered(f, "Send Length", port),
     }
 }
