@@ -1,27 +1,24 @@
 -- What tells that a version comes to a member in time: the member didn't run since it should have come, or a step brought it.
-use Rattle.std.proofs.Common.{◌≡◌, ℕ, ◌+◌, ◌<◌, ◌≤◌, Bool, true, false, not, ◌&&◌, ◌||◌, cond, eqb, leb, max, List, [], ◌∷◌, ◌++◌, Option, Some, None, refl, sym, ap, ◌∙◌, subst, arith, map, take, drop, length, zero, suc, drop-cons, slice_get, ◌-◌}
+use Rattle.std.proofs.Common.{◌≡◌, ℕ, ◌+◌, ◌<◌, ◌≤◌, inl, inr, Bool, true, false, not, ◌&&◌, ◌||◌, cond, eqb, leb, max, List, [], ◌∷◌, ◌++◌, Option, Some, None, is_some, refl, sym, ap, ◌∙◌, subst, arith, take, drop, length, suc, drop-cons, slice_get}
 use Rattle.std.specs.Prelude.{All}
-use Rattle.std.specs.List.{list_any, slice_range}
+use Rattle.std.specs.List.{list_any}
 use Rattle.std.specs.declared.cmp.Ordering.{Ordering}
 use Rattle.std.proofs.Math.Nat.{le-max_left, le-max_right}
-use Rattle.std.proofs.lemmas.Bool.{leb-true, leb-false, lt-leb, and_parts, and_from, or_left, or_right, false≢true, not-true}
-use Rattle.std.proofs.lemmas.List.{take-append-drop, take-map, drop-map}
-use Rattle.std.proofs.lemmas.List.Folds.{drop_split}
+use Rattle.std.proofs.lemmas.Bool.{leb-true, leb-false, lt-leb, cases_lt, and_parts, and_from, or_left, or_right, false≢true, not-true}
+use Rattle.std.proofs.lemmas.List.{take-append-drop}
 use Rattle.std.proofs.lemmas.Option.{slice_get_within, get_or_from_slice_get}
 use Rattle.std.proofs.lemmas.List.Elements.{All-contains}
 use Rattle.am_version_order.specs.Versions.{Version}
 use Rattle.am_runs.specs.Steps.{Step, moment, clock_after}
 use Rattle.am_runs.specs.Steps.Step.{Took, Ticked, Back, Refused, Saved, Stopped, Started}
-use Rattle.am_runs.specs.declared.trails.Spell.{Spell}
-use Rattle.am_runs.specs.Spells.{starts, saves, ComesFrom, HoldsFrom, IsSpell, IsLast}
-use Rattle.am_runs.specs.Tests.{runs_from, Watched, later, runs_after, is_onward, are_onward, is_due, ran_after, ran_from, is_wanting, counts_for, watched, watch_after, comes, brings, ComesToAll}
+use Rattle.am_runs.specs.Spells.{starts, saves, HoldsFrom, IsSpell}
+use Rattle.am_runs.specs.Tests.{Watched, later, runs_after, is_onward, are_onward, is_due, ran_after, ran_from, is_wanting, counts_for, watched, watch_after, comes, brings, ComesToAll}
 use Rattle.am_runs.proofs.Loops.{all_from}
 use Rattle.am_runs.proofs.Takes.{drop_all}
 
-slice_some : {A : Type 0} (xs : List A) (n : ℕ) → n < length xs → slice_get xs n ≡ None → ⊥
-slice_some [] n within e = absurd (omega arith)
-slice_some (x ∷ xs) zero within e = absurd cc
-slice_some (x ∷ xs) (suc n) within e = slice_some xs n (omega arith) e
+pub none_told : {A : Type 0} (o : Option A) → is_some o ≡ false → o ≡ None
+none_told None e = refl
+none_told (Some a) e = absurd (false≢true (sym e))
 
 -- ---- what isn't due by the latest moment isn't by an earlier one
 
@@ -207,59 +204,23 @@ module _ {K X : Type 0} (seen : X → Version K) (cmp : K → K → Ordering) (s
       drop-cons steps n s (slice_get_within steps n s is) ∙ ap (λ y. y ∷ drop (suc n) steps) (get_or_from_slice_get steps n s s is) ∙ ap
       (λ m. s ∷ drop m steps) next
 
+  pub held_before : (steps : List (Step X)) (n : ℕ) (s : Step X) → slice_get steps n ≡ Some s → starts q s ≡ false
+      → HoldsFrom seen cmp spread q v steps (n + 1) → HoldsFrom seen cmp spread q v steps n
+  held_before steps n s is apart later = subst Held (sym (at_number steps n s is)) (held_on s (drop (n + 1) steps) apart later)
+
   pub saved_held : (steps : List (Step X)) (n : ℕ) (s : Step X) → slice_get steps n ≡ Some s → saves q s ≡ true
       → HoldsFrom seen cmp spread q v steps n
   saved_held steps n s is save = subst Held (sym (at_number steps n s is)) (held_saved s (drop (n + 1) steps) save)
 
+  -- a step that starts it, where it doesn't run as a later one with a moment begins
   pub started_held : (steps : List (Step X)) (n : ℕ) (s : Step X) → slice_get steps n ≡ Some s → starts q s ≡ true
-      → ComesFrom seen cmp spread q v steps (n + 1) → HoldsFrom seen cmp spread q v steps n
-  started_held steps n s is start running = subst Held (sym (at_number steps n s is)) (held_started s (drop (n + 1) steps) start running)
+      → ran_from q true None (drop (n + 1) steps) ≡ None → HoldsFrom seen cmp spread q v steps n
+  started_held steps n s is start rests = subst Held (sym (at_number steps n s is)) (held_started s (drop (n + 1) steps) start
+      (λ w running. comes_unseen w None (drop (n + 1) steps)
+      (ap (λ r. is_due due (ran_from q r None (drop (n + 1) steps))) running ∙ ap (is_due due) rests)))
 
-  -- back to an earlier number
-  held_back : (steps : List (Step X)) (from until : ℕ) → ((n : ℕ) (s : Step X) → from ≤ n → n < until → slice_get steps n ≡ Some s
-      → starts q s ≡ false) → until ≤ length steps → (far n : ℕ) → from ≤ n → n + far ≤ until → HoldsFrom seen cmp spread q v steps (n + far) → HoldsFrom seen cmp spread q v steps n
-  held_back steps from until none long zero n low high held = let same : n + 0 ≡ n = omega arith in subst
-      (λ m. HoldsFrom seen cmp spread q v steps m) same held
-  held_back steps from until none long (suc far) n low high held =
-      let next : n + suc far ≡ (n + 1) + far = omega arith in
-      let later = held_back steps from until none long far (n + 1) (omega arith) (omega (arith, next, high))
-      (subst (λ m. HoldsFrom seen cmp spread q v steps m) next held) in
-      let within : n < length steps = omega arith in
-      by (slice_get steps n) refl within later where
-        by : (o : Option (Step X)) → slice_get steps n ≡ o → n < length steps → HoldsFrom seen cmp spread q v steps (n + 1)
-            → HoldsFrom seen cmp spread q v steps n
-        by None e within later = absurd (slice_some steps n within e)
-        by (Some s) e within later = subst Held (sym (at_number steps n s e))
-            (held_on s (drop (n + 1) steps) (none n s low (omega arith) e) later)
-
-  -- ---- one part after another
-  abbrev watch_from : Watched → List (Step X) → Watched
-  watch_from w [] = w
-  watch_from w (s ∷ steps) = watch_from (watch_after seen cmp q v w s) steps
-
-  comes_append : (w : Watched) (front back : List (Step X)) → comes seen cmp spread q v w front ≡ true
-      → comes seen cmp spread q v (watch_from w front) back ≡ true → comes seen cmp spread q v w (front ++ back) ≡ true
-  comes_append w [] back first later = later
-  comes_append w (s ∷ front) back first later =
-      let both = and_parts (not (is_wanting due w (moment s))) (comes seen cmp spread q v (watch_after seen cmp q v w s) front) first in
-      and_from (not (is_wanting due w (moment s))) (comes seen cmp spread q v (watch_after seen cmp q v w s) (front ++ back)) both.0
-      (comes_append (watch_after seen cmp q v w s) front back both.1 later)
-
-  runs_told : (w : Watched) (steps : List (Step X)) → (watch_from w steps).runs ≡ runs_from q w.runs steps
-  runs_told w [] = refl
-  runs_told w (s ∷ steps) = runs_told (watch_after seen cmp q v w s) steps ∙ ap (λ r. runs_from q r steps) (runs_watched w s)
-
-  -- steps at which it didn't run since the version should have come, and behind which it runs
-  pub unseen_part : (front back : List (Step X)) → is_due due (ran_from q true None front) ≡ false → runs_from q true front ≡ true
-      → Running back → Running (front ++ back)
-  unseen_part front back early runs later w running =
-      comes_append w front back
-      (comes_unseen w None front (ap (λ r. is_due due (ran_from q r None front)) running ∙ early))
-      (later (watch_from w front) (runs_told w front ∙ (ap (λ r. runs_from q r front) running ∙ runs)))
-
-  pub unseen_rest : (steps : List (Step X)) (ran : Option ℕ) → ran ≡ ran_from q true None steps → is_due due ran ≡ false → Running steps
-  unseen_rest steps ran is early w running = comes_unseen w None steps
-      (ap (λ r. is_due due (ran_from q r None steps)) running ∙ (ap (is_due due) (sym is) ∙ early))
+  pub end_held : (steps : List (Step X)) (n : ℕ) → length steps ≤ n → HoldsFrom seen cmp spread q v steps n
+  end_held steps n past w has = ap (comes seen cmp spread q v w) (drop_all steps n past)
 
   -- ---- a step that brings it
   brought_at : (s : Step X) → brings seen cmp spread q v s ≡ true → (now : ℕ) × (moment s ≡ Some now) × (leb due now ≡ false)
@@ -321,49 +282,28 @@ module _ {K X : Type 0} (seen : X → Version K) (cmp : K → K → Ordering) (s
   to_member vs q within all = all_from (λ v. comes seen cmp spread q v (record { runs = true; has = false; saved = false }) steps ≡ true) vs (λ v has. All-contains (ComesToAll seen cmp spread members steps) vs v all has q within)
 
 -- ---- spells
-module _ {X : Type 0} (q : ℕ) (steps : List (Step X)) where
-  abbrev pub NoneStarts : ℕ → ℕ → Type 0
-  NoneStarts from until = (n : ℕ) (s : Step X) → from ≤ n → n < until → slice_get steps n ≡ Some s → starts q s ≡ false
-
 module _ {K X : Type 0} (seen : X → Version K) (cmp : K → K → Ordering) (q : ℕ) (steps : List (Step X)) where
-  held_between : (spread : ℕ) (v : X) (from until : ℕ) → NoneStarts q steps from until → until ≤ length steps → (one other : ℕ)
-      → from ≤ one → one ≤ other → other ≤ until → HoldsFrom seen cmp spread q v steps other → HoldsFrom seen cmp spread q v steps one
-  held_between spread v from until none long one other low on high held =
-      let far : one + (other - one) ≡ other = omega arith in
-      held_back seen cmp spread q v steps from until none long (other - one) one low (omega (arith, far, high))
-      (subst (λ m. HoldsFrom seen cmp spread q v steps m) (sym far) held)
+  -- a place from which on it has at each step, up to one of this number, what it has there
+  pub record IsBack (place number : ℕ) : Type 0 where
+    pub low : place ≤ number
+    pub holds : (spread : ℕ) (v : X) (n : ℕ) → place ≤ n → n ≤ number → HoldsFrom seen cmp spread q v steps number → HoldsFrom seen cmp spread q v steps n
 
-  -- one that a start ends
-  pub past_spell : (spell : Spell) (s : Step X) → slice_get steps spell.until ≡ Some s → starts q s ≡ true
-      → NoneStarts q steps spell.from spell.until → spell.from ≤ spell.until
-      → ((due : ℕ) → is_due due spell.ran ≡ false → is_due due (ran_from q true None
-      (slice_range steps spell.from (spell.until + 1))) ≡ false) → runs_from q true (slice_range steps spell.from (spell.until + 1)) ≡ true → IsSpell seen cmp q spell steps
-  past_spell spell s is start none order ran runs =
-      let within = slice_get_within steps spell.until s is in
-      let long : spell.until ≤ length steps = omega arith in
+  pub back_more : (place number : ℕ) (s : Step X) → slice_get steps number ≡ Some s → starts q s ≡ false → IsBack place number → IsBack place (number + 1)
+  back_more place number s is apart back =
+      let low = back.low in
       record {
-        unseen = λ spread v early later. subst (λ ss. (w : Watched) → w.runs ≡ true → comes seen cmp spread q v w ss ≡ true)
-            (sym (drop_split steps spell.from (spell.until + 1) (omega arith)))
-            (unseen_part seen cmp spread q v (slice_range steps spell.from (spell.until + 1)) (drop (spell.until + 1) steps)
-            (ran ((seen v).updated + spread) early) runs later);
-        holds = λ spread v one other low on high held. held_between spread v spell.from spell.until none long one other low on high held;
-        ends = λ spread v later. started_held seen cmp spread q v steps spell.until s is start later;
+        low = omega (arith, low);
+        holds = λ spread v n above high held. elim (cases_lt n (number + 1)) [
+          | inl before ↦ back.holds spread v n above (omega (arith, before)) (held_before seen cmp spread q v steps number s is apart held)
+          | inr past ↦ (let same : number + 1 ≡ n = omega (arith, past, high) in subst (λ m. HoldsFrom seen cmp spread q v steps m) same held)
+        ];
       }
 
--- the last one
-pub last_spell : {K X : Type 0} (seen : X → Version K) (cmp : K → K → Ordering) (steps : List (Step X)) (spell : Spell)
-    → spell.until ≡ length steps → NoneStarts spell.member steps spell.from spell.until
-    → spell.ran ≡ ran_from spell.member true None (drop spell.from steps) → IsLast seen cmp steps spell
-last_spell seen cmp steps spell long none ran =
-    let all : spell.until ≤ length steps = omega arith in
-    record {
-      is = record {
-        unseen = λ spread v early later. unseen_rest seen cmp spread spell.member v (drop spell.from steps) spell.ran ran early;
-        holds = λ spread v one other low on high held. held_between seen cmp spell.member steps spread v spell.from spell.until none all one other low on high held;
-        ends = λ spread v later w has. ap (comes seen cmp spread spell.member v w) (drop_all steps spell.until (omega arith));
-      };
-      past = λ spread v w runs. ap (comes seen cmp spread spell.member v w) (drop_all steps (spell.until + 1) (omega arith));
-    }
-
-pub range_map : {A B : Type 0} (f : A → B) (xs : List A) (low high : ℕ) → slice_range (map f xs) low high ≡ map f (slice_range xs low high)
-range_map f xs low high = ap (take (high - low)) (drop-map f low xs) ∙ take-map f (high - low) (drop low xs)
+  -- the spell that ends there
+  pub back_spell : (place number : ℕ) (kept : Bool) → IsBack place number
+      → (kept ≡ true → (spread : ℕ) (v : X) → HoldsFrom seen cmp spread q v steps number)
+      → IsSpell seen cmp q steps (record { from = place; until = number; kept = kept })
+  back_spell place number kept back there = record {
+    rises = back.low;
+    holds = λ keeps spread v n low high. back.holds spread v n low high (there keeps spread v);
+  }

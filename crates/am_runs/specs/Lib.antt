@@ -5,6 +5,7 @@ pub mod Runs
 pub mod Timely
 pub mod Tests
 pub mod Examples
+pub mod Flights
 pub mod Settles
 pub mod Peaks
 pub mod Standings

@@ -1,6 +1,6 @@
 -- Steps of a cluster of replicas, each as what it did to versions of one type. A run is a list of them.
 -- X is the type of versions.
-use Rattle.std.specs.Prelude.{◌≡◌, ℕ, List, [], ◌∷◌, ◌++◌, Bool, false, ◌==◌, Option, Some, None, map, length, slice_get, take}
+use Rattle.std.specs.Prelude.{◌≡◌, ℕ, List, [], ◌∷◌, ◌++◌, Bool, false, ◌==◌, Option, Some, None, map, length}
 use Rattle.std.specs.List.{flat_map}
 use Rattle.am_runs.specs.declared.step.Source.{Source}
 
@@ -87,10 +87,6 @@ module _ {X : Type 0} where
   -- all frames ever sent, in order
   abbrev pub flights_of : List (Step X) → List (Flight X)
   flights_of steps = flat_map flights_by steps
-
-  -- so many frames were sent before each of the first steps
-  abbrev pub AreCounts : List ℕ → List (Step X) → Type 0
-  AreCounts counts steps = (place count : ℕ) → slice_get counts place ≡ Some count → count ≡ length (flights_of (take place steps))
 
   -- the step is one of this member
   abbrev pub is_at : ℕ → Step X → Bool

@@ -1,94 +1,87 @@
-//! Whether frames arrived in time, each looked for by how many were sent before each step.
+//! Whether frames arrived in time, each looked for from where the one before it was sent.
 
-ghost use Rattle.std.specs.Prelude.{◌≡◌, ◌<◌, ◌≤◌, IsTrue, map, length};
-ghost use Rattle.std.specs.List.{list_all, AllWithin};
+ghost use Rattle.std.specs.Prelude.{◌≡◌, ◌≤◌, map, length};
+ghost use Rattle.std.specs.List.{list_all};
+ghost use Rattle.am_runs.specs.Flights.{IsMark};
 ghost use Rattle.am_runs.specs.Records.{step_of};
-ghost use Rattle.am_runs.specs.Steps.{AreCounts};
-ghost use Rattle.am_runs.specs.Tests.{is_swift, sent_at, sent_in};
+ghost use Rattle.am_runs.specs.Tests.{is_swift, sent_at};
 
 use crate::step::{Source, Step};
 use crate::timely::{self, flies_short, sent_in};
 use am_version_order::{Interval, Moment};
 
-/// Whether what was noted is how many frames were sent before each step.
-fn are_counts<V>(steps: &[Step<V>], counts: &[usize]) -> bool
-    ensures { IsTrue result → AreCounts counts.now (map step_of steps.now) }
-{
-    if steps.len() < counts.len() {
-        return false;
-    }
-    let mut sent = 0usize;
-    for place in 0..counts.len() {
-        if counts[place] != sent {
-            return false;
-        }
-        match sent.checked_add(steps[place].sendings()) {
-            Some(more) => sent = more,
-            None => return false,
-        }
-    }
-    true
+/// How many steps there are before a place, and how many frames they sent.
+#[derive(Clone, Copy)]
+pub struct Mark {
+    pub step: usize,
+    pub sent: usize,
 }
 
-/// How many of the counts are no more than a number: the step before which the last of them was noted sent the frame of
-/// this number, if one of the steps that were counted did.
-fn counts_up_to<V>(steps: &[Step<V>], counts: &[usize], number: usize) -> usize
-    requires { AreCounts counts.now (map step_of steps.now) }
-    ensures bound { result ≤ length counts.now }
-    ensures up_to { AllWithin (λ count. count ≤ number) counts.now 0 result }
-    ensures above { AllWithin (λ count. number < count) counts.now result (length counts.now) }
+/// The mark moved back to where the frame of this number wasn't sent before it.
+fn back<V>(steps: &[Step<V>], mark: Mark, number: usize) -> Mark
+    requires { IsMark (map step_of steps.now) mark }
+    ensures { IsMark (map step_of steps.now) result }
 {
-    let _steps = steps;
-    counts.partition_point(|count| *count <= number)
+    let mut mark = mark;
+    while number < mark.sent && 0 < mark.step {
+        mark.step -= 1;
+        mark.sent -= steps[mark.step].sendings();
+    }
+    mark
 }
 
-/// When the frame of this number was sent.
-fn sent_with<V>(steps: &[Step<V>], counts: &[usize], number: usize) -> Option<Moment>
-    requires { AreCounts counts.now (map step_of steps.now) }
-    ensures { result ≡ sent_in number (map step_of steps.now) }
+/// The mark moved on to the step that sent it.
+fn forth<V>(steps: &[Step<V>], mark: Mark, number: usize) -> Mark
+    requires { IsMark (map step_of steps.now) mark }
+    ensures { IsMark (map step_of steps.now) result }
 {
-    let place = counts_up_to(steps, counts, number).saturating_sub(1);
-    match (counts.get(place), steps.get(place)) {
-        (Some(count), Some(step)) if *count <= number && number - *count < step.sendings() => {
-            step.moment()
+    let mut mark = mark;
+    for step in mark.step..steps.len() {
+        let sendings = steps[step].sendings();
+        if number < mark.sent || number - mark.sent < sendings {
+            return mark;
         }
-        _ => sent_in(number, steps),
+        mark.step += 1;
+        mark.sent += sendings;
     }
+    mark
 }
 
-/// When the versions of a source were sent, if they were.
-fn sent_at<V>(steps: &[Step<V>], counts: &[usize], source: Source) -> Option<Moment>
-    requires { AreCounts counts.now (map step_of steps.now) }
-    ensures { result ≡ sent_at (map step_of steps.now) source }
+/// When the versions of a source were sent, if they were. The mark moves to where that was.
+fn sent_at<V>(steps: &[Step<V>], mark: &mut Mark, source: Source) -> Option<Moment>
+    requires { IsMark (map step_of steps.now) mark.old }
+    ensures mark { IsMark (map step_of steps.now) mark.new }
+    ensures sent { result ≡ sent_at (map step_of steps.now) source }
 {
-    match source {
-        Source::Arrived(number) => sent_with(steps, counts, number),
-        _ => timely::sent_at(steps, source),
+    let Source::Arrived(number) = source else {
+        return timely::sent_at(steps, source);
+    };
+    *mark = forth(steps, back(steps, *mark, number), number);
+    if number < mark.sent {
+        return sent_in(number, steps);
     }
+    sent_in(number - mark.sent, &steps[mark.step..])
 }
 
 /// Whether what a step delivered came in time.
-fn is_swift<V>(flight: Interval, steps: &[Step<V>], counts: &[usize], step: &Step<V>) -> bool
-    requires { AreCounts counts.now (map step_of steps.now) }
-    ensures { result ≡ is_swift flight (map step_of steps.now) (step_of step.now) }
+fn is_swift<V>(flight: Interval, steps: &[Step<V>], mark: &mut Mark, step: &Step<V>) -> bool
+    requires { IsMark (map step_of steps.now) mark.old }
+    ensures mark { IsMark (map step_of steps.now) mark.new }
+    ensures swift { result ≡ is_swift flight (map step_of steps.now) (step_of step.now) }
 {
     match step {
-        Step::Took { now, source, .. } => {
-            flies_short(flight, *now, sent_at(steps, counts, *source))
-        }
+        Step::Took { now, source, .. } => flies_short(flight, *now, sent_at(steps, mark, *source)),
         _ => true,
     }
 }
 
-/// Whether what each step delivered came in time, by the number of frames before each step, if that is right.
-pub fn are_swift<V>(flight: Interval, steps: &[Step<V>], counts: &[usize]) -> bool
+/// Whether what each step delivered came in time.
+pub fn are_swift<V>(flight: Interval, steps: &[Step<V>]) -> bool
     ensures { result ≡ list_all (is_swift flight (map step_of steps.now)) (map step_of steps.now) }
 {
-    if !are_counts(steps, counts) {
-        return timely::are_swift(flight, steps);
-    }
+    let mut mark = Mark { step: 0, sent: 0 };
     for step in steps {
-        if !is_swift(flight, steps, counts, step) {
+        if !is_swift(flight, steps, &mut mark, step) {
             return false;
         }
     }

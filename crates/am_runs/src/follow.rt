@@ -10,7 +10,7 @@ ghost use Rattle.am_runs.specs.Tests.{StaysCalm};
 use crate::peaks::{Peaks, Timing, bring_back, save, take_all};
 use crate::standing::{Standing, last_collection, note};
 use crate::step::Step;
-use crate::trails::{Trails, note_step};
+use crate::trails::Trails;
 use am_version_order::Version;
 
 /// Whether the member of a step stays calm with it; and where its greatest versions stand is kept. It takes no memory.
@@ -50,6 +50,7 @@ fn follow<V: Version>(
                 steps,
                 before.len(),
                 *place,
+                standings.len(),
                 &timing,
                 versions,
             )
@@ -93,5 +94,4 @@ pub fn write_down<V: Version>(
     let step = &steps[number];
     let stays = follow(peaks, trails, standings, steps, before, step);
     note(standings, before, step, stays);
-    note_step(trails, number, step);
 }

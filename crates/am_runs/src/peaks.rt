@@ -160,6 +160,23 @@ pub fn find<V: Version>(
     }
 }
 
+/// The row of a key and the first of some members that has one.
+fn find_any<V: Version>(
+    peaks: &Peaks,
+    steps: &[Step<V>],
+    key: &V::Key,
+    members: usize,
+) -> Option<usize>
+    requires { IsOrder V.seen V.Key.cmp (version_at (map step_of steps.now)) peaks.now.heads.items (entries peaks.now.order) }
+{
+    for member in 0..members {
+        if let Ok(row) = find(peaks, steps, key, member) {
+            return Some(row);
+        }
+    }
+    None
+}
+
 /// Puts a row of a member and a key of which it took its first version in. It takes no memory.
 fn add<V: Version>(peaks: &mut Peaks, steps: &[Step<V>], spot: Spot, head: Head, version: &V)
     requires at { version_at (map step_of steps.now) head.first ≡ Some version.now }
@@ -253,6 +270,7 @@ pub fn take_all<V: Version>(
     steps: &[Step<V>],
     step: usize,
     member: usize,
+    members: usize,
     timing: &Timing,
     versions: &[V],
 ) -> bool
@@ -276,8 +294,10 @@ pub fn take_all<V: Version>(
             member,
             first: Place { step, number },
         };
-        let taken = take(peaks, steps, head, timing, &versions[number]);
-        add_cell(trails, steps, member, taken.row, head.first);
+        let version = &versions[number];
+        let kin = find_any(peaks, steps, version.key(), members);
+        let taken = take(peaks, steps, head, timing, version);
+        add_cell(trails, taken.row, kin, head.first);
         calm &= taken.calm;
     }
     calm

@@ -120,7 +120,7 @@ impl<V: Version> Run<V> {
         ensures kept_spare { self.old.spare ≤ self.new.spare }
     {
         fill_first(&mut self.standings, self.members, &self.steps)?;
-        make_trails(&mut self.trails, self.members, steps, versions)?;
+        make_trails(&mut self.trails, versions)?;
         self.steps.reserve(steps)?;
         make_rows(&mut self.peaks, versions)?;
         if self.spare < versions {
@@ -198,8 +198,7 @@ impl<V: Version> Run<V> {
             flight,
             self.members,
             &self.steps,
-            &self.peaks,
-            &self.trails,
+            &self.trails.cells,
         )
     }
 }

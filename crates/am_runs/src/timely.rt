@@ -4,7 +4,7 @@ ghost use Rattle.std.specs.Prelude.{◌≡◌, ◌+◌, ◌<◌, ◌≤◌, ◌�
 ghost use Rattle.std.specs.List.{list_all, list_any};
 ghost use Rattle.am_runs.specs.Records.{step_of, watch_seen};
 ghost use Rattle.am_runs.specs.Steps.{clock_after, delivered_by, delivered_in, moment};
-ghost use Rattle.am_runs.specs.Tests.{is_onward, are_onward, sent_in, sent_at, flies_short, is_swift, is_wanting};
+ghost use Rattle.am_runs.specs.Tests.{is_onward, are_onward, sent_in, sent_at, flies_short, is_due, is_swift, is_wanting};
 ghost use Rattle.am_runs.specs.Tests.{counts_for, watched, watch_after, comes, ComesToAll};
 ghost use Rattle.am_runs.specs.Runs.{IsRun};
 ghost use Rattle.am_runs.specs.Timely.{IsTimely};
@@ -133,14 +133,21 @@ struct Watch {
     saved: bool,
 }
 
-/// Whether a version should have come, and the member runs without it.
+/// Whether a version should have come by a moment.
+pub fn is_due<V: Version>(spread: Interval, version: &V, now: Option<Moment>) -> bool
+    ensures { result ≡ is_due ((V.seen version.now).updated + spread) now }
+{
+    match now {
+        Some(now) => ends_by(version.updated(), spread, now),
+        None => false,
+    }
+}
+
+/// Whether it should, and the member runs without it.
 fn is_wanting<V: Version>(spread: Interval, version: &V, watch: Watch, now: Option<Moment>) -> bool
     ensures { result ≡ is_wanting ((V.seen version.now).updated + spread) (watch_seen watch) now }
 {
-    match now {
-        Some(now) => ends_by(version.updated(), spread, now) && watch.runs && !watch.has,
-        None => false,
-    }
+    is_due(spread, version, now) && watch.runs && !watch.has
 }
 
 /// Whether a version that was taken is this one, or a greater one of its key.

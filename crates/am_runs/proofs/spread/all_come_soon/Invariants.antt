@@ -1,10 +1,12 @@
-use Rattle.std.proofs.Common.{◌≡◌, true, false, map, take}
+use Rattle.std.proofs.Common.{map, take}
 use Rattle.std.specs.Prelude.{All}
 use Rattle.am_runs.specs.Records.{step_of}
+use Rattle.am_runs.specs.Spells.{Comes, IsSpell}
 use Rattle.am_runs.specs.Steps.{delivered_in}
-use Rattle.am_runs.specs.Tests.{comes}
 use Rattle.am_runs.proofs.spread.all_come_soon.Given as goal
 
-abbrev pub invariant-loop-place : goal.invariant-loop-place
-invariant-loop-place g l = All (λ v. comes g.V.Version.seen g.V.Key.Ord.cmp l.spread l.last.member v
-    (record { runs = true; has = false; saved = false }) (map step_of l.steps) ≡ true) (delivered_in (map step_of (take l.place l.steps)))
+abbrev pub invariant-loop-step : goal.invariant-loop-step
+invariant-loop-step g l = record {
+  spell : IsSpell g.V.Version.seen g.V.Key.Ord.cmp l.fn.member (map step_of l.fn.steps) l.spell;
+  come : All (Comes g.V.Version.seen g.V.Key.Ord.cmp l.fn.spread l.fn.member (map step_of l.fn.steps)) (delivered_in (map step_of (take l.step l.fn.steps)));
+}
