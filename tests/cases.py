@@ -5,9 +5,9 @@
     tests/cases.py --program PATH [FILE ..]
 
 FILE is a cases/SUBJECT.txt, a cases/replay/NAME.schedule, a cases/diff/NAME.txt or a cases/show/NAME.txt; all of them if none is
-given. Those of texts go to the programs that PROGRAMS names, which rt ci builds, and schedules and command lines to am_tool. With
---program all go to PATH, another implementation: texts to its standard input, schedules to that of `PATH replay`, and command
-lines as they are. Prints each difference with its file and line, and at the end how many cases passed.
+given. Those of texts go to am_cases, and schedules and command lines to am_tool; rt ci builds both. With --program all go to
+PATH, another implementation: texts to its standard input, schedules to that of `PATH replay`, and command lines as they are.
+Prints each difference with its file and line, and at the end how many cases passed.
 """
 
 import argparse
@@ -24,35 +24,13 @@ from versions import row, unescaped
 TOP = os.path.dirname(os.path.dirname(os.path.abspath(__file__)))
 
 CASES = f"{TOP}/crates/am_cases/out/am_cases"
-MEMBER_CASES = f"{TOP}/crates/am_member_cases/out/am_member_cases"
 TOOL = f"{TOP}/crates/am_tool/out/am_tool"
 
-# The program that answers each file of cases, by the file's name.
-PROGRAMS = {
-    "api": MEMBER_CASES,
-    "carried": MEMBER_CASES,
-    "clusters": MEMBER_CASES,
-    "connections": MEMBER_CASES,
-    "decisions": CASES,
-    "events": MEMBER_CASES,
-    "frames": CASES,
-    "instance": MEMBER_CASES,
-    "instance_large": MEMBER_CASES,
-    "json": CASES,
-    "log": CASES,
-    "maps": CASES,
-    "matchers": CASES,
-    "moments": CASES,
-    "replays": MEMBER_CASES,
-    "requests": CASES,
-    "rows": CASES,
-    "rows_large": CASES,
-    "schedules": CASES,
-    "silences": CASES,
-    "snapshots": CASES,
-    "views": CASES,
-    "wire": CASES,
-}
+# The subjects of texts: each has its file.
+SUBJECTS = (
+    "api carried clusters connections decisions events frames instance instance_large json log"
+    " maps matchers moments replays requests rows rows_large schedules silences snapshots views wire"
+).split()
 
 # The files of all cases.
 ALL = ["*.txt", "replay/*.schedule", "diff/*.txt", "show/*.txt"]
@@ -63,9 +41,9 @@ OF_WORDS = {"diff", "show"}
 # Files whose cases take inputs of many MiB.
 LARGE = {"instance_large", "rows_large"}
 
-# The file that a program is run on by rt ci, as both compilers build it: its cases stand in the crate's stdin, and what is
-# wanted of them in its stdout.
-STREAMS = {"am_cases": "decisions", "am_member_cases": "carried"}
+# The subjects on which rt ci runs am_cases, as both compilers build it: their cases stand in the crate's stdin, one subject
+# after the other, and what is wanted of them in its stdout.
+STREAMS = ("decisions", "carried")
 
 # What a command line ends with whose output goes to a disk that is full.
 TO_FULL = " > /dev/full"
@@ -301,7 +279,9 @@ def is_of_words(path):
 
 def program_of(path):
     """The program of this repository that a file is for, or None where none is."""
-    return TOOL if path.endswith(".schedule") or is_of_words(path) else PROGRAMS.get(subject(path))
+    if path.endswith(".schedule") or is_of_words(path):
+        return TOOL
+    return CASES if subject(path) in SUBJECTS else None
 
 
 def try_file(path, program):
@@ -317,19 +297,18 @@ def try_file(path, program):
 def check_all_are_there():
     """Each subject has its file, and whatever stands beside a schedule has one, and an output."""
     stems = {os.path.splitext(path)[0] for path in glob.glob(f"{TOP}/cases/replay/*")}
-    wanted = [f"{TOP}/cases/{name}.txt" for name in PROGRAMS] + [stem + end for stem in stems for end in (".schedule", ".out")]
+    wanted = [f"{TOP}/cases/{name}.txt" for name in SUBJECTS] + [stem + end for stem in stems for end in (".schedule", ".out")]
     compare("files that are missing", sorted(short(path) for path in wanted if not os.path.exists(path)), [])
 
 
 def check_streams():
-    """What rt ci runs the programs on is the cases of a file, and what it wants of them the answers there."""
-    for crate, name in STREAMS.items():
-        cases = read_cases(f"{TOP}/cases/{name}.txt")
-        given = "".join(f"{case.words}\n" for case in cases)
-        wanted = "".join(f"{line}\n" for case in cases for line in [f"> {case.words}", *(text for _, text in case.wanted)])
-        for file, text in (("stdin", given), ("stdout", wanted)):
-            path = f"{TOP}/crates/{crate}/{file}"
-            compare(f"{short(path)}, as cases/{name}.txt", read_or_nothing(path).decode(), text)
+    """What rt ci runs am_cases on is the cases of these files, and what it wants of them the answers there."""
+    cases = [case for name in STREAMS for case in read_cases(f"{TOP}/cases/{name}.txt")]
+    given = "".join(f"{case.words}\n" for case in cases)
+    wanted = "".join(f"{line}\n" for case in cases for line in [f"> {case.words}", *(text for _, text in case.wanted)])
+    for file, text in (("stdin", given), ("stdout", wanted)):
+        path = f"{TOP}/crates/am_cases/{file}"
+        compare(f"{short(path)}, as the cases of {' and '.join(STREAMS)}", read_or_nothing(path).decode(), text)
 
 
 def main():

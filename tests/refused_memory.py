@@ -5,8 +5,8 @@
 
 PROGRAM is crates/am_tool/out/am_tool if it isn't given; ./am_tool build and rt ci build it. tests/memory.c is compiled and
 loaded before the C library; it counts the requests of a process, and refuses the nth, for each n from 1 until a run meets
-none. Of am_tool the answer has to be Memory each time, and what was there before has to stand. The programs that answer
-cases, which rt ci builds, are run on files of cases in the same way: a case that finds no memory says so, and is made once
+none. Of am_tool the answer has to be Memory each time, and what was there before has to stand. am_cases, which rt ci
+builds too, is run on files of cases in the same way: a case that finds no memory says so, and is made once
 more over what stands then, and has to be answered as where nothing is refused. Prints each run that ends otherwise, how
 many requests each row makes, and at the end how many rows passed. What is wanted is written by hand, from docs/FORMATS.md.
 """
@@ -312,7 +312,7 @@ def wanted_of(case):
 def try_cases(lanes, folder, name):
     """The tries of a file of cases: how many requests it makes, what was wrong, and how many tries there are of each kind."""
     cases = cases_of.read_cases(f"{TOP}/cases/{name}.txt")
-    words, given, tries = [cases_of.PROGRAMS[name]], f"{folder}/{name}.cases", f"{folder}/{name}.tries"
+    words, given, tries = [cases_of.CASES], f"{folder}/{name}.cases", f"{folder}/{name}.tries"
     with open(given, "w", encoding="utf-8") as file:
         file.write("".join(f"{case.words}\n" for case in cases))
     asked = lanes.run(words, b"".join(f"{case.words}\n".encode() for case in cases), 0).asked
@@ -334,7 +334,7 @@ def try_cases(lanes, folder, name):
 
 def test_cases(lanes, folder):
     """Each file of cases that is not about large inputs, by its program."""
-    names = sorted(set(cases_of.PROGRAMS) - cases_of.LARGE)
+    names = sorted(set(cases_of.SUBJECTS) - cases_of.LARGE)
     for name, (asked, faults, kinds) in zip(names, lanes.pool.map(lambda name: try_cases(lanes, folder, name), names)):
         said = ", ".join(f"{count} {kind}" for kind, count in sorted(kinds.items(), key=str))
         settle(f"cases/{name}.txt", faults, f"{kinds.total()} of {asked} requests: {said}")
@@ -522,8 +522,7 @@ def refused_rightly(reply, right, lines):
 
 def main():
     members.choose("refused memory", sys.argv[1:])
-    for program in set(cases_of.PROGRAMS.values()):
-        members.must_be_there("refused memory", program)
+    members.must_be_there("refused memory", cases_of.CASES)
     with tempfile.TemporaryDirectory() as folder:
         library = compiled(folder)
         lanes = Lanes(folder, library)

@@ -74,15 +74,13 @@ fn versions_and_rows_have_no_byte_more(rt: HostRuntime) {
 }
 
 #[test]
-fn versions_of_posts_have_no_byte_more(rt: HostRuntime) {
-    for (made, beside) in [(Made::Posted, 75), (Made::Updated, 40)] {
-        assert!(rt; is_limit(rt.alloc(), made, beside), "{made:?}");
-    }
-}
-
-#[test]
-fn versions_that_end_a_silence_have_no_byte_more(rt: HostRuntime) {
-    for (made, beside) in [(Made::Replaced, 45), (Made::Ended, 45)] {
+fn versions_of_posts_and_ends_have_no_byte_more(rt: HostRuntime) {
+    for (made, beside) in [
+        (Made::Posted, 75),
+        (Made::Updated, 40),
+        (Made::Replaced, 45),
+        (Made::Ended, 45),
+    ] {
         assert!(rt; is_limit(rt.alloc(), made, beside), "{made:?}");
     }
 }
