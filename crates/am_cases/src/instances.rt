@@ -24,10 +24,12 @@ pub fn answer(
     verb: &str,
     rest: &str,
 ) -> Result<(), Fault> {
-    match (verb, member) {
-        ("new", member) => members::begin(rt, member, rest),
-        (_, Some(instance)) => by_member(rt, instance, verb, rest),
-        _ => alone(rt, verb, rest),
+    if verb == "new" {
+        return members::begin(rt, member, rest);
+    }
+    match member {
+        Some(instance) => by_member(rt, instance, verb, rest),
+        None => alone(rt, verb, rest),
     }
 }
 
