@@ -6,8 +6,9 @@ A version comes to each member in turn, one step a second; there are a thousand 
 and again. `steps` is the mean of all steps in microseconds, with the version made, the room for it and the step written
 down; the others are microseconds for one question at the end: the first fault of each member, and whether the run is
 timely. `far` and `at_once` are that last question of other runs of two members: in one each version comes to the second
-member only after all came to the first, in the other all versions come to each member in one step. The least of the
-rounds counts.
+member only after all came to the first, in the other all versions come to each member in one step. `restarts` is that
+question of a run like the first, in which a member is saved, stopped and started behind every hundredth version. The least
+of the rounds counts.
 """
 import tempfile
 
@@ -25,7 +26,7 @@ def main():
     counts = sorted({count for _, count in took})
     print("| | " + " | ".join("{:,}".format(count) for count in counts) + " |")
     print("|---" * (len(counts) + 1) + "|")
-    for kind in ("steps", "first_fault", "timely", "far", "at_once"):
+    for kind in ("steps", "first_fault", "timely", "far", "at_once", "restarts"):
         figures = ["{:,.2f}".format(took[kind, count]) if (kind, count) in took else "" for count in counts]
         print("| %s | %s |" % (kind, " | ".join(figures)))
 
