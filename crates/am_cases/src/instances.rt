@@ -13,9 +13,9 @@ mod requests;
 mod sending;
 mod steps;
 
-use crate::common::Fault;
-use crate::parts;
 use am_instance::Instance;
+use am_part_cases::common::Fault;
+use am_part_cases::parts;
 
 /// Answers a case: of the member that stands, where there is one, or of none.
 pub fn answer(

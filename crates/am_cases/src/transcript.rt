@@ -1,8 +1,9 @@
 //! The transcript of a run: each line of standard input, and below it what it is answered.
 
-use crate::common::{Fault, first, print_line};
 use crate::instances::answer;
 use am_instance::Instance;
+use am_part_cases::common::{Fault, first, print_line};
+use am_part_cases::say;
 use std::alloc::Global;
 use std::io::Read;
 

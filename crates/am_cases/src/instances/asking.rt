@@ -1,12 +1,15 @@
 //! Requests and connections that come to a member.
 
-use crate::common::{Answered, Brittle, Call, Fault, Pieces, print, print_debug, print_moment};
 use crate::instances::members::{anew, name_at};
 use crate::instances::steps::print_error;
 use am_api_silences::{Fault as ServeFault, serve};
 use am_gossip::{Frame, FrameError};
 use am_instance::{Config, Instance, Place, StepError};
 use am_member::{Fault as Cause, connection};
+use am_part_cases::common::{
+    Answered, Brittle, Call, Fault, Pieces, print, print_debug, print_moment,
+};
+use am_part_cases::put;
 use am_version_order::Moment;
 use std::alloc::Global;
 

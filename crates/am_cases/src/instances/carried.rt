@@ -1,9 +1,8 @@
 //! The versions that a frame carries, by their state.
 
-use crate::common::{Fault, number, parts, print_line, say_all};
 use crate::instances::frames::frames;
-use am_gossip::Frame;
 use am_nflog::MeshEntry;
+use am_part_cases::common::{Fault, number, parts, print_line, say_all};
 use am_silence::MeshSilence;
 use am_steps::carried::{ByState, Carried, carried_by};
 
@@ -16,17 +15,12 @@ pub fn carried(rt: &HostRuntime, rest: &str) -> Result<(), Fault> {
     let count = number(count)?;
     let frames = frames(rt.alloc(), digits)?;
     match frames.as_slice() {
-        [frame] => say_first(rt, count as usize, frame),
+        [frame] => say_sorted(rt, count as usize, carried_by(rt.alloc(), frame)?),
         _ => Err(Fault::Words),
     }
 }
 
-/// Says what the first so many versions of a frame are.
-fn say_first(rt: &HostRuntime, count: usize, frame: &Frame) -> Result<(), Fault> {
-    let versions = carried_by(rt.alloc(), frame)?;
-    say_sorted(rt, count, versions)
-}
-
+/// Says what the first so many of these versions are.
 fn say_sorted(rt: &HostRuntime, count: usize, versions: Vec<Carried>) -> Result<(), Fault> {
     match ByState::with_room(rt.alloc(), versions.len()) {
         Ok(mut sorted) => {

@@ -1,18 +1,18 @@
 //! Clusters in which nothing has happened yet, and how they stand behind each line of a schedule.
 
-use crate::common::{Fault, moment, parts, print, print_line, print_moment, say_refusal};
 use crate::instances::line_events::schedule_of;
-use crate::instances::members::{name_at, names, peer_timeout, retention, say_config, say_held};
+use crate::instances::members::{name_at, names, say_config, say_held, times};
 use am_cluster::{Cluster, ClusterError, SettleError};
 use am_instance::{ConfigError, Instance};
+use am_part_cases::common::{Fault, moment, parts, print, print_line, print_moment, say_refusal};
+use am_part_cases::{put, say};
 use am_schedule::{Line, Schedule};
-use am_version_order::Moment;
 use am_wire::Text;
 use std::alloc::Global;
 
 /// A cluster of members with the names that words spell.
 fn made(alloc: Global, words: &str) -> Result<Result<Cluster, ConfigError>, Fault> {
-    let (retention, peer_timeout) = (retention()?, peer_timeout()?);
+    let (retention, peer_timeout) = times()?;
     let names = names(alloc, words)?;
     Ok(Cluster::new(alloc, names, retention, peer_timeout))
 }
@@ -34,17 +34,10 @@ fn say_cluster(rt: &HostRuntime, cluster: &Cluster) -> Result<(), Fault> {
         say_held(rt, instance)?;
         say!(rt; ?cluster.calm(place))?;
     }
-    let (flights, time) = (cluster.in_flight().len(), peer_timeout()?);
+    let (flights, (_, time)) = (cluster.in_flight().len(), times()?);
     let is_timely = cluster.timely(time, time);
     say!(rt; "at place 9 ", ?cluster.calm(9))?;
     say!(rt; flights, " frames, timely ", is_timely)
-}
-
-fn settle_at(rt: &HostRuntime, cluster: &mut Cluster, now: Moment) -> Result<(), Fault> {
-    match cluster.settle(now, 1) {
-        Ok(()) => print_line(rt, "settled"),
-        Err(error) => say_refusal(rt, error, SettleError::Memory),
-    }
 }
 
 /// `settle MOMENT ..: NAME ..`: what such a cluster answers to a settle at each of the moments in turn, and whether its run
@@ -59,9 +52,12 @@ pub fn settle(rt: &HostRuntime, rest: &str) -> Result<(), Fault> {
 
 fn say_settled(rt: &HostRuntime, cluster: &mut Cluster, moments: &str) -> Result<(), Fault> {
     for word in moments.split(' ') {
-        settle_at(rt, cluster, moment(word)?)?;
+        match cluster.settle(moment(word)?, 1) {
+            Ok(()) => print_line(rt, "settled")?,
+            Err(error) => say_refusal(rt, error, SettleError::Memory)?,
+        }
     }
-    let time = peer_timeout()?;
+    let (_, time) = times()?;
     let is_timely = cluster.timely(time, time);
     say!(rt; "timely ", is_timely)
 }

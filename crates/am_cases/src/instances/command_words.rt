@@ -1,8 +1,9 @@
 //! Numbers, ports and peers of the command line, and the moment that a clock gives.
 
-use crate::common::{Fault, moment, number, parts, say_moment};
 use crate::instances::requests::phrases_and_text;
 use am_member::{later_moment, number_within, peer_of, port_of};
+use am_part_cases::common::{Fault, moment, number, parts, say_moment};
+use am_part_cases::say;
 use std::time::Duration;
 
 /// `port WORD`

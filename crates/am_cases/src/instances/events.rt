@@ -1,11 +1,11 @@
 //! What happens to a member, in words.
 
-use crate::common::{
-    Fault, first, labels, matchers, moment, number, numbers, parts, receiver, seconds,
-};
 use am_instance::{Config, Event, Place, Request};
 use am_matcher::{Filter, FilterError};
 use am_nflog::Hashes;
+use am_part_cases::common::{
+    Fault, first, labels, matchers, moment, number, numbers, parts, receiver, seconds,
+};
 use am_silence::Posted;
 use am_steps::place_named;
 use am_wire::{Bytes, Text};

@@ -1,7 +1,7 @@
 //! Frames as the bytes of a stream.
 
-use crate::common::{Fault, bytes};
 use am_gossip::{Fed, Feeder, Frame, FrameError};
+use am_part_cases::common::{Fault, bytes};
 use std::alloc::Global;
 
 /// What a feeder makes of the bytes that digits spell.

@@ -1,12 +1,13 @@
 //! What a schedule's line asks of a member.
 
-use crate::common::{
-    Fault, print, print_line, print_matchers, print_moment, say_bytes, say_moment,
-};
 use am_gossip::Frame;
 use am_instance::{Config, Event, Request};
 use am_matcher::Labels;
 use am_nflog::{Hashes, Receiver};
+use am_part_cases::common::{
+    Fault, print, print_line, print_matchers, print_moment, say_bytes, say_moment,
+};
+use am_part_cases::{put, say};
 use am_runs::Source;
 use am_schedule::{Action, Event as LineEvent, FaultKind, Line, Schedule, parse};
 use am_silence::Posted;

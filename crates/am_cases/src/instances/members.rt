@@ -1,22 +1,18 @@
 //! The member that the cases go through: how it begins, and what it holds.
 
-use crate::common::{
-    Fault, cut, first, held, moment, print_line, say, say_moment, say_refusal, seconds,
-};
 use am_instance::{Config, ConfigError, Instance};
 use am_merge::Held;
+use am_part_cases::common::{
+    Fault, cut, first, held, moment, print_line, say, say_moment, say_refusal, seconds,
+};
+use am_part_cases::put;
 use am_version_order::{Interval, Moment};
 use am_wire::Text;
 use std::alloc::Global;
 
-/// How long members keep versions after their end: 100 s.
-pub fn retention() -> Result<Interval, Fault> {
-    seconds("100")
-}
-
-/// How long members wait for one another: 15 s.
-pub fn peer_timeout() -> Result<Interval, Fault> {
-    seconds("15")
+/// How long members keep versions after their end, 100 s, and how long they wait for one another, 15 s.
+pub fn times() -> Result<(Interval, Interval), Fault> {
+    Ok((seconds("100")?, seconds("15")?))
 }
 
 /// The names that words spell; `-` is the empty one.
@@ -38,7 +34,7 @@ fn name(alloc: Global, word: &str) -> Result<Text, Fault> {
 /// The configuration of the first name among the others.
 fn config(alloc: Global, words: &str) -> Result<Result<Config, ConfigError>, Fault> {
     let (own, peers) = first(words);
-    let (retention, peer_timeout) = (retention()?, peer_timeout()?);
+    let (retention, peer_timeout) = times()?;
     let peers = names(alloc, peers)?;
     let name = name(alloc, own)?;
     Ok(Config::new(alloc, name, peers, retention, peer_timeout))

@@ -1,10 +1,11 @@
 //! Schedules that are played over readers and writers which fail, and the lines of refusals.
 
-use crate::common::{
+use crate::instances::requests::{phrases_and_text, say_reply};
+use am_part_cases::common::{
     Answered, Brittle, Call, Fault, How, Pieces, how_of, make, print, print_debug, unescaped,
     writer,
 };
-use crate::instances::requests::{phrases_and_text, say_reply};
+use am_part_cases::put;
 use am_replay::{Line, Refusal, ReplayError, append_line, run};
 use am_silence::SilenceError;
 use std::alloc::Global;

@@ -1,12 +1,13 @@
 //! Cases of requests and connections: when they come, how, and which bytes.
 
-use crate::common::{
-    Brittle, Each, Fault, How, Pieces, bytes, first, make, moment, number, parts, print_line,
-    say_text, unescaped, writer,
-};
 use crate::instances::asking::{Coming, Seen, ToNewMember, print_seen, taken};
 use am_api_silences::{Refusal, to_bytes};
 use am_instance::{Config, Instance, Reply};
+use am_part_cases::common::{
+    Brittle, Each, Fault, How, Pieces, bytes, first, make, moment, number, parts, print_line,
+    say_text, unescaped, writer,
+};
+use am_part_cases::{put, say};
 use am_silence::SilenceError;
 use am_version_order::{Moment, Version};
 use std::alloc::Global;

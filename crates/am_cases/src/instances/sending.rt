@@ -1,13 +1,14 @@
 //! What goes out to a peer.
 
-use crate::common::{
-    Answered, Brittle, Call, Fault, How, Pieces, cut, how_of, make, print, print_debug, say_bytes,
-    writer,
-};
 use crate::instances::frames::frames;
 use crate::instances::requests::phrases_and_text;
 use am_gossip::Frame;
 use am_member::{SendError, send};
+use am_part_cases::common::{
+    Answered, Brittle, Call, Fault, How, Pieces, cut, how_of, make, print, print_debug, say_bytes,
+    writer,
+};
+use am_part_cases::put;
 use std::alloc::Global;
 
 /// Frames that go out behind the greeting of a name.

@@ -1,15 +1,16 @@
 //! Steps of a member, and what comes of them.
 
-use crate::common::{
-    Fault, first, moment, print, print_bytes, print_debug, print_line, print_moment, say, say_all,
-    say_moment, say_refusal,
-};
 use crate::instances::events::{event, place};
 use crate::instances::frames::fed;
 use crate::instances::members::{name_at, say_held};
 use am_gossip::{Fed, Frame, FrameError, Part};
 use am_instance::{Config, Event, Instance, Made, Outcome, Place, Reply, StepError};
 use am_matcher::{Ids, Mutes};
+use am_part_cases::common::{
+    Fault, first, moment, print, print_bytes, print_debug, print_line, print_moment, say, say_all,
+    say_moment, say_refusal,
+};
+use am_part_cases::{put, say};
 use am_silence::{MeshSilence, SilenceError, State};
 use am_version_order::Moment;
 

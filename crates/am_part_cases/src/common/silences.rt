@@ -3,10 +3,10 @@
 //! What isn't said is as here, but for matchers, author and comment, which then are none.
 
 use crate::common::fault::Fault;
-use crate::common::matchers::{matcher_parts, matchers, print_matchers};
+use crate::common::matching::{matcher_parts, matchers, print_matchers};
 use crate::common::moments::{moment_behind, print_moment, span};
 use crate::common::printing::print;
-use crate::common::versions::Told;
+use crate::common::told::Told;
 use crate::common::words::{cut, first};
 use am_silence::{Matchers, MeshSilence, Silence};
 use am_version_order::{Moment, Version};

@@ -4,7 +4,7 @@
 use crate::common::fault::Fault;
 use crate::common::moments::{moment_behind, print_moment};
 use crate::common::printing::{print, print_debug};
-use crate::common::versions::Told;
+use crate::common::told::Told;
 use crate::common::words::{behind, cut, first, numbers, print_bytes};
 use am_nflog::{Bytes, Entry, HashIter, Hashes, LogKey, MeshEntry, Receiver};
 use am_version_order::{Moment, Version};

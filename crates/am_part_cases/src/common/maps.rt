@@ -2,7 +2,7 @@
 
 use crate::common::fault::Fault;
 use crate::common::printing::{print, print_line};
-use crate::common::versions::{Told, version};
+use crate::common::told::{Told, version};
 use am_merge::{Held, Taken};
 use am_version_order::Moment;
 use std::alloc::Global;
