@@ -4,13 +4,13 @@ use Rattle.am_http.specs.declared.request.Read.{Read}
 use Rattle.am_http.specs.declared.request.Read.TheVariants.{More, Whole, Refused}
 use Rattle.am_http.specs.declared.request.Request.{Request}
 use Rattle.am_http.specs.declared.refusal.Refusal.{Refusal}
-use Rattle.am_instance.specs.Stands.{Stand}
+use Rattle.am_instance.specs.InstanceStates.{InstanceState}
 use Rattle.am_api_silences.specs.Answers.{IsAnswered, IsTurnedAway}
 use Rattle.am_api_silences.specs.Serving.{IsHandedOn, IsServed, IsSilent}
 use Rattle.am_api_silences.specs.declared.answering.Answered.{Answered}
 use Rattle.am_api_silences.specs.declared.serving.Served.{Served}
 
-module _ (read : Read) (bits now : ℕ) (old new : Stand) (before after : Option (List ℕ)) (served : Served) where
+module _ (read : Read) (bits now : ℕ) (old new : InstanceState) (before after : Option (List ℕ)) (served : Served) where
   pub whole_served : (request : Request) (answered : Answered) → read ≡ Whole request → IsAnswered old request bits now answered new
       → IsHandedOn before after answered served → IsServed (Ok read) bits now old new before after served
   whole_served request answered is done handed =

@@ -8,7 +8,7 @@ use Rattle.am_instance.specs.declared.error.StepError.{StepError}
 use Rattle.am_instance.specs.declared.error.StepError.TheVariants.{MomentBack}
 use Rattle.am_instance.specs.declared.reply.Outcome.{Outcome}
 use Rattle.am_instance.specs.Sendings.{Sent, nothing_sent, sent_by}
-use Rattle.am_instance.specs.Stands.{Stand}
+use Rattle.am_instance.specs.InstanceStates.{InstanceState}
 use Rattle.am_api_silences.specs.Events.{IsEventOf}
 use Rattle.am_api_silences.specs.Replies.{IsReplyBytes, Says, line_bytes}
 use Rattle.am_instance.specs.OneStep.{IsStep}
@@ -20,7 +20,7 @@ abbrev pub sent_with : Answered → Sent
 sent_with answered = record { frames = answered.frames.items; memory = answered.unsent.memory; limit = answered.unsent.limit }
 
 -- No step was made: the refusal is told, the instance is as it was, and nothing is sent.
-pub record IsTurnedAway (refusal : Refusal) (old : Stand) (answered : Answered) (new : Stand) : Type 0 where
+pub record IsTurnedAway (refusal : Refusal) (old : InstanceState) (answered : Answered) (new : InstanceState) : Type 0 where
   pub says : Says (λ bytes. bytes ≡ line_bytes (line_seen refusal)) answered.reply
   pub sent : sent_with answered ≡ nothing_sent
   pub same : new ≡ old
@@ -36,11 +36,11 @@ TellsStep (Ok outcome) answered = Says (IsReplyBytes outcome.reply) answered.rep
 TellsStep (Err error) answered = Says (IsErrorBytes error) answered.reply × (sent_with answered ≡ nothing_sent)
 
 -- what comes of an event, by one step, or of a refusal
-abbrev pub ComesOf : Result Event Refusal → Stand → ℕ → Answered → Stand → Type 0
+abbrev pub ComesOf : Result Event Refusal → InstanceState → ℕ → Answered → InstanceState → Type 0
 ComesOf (Ok event) old now answered new = (step : Result Outcome StepError) × IsStep old event now step new × TellsStep step answered
 ComesOf (Err refusal) old now answered new = IsTurnedAway refusal old answered new
 
 -- What a request is answered, and what it leaves of the instance.
-abbrev pub IsAnswered : Stand → Request → ℕ → ℕ → Answered → Stand → Type 0
+abbrev pub IsAnswered : InstanceState → Request → ℕ → ℕ → Answered → InstanceState → Type 0
 IsAnswered old request bits now answered new =
     (meant : Result Event Refusal) × IsEventOf request bits meant × ComesOf meant old now answered new

@@ -17,7 +17,7 @@ use Rattle.am_http.specs.declared.routes.Call.{Call}
 use Rattle.am_http.specs.declared.routes.Call.TheVariants as calls
 use Rattle.am_instance.specs.declared.event.Event.{Event}
 use Rattle.am_instance.specs.declared.event.Event.TheVariants as events
-use Rattle.am_instance.specs.declared.event.Request.{Request as Asked}
+use Rattle.am_instance.specs.declared.event.Request.{Request as SilenceRequest}
 use Rattle.am_instance.specs.declared.event.Request.TheVariants as requests
 use Rattle.am_api_silences.specs.Filters.{AreFilters, IsBadFilter}
 
@@ -32,7 +32,7 @@ key_told keys.Comment = told.Comment
 
 -- What a call with this body asks of an instance: the silences that pass all filters of the query, the silence of an
 -- identifier, the post of the object that the body is, or the end of a silence.
-abbrev pub Asks : Call → List ℕ → ℕ → Asked → Type 0
+abbrev pub Asks : Call → List ℕ → ℕ → SilenceRequest → Type 0
 Asks (calls.List query) body bits (requests.List filters) = AreFilters (filter_texts_of query.now) filters.items
 Asks (calls.Get id) body bits (requests.Get asked) = asked ≡ id.now
 Asks calls.Post body bits (requests.Post posted given) = (given ≡ bits) × (d : Data) × IsObjectText body d × IsPosted d posted
@@ -48,7 +48,7 @@ HasFault calls.Post body (BadSilence key) = (d : Data) × (wrong : Key) × IsObj
 HasFault _ body _ = ⊥
 
 -- what is asked, or what is at fault
-abbrev pub IsAsk : Call → List ℕ → ℕ → Result Asked Cause → Type 0
+abbrev pub IsAsk : Call → List ℕ → ℕ → Result SilenceRequest Cause → Type 0
 IsAsk call body bits (Ok asked) = Asks call body bits asked
 IsAsk call body bits (Err cause) = HasFault call body cause
 
@@ -62,7 +62,7 @@ IsRefusedFor request cause = IsCall request (Err cause)
     ⊎ ((call : Call) × IsCall request (Ok call) × HasFault call request.body.items cause)
 
 -- what a request asks for, by its call
-abbrev pub IsMeant : Request → ℕ → Asked → Type 0
+abbrev pub IsMeant : Request → ℕ → SilenceRequest → Type 0
 IsMeant request bits asked = (call : Call) × IsCall request (Ok call) × Asks call request.body.items bits asked
 
 -- What a request means: the event that its call asks for, or the line of the first fault that stands.

@@ -6,7 +6,7 @@ use Rattle.am_http.specs.declared.receiving.ReadFault.{ReadFault}
 use Rattle.am_http.specs.declared.request.Read.{Read}
 use Rattle.am_http.specs.declared.request.Read.TheVariants.{More, Whole, Refused}
 use Rattle.am_instance.specs.Sendings.{Sent, nothing_sent}
-use Rattle.am_instance.specs.Stands.{Stand}
+use Rattle.am_instance.specs.InstanceStates.{InstanceState}
 use Rattle.am_api_silences.specs.Answers.{IsAnswered, IsTurnedAway, sent_with}
 use Rattle.am_api_silences.specs.Replies.{HasStatus, bytes_of}
 use Rattle.am_api_silences.specs.declared.answering.Answered.{Answered}
@@ -20,7 +20,7 @@ IsReadBy first old new (Ok read) = IsReceived first old new read
 IsReadBy first old new (Err fault) = StopsReading old new fault.at
 
 -- what is answered to what was read; nothing is where the input ended before its first byte
-abbrev pub IsAnswerTo : Read → Stand → ℕ → ℕ → Answered → Stand → Type 0
+abbrev pub IsAnswerTo : Read → InstanceState → ℕ → ℕ → Answered → InstanceState → Type 0
 IsAnswerTo (Whole request) old bits now answered new = IsAnswered old request bits now answered new
 IsAnswerTo (Refused refusal) old bits now answered new = IsTurnedAway refusal old answered new
 IsAnswerTo More old bits now answered new = ⊥
@@ -44,7 +44,7 @@ pub record IsHandedOn (old new : Option (List ℕ)) (answered : Answered) (serve
   pub sent : sent_after served ≡ sent_with answered
 
 -- No reply was made: the instance and the writer are as they were, and nothing is sent.
-pub record IsSilent (fault : Option Fault) (old new : Stand) (before after : Option (List ℕ)) (served : Served) : Type 0 where
+pub record IsSilent (fault : Option Fault) (old new : InstanceState) (before after : Option (List ℕ)) (served : Served) : Type 0 where
   pub same : new ≡ old
   pub untouched : after ≡ before
   pub no_status : served.status ≡ None
@@ -52,13 +52,13 @@ pub record IsSilent (fault : Option Fault) (old new : Stand) (before after : Opt
   pub sent : sent_after served ≡ nothing_sent
 
 -- What is served of what was read: nothing where the reader failed or ended at once, else the answer.
-abbrev pub IsServed : Result Read ReadFault → ℕ → ℕ → Stand → Stand → Option (List ℕ) → Option (List ℕ) → Served → Type 0
+abbrev pub IsServed : Result Read ReadFault → ℕ → ℕ → InstanceState → InstanceState → Option (List ℕ) → Option (List ℕ) → Served → Type 0
 IsServed (Err fault) bits now old new before after served = IsSilent (Some (faults.Read fault.at)) old new before after served
 IsServed (Ok More) bits now old new before after served = IsSilent None old new before after served
 IsServed (Ok read) bits now old new before after served =
     (answered : Answered) × IsAnswerTo read old bits now answered new × IsHandedOn before after answered served
 
 -- What is served of an input, of which these bytes had come first: what the reader gave, and what came of it.
-abbrev pub Serves : ℕ → ℕ → List ℕ → Option (List ℕ) → Option (List ℕ) → Stand → Stand → Option (List ℕ) → Option (List ℕ) → Served → Type 0
+abbrev pub Serves : ℕ → ℕ → List ℕ → Option (List ℕ) → Option (List ℕ) → InstanceState → InstanceState → Option (List ℕ) → Option (List ℕ) → Served → Type 0
 Serves bits now first input left old new before after served =
     (read : Result Read ReadFault) × IsReadBy first input left read × IsServed read bits now old new before after served

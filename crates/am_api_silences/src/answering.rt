@@ -2,7 +2,7 @@
 
 ghost use Rattle.std.specs.Prelude.{◌≡◌, Ok, Err};
 ghost use Rattle.am_instance.specs.Sendings.{nothing_sent};
-ghost use Rattle.am_instance.specs.Stands.{Stand};
+ghost use Rattle.am_instance.specs.InstanceStates.{InstanceState};
 ghost use Rattle.am_api_silences.specs.Answers.{ComesOf, IsAnswered, IsTurnedAway, TellsStep, sent_with};
 ghost use Rattle.am_api_silences.specs.Replies.{HasStatus, bytes_of};
 
@@ -42,7 +42,7 @@ fn quiet(alloc: Global, reply: ReplyBytes) -> Answered
 
 /// The answer to a request that is refused before its step, with its status.
 pub fn turn_away(alloc: Global, refusal: &Refusal) -> (u16, Answered)
-    ensures told { (stand : Stand) → IsTurnedAway refusal.now stand result.1 stand }
+    ensures told { (stand : InstanceState) → IsTurnedAway refusal.now stand result.1 stand }
     ensures status { HasStatus result.0 (bytes_of result.1.reply) }
 {
     let (status, reply) = tell(alloc, Err(refusal));

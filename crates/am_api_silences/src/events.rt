@@ -7,7 +7,7 @@ ghost use Rattle.am_api_silences.specs.Events.{IsAsk, IsEventOf, IsMeant, IsRefu
 
 use crate::filters::filters_in;
 use am_http::{Call, Cause, PostedKey, Refusal, Request, call_of};
-use am_instance::{Event, Request as Asked};
+use am_instance::{Event, Request as SilenceRequest};
 use am_silence_json::{BodyError, Key, read_post};
 use am_wire::Text;
 use std::alloc::Global;
@@ -38,11 +38,11 @@ fn identifier(alloc: Global, id: &str) -> Result<Text, Cause>
 }
 
 /// The post of a body.
-fn post(alloc: Global, body: &[u8], bits: u128) -> Result<Asked, Cause>
+fn post(alloc: Global, body: &[u8], bits: u128) -> Result<SilenceRequest, Cause>
     ensures { IsAsk calls.Post body.now bits result }
 {
     match read_post(alloc, body) {
-        Ok(posted) => Ok(Asked::Post { posted, bits }),
+        Ok(posted) => Ok(SilenceRequest::Post { posted, bits }),
         Err(BodyError::BadJson) => Err(Cause::BadJson),
         Err(BodyError::Wrong(key)) => Err(Cause::BadSilence(key_told(key))),
         Err(BodyError::Memory) => Err(Cause::Memory),
@@ -50,25 +50,25 @@ fn post(alloc: Global, body: &[u8], bits: u128) -> Result<Asked, Cause>
 }
 
 /// What a call with this body asks of an instance.
-fn ask(alloc: Global, call: Call<'_>, body: &[u8], bits: u128) -> Result<Asked, Cause>
+fn ask(alloc: Global, call: Call<'_>, body: &[u8], bits: u128) -> Result<SilenceRequest, Cause>
     ensures { IsAsk call.entry body.now bits result }
 {
     match call {
-        Call::List { query } => Ok(Asked::List {
+        Call::List { query } => Ok(SilenceRequest::List {
             filters: filters_in(alloc, query)?,
         }),
-        Call::Get { id } => Ok(Asked::Get {
+        Call::Get { id } => Ok(SilenceRequest::Get {
             id: identifier(alloc, id)?,
         }),
         Call::Post => post(alloc, body, bits),
-        Call::Delete { id } => Ok(Asked::Delete {
+        Call::Delete { id } => Ok(SilenceRequest::Delete {
             id: identifier(alloc, id)?,
         }),
     }
 }
 
 /// What a request asks of an instance.
-fn asked(alloc: Global, request: &Request, bits: u128) -> Result<Asked, Cause>
+fn asked(alloc: Global, request: &Request, bits: u128) -> Result<SilenceRequest, Cause>
     ensures asked { IfOk result (IsMeant request.now bits) }
     ensures refused { IfErr result (IsRefusedFor request.now) }
 {

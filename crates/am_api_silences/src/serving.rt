@@ -2,7 +2,7 @@
 
 ghost use Rattle.std.specs.Prelude.{◌≤◌, Ok, Option, List, [], ℕ, length};
 ghost use Rattle.am_http.specs.Receiving.{behind, most_bytes};
-ghost use Rattle.am_instance.specs.Stands.{Stand};
+ghost use Rattle.am_instance.specs.InstanceStates.{InstanceState};
 ghost use Rattle.am_api_silences.specs.Replies.{HasStatus, bytes_of};
 ghost use Rattle.am_api_silences.specs.Serving.{GoesOut, IsHandedOn, IsServed, IsSilent, Serves};
 
@@ -36,7 +36,7 @@ pub struct Served {
 
 /// Nothing is answered.
 fn silent(alloc: Global, fault: Option<Fault>) -> Served
-    ensures { (stand : Stand) (out : Option (List ℕ)) → IsSilent fault stand stand out out result }
+    ensures { (stand : InstanceState) (out : Option (List ℕ)) → IsSilent fault stand stand out out result }
 {
     Served {
         status: None,

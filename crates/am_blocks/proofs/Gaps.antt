@@ -5,9 +5,9 @@ use Rattle.std.specs.declared.cmp.Ordering.{Ordering}
 use Rattle.std.specs.declared.cmp.Ordering.TheVariants.{Less, Greater}
 use Rattle.std.proofs.lemmas.Bool.{cases_lt}
 use Rattle.std.proofs.lemmas.List.{get_or-drop, length-drop}
-use Rattle.am_blocks.specs.declared.spot.Spot.{Spot}
+use Rattle.am_blocks.specs.declared.cursor.Cursor.{Cursor}
 use Rattle.am_blocks.specs.Rows.{Rows, entries}
-use Rattle.am_blocks.specs.Spots.{IsWithin, place}
+use Rattle.am_blocks.specs.Cursors.{IsWithin, place}
 use Rattle.am_blocks.specs.Searches.{IsRising, IsMissing}
 use Rattle.am_blocks.proofs.Risings.{all_take, all_drop, less_or_greater}
 use Rattle.am_blocks.proofs.Places.{place_within}
@@ -47,14 +47,14 @@ module _ {T : Type 0} (order : T → Ordering) where
       ]
 
   -- what is looked for is missing where it would stand between the items around a place
-  pub between : (rows : Rows T) (spot : Spot) → IsRising order (entries rows) → IsWithin rows spot
-      → ((d : T) → 0 < place rows spot → order (get_or (entries rows) (place rows spot - 1) d) ≡ Less)
-      → ((d : T) → place rows spot < length (entries rows) → order (get_or (entries rows) (place rows spot) d) ≡ Greater)
-      → IsMissing order rows spot
-  between rows spot rising within last first =
-      let inside = place_within rows spot within in
+  pub between : (rows : Rows T) (cursor : Cursor) → IsRising order (entries rows) → IsWithin rows cursor
+      → ((d : T) → 0 < place rows cursor → order (get_or (entries rows) (place rows cursor - 1) d) ≡ Less)
+      → ((d : T) → place rows cursor < length (entries rows) → order (get_or (entries rows) (place rows cursor) d) ≡ Greater)
+      → IsMissing order rows cursor
+  between rows cursor rising within last first =
+      let inside = place_within rows cursor within in
       record {
         within = within;
-        before = all_take (λ x. order x ≡ Less) (entries rows) (place rows spot) inside (below (entries rows) (place rows spot) rising inside last);
-        behind = all_drop (λ x. order x ≡ Greater) (entries rows) (place rows spot) (above (entries rows) (place rows spot) rising first);
+        before = all_take (λ x. order x ≡ Less) (entries rows) (place rows cursor) inside (below (entries rows) (place rows cursor) rising inside last);
+        behind = all_drop (λ x. order x ≡ Greater) (entries rows) (place rows cursor) (above (entries rows) (place rows cursor) rising first);
       }

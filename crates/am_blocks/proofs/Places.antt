@@ -1,4 +1,4 @@
--- What spots and searches say of a list's items.
+-- What cursors and searches say of a list's items.
 use Rattle.std.proofs.Common.{◌≡◌, ◌≢◌, ◌⊎◌, ℕ, ◌+◌, ◌-◌, ◌<◌, ◌≤◌, suc, zero, List, [], ◌∷◌, ◌++◌, length, take, drop, get_or, slice_get, Some, inl, inr, sym, ap, ◌∙◌, arith}
 use Rattle.std.specs.List.{All, AllPairs, insert}
 use Rattle.std.specs.declared.cmp.Ordering.{Ordering}
@@ -8,25 +8,25 @@ use Rattle.std.proofs.lemmas.List.{take-append-drop, drop_more, take_all, get_or
 use Rattle.std.proofs.lemmas.List.Edits.{get_or-insert_below, get_or-insert_at, get_or-insert_above, length-insert}
 use Rattle.std.proofs.lemmas.List.Elements.{All-append, All-weaker}
 use Rattle.std.proofs.lemmas.Option.{get_or_from_slice_get, slice_get_within}
-use Rattle.am_blocks.specs.declared.spot.Spot.{Spot}
+use Rattle.am_blocks.specs.declared.cursor.Cursor.{Cursor}
 use Rattle.am_blocks.specs.Rows.{Rows, entries, joined}
-use Rattle.am_blocks.specs.Spots.{IsItem, IsWithin, place}
+use Rattle.am_blocks.specs.Cursors.{IsItem, IsWithin, place}
 use Rattle.am_blocks.specs.Searches.{IsRising, IsFound, IsMissing}
 use Rattle.am_blocks.proofs.Joins.{block_inside, place_inside, length_around}
 
 module _ {T : Type 0} where
   -- the place of an item is one of the list
-  pub place_of_item : (rows : Rows T) (spot : Spot) → IsItem rows spot → place rows spot < length (entries rows)
-  place_of_item rows spot item = place_inside rows.blocks spot.block spot.offset (block_inside rows.blocks spot.block spot.offset item.offset) item.offset
+  pub place_of_item : (rows : Rows T) (cursor : Cursor) → IsItem rows cursor → place rows cursor < length (entries rows)
+  place_of_item rows cursor item = place_inside rows.blocks cursor.block cursor.offset (block_inside rows.blocks cursor.block cursor.offset item.offset) item.offset
 
   -- a place within the blocks is within the list
-  pub place_within : (rows : Rows T) (spot : Spot) → IsWithin rows spot → place rows spot ≤ length (entries rows)
-  place_within rows spot within =
-      elim (cases_lt spot.block (length rows.blocks)) [
-        | inl inside ↦ let sizes = length_around rows.blocks spot.block inside in let offset = within.offset in omega arith
+  pub place_within : (rows : Rows T) (cursor : Cursor) → IsWithin rows cursor → place rows cursor ≤ length (entries rows)
+  place_within rows cursor within =
+      elim (cases_lt cursor.block (length rows.blocks)) [
+        | inl inside ↦ let sizes = length_around rows.blocks cursor.block inside in let offset = within.offset in omega arith
         | inr past ↦
-            let whole = ap (λ blocks. length (joined blocks)) (take_all spot.block rows.blocks past) in
-            let none = ap length (get_or_past rows.blocks spot.block [] past) in
+            let whole = ap (λ blocks. length (joined blocks)) (take_all cursor.block rows.blocks past) in
+            let none = ap length (get_or_past rows.blocks cursor.block [] past) in
             let offset = within.offset in
             omega arith
       ]
@@ -66,8 +66,8 @@ module _ {T : Type 0} where
 
 module _ {T : Type 0} (order : T → Ordering) where
   -- what a search found is equal to what was looked for
-  pub found_equal : (rows : Rows T) (spot : Spot) (item : T) → IsFound order rows spot → slice_get (entries rows) (place rows spot) ≡ Some item → order item ≡ Equal
-  found_equal rows spot item found at = ap order (sym (get_or_from_slice_get (entries rows) (place rows spot) item item at)) ∙ found.equal item
+  pub found_equal : (rows : Rows T) (cursor : Cursor) (item : T) → IsFound order rows cursor → slice_get (entries rows) (place rows cursor) ≡ Some item → order item ≡ Equal
+  found_equal rows cursor item found at = ap order (sym (get_or_from_slice_get (entries rows) (place rows cursor) item item at)) ∙ found.equal item
 
   less_apart : (x : T) → order x ≡ Less → order x ≢ Equal
   less_apart x less equal = cc
@@ -76,28 +76,28 @@ module _ {T : Type 0} (order : T → Ordering) where
   greater_apart x greater equal = cc
 
   -- where nothing was found, no item is equal to what was looked for
-  pub missing_apart : (rows : Rows T) (spot : Spot) → IsMissing order rows spot → All (λ x. order x ≢ Equal) (entries rows)
-  missing_apart rows spot missing =
-      let front = take (place rows spot) (entries rows) in
-      let back = drop (place rows spot) (entries rows) in
-      rw (← take-append-drop (place rows spot) (entries rows))
+  pub missing_apart : (rows : Rows T) (cursor : Cursor) → IsMissing order rows cursor → All (λ x. order x ≢ Equal) (entries rows)
+  missing_apart rows cursor missing =
+      let front = take (place rows cursor) (entries rows) in
+      let back = drop (place rows cursor) (entries rows) in
+      rw (← take-append-drop (place rows cursor) (entries rows))
       (All-append (λ x. order x ≢ Equal) front back
       (All-weaker (λ x. order x ≡ Less) (λ x. order x ≢ Equal) less_apart front missing.before)
       (All-weaker (λ x. order x ≡ Greater) (λ x. order x ≢ Equal) greater_apart back missing.behind))
 
   -- what stands before the place of what is missing, and what stands from there on
-  pub missing_before : (rows : Rows T) (spot : Spot) → IsMissing order rows spot → (k : ℕ) (d : T) → k < place rows spot → order (get_or (entries rows) k d) ≡ Less
-  missing_before rows spot missing k d less =
-      let within = place_within rows spot missing.within in
-      let size : length (take (place rows spot) (entries rows)) ≡ place rows spot = length-take-le (place rows spot) (entries rows) within in
-      rw (← get_or-take (place rows spot) (entries rows) k d less) (missing.before k d (omega arith))
+  pub missing_before : (rows : Rows T) (cursor : Cursor) → IsMissing order rows cursor → (k : ℕ) (d : T) → k < place rows cursor → order (get_or (entries rows) k d) ≡ Less
+  missing_before rows cursor missing k d less =
+      let within = place_within rows cursor missing.within in
+      let size : length (take (place rows cursor) (entries rows)) ≡ place rows cursor = length-take-le (place rows cursor) (entries rows) within in
+      rw (← get_or-take (place rows cursor) (entries rows) k d less) (missing.before k d (omega arith))
 
-  pub missing_behind : (rows : Rows T) (spot : Spot) → IsMissing order rows spot → (k : ℕ) (d : T) → place rows spot ≤ k → k < length (entries rows) → order (get_or (entries rows) k d) ≡ Greater
-  missing_behind rows spot missing k d from inside =
-      let size = length-drop (place rows spot) (entries rows) in
-      let there : place rows spot + (k - place rows spot) ≡ k = omega arith in
-      let found = missing.behind (k - place rows spot) d (omega arith) in
-      ap (λ m. order (get_or (entries rows) m d)) (sym there) ∙ ap order (sym (get_or-drop (place rows spot) (entries rows) (k - place rows spot) d)) ∙ found
+  pub missing_behind : (rows : Rows T) (cursor : Cursor) → IsMissing order rows cursor → (k : ℕ) (d : T) → place rows cursor ≤ k → k < length (entries rows) → order (get_or (entries rows) k d) ≡ Greater
+  missing_behind rows cursor missing k d from inside =
+      let size = length-drop (place rows cursor) (entries rows) in
+      let there : place rows cursor + (k - place rows cursor) ≡ k = omega arith in
+      let found = missing.behind (k - place rows cursor) d (omega arith) in
+      ap (λ m. order (get_or (entries rows) m d)) (sym there) ∙ ap order (sym (get_or-drop (place rows cursor) (entries rows) (k - place rows cursor) d)) ∙ found
 
   -- items rise where of any two in a relation the first is before what is looked for or the second behind it
   pub rising_pairs : (R : T → T → Type 0) → ((x y : T) → R x y → (order x ≡ Less) ⊎ (order y ≡ Greater)) → (items : List T) → AllPairs R items → IsRising order items

@@ -1,4 +1,4 @@
 pub mod Cuts
 pub mod Rows
 pub mod Searches
-pub mod Spots
+pub mod Cursors

@@ -5,10 +5,10 @@ ghost use Rattle.std.specs.List.{HoldsAt, insert, remove};
 ghost use Rattle.std.specs.declared.cmp.Ordering.TheVariants.{Less, Greater};
 
 use crate::block::Block;
+use crate::cursor::Cursor;
 use crate::parts::{fill, put, take_out};
 use crate::probe::Probe;
 use crate::searches::{leading, leading_items, search_block};
-use crate::spot::Spot;
 use crate::walk::Walk;
 use std::alloc::{AllocError, Global};
 use std::cmp::Ordering;
@@ -46,7 +46,7 @@ impl<T: Copy> Model for Blocks<T> {
 
 impl<T: Copy> Blocks<T> {
     ghost use Rattle.am_blocks.specs.Rows.{HasRoom, entries};
-    ghost use Rattle.am_blocks.specs.Spots.{IsWithin, IsItem, place};
+    ghost use Rattle.am_blocks.specs.Cursors.{IsWithin, IsItem, place};
     ghost use Rattle.am_blocks.specs.Searches.{IsRising, IsFound, IsMissing};
 
     /// The empty list. It takes no memory.
@@ -82,28 +82,28 @@ impl<T: Copy> Blocks<T> {
     }
 
     /// Where an item is that is looked for, or else where it would go. It bisects.
-    pub fn search<P: Probe<T>>(&self, probe: &P) -> Result<Spot, Spot>
+    pub fn search<P: Probe<T>>(&self, probe: &P) -> Result<Cursor, Cursor>
         requires { IsRising (P.order probe.now) (entries self.now) }
         ensures found { IfOk result (IsFound (P.order probe.now) self.now) }
         ensures missing { IfErr result (IsMissing (P.order probe.now) self.now) }
     {
         let leading = leading(&self.blocks, probe);
         if leading == 0 {
-            return Err(Spot {
+            return Err(Cursor {
                 block: 0,
                 offset: 0,
             });
         }
         let block = leading - 1;
         match search_block(self.blocks[block].as_slice(), probe) {
-            Ok(offset) => Ok(Spot { block, offset }),
-            Err(offset) => Err(Spot { block, offset }),
+            Ok(offset) => Ok(Cursor { block, offset }),
+            Err(offset) => Err(Cursor { block, offset }),
         }
     }
 
     /// Where an item is, or else where it would go, as `search` has it. Where that is at the guess or next to
     /// it, two comparisons tell; else it bisects.
-    pub fn search_near<P: Probe<T>>(&self, guess: Spot, probe: &P) -> Result<Spot, Spot>
+    pub fn search_near<P: Probe<T>>(&self, guess: Cursor, probe: &P) -> Result<Cursor, Cursor>
         requires { IsRising (P.order probe.now) (entries self.now) }
         ensures found { IfOk result (IsFound (P.order probe.now) self.now) }
         ensures missing { IfErr result (IsMissing (P.order probe.now) self.now) }
@@ -116,7 +116,7 @@ impl<T: Copy> Blocks<T> {
 
     /// Where an item is, or else where it would go, as `search` has it. A hint is a cheaper probe, of which
     /// nothing is asked: where it goes by the same order, two comparisons of the other probe do.
-    pub fn search_by<H: Probe<T>, P: Probe<T>>(&self, hint: &H, probe: &P) -> Result<Spot, Spot>
+    pub fn search_by<H: Probe<T>, P: Probe<T>>(&self, hint: &H, probe: &P) -> Result<Cursor, Cursor>
         requires { IsRising (P.order probe.now) (entries self.now) }
         ensures found { IfOk result (IsFound (P.order probe.now) self.now) }
         ensures missing { IfErr result (IsMissing (P.order probe.now) self.now) }
@@ -126,11 +126,11 @@ impl<T: Copy> Blocks<T> {
             Some(block) => leading_items(block.as_slice(), hint).saturating_sub(1),
             None => 0,
         };
-        self.search_near(Spot { block, offset }, probe)
+        self.search_near(Cursor { block, offset }, probe)
     }
 
     /// Where an item is, or else where it would go, where that is at the guess or next to it.
-    fn near<P: Probe<T>>(&self, guess: Spot, probe: &P) -> Option<Result<Spot, Spot>>
+    fn near<P: Probe<T>>(&self, guess: Cursor, probe: &P) -> Option<Result<Cursor, Cursor>>
         requires { IsRising (P.order probe.now) (entries self.now) }
         ensures found { IfSome result (λ place. IfOk place (IsFound (P.order probe.now) self.now)) }
         ensures missing { IfSome result (λ place. IfErr place (IsMissing (P.order probe.now) self.now)) }
@@ -138,26 +138,26 @@ impl<T: Copy> Blocks<T> {
         let last = self.blocks.len().checked_sub(1)?;
         let block = guess.block.min(last);
         let offset = guess.offset.min(self.blocks[block].len() - 1);
-        let spot = Spot { block, offset };
-        match probe.compare(&self.get(spot)) {
-            Ordering::Equal => Some(Ok(spot)),
-            Ordering::Less => Some(Err(self.gap_behind(spot, probe)?)),
-            Ordering::Greater => Some(Err(self.gap_before(spot, probe)?)),
+        let cursor = Cursor { block, offset };
+        match probe.compare(&self.get(cursor)) {
+            Ordering::Equal => Some(Ok(cursor)),
+            Ordering::Less => Some(Err(self.gap_behind(cursor, probe)?)),
+            Ordering::Greater => Some(Err(self.gap_before(cursor, probe)?)),
         }
     }
 
     /// The place behind an item that is before what is looked for, where it goes there.
-    fn gap_behind<P: Probe<T>>(&self, spot: Spot, probe: &P) -> Option<Spot>
+    fn gap_behind<P: Probe<T>>(&self, cursor: Cursor, probe: &P) -> Option<Cursor>
         requires rising { IsRising (P.order probe.now) (entries self.now) }
-        requires item { IsItem self.now spot }
-        requires less { HoldsAt (λ x. P.order probe.now x ≡ Less) (entries self.now) (place self.now spot) }
+        requires item { IsItem self.now cursor }
+        requires less { HoldsAt (λ x. P.order probe.now x ≡ Less) (entries self.now) (place self.now cursor) }
         ensures { IfSome result (IsMissing (P.order probe.now) self.now) }
     {
         // A block has fewer than 128 items.
         let _items = &self.blocks;
-        let next = Spot {
-            block: spot.block,
-            offset: spot.offset + 1,
+        let next = Cursor {
+            block: cursor.block,
+            offset: cursor.offset + 1,
         };
         let is_gap = match self.walk_from(next).next() {
             Some(item) => probe.compare(&item).is_gt(),
@@ -168,31 +168,31 @@ impl<T: Copy> Blocks<T> {
 
     /// The place of an item that is behind what is looked for, where it goes there. What stands in the block
     /// before isn't looked at.
-    fn gap_before<P: Probe<T>>(&self, spot: Spot, probe: &P) -> Option<Spot>
+    fn gap_before<P: Probe<T>>(&self, cursor: Cursor, probe: &P) -> Option<Cursor>
         requires rising { IsRising (P.order probe.now) (entries self.now) }
-        requires item { IsItem self.now spot }
-        requires greater { HoldsAt (λ x. P.order probe.now x ≡ Greater) (entries self.now) (place self.now spot) }
+        requires item { IsItem self.now cursor }
+        requires greater { HoldsAt (λ x. P.order probe.now x ≡ Greater) (entries self.now) (place self.now cursor) }
         ensures { IfSome result (IsMissing (P.order probe.now) self.now) }
     {
-        let is_gap = match spot.offset.checked_sub(1) {
+        let is_gap = match cursor.offset.checked_sub(1) {
             Some(offset) => {
-                let before = self.get(Spot {
-                    block: spot.block,
+                let before = self.get(Cursor {
+                    block: cursor.block,
                     offset,
                 });
                 probe.compare(&before).is_lt()
             }
-            None => spot.block == 0,
+            None => cursor.block == 0,
         };
-        if is_gap { Some(spot) } else { None }
+        if is_gap { Some(cursor) } else { None }
     }
 
-    /// The item at a spot.
-    pub fn get(&self, spot: Spot) -> T
-        requires { IsItem self.now spot }
-        ensures { slice_get (entries self.now) (place self.now spot) ≡ Some result }
+    /// The item at a cursor.
+    pub fn get(&self, cursor: Cursor) -> T
+        requires { IsItem self.now cursor }
+        ensures { slice_get (entries self.now) (place self.now cursor) ≡ Some result }
     {
-        self.blocks[spot.block].as_slice()[spot.offset]
+        self.blocks[cursor.block].as_slice()[cursor.offset]
     }
 
     /// The first item, or `None` where there is none.
@@ -204,16 +204,16 @@ impl<T: Copy> Blocks<T> {
     }
 
     /// The place behind the last item.
-    pub fn end(&self) -> Spot
+    pub fn end(&self) -> Cursor
         ensures within { IsWithin self.now result }
         ensures end { place self.now result ≡ length (entries self.now) }
     {
         match self.blocks.last() {
-            Some(block) => Spot {
+            Some(block) => Cursor {
                 block: self.blocks.len() - 1,
                 offset: block.len(),
             },
-            None => Spot {
+            None => Cursor {
                 block: 0,
                 offset: 0,
             },
@@ -231,35 +231,35 @@ impl<T: Copy> Blocks<T> {
     }
 
     /// The items from a place on, in order.
-    pub fn walk_from(&self, spot: Spot) -> Walk<'_, T>
-        requires { IsWithin self.now spot }
-        ensures { result ≡ drop (place self.now spot) (entries self.now) }
+    pub fn walk_from(&self, cursor: Cursor) -> Walk<'_, T>
+        requires { IsWithin self.now cursor }
+        ensures { result ≡ drop (place self.now cursor) (entries self.now) }
     {
-        if spot.block == self.blocks.len() {
+        if cursor.block == self.blocks.len() {
             return Walk::none();
         }
         Walk {
-            items: &self.blocks[spot.block].as_slice()[spot.offset..],
-            blocks: &self.blocks[spot.block + 1..],
+            items: &self.blocks[cursor.block].as_slice()[cursor.offset..],
+            blocks: &self.blocks[cursor.block + 1..],
         }
     }
 
     /// Puts an item at a place. It takes no memory.
-    pub fn insert(&mut self, spot: Spot, item: T)
+    pub fn insert(&mut self, cursor: Cursor, item: T)
         requires room { HasRoom self.old 1 }
-        requires within { IsWithin self.old spot }
-        ensures items { entries self.new ≡ insert (entries self.old) (place self.old spot) item }
+        requires within { IsWithin self.old cursor }
+        ensures items { entries self.new ≡ insert (entries self.old) (place self.old cursor) item }
         ensures room { (n : ℕ) → HasRoom self.old (n + 1) → HasRoom self.new n }
     {
-        put(&mut self.blocks, &mut self.spares, spot, item);
+        put(&mut self.blocks, &mut self.spares, cursor, item);
     }
 
-    /// Takes the item at a spot out. It takes no memory.
-    pub fn remove(&mut self, spot: Spot)
-        requires { IsItem self.old spot }
-        ensures items { entries self.new ≡ remove (entries self.old) (place self.old spot) }
+    /// Takes the item at a cursor out. It takes no memory.
+    pub fn remove(&mut self, cursor: Cursor)
+        requires { IsItem self.old cursor }
+        ensures items { entries self.new ≡ remove (entries self.old) (place self.old cursor) }
         ensures room { (n : ℕ) → HasRoom self.old n → HasRoom self.new n }
     {
-        take_out(&mut self.blocks, &mut self.spares, spot);
+        take_out(&mut self.blocks, &mut self.spares, cursor);
     }
 }

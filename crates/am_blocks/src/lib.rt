@@ -3,13 +3,13 @@
 
 mod block;
 mod blocks;
+mod cursor;
 mod parts;
 mod probe;
 mod searches;
-mod spot;
 mod walk;
 
 pub use blocks::Blocks;
+pub use cursor::Cursor;
 pub use probe::Probe;
-pub use spot::Spot;
 pub use walk::Walk;

@@ -3,11 +3,11 @@
 ghost use Rattle.std.specs.Prelude.{◌≡◌, ◌+◌, ◌<◌, ◌≤◌, [], length, slice_index_or, IsOk, OnOk, vec_len, vec_capacity};
 ghost use Rattle.std.specs.List.{insert, remove};
 ghost use Rattle.am_blocks.specs.Rows.{AreSound, AreEmpty, joined};
-ghost use Rattle.am_blocks.specs.Spots.{block_at, place_in};
+ghost use Rattle.am_blocks.specs.Cursors.{block_at, place_in};
 ghost use Rattle.am_blocks.specs.Cuts.{cut_at};
 
 use crate::block::{Block, FULL};
-use crate::spot::Spot;
+use crate::cursor::Cursor;
 use std::alloc::{AllocError, Global};
 
 /// Makes spare blocks until there are so many.
@@ -67,53 +67,58 @@ fn cut<T: Copy>(blocks: &mut Vec<Block<T>>, spares: &mut Vec<Block<T>>, block: u
 }
 
 /// Puts an item at a place.
-pub fn put<T: Copy>(blocks: &mut Vec<Block<T>>, spares: &mut Vec<Block<T>>, spot: Spot, item: T)
+pub fn put<T: Copy>(blocks: &mut Vec<Block<T>>, spares: &mut Vec<Block<T>>, cursor: Cursor, item: T)
     requires sound { AreSound blocks.old.items }
     requires empty { AreEmpty spares.old.items }
-    requires block { spot.block ≤ vec_len blocks.old }
-    requires offset { spot.offset ≤ length (block_at blocks.old.items spot) }
+    requires block { cursor.block ≤ vec_len blocks.old }
+    requires offset { cursor.offset ≤ length (block_at blocks.old.items cursor) }
     requires room { vec_len blocks.old < vec_capacity blocks.old }
     requires spare { 0 < vec_len spares.old }
     ensures sound { AreSound blocks.new.items }
     ensures empty { AreEmpty spares.new.items }
     ensures items { joined blocks.new.items
-        ≡ insert (joined blocks.old.items) (place_in blocks.old.items spot) item }
+        ≡ insert (joined blocks.old.items) (place_in blocks.old.items cursor) item }
     ensures grown { vec_len blocks.new ≤ vec_len blocks.old + 1 }
     ensures capacity { vec_capacity blocks.new ≡ vec_capacity blocks.old }
     ensures spares { vec_len spares.old ≤ vec_len spares.new + 1 }
 {
-    if spot.block == blocks.len() {
+    if cursor.block == blocks.len() {
         let mut block = spares.take_last();
         block.insert(0, item);
         blocks.push_reserved(block);
         return;
     }
-    let is_last = spot.block + 1 == blocks.len();
-    let block = &mut blocks[spot.block];
-    block.insert(spot.offset, item);
+    let is_last = cursor.block + 1 == blocks.len();
+    let block = &mut blocks[cursor.block];
+    block.insert(cursor.offset, item);
     if block.len() == FULL {
-        cut(blocks, spares, spot.block, cut_offset(is_last, spot.offset));
+        cut(
+            blocks,
+            spares,
+            cursor.block,
+            cut_offset(is_last, cursor.offset),
+        );
     }
 }
 
-/// Takes the item at a spot out. A block that has no item then waits with the empty ones where there
+/// Takes the item at a cursor out. A block that has no item then waits with the empty ones where there
 /// is room for it.
-pub fn take_out<T: Copy>(blocks: &mut Vec<Block<T>>, spares: &mut Vec<Block<T>>, spot: Spot)
+pub fn take_out<T: Copy>(blocks: &mut Vec<Block<T>>, spares: &mut Vec<Block<T>>, cursor: Cursor)
     requires sound { AreSound blocks.old.items }
     requires empty { AreEmpty spares.old.items }
-    requires offset { spot.offset < length (block_at blocks.old.items spot) }
+    requires offset { cursor.offset < length (block_at blocks.old.items cursor) }
     ensures sound { AreSound blocks.new.items }
     ensures empty { AreEmpty spares.new.items }
     ensures items { joined blocks.new.items
-        ≡ remove (joined blocks.old.items) (place_in blocks.old.items spot) }
+        ≡ remove (joined blocks.old.items) (place_in blocks.old.items cursor) }
     ensures shrunk { vec_len blocks.new ≤ vec_len blocks.old }
     ensures capacity { vec_capacity blocks.new ≡ vec_capacity blocks.old }
     ensures spares { vec_len spares.old ≤ vec_len spares.new }
 {
-    let block = &mut blocks[spot.block];
-    block.remove(spot.offset);
+    let block = &mut blocks[cursor.block];
+    block.remove(cursor.offset);
     if block.len() == 0 {
-        let empty = blocks.remove(spot.block);
+        let empty = blocks.remove(cursor.block);
         if spares.len() < spares.capacity() {
             spares.push_reserved(empty);
         }

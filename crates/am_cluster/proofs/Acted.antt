@@ -18,7 +18,7 @@ use Rattle.am_instance.specs.Configs.{Settings, is_peer}
 use Rattle.am_instance.specs.Deliveries.{first_fault, rows_in, parts_of}
 use Rattle.am_instance.specs.Laws.{HasMaps}
 use Rattle.am_instance.specs.Replies.{IsNothing}
-use Rattle.am_instance.specs.Stands.{Stand}
+use Rattle.am_instance.specs.InstanceStates.{InstanceState}
 use Rattle.am_instance.specs.Steps.{brought, delivers, fault_of}
 use Rattle.am_instance.specs.OneStep.{IsStep}
 use Rattle.am_runs.specs.declared.step.Source.{Source}
@@ -31,7 +31,7 @@ use Rattle.am_cluster.specs.Recording.{IsNoFault, brings_or_makes}
 use Rattle.am_cluster.specs.Ties.{CanFly}
 
 -- an event that has no fault isn't refused for one
-pub no_fault : (before stand : Stand) (event : Event) (now : ℕ) (answer : Result Outcome StepError) → ((settings : Settings) → fault_of settings now event ≡ None) →
+pub no_fault : (before stand : InstanceState) (event : Event) (now : ℕ) (answer : Result Outcome StepError) → ((settings : Settings) → fault_of settings now event ≡ None) →
     IsStep before event now answer stand → IsNoFault answer
 no_fault before stand event now (Ok outcome) sound step = tt
 no_fault before stand event now (Err (MomentBack last)) sound step = tt
@@ -40,19 +40,19 @@ no_fault before stand event now (Err (Memory taken)) sound step = tt
 no_fault before stand event now (Err (FrameFault fault)) sound step = absurd (let is = sym (sound before.config) ∙ step.refused.2 in cc)
 
 -- what holds of every outcome holds of the answer
-pub on_ok : (P : Outcome → Type 0) (before stand : Stand) (event : Event) (now : ℕ) (answer : Result Outcome StepError) →
+pub on_ok : (P : Outcome → Type 0) (before stand : InstanceState) (event : Event) (now : ℕ) (answer : Result Outcome StepError) →
     ((outcome : Outcome) → IsStep before event now (Ok outcome) stand → P outcome) → IsStep before event now answer stand → IfOk answer P
 on_ok P before stand event now (Ok outcome) each step = each outcome step
 on_ok P before stand event now (Err e) each step = tt
 
 -- and where something is known of the outcome
-pub on_ok_and : (Q P : Outcome → Type 0) (before stand : Stand) (event : Event) (now : ℕ) (answer : Result Outcome StepError) →
+pub on_ok_and : (Q P : Outcome → Type 0) (before stand : InstanceState) (event : Event) (now : ℕ) (answer : Result Outcome StepError) →
     ((outcome : Outcome) → Q outcome → IsStep before event now (Ok outcome) stand → P outcome) → IfOk answer Q → IsStep before event now answer stand → IfOk answer P
 on_ok_and Q P before stand event now (Ok outcome) each known step = each outcome known step
 on_ok_and Q P before stand event now (Err e) each known step = tt
 
 -- what brings versions makes none
-pub brings_nothing : (before stand : Stand) (event : Event) (now : ℕ) (outcome : Outcome) →
+pub brings_nothing : (before stand : InstanceState) (event : Event) (now : ℕ) (outcome : Outcome) →
     ((sender : ℕ) (frame : Frame) → IsStep before (events.Frame sender frame) now (Ok outcome) stand → IsNothing outcome.made) →
     IsStep before event now (Ok outcome) stand → brings_or_makes event ≡ kinds.Brings → IsNothing outcome.made
 brings_nothing before stand (events.Request request) now outcome each step brings = absurd cc
@@ -75,7 +75,7 @@ nothing_brought events.Show no_frame = refl
 nothing_brought events.Tick no_frame = refl
 nothing_brought (events.PullFrom place) no_frame = refl
 
-pub values_known : (event : Event) (stand : Stand) (answer : Result Outcome StepError) →
+pub values_known : (event : Event) (stand : InstanceState) (answer : Result Outcome StepError) →
     ((made : Made) → All IsMesh made.silences.items → IfSome made.log IsLogMesh → All IsValue (delivers event made)) →
     IfOk answer (λ outcome. All IsMesh outcome.made.silences.items) → IfOk answer (λ outcome. IfSome outcome.made.log IsLogMesh) →
     All IsMesh stand.silences → All IsLogMesh stand.log → HasMaps stand → IfOk answer (λ outcome. AreValues event outcome stand)

@@ -14,7 +14,7 @@ use Rattle.am_silence.specs.Mesh.{Mesh, mesh_version}
 use Rattle.am_nflog.specs.Mesh.{Mesh as LogMesh, mesh_version as entry_version}
 use Rattle.am_nflog.specs.Keys.{key_cmp}
 use Rattle.am_instance.specs.Configs.{HasTwice, IsEmptyName, IsLongName, Settings}
-use Rattle.am_instance.specs.Stands.{Stand}
+use Rattle.am_instance.specs.InstanceStates.{InstanceState}
 use Rattle.am_runs.specs.Steps.{Step}
 use Rattle.am_runs.specs.Members.{member_of}
 use Rattle.am_cluster.specs.declared.flight.Flight.{Flight}
@@ -59,7 +59,7 @@ pub world_born : (replicas : List Replica) (ss : List (Step Mesh)) (ls : List (S
     IsWorld (record { replicas = replicas; silences = ss; log = ls; lines = ns; flights = fs })
 world_born replicas ss ls ns fs are no_s no_l no_n no_f = rw (no_s, no_l, no_n, no_f) (born_here replicas are)
 
-replica_is : (s t : Stand) (a b : Bool) (xs ys : List Mesh) (us vs : List LogMesh) → s ≡ t → a ≡ b → xs ≡ ys → us ≡ vs →
+replica_is : (s t : InstanceState) (a b : Bool) (xs ys : List Mesh) (us vs : List LogMesh) → s ≡ t → a ≡ b → xs ≡ ys → us ≡ vs →
     ◌≡◌ {A = Replica} (record { stand = s; runs = a; saved_silences = xs; saved_log = us }) (record { stand = t; runs = b; saved_silences = ys; saved_log = vs })
 replica_is s t a b xs ys us vs e f g h = cc
 
@@ -70,7 +70,7 @@ born_more settings own place r old new before config stand runs silences log pus
     let one : r ≡ newborn settings place = replica_is r.stand _ r.runs _ r.saved_silences _ r.saved_log _ (stand ∙ ap (λ (c : Settings). with_config c) config) runs silences log in
     pushed ∙ (ap (λ x. x ++ r ∷ []) before ∙ (ap (λ x. map (newborn settings) (range_with_len 0 place) ++ x ∷ []) one ∙ sym (map-range_with_len_more (newborn settings) 0 place place (omega arith))))
   where
-    with_config : Settings → Stand
+    with_config : Settings → InstanceState
     with_config c = record { config = c; silences = []; log = []; last = 0 }
 
 -- the members of a configuration are as a cluster begins with them

@@ -6,7 +6,7 @@ use Rattle.std.proofs.lemmas.Bool.Decides.{eqb_tells}
 use Rattle.am_silence.specs.Mesh.{Mesh, mesh_version}
 use Rattle.am_nflog.specs.Mesh.{Mesh as LogMesh, mesh_version as entry_version}
 use Rattle.am_nflog.specs.Keys.{key_cmp}
-use Rattle.am_instance.specs.Stands.{kept_silences, kept_log}
+use Rattle.am_instance.specs.InstanceStates.{kept_silences, kept_log}
 use Rattle.am_runs.specs.Steps.{Step, Flight as Sending, is_at, flights_by, flights_of}
 use Rattle.am_runs.specs.Members.{Member, stepped, member_of}
 use Rattle.am_runs.proofs.Pasts.{flights_of-push}

@@ -20,7 +20,7 @@ use Rattle.am_instance.specs.declared.error.StepError.{StepError}
 use Rattle.am_instance.specs.declared.error.StepError.TheVariants.{Memory, MomentBack, UnknownPeer, Frame as FrameFault}
 use Rattle.am_instance.specs.declared.reply.Outcome.{Outcome}
 use Rattle.am_instance.specs.Deliveries.{Delivery, to_silences, to_log}
-use Rattle.am_instance.specs.Stands.{Stand, kept_silences, kept_log}
+use Rattle.am_instance.specs.InstanceStates.{InstanceState, kept_silences, kept_log}
 use Rattle.am_instance.specs.Steps.{collects, delivers}
 use Rattle.am_instance.specs.OneStep.{IsStep}
 use Rattle.am_runs.specs.declared.step.Source.{Source}
@@ -198,7 +198,7 @@ module _ {X : Type 0} (pick : List Delivery → List X) (place now : ℕ) (sourc
         saved = λ key. tied.saved key ∙ ap (λ m. map_of seen cmp m key) (sym (saved_kept (member_of members place before) answer));
       })
 
-module _ (w : World) (place : ℕ) (r : Replica) (stand : Stand) (event : Event) (source : Source) (now line : ℕ) (answer : Result Outcome StepError) (frames : List (ℕ × Frame)) where
+module _ (w : World) (place : ℕ) (r : Replica) (stand : InstanceState) (event : Event) (source : Source) (now line : ℕ) (answer : Result Outcome StepError) (frames : List (ℕ × Frame)) where
   abbrev pub after_event : World
   after_event = written (with_replica w place (with_stand r stand)) (event_step silences_in place now source event answer frames) (event_step entries_in place now source event answer frames) line
 

@@ -8,7 +8,7 @@ use Rattle.am_nflog.specs.Keys.{key_cmp}
 use Rattle.am_gossip.specs.declared.frame.Frame.{Frame}
 use Rattle.am_gossip.specs.declared.frame.Frame.TheVariants.{Pull}
 use Rattle.am_instance.specs.Sendings.{whole_state}
-use Rattle.am_instance.specs.Stands.{Stand, kept_silences, kept_log}
+use Rattle.am_instance.specs.InstanceStates.{InstanceState, kept_silences, kept_log}
 use Rattle.am_runs.specs.declared.step.Source.TheVariants.{Lent}
 use Rattle.am_runs.specs.Members.{member_of}
 use Rattle.am_runs.specs.Runs.{AreFrom}
@@ -20,7 +20,7 @@ use Rattle.am_cluster.specs.Settling.{CanLend}
 use Rattle.am_cluster.specs.Ties.{IsWorld}
 use Rattle.am_cluster.proofs.Lived.{for_replica}
 
-module _ (w v : World) (place now : ℕ) (r : Replica) (s : Stand) (frame : Frame) (same : w ≡ v) (is : IsWorld w) (found : replica_at w place ≡ Some r) (stand : r.stand ≡ s)
+module _ (w v : World) (place now : ℕ) (r : Replica) (s : InstanceState) (frame : Frame) (same : w ≡ v) (is : IsWorld w) (found : replica_at w place ≡ Some r) (stand : r.stand ≡ s)
     (runs : OfMember v place (λ lent. lent.runs ≡ true)) (frame_is : frame ≡ Pull (whole_state s.silences s.log)) where
   running : r.runs ≡ true
   running = runs r (subst (λ u. replica_at u place ≡ Some r) same found)
@@ -45,5 +45,5 @@ module _ (w v : World) (place now : ℕ) (r : Replica) (s : Stand) (frame : Fram
       (law ((is.members place r found).log.runs ∙ running)
       (subst (λ t. HasGoneThrough entry_version key_cmp (member_of (length w.replicas) place w.log).past (kept_log t)) stand (is.members place r found).log.held)))
 
-pub lendable : (w v : World) (place : ℕ) (r : Replica) (s : Stand) → w ≡ v → replica_at w place ≡ Some r → r.stand ≡ s → CanLend s → OfMember v place (λ lent. CanLend lent.stand)
+pub lendable : (w v : World) (place : ℕ) (r : Replica) (s : InstanceState) → w ≡ v → replica_at w place ≡ Some r → r.stand ≡ s → CanLend s → OfMember v place (λ lent. CanLend lent.stand)
 lendable w v place r s same found stand can = for_replica (λ u lent. CanLend lent.stand) w v place r same found (subst CanLend (sym stand) can)

@@ -7,7 +7,7 @@ use Rattle.std.proofs.lemmas.Option.{slice_get-get_or}
 use Rattle.am_silence.specs.Mesh.{Mesh, mesh_version}
 use Rattle.am_nflog.specs.Mesh.{Mesh as LogMesh, mesh_version as entry_version}
 use Rattle.am_nflog.specs.Keys.{key_cmp}
-use Rattle.am_instance.specs.Stands.{kept_silences, kept_log}
+use Rattle.am_instance.specs.InstanceStates.{kept_silences, kept_log}
 use Rattle.am_runs.specs.Steps.{Step}
 use Rattle.am_runs.specs.Steps.Step.{Back, Saved, Stopped, Started}
 use Rattle.am_runs.specs.Members.{last_of, member_of}

@@ -14,7 +14,7 @@ use Rattle.am_instance.specs.Replies.{IsNothing, listed}
 use Rattle.am_instance.specs.Steps.{brought, collects, delivers, made_here}
 use Rattle.am_runs.specs.Steps.Step.{Took, Ticked}
 use Rattle.am_steps.specs.Contents.{delivery_of, silences_in, entries_in}
-use Rattle.am_steps.specs.declared.carried.version.Carried.{Carried}
+use Rattle.am_steps.specs.declared.carried.version.AnyVersion.{AnyVersion}
 use Rattle.am_steps.specs.Recorded.{AreInFlight, sent_in}
 use Rattle.am_cluster.specs.Accounts.{Account}
 use Rattle.am_cluster.specs.Reports.{IsPossibleForSilences, IsPossibleForLog}
@@ -82,7 +82,7 @@ none_made made nothing = ap (λ vs. map OfSilence vs ++ map OfEntry (listed made
 length-take-short : {A : Type 0} (n : ℕ) (xs : List A) → length (take n xs) ≤ length xs
 length-take-short n xs = let cut : length (take n xs) ≡ min n (length xs) = length-take n xs in omega arith
 
-module _ (account : Account) (entry : Entry) (event : Event) (versions : List Carried) where
+module _ (account : Account) (entry : Entry) (event : Event) (versions : List AnyVersion) where
   few_where : (outcome : Outcome) → CanRecord account entry event versions (Ok outcome) → map delivery_of versions ≡ brought event →
       (brings_or_makes event ≡ kinds.Brings) ⊎ ((brings_or_makes event ≡ kinds.Makes) × (brought event ≡ [])) → length (delivers event outcome.made) ≤ account.spare
   few_where outcome can came (inl brings) =

@@ -14,9 +14,9 @@ use Rattle.std.proofs.lemmas.Option.{slice_get_within}
 use Rattle.am_version_order.specs.Versions.{Version, is_below}
 use Rattle.am_version_order.proofs.Ranks.{below_itself, below_trans, tied}
 use Rattle.am_silence.specs.Mesh.{Mesh, IsMesh, mesh_version}
-use Rattle.am_silence.specs.Again.{mesh_exact as silences_exact}
+use Rattle.am_silence.specs.RoundTrip.{mesh_exact as silences_exact}
 use Rattle.am_nflog.specs.Mesh.{Mesh as LogMesh, IsMesh as IsLogMesh, mesh_version as entry_version}
-use Rattle.am_nflog.specs.Again.{mesh_exact as entries_exact}
+use Rattle.am_nflog.specs.RoundTrip.{mesh_exact as entries_exact}
 use Rattle.am_nflog.specs.Keys.{exact_keys, key_cmp}
 use Rattle.am_nflog.specs.LogKeys.{LogKey}
 use Rattle.am_merge.specs.Maps.{IsMap, at, greater_of, swept}
@@ -35,10 +35,10 @@ use Rattle.am_instance.specs.declared.reply.Reply.{Reply}
 use Rattle.am_instance.specs.Deliveries.{Delivery}
 use Rattle.am_instance.specs.Deliveries.Delivery.{OfEntry, OfSilence}
 use Rattle.am_instance.specs.OneStep.{IsStep}
-use Rattle.am_instance.specs.Stands.{Stand}
+use Rattle.am_instance.specs.InstanceStates.{InstanceState}
 use Rattle.am_instance.specs.Steps.{AreSwept, brought, delivers}
 use Rattle.am_steps.specs.Contents.{IsReadable, entries_in, held_in, silences_in}
-use Rattle.am_steps.proofs.Again.{entries_parted, silences_parted, whole_carries}
+use Rattle.am_steps.proofs.RoundTrip.{entries_parted, silences_parted, whole_carries}
 use Rattle.am_steps.proofs.Making.{frame_makes_nothing}
 use Rattle.am_steps.proofs.States.{log_state, silences_state, takings}
 use Rattle.am_runs.specs.declared.step.Source.{Source}
@@ -46,7 +46,7 @@ use Rattle.am_runs.specs.declared.step.Source.TheVariants.{Lent, Made}
 use Rattle.am_runs.specs.Settles.{join_of}
 use Rattle.am_cluster.specs.declared.error.SettleError.{SettleError}
 use Rattle.am_cluster.specs.Events.{IsTold, with_stand}
-use Rattle.am_cluster.specs.Settling.{AreMade, CanLend, CanSettle, HasSettled, IsMade, IsSettle, Turn, all_turns, begun, collections, gatherings, held_log, held_silences, loan, spreadings}
+use Rattle.am_cluster.specs.Settling.{AreTurnsMade, CanLend, CanSettle, HasSettled, IsMade, IsSettle, Turn, all_turns, begun, collections, gatherings, held_log, held_silences, loan, spreadings}
 use Rattle.am_cluster.specs.Settling.Turn.{Collects, Takes}
 use Rattle.am_cluster.specs.Worlds.{Replica, World, replica_at}
 use Rattle.am_cluster.proofs.Admitted.{begun_members, can_begun}
@@ -123,7 +123,7 @@ module _ {X : Type 0} (of : Option Replica → List X) (old : World) (place : �
 
 -- ---- turns, one after the other
 
-made_apart : (old new : World) (turns more : List Turn) (now line : ℕ) → AreMade old (turns ++ more) now line new → (between : World) × AreMade old turns now line between × AreMade between more now line new
+made_apart : (old new : World) (turns more : List Turn) (now line : ℕ) → AreTurnsMade old (turns ++ more) now line new → (between : World) × AreTurnsMade old turns now line between × AreTurnsMade between more now line new
 made_apart old new [] more now line made = (old, refl, made)
 made_apart old new (turn ∷ turns) more now line made =
     let rest = made_apart made.0 new turns more now line made.2 in
@@ -155,7 +155,7 @@ module _ {K X : Type 0} (seen : X → Version K) (cmp : K → K → Ordering) (k
       before : (q : ℕ) → q < place + 1 → place ≢ q → q < place
       before q less apart = omega arith
 
-  swept_all : (n place : ℕ) (w new : World) → AreSweptTo w place → AreMade w (map Collects (range_with_len place n)) now line new → AreSweptTo new (place + n)
+  swept_all : (n place : ℕ) (w new : World) → AreSweptTo w place → AreTurnsMade w (map Collects (range_with_len place n)) now line new → AreSweptTo new (place + n)
   swept_all zero place w new so_far made = subst (AreSweptTo new) (omega arith) (subst (λ u. AreSweptTo u place) (sym made) so_far)
   swept_all (suc n) place w new so_far made =
       subst (AreSweptTo new) (omega arith) (swept_all n (place + 1) made.0 new (swept_one w made.0 place (sweeps w made.0 place made.1) so_far) made.2)
@@ -182,7 +182,7 @@ module _ {K X : Type 0} (seen : X → Version K) (cmp : K → K → Ordering) (k
         let here : place ≡ q = omega (arith, below, last) in
         subst (λ p. All is_value (live p)) here (subst (All is_value) (so_far.others place positive within) j.values)
 
-  gathered_all : (n place : ℕ) (w new : World) → 0 < place → place + n ≡ count → HasGathered w place → AreMade w (map (λ p. Takes 0 p) (range_with_len place n)) now line new → HasGathered new count
+  gathered_all : (n place : ℕ) (w new : World) → 0 < place → place + n ≡ count → HasGathered w place → AreTurnsMade w (map (λ p. Takes 0 p) (range_with_len place n)) now line new → HasGathered new count
   gathered_all zero place w new positive all so_far made = subst (HasGathered new) (omega (arith, all)) (subst (λ u. HasGathered u place) (sym made) so_far)
   gathered_all (suc n) place w new positive all so_far made =
       gathered_all n (place + 1) made.0 new (omega arith) (omega (arith, all)) (gathered_one w made.0 place positive (omega (arith, all)) (joins w made.0 0 place made.1) so_far) made.2
@@ -219,13 +219,13 @@ module _ {K X : Type 0} (seen : X → Version K) (cmp : K → K → Ordering) (k
       before q less apart = omega arith
 
   spread_all : (n place : ℕ) (w new : World) → 0 < place → place + n ≡ count → ((q : ℕ) → 0 < q → q < count → All is_value (live q)) → HasSpread w place →
-      AreMade w (map (λ p. Takes p 0) (range_with_len place n)) now line new → HasSpread new count
+      AreTurnsMade w (map (λ p. Takes p 0) (range_with_len place n)) now line new → HasSpread new count
   spread_all zero place w new positive all values so_far made = subst (HasSpread new) (omega (arith, all)) (subst (λ u. HasSpread u place) (sym made) so_far)
   spread_all (suc n) place w new positive all values so_far made =
       spread_all n (place + 1) made.0 new (omega arith) (omega (arith, all)) values
       (spread_one w made.0 place positive (omega (arith, all)) (values place positive (omega (arith, all))) (joins w made.0 place 0 made.1) so_far) made.2
 
-  pub all_joined : (new : World) → AreMade start (collections count ++ (gatherings count ++ spreadings count)) now line new →
+  pub all_joined : (new : World) → AreTurnsMade start (collections count ++ (gatherings count ++ spreadings count)) now line new →
       (q : ℕ) → q < count → (key : K) → at seen cmp (of (replica_at new q)) key ≡ join_of seen count maps key
   all_joined new made q within key =
       let first = made_apart start new (collections count) (gatherings count ++ spreadings count) now line made in
@@ -263,7 +263,7 @@ values_of f is_value readable [] are = All-nil is_value
 values_of f is_value readable (v ∷ vs) are =
     All-cons is_value v vs (readable v (All-head IsReadable (f v) (map f vs) are)) (values_of f is_value readable vs (All-tail IsReadable (f v) (map f vs) are))
 
-swept_told : (source : Source) (before after : Stand) (now : ℕ) (answer : Result Outcome StepError) (frames : List (ℕ × Frame)) (reply : Reply) →
+swept_told : (source : Source) (before after : InstanceState) (now : ℕ) (answer : Result Outcome StepError) (frames : List (ℕ × Frame)) (reply : Reply) →
     IsStep before events.Tick now answer after → IsTold source answer frames (Ok reply) → AreSwept now before after
 swept_told source before after now (Ok outcome) frames reply step told = step.swept refl
 swept_told source before after now (Err (MomentBack last)) frames reply step told = absurd told
@@ -272,12 +272,12 @@ swept_told source before after now (Err (Memory taken)) frames reply step told =
 swept_told source before after now (Err (FrameFault fault)) frames reply step told = absurd told
 
 -- what comes with the maps of another is those maps
-lent_whole : (lender now : ℕ) (before lent : Stand) (outcome : Outcome) (after : Stand) → CanLend lent → IsStep before (loan lender lent) now (Ok outcome) after → delivers (loan lender lent) outcome.made ≡ held_in lent.silences lent.log
+lent_whole : (lender now : ℕ) (before lent : InstanceState) (outcome : Outcome) (after : InstanceState) → CanLend lent → IsStep before (loan lender lent) now (Ok outcome) after → delivers (loan lender lent) outcome.made ≡ held_in lent.silences lent.log
 lent_whole lender now before lent outcome after can step =
     ap (λ ds. brought (loan lender lent) ++ ds) (frame_makes_nothing outcome.made step.reply.1)
     ∙ (append-nil (brought (loan lender lent)) ∙ whole_carries lent.silences lent.log can.silences can.log)
 
-module _ (source : Source) (lender now : ℕ) (before lent after : Stand) (can : CanLend lent) where
+module _ (source : Source) (lender now : ℕ) (before lent after : InstanceState) (can : CanLend lent) where
   silences_joined : (answer : Result Outcome StepError) (frames : List (ℕ × Frame)) (reply : Reply) → IsStep before (loan lender lent) now answer after → IsTold source answer frames (Ok reply) → (id : List ℕ) →
       at mesh_version (slice_cmp nat_cmp) after.silences id ≡ greater_of mesh_version (at mesh_version (slice_cmp nat_cmp) before.silences id) (at mesh_version (slice_cmp nat_cmp) lent.silences id)
   silences_joined (Ok outcome) frames reply step told id =
@@ -345,7 +345,7 @@ module _ (now line : ℕ) (old new : World) where
         values = subst (λ o. All IsLogMesh (held_log o)) (sym there) (values_of OfEntry IsLogMesh (λ e r. r.value) lent.stand.log can.log);
       }
 
-settled_by : (old new : World) (now line : ℕ) → CanSettle old now → AreMade old (all_turns (length old.replicas)) now line new → HasSettled old now new
+settled_by : (old new : World) (now line : ℕ) → CanSettle old now → AreTurnsMade old (all_turns (length old.replicas)) now line new → HasSettled old now new
 settled_by old new now line ready made = record {
   members = members;
   silences = λ place replica there id.
@@ -373,5 +373,5 @@ has_settled old new now line (Ok done) is =
     let start = begun old.replicas old now line in
     settled_begun old.replicas old new now line
     (settled_by start new now line (can_begun old.replicas old now line is.0)
-    (subst (λ rs. AreMade start (all_turns (length rs)) now line new) (sym (begun_members old.replicas old now line)) is.1))
+    (subst (λ rs. AreTurnsMade start (all_turns (length rs)) now line new) (sym (begun_members old.replicas old now line)) is.1))
 has_settled old new now line (Err error) is = tt

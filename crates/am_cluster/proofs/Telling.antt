@@ -9,7 +9,7 @@ use Rattle.am_nflog.specs.Keys.{key_cmp}
 use Rattle.am_instance.specs.declared.event.Event.{Event}
 use Rattle.am_instance.specs.declared.reply.Reply.{Reply}
 use Rattle.am_instance.specs.Configs.{Settings}
-use Rattle.am_instance.specs.Stands.{Stand}
+use Rattle.am_instance.specs.InstanceStates.{InstanceState}
 use Rattle.am_instance.specs.Steps.{fault_of}
 use Rattle.am_runs.specs.declared.step.Source.{Source}
 use Rattle.am_runs.specs.Steps.{Step, flights_of}
@@ -27,7 +27,7 @@ use Rattle.am_cluster.specs.Worlds.{Replica, World, replica_at, sent_on, with_fl
 use Rattle.am_cluster.specs.Events.{IsEvent, with_stand}
 use Rattle.am_cluster.specs.Lives.{OfMember}
 use Rattle.am_cluster.specs.Ties.{CanFly, IsWorld}
-use Rattle.am_cluster.specs.Acting.{CanAct, HasActed}
+use Rattle.am_cluster.specs.Acting.{CanHappen, HasActed}
 use Rattle.am_cluster.proofs.Acted.{told_flying}
 use Rattle.am_cluster.proofs.Happened.{world_happened}
 use Rattle.am_cluster.proofs.Lived.{for_replica}
@@ -59,10 +59,10 @@ module _ (w : World) (a : Account) (tells : Tells a w) (place now line : ℕ) (r
 
   -- the account may be read as that of the cluster
   abbrev Ready : ℕ → List (Step Mesh) → List (Step LogMesh) → Type 0
-  Ready members silences log = CanAct (record a { members = members; silences = silences; log = log }) entry event r.stand
+  Ready members silences log = CanHappen (record a { members = members; silences = silences; log = log }) entry event r.stand
 
   pub can_act : r.runs ≡ true → HasSource silences_in mesh_version (slice_cmp nat_cmp) (length w.replicas) w.silences now event source →
-      HasSource entries_in entry_version key_cmp (length w.replicas) w.log now event source → ((settings : Settings) → fault_of settings now event ≡ None) → CanAct a entry event r.stand
+      HasSource entries_in entry_version key_cmp (length w.replicas) w.log now event source → ((settings : Settings) → fault_of settings now event ≡ None) → CanHappen a entry event r.stand
   can_act runs from_silences from_log sound =
       let m = is.members place r found in
       subst (λ n. Ready n a.silences a.log) (sym tells.members) (subst (λ ss. Ready (length w.replicas) ss a.log) (sym tells.silences) (subst (λ ls. Ready (length w.replicas) w.silences ls) (sym tells.log) (record {
@@ -77,7 +77,7 @@ module _ (w : World) (a : Account) (tells : Tells a w) (place now line : ℕ) (r
         all_members = m.members;
       })))
 
-  module _ (result : Result Reply ClusterError) (new : Account) (after : List Flight) (stand : Stand) (acted : HasActed a w.flights entry event r.stand result new after stand) where
+  module _ (result : Result Reply ClusterError) (new : Account) (after : List Flight) (stand : InstanceState) (acted : HasActed a w.flights entry event r.stand result new after stand) where
     abbrev pub event_world : World
     event_world =
         written (with_flights (with_replica w place (with_stand r stand)) place now acted.recorded.frames)

@@ -12,7 +12,7 @@ use Rattle.am_instance.specs.declared.error.StepError.TheVariants.{Memory, Momen
 use Rattle.am_instance.specs.declared.reply.Outcome.{Outcome}
 use Rattle.am_instance.specs.declared.reply.Reply.{Reply}
 use Rattle.am_instance.specs.Deliveries.{Delivery, events_at, to_silences}
-use Rattle.am_instance.specs.Stands.{Stand}
+use Rattle.am_instance.specs.InstanceStates.{InstanceState}
 use Rattle.am_instance.specs.Steps.{collects, delivers, knows_peer, peer_of}
 use Rattle.am_instance.specs.OneStep.{IsStep}
 use Rattle.am_steps.proofs.States.{last_arrivals}
@@ -27,14 +27,14 @@ use Rattle.std.specs.List.{range_with_len}
 use Rattle.std.proofs.lemmas.List.FromFn.{map-range_with_len_more}
 use Rattle.am_cluster.specs.declared.error.SettleError.{SettleError}
 use Rattle.am_cluster.specs.declared.error.SettleError.TheVariants as settle_errors
-use Rattle.am_cluster.specs.Settling.{AreCutShort, AreMade, AreTurns, CanSettle, IsMade, IsStopped, IsTakingOf, Turn, loan}
+use Rattle.am_cluster.specs.Settling.{AreCutShort, AreTurnsMade, AreTurns, CanSettle, IsMade, IsStopped, IsTakingOf, Turn, loan}
 use Rattle.am_cluster.specs.Settling.Turn.{Collects, Takes}
 use Rattle.am_cluster.specs.Ties.{IsWorld}
 use Rattle.am_cluster.proofs.Places.{got_other, got_set, set_length, some_is}
 
 -- ---- what an event answers where its moment comes, from a peer
 
-pub memory_alone : (source : Source) (before after : Stand) (event : Event) (now : ℕ) (answer : Result Outcome StepError) (frames : List (ℕ × Frame)) (e : ClusterError) →
+pub memory_alone : (source : Source) (before after : InstanceState) (event : Event) (now : ℕ) (answer : Result Outcome StepError) (frames : List (ℕ × Frame)) (e : ClusterError) →
     before.last ≤ now → knows_peer before.config (peer_of event) ≡ true → IsStep before event now answer after → IsTold source answer frames (Err e) → e ≡ errors.Memory
 memory_alone source before after event now (Ok outcome) frames e forward known step told = told.0
 memory_alone source before after event now (Err (MomentBack last)) frames e forward known step told = let back : now < before.last = step.refused.1 in absurd (omega arith)
@@ -57,7 +57,7 @@ module _ (old : World) (place : ℕ) (replica : Replica) (event : Event) (source
 
 -- ---- one turn
 
-pub one_made : (old : World) (turn : Turn) (now line : ℕ) (new : World) → IsMade old turn now line new → AreMade old (turn ∷ []) now line new
+pub one_made : (old : World) (turn : Turn) (now line : ℕ) (new : World) → IsMade old turn now line new → AreTurnsMade old (turn ∷ []) now line new
 one_made old turn now line new made = (new, made, refl)
 
 pub one_stopped : (old : World) (turn : Turn) (now line : ℕ) (new : World) → IsStopped old turn now line new → AreCutShort old (turn ∷ []) now line new
@@ -69,7 +69,7 @@ got (x ∷ xs) zero less = (x, refl)
 got (x ∷ xs) (suc n) less = got xs n (omega arith)
 
 module _ (old : World) (place now line : ℕ) (new : World) (within : place < length old.replicas) where
-  pub collected : (reply : Reply) → OfMember old place (λ replica. IsEvent old place replica events.Tick Made now line (Ok reply) new) → AreMade old (Collects place ∷ []) now line new
+  pub collected : (reply : Reply) → OfMember old place (λ replica. IsEvent old place replica events.Tick Made now line (Ok reply) new) → AreTurnsMade old (Collects place ∷ []) now line new
   collected reply event =
       let here = got old.replicas place within in
       one_made old (Collects place) now line new (reply, (here.0, here.1, happened_with old place here.0 events.Tick Made now line new reply (event here.0 here.1)))
@@ -81,7 +81,7 @@ module _ (old : World) (place now line : ℕ) (new : World) (within : place < le
       (elim (stopped_by old place here.0 events.Tick Made now line new e (ready.runs place here.0 here.1) (ready.forward place here.0 here.1) refl (event here.0 here.1)) [ inl same ↦ inl same | inr h ↦ inr (here.0, here.1, h) ])
 
 module _ (old : World) (borrower lender now line : ℕ) (new : World) (within : borrower < length old.replicas) (lender_within : lender < length old.replicas) where
-  pub took : (reply : Reply) → IsTakingOf old borrower lender now line (Ok reply) new → AreMade old (Takes borrower lender ∷ []) now line new
+  pub took : (reply : Reply) → IsTakingOf old borrower lender now line (Ok reply) new → AreTurnsMade old (Takes borrower lender ∷ []) now line new
   took reply event =
       let here = got old.replicas borrower within in
       let there = got old.replicas lender lender_within in
@@ -107,8 +107,8 @@ module _ (old : World) (borrower lender now line : ℕ) (new : World) (within : 
 
 -- ---- turns, one after the other
 
-pub made_then : (old between new : World) (turns more : List Turn) (now line : ℕ) → AreMade old turns now line between → AreMade between more now line new → AreMade old (turns ++ more) now line new
-made_then old between new [] more now line first then_made = subst (λ w. AreMade w more now line new) first then_made
+pub made_then : (old between new : World) (turns more : List Turn) (now line : ℕ) → AreTurnsMade old turns now line between → AreTurnsMade between more now line new → AreTurnsMade old (turns ++ more) now line new
+made_then old between new [] more now line first then_made = subst (λ w. AreTurnsMade w more now line new) first then_made
 made_then old between new (turn ∷ turns) more now line first then_made = (first.0, first.1, made_then first.0 between new turns more now line first.2 then_made)
 
 pub cut_early : (old new : World) (turns more : List Turn) (now line : ℕ) → AreCutShort old turns now line new → AreCutShort old (turns ++ more) now line new
@@ -122,7 +122,7 @@ cut_early old new turns more now line cut = record {
   stopped = cut.stopped;
 }
 
-pub cut_later : (old between new : World) (turns more : List Turn) (now line : ℕ) → AreMade old turns now line between → AreCutShort between more now line new → AreCutShort old (turns ++ more) now line new
+pub cut_later : (old between new : World) (turns more : List Turn) (now line : ℕ) → AreTurnsMade old turns now line between → AreCutShort between more now line new → AreCutShort old (turns ++ more) now line new
 cut_later old between new turns more now line first cut = record {
   made = turns ++ cut.made;
   turn = cut.turn;
@@ -139,10 +139,10 @@ last_by : (before now : ℕ) (collecting : Bool) (ds : List Delivery) → last_m
 last_by before now true ds = refl
 last_by before now false ds = last_arrivals to_silences now ds
 
-last_is : (before after : Stand) (event : Event) (now : ℕ) (outcome : Outcome) → IsStep before event now (Ok outcome) after → after.last ≡ now
+last_is : (before after : InstanceState) (event : Event) (now : ℕ) (outcome : Outcome) → IsStep before event now (Ok outcome) after → after.last ≡ now
 last_is before after event now outcome step = step.silences.last ∙ last_by before.last now (collects event) (delivers event outcome.made)
 
-told_last : (source : Source) (before after : Stand) (event : Event) (now : ℕ) (answer : Result Outcome StepError) (frames : List (ℕ × Frame)) (reply : Reply) →
+told_last : (source : Source) (before after : InstanceState) (event : Event) (now : ℕ) (answer : Result Outcome StepError) (frames : List (ℕ × Frame)) (reply : Reply) →
     IsStep before event now answer after → IsTold source answer frames (Ok reply) → after.last ≡ now
 told_last source before after event now (Ok outcome) frames reply step told = last_is before after event now outcome step
 told_last source before after event now (Err (MomentBack last)) frames reply step told = absurd told
@@ -156,7 +156,7 @@ pub record StillCan (old : World) (now : ℕ) (new : World) : Type 0 where
   pub ready : CanSettle new now
 
 module _ (old : World) (place : ℕ) (replica : Replica) (event : Event) (source : Source) (now line : ℕ) (reply : Reply) (new : World) where
-  after_one : (q : ℕ) (r : Replica) (stand : Stand) → CanSettle old now → replica.runs ≡ true → stand.last ≡ now → replica_at old place ≡ Some replica →
+  after_one : (q : ℕ) (r : Replica) (stand : InstanceState) → CanSettle old now → replica.runs ≡ true → stand.last ≡ now → replica_at old place ≡ Some replica →
       slice_get (set old.replicas place (with_stand replica stand)) q ≡ Some r → ((eqb place q ≡ true) × (place ≡ q)) ⊎ ((eqb place q ≡ false) × (place ≢ q)) → (r.runs ≡ true) × (r.stand.last ≤ now)
   after_one q r stand ready runs last found there (inl own) =
       let same : with_stand replica stand ≡ r = some_is (with_stand replica stand) r (sym (got_set old.replicas place (with_stand replica stand) replica found) ∙ subst (λ p. slice_get (set old.replicas place (with_stand replica stand)) p ≡ Some r) (sym own.1) there) in
@@ -180,7 +180,7 @@ still_made : (old : World) (turn : Turn) (now line : ℕ) (new : World) → CanS
 still_made old (Collects place) now line new ready made = still_after old place made.1.0 events.Tick Made now line made.0 new ready made.1.1 made.1.2
 still_made old (Takes borrower lender) now line new ready made = still_after old borrower made.1.0 (loan lender made.1.1.stand) (Lent lender) now line made.0 new ready made.1.2 made.1.5
 
-pub still_can : (old : World) (turns : List Turn) (now line : ℕ) (new : World) → CanSettle old now → AreMade old turns now line new → StillCan old now new
+pub still_can : (old : World) (turns : List Turn) (now line : ℕ) (new : World) → CanSettle old now → AreTurnsMade old turns now line new → StillCan old now new
 still_can old [] now line new ready made = subst (λ w. StillCan old now w) (sym made) (record { members = refl; ready = ready })
 still_can old (turn ∷ turns) now line new ready made =
     let first = still_made old turn now line made.0 ready made.1 in
@@ -216,11 +216,11 @@ module _ (f : ℕ → Turn) where
       (more.0, ap (λ ts. f a ∷ ts) more.1 ∙ ap (λ p. f a ∷ (map f (range_with_len (a + 1) k) ++ f p ∷ more.0)) (omega arith))
 
   module _ (old between new : World) (now line : ℕ) where
-    pub one_more : (a n place : ℕ) → a + n ≡ place → AreMade old (map f (range_with_len a n)) now line between → AreMade between (f place ∷ []) now line new → AreMade old (map f (range_with_len a (n + 1))) now line new
+    pub one_more : (a n place : ℕ) → a + n ≡ place → AreTurnsMade old (map f (range_with_len a n)) now line between → AreTurnsMade between (f place ∷ []) now line new → AreTurnsMade old (map f (range_with_len a (n + 1))) now line new
     one_more a n place is first next =
-        subst (λ ts. AreMade old ts now line new) (sym (map-range_with_len_more f a n place is)) (made_then old between new (map f (range_with_len a n)) (f place ∷ []) now line first next)
+        subst (λ ts. AreTurnsMade old ts now line new) (sym (map-range_with_len_more f a n place is)) (made_then old between new (map f (range_with_len a n)) (f place ∷ []) now line first next)
 
-    pub one_fails : (a n k place : ℕ) → k < n → a + k ≡ place → (e : SettleError) → AreMade old (map f (range_with_len a k)) now line between → AreTurns between (f place ∷ []) now line (Err e) new →
+    pub one_fails : (a n k place : ℕ) → k < n → a + k ≡ place → (e : SettleError) → AreTurnsMade old (map f (range_with_len a k)) now line between → AreTurns between (f place ∷ []) now line (Err e) new →
         AreTurns old (map f (range_with_len a n)) now line (Err e) new
     one_fails a n k place less is settle_errors.Memory first next =
         let more = later_in a n k less in
@@ -232,7 +232,7 @@ module _ (f : ℕ → Turn) where
     one_fails a n k place less is settle_errors.MomentBack first next = absurd next
 
 -- turns after turns
-pub turns_then : (old between new : World) (turns more : List Turn) (now line : ℕ) (result : Result Unit SettleError) → AreMade old turns now line between → AreTurns between more now line result new → AreTurns old (turns ++ more) now line result new
+pub turns_then : (old between new : World) (turns more : List Turn) (now line : ℕ) (result : Result Unit SettleError) → AreTurnsMade old turns now line between → AreTurns between more now line result new → AreTurns old (turns ++ more) now line result new
 turns_then old between new turns more now line (Ok u) first next = made_then old between new turns more now line first next
 turns_then old between new turns more now line (Err settle_errors.Memory) first next = cut_later old between new turns more now line first next
 turns_then old between new turns more now line (Err settle_errors.Stopped) first next = absurd next

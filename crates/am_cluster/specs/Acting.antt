@@ -10,7 +10,7 @@ use Rattle.am_instance.specs.declared.error.StepError.{StepError}
 use Rattle.am_instance.specs.declared.reply.Outcome.{Outcome}
 use Rattle.am_instance.specs.declared.reply.Reply.{Reply}
 use Rattle.am_instance.specs.Configs.{Settings}
-use Rattle.am_instance.specs.Stands.{Stand, kept_log, kept_silences}
+use Rattle.am_instance.specs.InstanceStates.{InstanceState, kept_log, kept_silences}
 use Rattle.am_instance.specs.Steps.{fault_of}
 use Rattle.am_instance.specs.OneStep.{IsStep}
 use Rattle.am_runs.specs.Members.{member_of}
@@ -24,7 +24,7 @@ use Rattle.am_cluster.specs.Recording.{IsRecorded}
 use Rattle.am_cluster.specs.Ties.{CanFly}
 
 -- the member runs, its instance stands as both runs tell, and the event can come to it
-pub record CanAct (account : Account) (entry : Entry) (event : Event) (stand : Stand) : Type 0 where
+pub record CanHappen (account : Account) (entry : Entry) (event : Event) (stand : InstanceState) : Type 0 where
   pub runs : (member_of account.members entry.place account.silences).runs ≡ true
   pub runs_too : (member_of account.members entry.place account.log).runs ≡ true
   pub silences : HasGoneThrough mesh_version (slice_cmp nat_cmp) (member_of account.members entry.place account.silences).past
@@ -38,8 +38,8 @@ pub record CanAct (account : Account) (entry : Entry) (event : Event) (stand : S
   pub all_members : length stand.config.members ≡ account.members
 
 -- the instance made its step, which is written down, and its frames fly to other members
-pub record HasActed (old : Account) (flights : List Flight) (entry : Entry) (event : Event) (before : Stand)
-    (result : Result Reply ClusterError) (new : Account) (after : List Flight) (stand : Stand) : Type 0 where
+pub record HasActed (old : Account) (flights : List Flight) (entry : Entry) (event : Event) (before : InstanceState)
+    (result : Result Reply ClusterError) (new : Account) (after : List Flight) (stand : InstanceState) : Type 0 where
   pub answer : Result Outcome StepError
   pub step : IsStep before event entry.moment answer stand
   pub recorded : IsRecorded old flights entry event answer result new after

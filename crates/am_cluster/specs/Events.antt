@@ -6,7 +6,7 @@ use Rattle.am_instance.specs.declared.error.StepError.{StepError}
 use Rattle.am_instance.specs.declared.error.StepError.TheVariants.{MomentBack, UnknownPeer, Memory}
 use Rattle.am_instance.specs.declared.reply.Outcome.{Outcome}
 use Rattle.am_instance.specs.declared.reply.Reply.{Reply}
-use Rattle.am_instance.specs.Stands.{Stand}
+use Rattle.am_instance.specs.InstanceStates.{InstanceState}
 use Rattle.am_instance.specs.OneStep.{IsStep}
 use Rattle.am_runs.specs.declared.step.Source.{Source}
 use Rattle.am_runs.specs.declared.step.Source.TheVariants.{Lent}
@@ -38,7 +38,7 @@ IsTold source (Err (Memory taken)) frames (Err error) = (error ≡ errors.Memory
 IsTold source _ _ _ = ⊥
 
 -- a member with another stand
-abbrev pub with_stand : Replica → Stand → Replica
+abbrev pub with_stand : Replica → InstanceState → Replica
 with_stand replica stand = record replica { stand = stand }
 
 -- the instance of a member that runs makes its step, which is written down, and its frames fly
@@ -46,7 +46,7 @@ pub record HasHappened (old : World) (place : ℕ) (replica : Replica) (event : 
     (result : Result Reply ClusterError) (new : World) : Type 0 where
   pub runs : replica.runs ≡ true
   pub answer : Result Outcome StepError
-  pub stand : Stand
+  pub stand : InstanceState
   pub step : IsStep replica.stand event now answer stand
   pub frames : List (ℕ × Frame)
   pub told : IsTold source answer frames result

@@ -12,7 +12,7 @@ use Rattle.am_instance.specs.Replies.{IsNothing}
 use Rattle.am_instance.specs.Steps.{brought, collects, delivers}
 use Rattle.am_runs.specs.Steps.{flights_of}
 use Rattle.am_steps.specs.Contents.{delivery_of, silences_in, entries_in}
-use Rattle.am_steps.specs.declared.carried.version.Carried.{Carried}
+use Rattle.am_steps.specs.declared.carried.version.AnyVersion.{AnyVersion}
 use Rattle.am_steps.specs.States.{Sorted}
 use Rattle.am_steps.specs.Recorded.{AreInFlight, event_step}
 use Rattle.am_cluster.specs.Accounts.{Account}
@@ -59,7 +59,7 @@ pub record AreDelivered (event : Event) (made : Made) (versions : Delivered) : T
   pub log : versions.log.items ≡ entries_in (delivers event made)
 
 -- What an instance answered to an event, and what is known of it.
-pub record CanRecord (account : Account) (entry : Entry) (event : Event) (versions : List Carried)
+pub record CanRecord (account : Account) (entry : Entry) (event : Event) (versions : List AnyVersion)
     (answer : Result Outcome StepError) : Type 0 where
   pub room_for_it : 0 < account.room
   pub spare_for_it : length versions ≤ account.spare

@@ -9,7 +9,7 @@ use Rattle.am_instance.specs.declared.reply.Reply.{Reply}
 use Rattle.am_instance.specs.Sendings.{whole_state}
 use Rattle.am_instance.specs.Deliveries.Delivery.{OfEntry, OfSilence}
 use Rattle.am_instance.specs.Laws.{HasMaps}
-use Rattle.am_instance.specs.Stands.{Stand, entry_at, log_in_view, silence_at, silences_in_view}
+use Rattle.am_instance.specs.InstanceStates.{InstanceState, entry_at, log_in_view, silence_at, silences_in_view}
 use Rattle.am_snapshot.specs.Texts.{row_text}
 use Rattle.am_wire.specs.Limits.{most}
 use Rattle.am_steps.specs.Contents.{IsReadable}
@@ -29,12 +29,12 @@ use Rattle.am_cluster.specs.Events.{HasHappened, IsEvent, IsUnmade}
 use Rattle.am_cluster.specs.Lives.{OfMember}
 
 -- what comes to a member that takes the maps of the one at a place
-abbrev pub loan : ℕ → Stand → Event
+abbrev pub loan : ℕ → InstanceState → Event
 loan lender lent = events.Frame lender (frames.Pull (whole_state lent.silences lent.log))
 
 -- What can be lent: both maps, where each version in them is a value that is read again where it is written, so that what
 -- comes with a loan are the maps; and the row of neither is longer than a row may be.
-pub record CanLend (stand : Stand) : Type 0 where
+pub record CanLend (stand : InstanceState) : Type 0 where
   pub maps : HasMaps stand
   pub silences : All IsReadable (map OfSilence stand.silences)
   pub log : All IsReadable (map OfEntry stand.log)
@@ -89,9 +89,9 @@ abbrev pub IsStopped : World → Turn → ℕ → ℕ → World → Type 0
 IsStopped old turn now line new = (new ≡ old) ⊎ IsTurn old turn now line (Err cluster_errors.Memory) new
 
 -- turns were made, one after the other
-abbrev pub AreMade : World → List Turn → ℕ → ℕ → World → Type 0
-AreMade old [] now line new = new ≡ old
-AreMade old (turn ∷ turns) now line new = (between : World) × IsMade old turn now line between × AreMade between turns now line new
+abbrev pub AreTurnsMade : World → List Turn → ℕ → ℕ → World → Type 0
+AreTurnsMade old [] now line new = new ≡ old
+AreTurnsMade old (turn ∷ turns) now line new = (between : World) × IsMade old turn now line between × AreTurnsMade between turns now line new
 
 -- the first of them were made, and the next one found no memory
 pub record AreCutShort (old : World) (turns : List Turn) (now line : ℕ) (new : World) : Type 0 where
@@ -100,12 +100,12 @@ pub record AreCutShort (old : World) (turns : List Turn) (now line : ℕ) (new :
   pub left : List Turn
   pub all : turns ≡ made ++ turn ∷ left
   pub between : World
-  pub first : AreMade old made now line between
+  pub first : AreTurnsMade old made now line between
   pub stopped : IsStopped between turn now line new
 
 -- what came of turns, one after the other
 abbrev pub AreTurns : World → List Turn → ℕ → ℕ → Result Unit SettleError → World → Type 0
-AreTurns old turns now line (Ok _) new = AreMade old turns now line new
+AreTurns old turns now line (Ok _) new = AreTurnsMade old turns now line new
 AreTurns old turns now line (Err errors.Memory) new = AreCutShort old turns now line new
 AreTurns old turns now line (Err _) new = ⊥
 
@@ -174,7 +174,7 @@ IsAdmitted old now line (Err errors.Memory) new = new ≡ old
 -- nothing or the first turns alone.
 abbrev pub IsSettle : World → ℕ → ℕ → Result Unit SettleError → World → Type 0
 IsSettle old now line (Ok _) new =
-    CanSettle old now × AreMade (begun old.replicas old now line) (all_turns (length old.replicas)) now line new
+    CanSettle old now × AreTurnsMade (begun old.replicas old now line) (all_turns (length old.replicas)) now line new
 IsSettle old now line (Err errors.Stopped) new = IsRefusedAsStopped old now line new
 IsSettle old now line (Err errors.MomentBack) new = IsRefusedAsBack old now line new
 IsSettle old now line (Err errors.Memory) new =

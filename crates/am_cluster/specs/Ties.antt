@@ -12,7 +12,7 @@ use Rattle.am_nflog.specs.Keys.{key_cmp}
 use Rattle.am_merge.specs.Maps.{at}
 use Rattle.am_collect.specs.Kept.{Kept}
 use Rattle.am_gossip.specs.declared.frame.Frame.{Frame}
-use Rattle.am_instance.specs.Stands.{kept_silences, kept_log}
+use Rattle.am_instance.specs.InstanceStates.{kept_silences, kept_log}
 use Rattle.am_instance.specs.Deliveries.{first_fault, rows_in, parts_of}
 use Rattle.am_runs.specs.Steps.{flights_of}
 use Rattle.am_runs.specs.Members.{Member, member_of, map_of}

@@ -3,13 +3,13 @@ use Rattle.std.specs.Prelude.{ℕ, ◌+◌, Bool, List, [], ◌∷◌, ◌++◌,
 use Rattle.am_silence.specs.Mesh.{Mesh}
 use Rattle.am_nflog.specs.Mesh.{Mesh as LogMesh}
 use Rattle.am_gossip.specs.declared.frame.Frame.{Frame}
-use Rattle.am_instance.specs.Stands.{Stand}
+use Rattle.am_instance.specs.InstanceStates.{InstanceState}
 use Rattle.am_runs.specs.Steps.{Step, flights_of}
 use Rattle.am_cluster.specs.declared.flight.Flight.{Flight}
 
 -- a member: where its instance stands, whether it runs, and both maps as they were last saved, empty where nothing was
 pub record Replica : Type 0 where
-  pub stand : Stand
+  pub stand : InstanceState
   pub runs : Bool
   pub saved_silences : List Mesh
   pub saved_log : List LogMesh

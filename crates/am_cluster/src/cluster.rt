@@ -134,7 +134,7 @@ impl Cluster {
     /// Says how the cluster hangs together: each member stands as its past in both runs tells, and each frame in flight
     /// is one that a step sent; both are runs, which tell of the same steps, each of which has a line; and what was
     /// delivered in them are values. It does nothing.
-    pub fn hangs_together(&self)
+    pub fn consistency(&self)
         ensures world { IsWorld self.now }
         ensures runs { AreRuns (length self.now.replicas) self.now.silences self.now.log }
         ensures silences { All IsMesh (delivered_in self.now.silences) }
@@ -142,7 +142,7 @@ impl Cluster {
         ensures twins { AreTwins self.now.silences self.now.log }
         ensures lines { length self.now.lines ≡ length self.now.silences }
     {
-        self.journal.hangs_together();
+        self.journal.consistency();
     }
 
     /// The frames in flight, by their numbers. It takes no memory.

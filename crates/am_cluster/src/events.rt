@@ -12,7 +12,7 @@ ghost use Rattle.am_instance.specs.OneStep.{IsStep};
 ghost use Rattle.am_instance.specs.Steps.{brought, fault_of};
 ghost use Rattle.am_steps.specs.Contents.{IsValue, delivery_of, entries_in, silences_in};
 ghost use Rattle.am_steps.specs.Recorded.{HasSource};
-ghost use Rattle.am_cluster.specs.Acting.{CanAct, HasActed};
+ghost use Rattle.am_cluster.specs.Acting.{CanHappen, HasActed};
 ghost use Rattle.am_cluster.specs.Events.{IsEvent};
 ghost use Rattle.am_cluster.specs.Lives.{OfMember};
 ghost use Rattle.am_cluster.specs.Recording.{ComesWith, IsNoFault, IsRoomFor};
@@ -25,7 +25,7 @@ use crate::recording::{Coming, kind_of, write_answer};
 use crate::writing::Entry;
 use am_instance::{Event, Instance, Outcome, Reply, StepError};
 use am_runs::Source;
-use am_steps::carried::{ByState, Carried, carried_by};
+use am_steps::carried::{AnyVersion, ByState, carried_by};
 use am_steps::laws::{
     collecting_leaves_nothing_out, few_are_made, sent_frames_are_sound, steps_are_possible,
     values_are_delivered,
@@ -34,7 +34,7 @@ use am_version_order::{Moment, Version, versions_are_values};
 use std::alloc::{AllocError, Global};
 
 /// The versions that an event brings from a peer.
-fn brought_by(alloc: Global, event: &Event) -> Result<Vec<Carried>, AllocError>
+fn brought_by(alloc: Global, event: &Event) -> Result<Vec<AnyVersion>, AllocError>
     ensures versions { IfOk result (λ versions. map delivery_of versions.items ≡ brought event.now) }
     ensures values { IfOk result (λ versions. All IsValue (map delivery_of versions.items)) }
 {
@@ -100,7 +100,7 @@ fn act(
     coming: Coming,
     event: Event,
 ) -> Result<Reply, ClusterError>
-    requires ready { CanAct journal.old entry.now event instance.old }
+    requires ready { CanHappen journal.old entry.now event instance.old }
     requires coming { ComesWith coming event }
     requires values { All IsValue (brought event) }
     requires room { IsRoomFor coming.parted (length coming.versions.items) }

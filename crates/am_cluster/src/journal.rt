@@ -91,15 +91,15 @@ impl Journal {
 
     /// Says how the record hangs together: both lists of steps are runs, which tell of the same steps, each of which has a
     /// line, and what was delivered in them are values of their types. It does nothing.
-    pub fn hangs_together(&self)
+    pub fn consistency(&self)
         ensures runs { AreRuns self.now.members self.now.silences self.now.log }
         ensures silences { All IsMesh (delivered_in self.now.silences) }
         ensures log { All IsLogMesh (delivered_in self.now.log) }
         ensures twins { AreTwins self.now.silences self.now.log }
         ensures lines { length self.now.lines ≡ length self.now.silences }
     {
-        self.silences.hangs_together();
-        self.log.hangs_together();
+        self.silences.consistency();
+        self.log.consistency();
     }
 
     /// Makes room for so many steps, which deliver at most so many versions in all, silences and entries together.

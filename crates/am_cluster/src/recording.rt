@@ -21,7 +21,7 @@ use am_gossip::Frame;
 use am_instance::{Event, Made, Outcome, Place, Reply, StepError, Unsent};
 use am_nflog::MeshEntry;
 use am_runs::Source;
-use am_steps::carried::{ByState, Carried};
+use am_steps::carried::{AnyVersion, ByState};
 use std::alloc::{AllocError, Global};
 
 /// What an event has to do with versions.
@@ -50,7 +50,7 @@ pub(crate) fn kind_of(event: &Event) -> Kind
 }
 
 /// The first so many versions that came, by state.
-fn first_brought(parted: ByState, versions: Vec<Carried>, count: usize) -> Delivered
+fn first_brought(parted: ByState, versions: Vec<AnyVersion>, count: usize) -> Delivered
     requires { IsRoomFor parted (length versions.items) }
     ensures silences { result.silences.items ≡ silences_in (take count (map delivery_of versions.items)) }
     ensures log { result.log.items ≡ entries_in (take count (map delivery_of versions.items)) }
@@ -69,7 +69,7 @@ fn entry_made(parted: ByState, log: Option<MeshEntry>) -> Vec<MeshEntry>
     let mut parted = parted;
     match log {
         Some(entry) => {
-            parted.put(Carried::Entry(entry));
+            parted.put(AnyVersion::Entry(entry));
             parted.into_parts().1
         }
         None => parted.into_parts().1,
@@ -117,7 +117,7 @@ fn write_sent(
 #[derive(Drop)]
 pub(crate) struct Coming {
     pub kind: Kind,
-    pub versions: Vec<Carried>,
+    pub versions: Vec<AnyVersion>,
     pub parted: ByState,
 }
 

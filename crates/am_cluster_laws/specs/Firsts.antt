@@ -11,7 +11,7 @@ use Rattle.am_instance.specs.declared.reply.Reply.{Reply}
 use Rattle.am_instance.specs.declared.reply.Reply.TheVariants as replies
 
 -- whether a group is notified, of which these alerts fire and those are resolved
-pub record Asked : Type 0 where
+pub record Question : Type 0 where
   pub group_key : List ℕ
   pub receiver : Receiver
   pub firing : List ℕ
@@ -20,15 +20,15 @@ pub record Asked : Type 0 where
   pub send_resolved : Bool
 
 -- asking it, as an event
-abbrev pub asks : Asked → Event
+abbrev pub asks : Question → Event
 asks asked = events.Decide asked.group_key asked.receiver asked.firing asked.resolved asked.repeat asked.send_resolved
 
 -- the key of the group's entry
-abbrev pub key_of : Asked → LogKey
+abbrev pub key_of : Question → LogKey
 key_of asked = record { group_key = asked.group_key; receiver = asked.receiver }
 
 -- some alert of the group fires
-abbrev pub something_fires : Asked → Bool
+abbrev pub something_fires : Question → Bool
 something_fires asked = not (has_none (set_of asked.firing))
 
 -- it is notified for the first time

@@ -11,14 +11,14 @@ ghost use Rattle.am_runs.specs.Members.{member_of, set_of};
 ghost use Rattle.am_runs.specs.Runs.{IsRun};
 ghost use Rattle.am_runs.specs.Timely.{IsTimely};
 ghost use Rattle.am_steps.specs.Recorded.{HasGoneThrough};
-ghost use Rattle.am_instance.specs.Stands.{Stand, kept_log};
+ghost use Rattle.am_instance.specs.InstanceStates.{InstanceState, kept_log};
 ghost use Rattle.am_instance.specs.declared.event.Event.{Event};
 ghost use Rattle.am_instance.specs.declared.reply.Made.{Made};
 ghost use Rattle.am_instance.specs.declared.reply.Reply.{Reply};
 ghost use Rattle.am_instance.specs.Replies.{IsReply};
 ghost use Rattle.am_cluster.specs.Lives.{OfMember};
 ghost use Rattle.am_cluster_laws.specs.Replicas.{IsCalmBy, entries_taken};
-ghost use Rattle.am_cluster_laws.specs.Firsts.{Asked, asks, is_first, key_of, something_fires};
+ghost use Rattle.am_cluster_laws.specs.Firsts.{Question, asks, is_first, key_of, something_fires};
 
 use crate::shown::members_show_the_bare_sets;
 use am_cluster::Cluster;
@@ -29,7 +29,7 @@ use am_version_order::Version;
 /// A calm member, asked at a moment from its last one on, says that a group is notified for the first time exactly where
 /// something fires, and of all entries of the group that were delivered to it none is best and live.
 pub fn first_is_told_exactly(cluster: &Cluster)
-    ensures { (place now : ℕ) (asked : Asked) (reply : Reply) (made : Made) →
+    ensures { (place now : ℕ) (asked : Question) (reply : Reply) (made : Made) →
         OfMember cluster.now place (λ replica. IsCalmBy cluster.now place replica now →
         IsReply replica.stand (asks asked) now reply made →
         (reply ≡ is_first) ↔ ((something_fires asked ≡ true)
@@ -47,7 +47,7 @@ pub fn first_is_told_after_a_spread()
         IsRun entry_version key_cmp members steps → IsTimely entry_version spread flight members steps → moment step ≡ Some now →
         Contains (delivered_in steps) entry → (entry_version entry).updated + spread ≤ now →
         (place : ℕ) → let member = member_of members place before in member.runs ≡ true →
-        (stand : Stand) (asked : Asked) (made : Made) → HasGoneThrough entry_version key_cmp member.past (kept_log stand) →
+        (stand : InstanceState) (asked : Question) (made : Made) → HasGoneThrough entry_version key_cmp member.past (kept_log stand) →
         (entry_version entry).key ≡ key_of asked → IsReply stand (asks asked) now is_first made →
         (greatest : LogMesh) × IsBest entry_version (set_of member) greatest × ((entry_version greatest).key ≡ key_of asked)
         × (is_below (entry_version greatest) (entry_version entry) ≡ false) × ((entry_version greatest).expires ≤ now) }

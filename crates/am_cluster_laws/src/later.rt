@@ -12,7 +12,7 @@ ghost use Rattle.am_instance.specs.declared.reply.Made.{Made};
 ghost use Rattle.am_instance.specs.Replies.{IsReply, entry_in_view, silence_in_view};
 ghost use Rattle.am_cluster.specs.Lives.{OfMember};
 ghost use Rattle.am_cluster_laws.specs.Replicas.{GoesOnAt, entries_taken};
-ghost use Rattle.am_cluster_laws.specs.Firsts.{Asked, asks, is_first, key_of};
+ghost use Rattle.am_cluster_laws.specs.Firsts.{Question, asks, is_first, key_of};
 
 use crate::first::first_is_told_after_a_spread;
 use am_cluster::Cluster;
@@ -34,8 +34,8 @@ pub fn members_agree_on_what_is_old(earlier: &Cluster, later: &Cluster)
         (place other : ℕ) → OfMember earlier.now place (λ one. OfMember earlier.now other (λ two. one.runs ≡ true → two.runs ≡ true →
         entry_in_view now one.stand.log key ≡ entry_in_view now two.stand.log key)) }
 {
-    earlier.hangs_together();
-    later.hangs_together();
+    earlier.consistency();
+    later.consistency();
     views_agree::<MeshSilence>();
     views_agree::<MeshEntry>();
 }
@@ -44,7 +44,7 @@ pub fn members_agree_on_what_is_old(earlier: &Cluster, later: &Cluster)
 /// says that the group is notified for the first time only where the greatest entry of the group that it took, at least as
 /// great as that one, isn't live any more.
 pub fn first_is_told_where_old_ones_ended(earlier: &Cluster, later: &Cluster)
-    ensures { (spread flight now : ℕ) (entry : LogMesh) (asked : Asked) (made : Made) (place : ℕ) → 0 < spread →
+    ensures { (spread flight now : ℕ) (entry : LogMesh) (asked : Question) (made : Made) (place : ℕ) → 0 < spread →
         GoesOnAt earlier.now later.now now →
         AreTimely spread flight (length later.now.replicas) later.now.silences later.now.log →
         Contains (delivered_in later.now.log) entry → (entry_version entry).updated + spread ≤ now →
@@ -53,7 +53,7 @@ pub fn first_is_told_where_old_ones_ended(earlier: &Cluster, later: &Cluster)
         (greatest : LogMesh) × IsBest entry_version (entries_taken earlier.now place) greatest × ((entry_version greatest).key ≡ key_of asked)
         × (is_below (entry_version greatest) (entry_version entry) ≡ false) × ((entry_version greatest).expires ≤ now)) }
 {
-    earlier.hangs_together();
-    later.hangs_together();
+    earlier.consistency();
+    later.consistency();
     first_is_told_after_a_spread();
 }

@@ -33,7 +33,7 @@ pub fn members_show_the_bare_sets(cluster: &Cluster)
     ensures log { (place now : ℕ) (key : LogKey) → OfMember cluster.now place (λ replica. IsCalmBy cluster.now place replica now →
         IsViewAt entry_version (entries_taken cluster.now place) now key (entry_in_view now replica.stand.log key)) }
 {
-    cluster.hangs_together();
+    cluster.consistency();
     calm_members_show_the_bare_set::<MeshSilence>();
     calm_members_show_the_bare_set::<MeshEntry>();
 }

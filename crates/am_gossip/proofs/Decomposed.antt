@@ -53,5 +53,5 @@ stream_reads (f ∷ fs) ending front behind (text, others, is, one, more) ends =
 pub stream_is : (s : Stream) (bytes : List ℕ) → IsStream s bytes → s ≡ stream_of bytes
 stream_is s bytes is = sym (ap stream_of is.bytes_are ∙ stream_reads s.frames s.ending is.front is.behind is.frames_are is.ends)
 
-pub one_way : (s t : Stream) (bytes : List ℕ) → IsStream s bytes → IsStream t bytes → s ≡ t
-one_way s t bytes first second = stream_is s bytes first ∙ sym (stream_is t bytes second)
+pub unique : (s t : Stream) (bytes : List ℕ) → IsStream s bytes → IsStream t bytes → s ≡ t
+unique s t bytes first second = stream_is s bytes first ∙ sym (stream_is t bytes second)

@@ -5,7 +5,7 @@ use Rattle.std.proofs.lemmas.List.{take-append-le, drop-append-le, take-append-d
 use Rattle.am_wire.specs.declared.error.WireError.{WireError}
 use Rattle.am_wire.specs.declared.error.WireError.TheVariants.{Truncated, LongVarint}
 use Rattle.am_wire.specs.Varint.{IsVarint, one_more, varint_within, varint_at}
-use Rattle.am_wire.specs.Again.Varints.{varint_read}
+use Rattle.am_wire.specs.RoundTrip.Varints.{varint_read}
 use Rattle.am_wire.proofs.Faults.{cut_fails}
 use Rattle.am_wire.proofs.Spelled.{varint_found}
 use Rattle.std.specs.List.{All}

@@ -8,7 +8,7 @@ use Rattle.std.proofs.Math.Seq.{take-add}
 use Rattle.am_wire.specs.declared.error.WireError.{WireError}
 use Rattle.am_wire.specs.declared.error.WireError.TheVariants.{NotUtf8, Truncated}
 use Rattle.am_wire.specs.Varint.{IsVarint, varint_at}
-use Rattle.am_wire.specs.Again.Varints.{varint_read}
+use Rattle.am_wire.specs.RoundTrip.Varints.{varint_read}
 use Rattle.am_wire.proofs.Spelled.{varint_found}
 use Rattle.am_gossip.specs.declared.error.FrameError.{FrameError}
 use Rattle.am_gossip.specs.declared.error.FrameError.TheVariants.{Kind, Length, Wire}

@@ -6,7 +6,7 @@ use Rattle.std.proofs.Math.Seq.{take-add}
 use Rattle.am_wire.specs.declared.error.WireError.{WireError}
 use Rattle.am_wire.specs.declared.error.WireError.TheVariants.{Truncated, LongVarint}
 use Rattle.am_wire.specs.Varint.{IsVarint, varint_at, varint_within, one_more}
-use Rattle.am_wire.specs.Again.Varints.{varint_read}
+use Rattle.am_wire.specs.RoundTrip.Varints.{varint_read}
 use Rattle.am_wire.proofs.Spelled.{varint_found}
 use Rattle.am_wire.proofs.Faults.{long_found, long_fails}
 use Rattle.am_gossip.specs.declared.error.FrameError.{FrameError}

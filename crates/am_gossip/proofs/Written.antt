@@ -11,10 +11,10 @@ use Rattle.am_wire.specs.Fields.{FieldAt, fields_of}
 use Rattle.am_wire.specs.Varint.{shortest}
 use Rattle.am_wire.specs.Reading.{text_row, blob_row, last_text}
 use Rattle.am_wire.specs.Writing.{tag, writes_delimited}
-use Rattle.am_wire.specs.Again.Pieces.{done}
-use Rattle.am_wire.specs.Again.Puts.{Puts-each_delimited, Puts-whole, writes_each_delimited, delimited_fields, length-writes_delimited}
-use Rattle.am_wire.specs.Again.Varints.{shortest_spells}
-use Rattle.am_wire.specs.Again.Written.{Means, ReadsAs, read_by-reads, written_nothing, written_text, written_blob, text_again, reads_whole}
+use Rattle.am_wire.specs.RoundTrip.Pieces.{done}
+use Rattle.am_wire.specs.RoundTrip.Puts.{Puts-each_delimited, Puts-whole, writes_each_delimited, delimited_fields, length-writes_delimited}
+use Rattle.am_wire.specs.RoundTrip.Varints.{shortest_spells}
+use Rattle.am_wire.specs.RoundTrip.Written.{Means, ReadsAs, read_by-reads, written_nothing, written_text, written_blob, text_again, reads_whole}
 use Rattle.am_gossip.specs.declared.error.FrameError.{FrameError}
 use Rattle.am_gossip.specs.declared.frame.Frame.{Frame}
 use Rattle.am_gossip.specs.declared.frame.Frame.TheVariants as frames

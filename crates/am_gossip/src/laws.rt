@@ -15,7 +15,7 @@ ghost use Rattle.am_gossip.specs.Grammar.{IsFrame, IsStream};
 pub fn streams_are_the_grammar()
     ensures read { (bytes : List ℕ) → IsStream (stream_of bytes) bytes }
     ensures found { (s : Stream) (bytes : List ℕ) → IsStream s bytes → s ≡ stream_of bytes }
-    ensures one_way { (s t : Stream) (bytes : List ℕ) → IsStream s bytes → IsStream t bytes → s ≡ t }
+    ensures unique { (s t : Stream) (bytes : List ℕ) → IsStream s bytes → IsStream t bytes → s ≡ t }
 {}
 
 /// Two pieces one after the other are read as both joined are, and so is any list of pieces.

@@ -3,7 +3,7 @@ pub mod FieldLists
 pub mod HeadLemmas
 pub mod Standings
 pub mod Growing
-pub mod OneWay
+pub mod Unique
 pub mod Writes
 pub mod Ids
 pub mod Answering

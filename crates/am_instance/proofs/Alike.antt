@@ -12,11 +12,11 @@ use Rattle.am_instance.specs.declared.event.Request.TheVariants as requests
 use Rattle.am_instance.specs.declared.reply.Reply.{Reply}
 use Rattle.am_instance.specs.declared.reply.Reply.TheVariants as replies
 use Rattle.am_instance.specs.declared.reply.Made.{Made}
-use Rattle.am_instance.specs.Stands.{Stand, silences_in_view, log_in_view}
+use Rattle.am_instance.specs.InstanceStates.{InstanceState, silences_in_view, log_in_view}
 use Rattle.am_instance.specs.Replies.{IsReply, IsNothing, HoldsSilences, HoldsViews, found_reply, with_state}
 use Rattle.am_instance.specs.Laws.{ShowSame, asks_views}
 
-pub alike : (one other : Stand) (event : Event) (now : ℕ) (reply : Reply) (made : Made) →
+pub alike : (one other : InstanceState) (event : Event) (now : ℕ) (reply : Reply) (made : Made) →
     silences_in_view now one.silences ≡ silences_in_view now other.silences → log_in_view now one.log ≡ log_in_view now other.log → ShowSame now one other →
     asks_views event ≡ true → IsReply one event now reply made → IsReply other event now reply made
 alike one other (events.Request (requests.List filters)) now reply made silences log same asks replied =

@@ -13,7 +13,7 @@ use Rattle.am_collect.specs.Events.{after, after_all}
 use Rattle.am_collect.specs.Events.Event.{Delivered}
 use Rattle.am_instance.specs.Deliveries.{Delivery, before_fault, first_fault, to_silences, to_log}
 use Rattle.am_instance.specs.Deliveries.Delivery.{OfSilence, OfEntry}
-use Rattle.am_instance.specs.Stands.{Stand, silence_at, entry_at}
+use Rattle.am_instance.specs.InstanceStates.{InstanceState, silence_at, entry_at}
 use Rattle.am_instance.specs.Changes.{changes, only_if, changed_of, silences_after, log_after}
 use Rattle.am_instance.specs.Sendings.{Sent, Sends, deltas_to, addressed, delta_of}
 use Rattle.am_instance.specs.Steps.{Delivers, StopsDelivering}
@@ -30,10 +30,10 @@ log_then now l xs ys =
     ap (after_all entry_version key_cmp l) (map-append (λ d. (to_log d, now)) xs ys)
     ∙ after_all_append entry_version key_cmp l (map (λ d. (to_log d, now)) xs) (map (λ d. (to_log d, now)) ys)
 
-pub delivers_none : (now : ℕ) (stand : Stand) → Delivers now [] stand stand
+pub delivers_none : (now : ℕ) (stand : InstanceState) → Delivers now [] stand stand
 delivers_none now stand = record { config = refl; last = refl; silences = refl; log = refl }
 
-pub delivers_then : (now : ℕ) (xs ys : List Delivery) (a b c : Stand) → Delivers now xs a b → Delivers now ys b c → Delivers now (xs ++ ys) a c
+pub delivers_then : (now : ℕ) (xs ys : List Delivery) (a b c : InstanceState) → Delivers now xs a b → Delivers now ys b c → Delivers now (xs ++ ys) a c
 delivers_then now xs ys a b c first second = record {
   config = second.config ∙ first.config;
   last = second.last ∙ first.last;
@@ -52,7 +52,7 @@ changed_then now m l (OfEntry e ∷ xs) ys =
     ∙ sym (append_assoc (only_if (changes entry_version now l e) (OfEntry e)) (changed_of now m (after entry_version key_cmp l (Delivered e) now) xs) _)
 
 -- what is sent of some versions, and then of others
-pub sends_then : (places : List ℕ) (now : ℕ) (xs ys : List Delivery) (a b : Stand) (s t u : Sent) → Delivers now xs a b →
+pub sends_then : (places : List ℕ) (now : ℕ) (xs ys : List Delivery) (a b : InstanceState) (s t u : Sent) → Delivers now xs a b →
     Sends (deltas_to places (changed_of now (silence_at a.silences) (entry_at a.log) xs)) s t →
     Sends (deltas_to places (changed_of now (silence_at b.silences) (entry_at b.log) ys)) t u →
     Sends (deltas_to places (changed_of now (silence_at a.silences) (entry_at a.log) (xs ++ ys))) s u
@@ -89,7 +89,7 @@ first_fault_here (Ok x ∷ xs) ys e is = first_fault_here xs ys e is
 first_fault_here (Err d ∷ xs) ys e is = is
 
 -- the first rows were taken and counted, and those that changed a map were sent; these are left
-pub record HasDelivered {E : Type 0} (places : List ℕ) (now : ℕ) (old : Stand) (all : List Delivery) (left : List (Result Delivery E)) (new : Stand) (before count : ℕ) (unsent sent : Sent) : Type 0 where
+pub record HasDelivered {E : Type 0} (places : List ℕ) (now : ℕ) (old : InstanceState) (all : List Delivery) (left : List (Result Delivery E)) (new : InstanceState) (before count : ℕ) (unsent sent : Sent) : Type 0 where
   pub done : List Delivery
   pub whole : done ++ before_fault left ≡ all
   pub sound : first_fault left ≡ None
@@ -97,11 +97,11 @@ pub record HasDelivered {E : Type 0} (places : List ℕ) (now : ℕ) (old : Stan
   pub delivered : Delivers now done old new
   pub sends : Sends (deltas_to places (changed_of now (silence_at old.silences) (entry_at old.log) done)) unsent sent
 
-module _ {E : Type 0} (places : List ℕ) (now : ℕ) (old : Stand) (all : List Delivery) where
+module _ {E : Type 0} (places : List ℕ) (now : ℕ) (old : InstanceState) (all : List Delivery) where
   pub begins : (items : List (Result Delivery E)) (n : ℕ) (sent : Sent) → all ≡ before_fault items → first_fault items ≡ None → HasDelivered places now old all items old n n sent sent
   begins items n sent is sound = record { done = []; whole = sym is; sound = sound; counted = omega arith; delivered = delivers_none now old; sends = refl }
 
-  pub goes_on : (left rows rest : List (Result Delivery E)) (mid new : Stand) (before count more : ℕ) (a b c : Sent) (here : List ℕ) →
+  pub goes_on : (left rows rest : List (Result Delivery E)) (mid new : InstanceState) (before count more : ℕ) (a b c : Sent) (here : List ℕ) →
       HasDelivered places now old all left mid before count a b → left ≡ rows ++ rest → here ≡ places →
       Delivers now (before_fault rows) mid new → more ≡ count + length (before_fault rows) →
       Sends (deltas_to here (changed_of now (silence_at mid.silences) (entry_at mid.log) (before_fault rows))) b c →
@@ -122,7 +122,7 @@ module _ {E : Type 0} (places : List ℕ) (now : ℕ) (old : Stand) (all : List 
         sends = sends_then places now done (before_fault rows) old mid a b c so_far.delivered so_far.sends sent;
       }
 
-  pub ends : (left : List (Result Delivery E)) (new : Stand) (before count : ℕ) (a b : Sent) → HasDelivered places now old all left new before count a b → left ≡ [] →
+  pub ends : (left : List (Result Delivery E)) (new : InstanceState) (before count : ℕ) (a b : Sent) → HasDelivered places now old all left new before count a b → left ≡ [] →
       Delivers now all old new × (count ≡ before + length all) × Sends (deltas_to places (changed_of now (silence_at old.silences) (entry_at old.log) all)) a b
   ends left new before count a b so_far none =
       let whole : so_far.done ≡ all = sym (append-nil so_far.done) ∙ ap (λ items. so_far.done ++ before_fault items) (sym none) ∙ so_far.whole in (
@@ -131,7 +131,7 @@ module _ {E : Type 0} (places : List ℕ) (now : ℕ) (old : Stand) (all : List 
         subst (λ xs. Sends (deltas_to places (changed_of now (silence_at old.silences) (entry_at old.log) xs)) a b) whole so_far.sends,
       )
 
-  pub stops : (left rows rest : List (Result Delivery E)) (mid new : Stand) (before count stopped : ℕ) (a b : Sent) →
+  pub stops : (left rows rest : List (Result Delivery E)) (mid new : InstanceState) (before count stopped : ℕ) (a b : Sent) →
       HasDelivered places now old all left mid before count a b → left ≡ rows ++ rest →
       StopsDelivering now (before_fault rows) mid new count stopped → StopsDelivering now all old new before stopped
   stops left rows rest mid new before count stopped a b so_far is stop =

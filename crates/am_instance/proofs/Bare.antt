@@ -14,7 +14,7 @@ use Rattle.am_instance.specs.declared.event.Request.TheVariants as requests
 use Rattle.am_instance.specs.declared.reply.Reply.{Reply}
 use Rattle.am_instance.specs.declared.reply.Reply.TheVariants as replies
 use Rattle.am_instance.specs.declared.reply.Made.{Made}
-use Rattle.am_instance.specs.Stands.{Stand, silences_in_view, log_in_view}
+use Rattle.am_instance.specs.InstanceStates.{InstanceState, silences_in_view, log_in_view}
 use Rattle.am_instance.specs.Replies.{IsReply, HoldsMutes, silence_in_view, entry_in_view}
 use Rattle.am_instance.specs.Bare.{AreEntriesShown, AreSilencesShown, IsBareReply, asks_shown}
 use Rattle.am_instance.proofs.Muted.{muted_in_view}
@@ -33,7 +33,7 @@ mutes_in_view labels now silences (replies.Muted mutes) held = muted_in_view lab
 mutes_in_view labels now silences (replies.Shown shown entries) held = absurd held
 mutes_in_view labels now silences replies.Nothing held = absurd held
 
-pub bare_reply : (stand : Stand) (silences : List Mesh) (log : List LogMesh) (event : Event) (now : ℕ) (reply : Reply) (made : Made) →
+pub bare_reply : (stand : InstanceState) (silences : List Mesh) (log : List LogMesh) (event : Event) (now : ℕ) (reply : Reply) (made : Made) →
     AreSilencesShown silences now (silences_in_view now stand.silences) → AreEntriesShown log now (log_in_view now stand.log) →
     ((id : List ℕ) → IsViewAt mesh_version silences now id (silence_in_view now stand.silences id)) →
     ((key : LogKey) → IsViewAt entry_version log now key (entry_in_view now stand.log key)) →

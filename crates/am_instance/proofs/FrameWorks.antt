@@ -11,7 +11,7 @@ use Rattle.am_instance.specs.declared.reply.Reply.TheVariants as replies
 use Rattle.am_instance.specs.declared.reply.Outcome.{Outcome}
 use Rattle.am_instance.specs.Configs.{peers_but}
 use Rattle.am_instance.specs.Deliveries.{before_fault, first_fault, rows_in, parts_of}
-use Rattle.am_instance.specs.Stands.{Stand, silence_at, entry_at}
+use Rattle.am_instance.specs.InstanceStates.{InstanceState, silence_at, entry_at}
 use Rattle.am_instance.specs.Changes.{changed_of}
 use Rattle.am_instance.specs.Sendings.{Sent, Sends, deltas_to, nothing_sent, sent_by}
 use Rattle.am_instance.specs.Replies.{IsNothing}
@@ -21,7 +21,7 @@ use Rattle.am_instance.proofs.Sent.{sends_append}
 use Rattle.am_instance.proofs.Works.{answered, made_nothing}
 
 -- nothing is taken where a row is at fault, or memory runs out before
-pub judged_arrival : (old : Stand) (sender : ℕ) (parts : List Part) (now : ℕ) (e : StepError) → IsJudgement (first_fault (rows_in parts)) e → IsArrival old sender parts now (Err e) old
+pub judged_arrival : (old : InstanceState) (sender : ℕ) (parts : List Part) (now : ℕ) (e : StepError) → IsJudgement (first_fault (rows_in parts)) e → IsArrival old sender parts now (Err e) old
 judged_arrival old sender parts now (Memory taken) none =
     (inl none, subst (λ (n : ℕ). Delivers now (take n (before_fault (rows_in parts))) old old) (sym none) (delivers_none now old))
 judged_arrival old sender parts now (Frame fault) is = (is, refl)
@@ -29,7 +29,7 @@ judged_arrival old sender parts now (MomentBack last) none = none
 judged_arrival old sender parts now UnknownPeer none = none
 
 -- memory ran out in the midst
-pub stopped_arrival : (old new : Stand) (sender : ℕ) (parts : List Part) (now taken : ℕ) → first_fault (rows_in parts) ≡ None →
+pub stopped_arrival : (old new : InstanceState) (sender : ℕ) (parts : List Part) (now taken : ℕ) → first_fault (rows_in parts) ≡ None →
     StopsDelivering now (before_fault (rows_in parts)) old new 0 taken → IsArrival old sender parts now (Err (Memory taken)) new
 stopped_arrival old new sender parts now taken sound stop =
     let within = stop.within in
@@ -38,7 +38,7 @@ stopped_arrival old new sender parts now taken sound stop =
     (inr (ap (option_map frame_fault) sound, omega (arith, within, counted)), subst (λ (n : ℕ). Delivers now (take n (before_fault (rows_in parts))) old new) same stop.delivered)
 
 -- a frame whose rows were refused, or that memory stopped
-pub refused_frame : (old new : Stand) (sender : ℕ) (frame : GossipFrame) (now : ℕ) (e : StepError) → IsArrival old sender (parts_of frame) now (Err e) new → IsWork old (events.Frame sender frame) now (Err e) new
+pub refused_frame : (old new : InstanceState) (sender : ℕ) (frame : GossipFrame) (now : ℕ) (e : StepError) → IsArrival old sender (parts_of frame) now (Err e) new → IsWork old (events.Frame sender frame) now (Err e) new
 refused_frame old new sender frame now (Memory taken) stop = record {
   config = stop.1.config;
   last = stop.1.last;
@@ -57,7 +57,7 @@ refused_frame old new sender frame now (MomentBack last) none = absurd none
 refused_frame old new sender frame now UnknownPeer none = absurd none
 
 -- a frame whose versions were taken, and after it what is sent last
-pub taken_frame : (old new : Stand) (sender : ℕ) (frame : GossipFrame) (now : ℕ) (outcome : Outcome) (sent : Sent) → collects (events.Frame sender frame) ≡ false →
+pub taken_frame : (old new : InstanceState) (sender : ℕ) (frame : GossipFrame) (now : ℕ) (outcome : Outcome) (sent : Sent) → collects (events.Frame sender frame) ≡ false →
     IsArrival old sender (parts_of frame) now (Ok sent) new → Sends (last_wanted (events.Frame sender frame) new) sent (sent_by outcome) →
     outcome.reply ≡ replies.Nothing → IsNothing outcome.made → IsWork old (events.Frame sender frame) now (Ok outcome) new
 taken_frame old new sender frame now outcome sent stays arrival last reply nothing =

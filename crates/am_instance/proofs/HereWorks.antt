@@ -15,10 +15,10 @@ use Rattle.am_instance.specs.declared.reply.Reply.TheVariants as replies
 use Rattle.am_instance.specs.declared.reply.Outcome.{Outcome}
 use Rattle.am_instance.specs.Configs.{peers_but}
 use Rattle.am_instance.specs.Deliveries.Delivery.{OfSilence, OfEntry}
-use Rattle.am_instance.specs.Stands.{Stand, silence_at, entry_at}
+use Rattle.am_instance.specs.InstanceStates.{InstanceState, silence_at, entry_at}
 use Rattle.am_instance.specs.Changes.{changes, only_if}
 use Rattle.am_instance.specs.Sendings.{Sent, Sends, deltas_to, nothing_sent, sent_by}
-use Rattle.am_instance.specs.Replies.{AreMade}
+use Rattle.am_instance.specs.Replies.{AreSilencesMade}
 use Rattle.am_instance.specs.Steps.{Delivers, IsPutHere, IsLoggedHere, is_changed, deltas_here}
 use Rattle.am_instance.proofs.Lifts.{delivers_silences, delivers_entries}
 use Rattle.am_instance.proofs.Arrivals.{delivers_then, sends_then}
@@ -38,49 +38,49 @@ pub entry_changed : (now : ℕ) (held : List LogMesh) (e : LogMesh) (new : List 
     is_changed taken ≡ changes entry_version now (entry_at held) e
 entry_changed now held e new taken is = ap is_changed is.answer ∙ changed_by (is_live now (entry_version e)) (replaces entry_version key_cmp held e)
 
-pub taken_silence : (now : ℕ) (v : Mesh) (old new : Stand) (taken : Taken) → new.config ≡ old.config → new.last ≡ old.last → new.log ≡ old.log →
+pub taken_silence : (now : ℕ) (v : Mesh) (old new : InstanceState) (taken : Taken) → new.config ≡ old.config → new.last ≡ old.last → new.log ≡ old.log →
     IsTaking mesh_version (slice_cmp nat_cmp) now old.silences v new.silences taken → Delivers now (OfSilence v ∷ []) old new
 taken_silence now v old new taken config last log is = delivers_silences now (v ∷ []) old new config last log (λ key. is.put.joined key)
 
-pub taken_entry : (now : ℕ) (e : LogMesh) (old new : Stand) (taken : Taken) → new.config ≡ old.config → new.last ≡ old.last → new.silences ≡ old.silences →
+pub taken_entry : (now : ℕ) (e : LogMesh) (old new : InstanceState) (taken : Taken) → new.config ≡ old.config → new.last ≡ old.last → new.silences ≡ old.silences →
     IsTaking entry_version key_cmp now old.log e new.log taken → Delivers now (OfEntry e ∷ []) old new
 taken_entry now e old new taken config last silences is = delivers_entries now (e ∷ []) old new config last silences (λ key. is.put.joined key)
 
 -- what is sent of one version
-pub sent_silence : (now : ℕ) (v : Mesh) (old : Stand) (test : Bool) (a b : Sent) → test ≡ changes mesh_version now (silence_at old.silences) v →
+pub sent_silence : (now : ℕ) (v : Mesh) (old : InstanceState) (test : Bool) (a b : Sent) → test ≡ changes mesh_version now (silence_at old.silences) v →
     Sends (deltas_to (peers_but old.config old.config.place) (only_if test (OfSilence v))) a b → Sends (deltas_here old now (OfSilence v ∷ [])) a b
 sent_silence now v old test a b is sent =
     subst (λ xs. Sends (deltas_to (peers_but old.config old.config.place) xs) a b) (ap (λ (t : Bool). only_if t (OfSilence v)) is ∙ sym (append-nil _)) sent
 
-pub sent_entry : (now : ℕ) (e : LogMesh) (old : Stand) (test : Bool) (a b : Sent) → test ≡ changes entry_version now (entry_at old.log) e →
+pub sent_entry : (now : ℕ) (e : LogMesh) (old : InstanceState) (test : Bool) (a b : Sent) → test ≡ changes entry_version now (entry_at old.log) e →
     Sends (deltas_to (peers_but old.config old.config.place) (only_if test (OfEntry e))) a b → Sends (deltas_here old now (OfEntry e ∷ [])) a b
 sent_entry now e old test a b is sent =
     subst (λ xs. Sends (deltas_to (peers_but old.config old.config.place) xs) a b) (ap (λ (t : Bool). only_if t (OfEntry e)) is ∙ sym (append-nil _)) sent
 
 -- one silence
-pub put_one : (old new : Stand) (v : Mesh) (reply : Reply) (now : ℕ) (outcome : Outcome) (taken : Taken) (copies : List Mesh) → copies ≡ v ∷ [] →
+pub put_one : (old new : InstanceState) (v : Mesh) (reply : Reply) (now : ℕ) (outcome : Outcome) (taken : Taken) (copies : List Mesh) → copies ≡ v ∷ [] →
     new.config ≡ old.config → new.last ≡ old.last → new.log ≡ old.log → IsTaking mesh_version (slice_cmp nat_cmp) now old.silences v new.silences taken →
-    outcome.reply ≡ reply → AreMade outcome.made copies →
+    outcome.reply ≡ reply → AreSilencesMade outcome.made copies →
     Sends (deltas_to (peers_but old.config old.config.place) (only_if (is_changed taken) (OfSilence v))) nothing_sent (sent_by outcome) → IsPutHere old (v ∷ []) reply now outcome new
 put_one old new v reply now outcome taken copies are config last log is answer made sent = record {
   answer = answer;
-  made = subst (λ vs. AreMade outcome.made vs) are made;
+  made = subst (λ vs. AreSilencesMade outcome.made vs) are made;
   delivered = taken_silence now v old new taken config last log is;
   sent = sent_silence now v old (is_changed taken) nothing_sent (sent_by outcome) (silence_changed now old.silences v new.silences taken is) sent;
 }
 
 -- two silences, one after the other
-pub put_pair : (old new : Stand) (v w : Mesh) (reply : Reply) (now : ℕ) (outcome : Outcome) (taken : Taken × Taken) (copies : List Mesh) (mid : Sent) → copies ≡ v ∷ w ∷ [] →
+pub put_pair : (old new : InstanceState) (v w : Mesh) (reply : Reply) (now : ℕ) (outcome : Outcome) (taken : Taken × Taken) (copies : List Mesh) (mid : Sent) → copies ≡ v ∷ w ∷ [] →
     new.config ≡ old.config → new.last ≡ old.last → new.log ≡ old.log → AreTakings mesh_version (slice_cmp nat_cmp) now old.silences v w new.silences taken →
-    outcome.reply ≡ reply → AreMade outcome.made copies →
+    outcome.reply ≡ reply → AreSilencesMade outcome.made copies →
     Sends (deltas_to (peers_but old.config old.config.place) (only_if (is_changed taken.0) (OfSilence v))) nothing_sent mid →
     Sends (deltas_to (peers_but old.config old.config.place) (only_if (is_changed taken.1) (OfSilence w))) mid (sent_by outcome) → IsPutHere old (v ∷ w ∷ []) reply now outcome new
 put_pair old new v w reply now outcome taken copies mid are config last log is answer made first second =
-    let between : Stand = record { config = old.config; silences = is.between; log = old.log; last = old.last } in
+    let between : InstanceState = record { config = old.config; silences = is.between; log = old.log; last = old.last } in
     let one = taken_silence now v old between taken.0 refl refl refl is.before in
     record {
       answer = answer;
-      made = subst (λ vs. AreMade outcome.made vs) are made;
+      made = subst (λ vs. AreSilencesMade outcome.made vs) are made;
       delivered = delivers_then now (OfSilence v ∷ []) (OfSilence w ∷ []) old between new one (taken_silence now w between new taken.1 config last log is.after);
       sent = sends_then (peers_but old.config old.config.place) now (OfSilence v ∷ []) (OfSilence w ∷ []) old between nothing_sent mid (sent_by outcome) one
           (sent_silence now v old (is_changed taken.0) nothing_sent mid (silence_changed now old.silences v is.between taken.0 is.before) first)
@@ -88,7 +88,7 @@ put_pair old new v w reply now outcome taken copies mid are config last log is a
     }
 
 -- an entry
-pub put_entry : (old new : Stand) (e copy : LogMesh) (now : ℕ) (outcome : Outcome) (taken : Taken) (test : Bool) → copy ≡ e → test ≡ is_changed taken →
+pub put_entry : (old new : InstanceState) (e copy : LogMesh) (now : ℕ) (outcome : Outcome) (taken : Taken) (test : Bool) → copy ≡ e → test ≡ is_changed taken →
     new.config ≡ old.config → new.last ≡ old.last → new.silences ≡ old.silences → IsTaking entry_version key_cmp now old.log e new.log taken →
     outcome.reply ≡ replies.Logged test → outcome.made.silences.items ≡ [] → outcome.made.log ≡ Some copy →
     Sends (deltas_to (peers_but old.config old.config.place) (only_if (is_changed taken) (OfEntry copy))) nothing_sent (sent_by outcome) → IsLoggedHere old e now outcome new
@@ -111,19 +111,19 @@ resent peers test v copy a b c d same start finish sent =
     (subst (λ x. Sends (deltas_to peers (only_if test (OfSilence copy))) x d) start
     (subst (λ x. Sends (deltas_to peers (only_if test (OfSilence copy))) a x) (sym finish) sent))
 
-pub put_one_copy : (old new : Stand) (v : Mesh) (reply : Reply) (now : ℕ) (outcome : Outcome) (taken : Taken) (copies : List Mesh) (copy : Mesh) (a b : Sent) → copies ≡ v ∷ [] →
+pub put_one_copy : (old new : InstanceState) (v : Mesh) (reply : Reply) (now : ℕ) (outcome : Outcome) (taken : Taken) (copies : List Mesh) (copy : Mesh) (a b : Sent) → copies ≡ v ∷ [] →
     copy ≡ get_or copies 0 copy → a ≡ nothing_sent → sent_by outcome ≡ b →
     new.config ≡ old.config → new.last ≡ old.last → new.log ≡ old.log → IsTaking mesh_version (slice_cmp nat_cmp) now old.silences v new.silences taken →
-    outcome.reply ≡ reply → AreMade outcome.made copies →
+    outcome.reply ≡ reply → AreSilencesMade outcome.made copies →
     Sends (deltas_to (peers_but old.config old.config.place) (only_if (is_changed taken) (OfSilence copy))) a b → IsPutHere old (v ∷ []) reply now outcome new
 put_one_copy old new v reply now outcome taken copies copy a b are at start finish config last log is answer made sent =
     put_one old new v reply now outcome taken copies are config last log is answer made
     (resent (peers_but old.config old.config.place) (is_changed taken) v copy a b nothing_sent (sent_by outcome) (at ∙ ap (λ xs. get_or xs 0 copy) are) start finish sent)
 
-pub put_pair_copies : (old new : Stand) (v w : Mesh) (reply : Reply) (now : ℕ) (outcome : Outcome) (one other : Taken) (copies : List Mesh) (first second : Mesh) (a b c : Sent) → copies ≡ v ∷ w ∷ [] →
+pub put_pair_copies : (old new : InstanceState) (v w : Mesh) (reply : Reply) (now : ℕ) (outcome : Outcome) (one other : Taken) (copies : List Mesh) (first second : Mesh) (a b c : Sent) → copies ≡ v ∷ w ∷ [] →
     first ≡ get_or copies 0 first → second ≡ get_or copies 1 second → a ≡ nothing_sent → sent_by outcome ≡ c →
     new.config ≡ old.config → new.last ≡ old.last → new.log ≡ old.log → AreTakings mesh_version (slice_cmp nat_cmp) now old.silences v w new.silences (one, other) →
-    outcome.reply ≡ reply → AreMade outcome.made copies →
+    outcome.reply ≡ reply → AreSilencesMade outcome.made copies →
     Sends (deltas_to (peers_but old.config old.config.place) (only_if (is_changed one) (OfSilence first))) a b →
     Sends (deltas_to (peers_but old.config old.config.place) (only_if (is_changed other) (OfSilence second))) b c → IsPutHere old (v ∷ w ∷ []) reply now outcome new
 put_pair_copies old new v w reply now outcome one other copies first second a b c are at here start finish config last log is answer made sent then_sent =

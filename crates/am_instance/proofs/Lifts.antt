@@ -16,7 +16,7 @@ use Rattle.am_collect.specs.Events.{after, after_all}
 use Rattle.am_collect.specs.Events.Event.{Delivered}
 use Rattle.am_instance.specs.Deliveries.{read_as, before_fault, first_fault, rows_of}
 use Rattle.am_instance.specs.Deliveries.Delivery.{OfSilence, OfEntry}
-use Rattle.am_instance.specs.Stands.{Stand, silence_at, entry_at}
+use Rattle.am_instance.specs.InstanceStates.{InstanceState, silence_at, entry_at}
 use Rattle.am_instance.specs.Changes.{changes, only_if, changed, changed_of, takings, silences_after, log_after}
 use Rattle.am_instance.specs.Sendings.{deltas_to, deltas_of, addressed, delta_of}
 use Rattle.am_instance.specs.Steps.{Delivers}
@@ -71,7 +71,7 @@ silences_idle : (now : ℕ) (m : List ℕ → Option Mesh) (es : List LogMesh) �
 silences_idle now m [] = refl
 silences_idle now m (e ∷ es) = silences_idle now m es
 
-pub delivers_silences : (now : ℕ) (vs : List Mesh) (old new : Stand) → new.config ≡ old.config → new.last ≡ old.last → new.log ≡ old.log →
+pub delivers_silences : (now : ℕ) (vs : List Mesh) (old new : InstanceState) → new.config ≡ old.config → new.last ≡ old.last → new.log ≡ old.log →
     ((key : List ℕ) → silence_at new.silences key ≡ after_all mesh_version (slice_cmp nat_cmp) (silence_at old.silences) (takings now vs) key) → Delivers now (map OfSilence vs) old new
 delivers_silences now vs old new config last log taken = record {
   config = config;
@@ -80,7 +80,7 @@ delivers_silences now vs old new config last log taken = record {
   log = ap entry_at log ∙ sym (log_idle now (entry_at old.log) vs);
 }
 
-pub delivers_entries : (now : ℕ) (es : List LogMesh) (old new : Stand) → new.config ≡ old.config → new.last ≡ old.last → new.silences ≡ old.silences →
+pub delivers_entries : (now : ℕ) (es : List LogMesh) (old new : InstanceState) → new.config ≡ old.config → new.last ≡ old.last → new.silences ≡ old.silences →
     ((key : LogKey) → entry_at new.log key ≡ after_all entry_version key_cmp (entry_at old.log) (takings now es) key) → Delivers now (map OfEntry es) old new
 delivers_entries now es old new config last silences taken = record {
   config = config;

@@ -17,7 +17,7 @@ use Rattle.am_instance.specs.declared.reply.Reply.TheVariants as replies
 use Rattle.am_instance.specs.declared.reply.Outcome.{Outcome}
 use Rattle.am_instance.specs.Deliveries.Delivery.{OfEntry}
 use Rattle.am_instance.specs.Sendings.{sent_by, nothing_sent}
-use Rattle.am_instance.specs.Stands.{Stand}
+use Rattle.am_instance.specs.InstanceStates.{InstanceState}
 use Rattle.am_instance.specs.Replies.{IsLogged, IsNothing}
 use Rattle.am_instance.specs.Steps.{IsWork, IsLoggedHere, step_fault}
 use Rattle.am_instance.proofs.Works.{made_work, quiet_work, stopped_work, memory_work, made_entry_here}
@@ -30,7 +30,7 @@ none_late : (large : Bool) → fault_by false large ≡ None
 none_late true = refl
 none_late false = refl
 
-module _ (old : Stand) (group_key : List ℕ) (receiver : Receiver) (firing resolved : List ℕ) (repeat now : ℕ) where
+module _ (old : InstanceState) (group_key : List ℕ) (receiver : Receiver) (firing resolved : List ℕ) (repeat now : ℕ) where
   -- an entry that is too large, or memory
   pub note_refused : (e : WireError) → (e ≡ wire_errors.Memory) ⊎ (e ≡ wire_errors.TooLarge) →
       (e ≡ wire_errors.TooLarge → (now < expiry repeat old.config.retention now) × (most < length (writes_mesh_entry (made_entry group_key receiver firing resolved repeat old.config.retention now)))) →
@@ -50,7 +50,7 @@ module _ (old : Stand) (group_key : List ℕ) (receiver : Receiver) (firing reso
   })
 
   -- an entry that was made
-  pub note_done : (new : Stand) (e : LogMesh) (result : Result Outcome StepError) → e ≡ made_entry group_key receiver firing resolved repeat old.config.retention now →
+  pub note_done : (new : InstanceState) (e : LogMesh) (result : Result Outcome StepError) → e ≡ made_entry group_key receiver firing resolved repeat old.config.retention now →
       now < expiry repeat old.config.retention now → ¬ ((now < expiry repeat old.config.retention now) × (most < length (writes_mesh_entry (made_entry group_key receiver firing resolved repeat old.config.retention now)))) →
       IfOk result (λ outcome. IsLoggedHere old e now outcome new) → IfErr result (λ x. x ≡ Memory 0) → OnErr result (new ≡ old) →
       IsWork old (events.Notified group_key receiver firing resolved repeat) now result new

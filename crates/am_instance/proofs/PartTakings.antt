@@ -17,7 +17,7 @@ use Rattle.am_gossip.specs.declared.frame.StateKey.TheVariants.{Sil, Nfl}
 use Rattle.am_collect.specs.Events.{after_all}
 use Rattle.am_instance.specs.Deliveries.{Delivery, before_fault, rows_of}
 use Rattle.am_instance.specs.Deliveries.Delivery.{OfSilence, OfEntry}
-use Rattle.am_instance.specs.Stands.{Stand, silence_at, entry_at}
+use Rattle.am_instance.specs.InstanceStates.{InstanceState, silence_at, entry_at}
 use Rattle.am_instance.specs.Changes.{changed, changed_of, takings, IsStoppedRow}
 use Rattle.am_instance.specs.Sendings.{Sent, Sends, deltas_of, deltas_to}
 use Rattle.am_instance.specs.Steps.{Delivers, StopsDelivering}
@@ -31,7 +31,7 @@ pub on_err : {T E A B : Type 0} (r : Result T E) → (A → B) → OnErr r A →
 on_err (Ok x) f given = given
 on_err (Err e) f given = f given
 
-module _ (part : Part) (now : ℕ) (old new : Stand) (config : new.config ≡ old.config) (last : new.last ≡ old.last) where
+module _ (part : Part) (now : ℕ) (old new : InstanceState) (config : new.config ≡ old.config) (last : new.last ≡ old.last) where
   module _ (is : part.key ≡ Sil) (log : new.log ≡ old.log) (row : List ℕ) (same : row ≡ part.bytes) where
     all : map OfSilence (before_fault (messages_of reads_mesh_silence row)) ≡ before_fault (rows_of part)
     all = ap (λ (bytes : List ℕ). map OfSilence (before_fault (messages_of reads_mesh_silence bytes))) same ∙ sym (silence_rows part is)

@@ -15,7 +15,7 @@ use Rattle.am_instance.specs.declared.error.StepError.{StepError}
 use Rattle.am_instance.specs.declared.error.StepError.TheVariants.{MomentBack, UnknownPeer, Frame, Memory}
 use Rattle.am_instance.specs.declared.reply.Outcome.{Outcome}
 use Rattle.am_instance.specs.Deliveries.{Delivery, events_at, to_silences, to_log}
-use Rattle.am_instance.specs.Stands.{Stand, kept_silences, kept_log, AreSilencesLeftBy, IsLogLeftBy}
+use Rattle.am_instance.specs.InstanceStates.{InstanceState, kept_silences, kept_log, AreSilencesLeftBy, IsLogLeftBy}
 use Rattle.am_instance.specs.Steps.{IsWork, brought, collects, counts, delivers, step_events}
 
 module _ {X : Type 0} (of_delivery : Delivery → MapEvent X) (now : ℕ) where
@@ -49,7 +49,7 @@ module _ {X : Type 0} (of_delivery : Delivery → MapEvent X) (now : ℕ) where
   ends_now from event (Err UnknownPeer) counted = absurd cc
   ends_now from event (Err (Frame fault)) counted = absurd cc
 
-module _ (old mid : Stand) (event : Event) (now : ℕ) (result : Result Outcome StepError) (later : old.last ≤ now) (work : IsWork old event now result mid) (counted : counts result ≡ true) where
+module _ (old mid : InstanceState) (event : Event) (now : ℕ) (result : Result Outcome StepError) (later : old.last ≤ now) (work : IsWork old event now result mid) (counted : counts result ≡ true) where
   pub silences_left : (new : Kept Mesh) → new.last ≡ now → new.held ≡ mid.silences → AreSilencesLeftBy (kept_silences old) (step_events to_silences event now result) new
   silences_left new last same = record {
     forward = forward to_silences now old.last event result later;

@@ -24,19 +24,19 @@ use Rattle.am_instance.specs.declared.reply.Reply.{Reply}
 use Rattle.am_instance.specs.declared.reply.Reply.TheVariants as replies
 use Rattle.am_instance.specs.declared.reply.Outcome.{Outcome}
 use Rattle.am_instance.specs.Deliveries.Delivery.{OfSilence}
-use Rattle.am_instance.specs.Stands.{Stand, silence_at}
+use Rattle.am_instance.specs.InstanceStates.{InstanceState, silence_at}
 use Rattle.am_instance.specs.Replies.{RefusedOr, IsDone, IsEnded, posted_id, posted_over, unread_refusal, silence_in_view}
 use Rattle.am_instance.specs.Steps.{IsWork, IsPlanned, IsPutHere, IsTurnedAway, plain_verdict, post_refusal, refused_anyway}
 use Rattle.am_instance.proofs.Works.{made_work, quiet_work, stopped_work, made_silences}
 
 -- a plan that was carried out, as that of the versions and the reply that it names
-pub carried : (result : Result Outcome StepError) (old new : Stand) (vs ws : List Mesh) (one other : Reply) (now : ℕ) → vs ≡ ws → one ≡ other →
+pub carried : (result : Result Outcome StepError) (old new : InstanceState) (vs ws : List Mesh) (one other : Reply) (now : ℕ) → vs ≡ ws → one ≡ other →
     IfOk result (λ outcome. IsPutHere old vs one now outcome new) → IfOk result (λ outcome. IsPutHere old ws other now outcome new)
 carried result old new vs ws one other now same reply done =
     subst (λ r. IfOk result (λ outcome. IsPutHere old ws r now outcome new)) reply (subst (λ xs. IfOk result (λ outcome. IsPutHere old xs one now outcome new)) same done)
 
 -- whether a post is refused doesn't depend on how what is held is told
-pub refusal_is : (stand : Stand) (posted : Posted) (bits now : ℕ) (verdict : Verdict) (held : Option Mesh) (id_held : Bool) →
+pub refusal_is : (stand : InstanceState) (posted : Posted) (bits now : ℕ) (verdict : Verdict) (held : Option Mesh) (id_held : Bool) →
     held ≡ posted_over now stand.silences posted.id → id_held ≡ is_some (silence_at stand.silences (id_text bits)) →
     post_refusal stand posted bits now verdict ≡ refusal held verdict id_held (post_of posted now bits stand.config.retention)
 refusal_is stand posted bits now verdict held id_held is known =
@@ -44,7 +44,7 @@ refusal_is stand posted bits now verdict held id_held is known =
     ∙ ap (λ (b : Bool). refusal held verdict b (post_of posted now bits stand.config.retention)) (sym known)
 
 -- what a call answered, with the verdict on what is posted
-pub planned_by : (stand : Stand) (posted : Posted) (bits now : ℕ) (verdict : Verdict) (held : Option Mesh) (id_held : Bool) (result : Result Plan SilenceError) →
+pub planned_by : (stand : InstanceState) (posted : Posted) (bits now : ℕ) (verdict : Verdict) (held : Option Mesh) (id_held : Bool) (result : Result Plan SilenceError) →
     IsVerdict posted.matchers verdict → held ≡ posted_over now stand.silences posted.id → id_held ≡ is_some (silence_at stand.silences (id_text bits)) →
     IfOk result (λ plan. plan ≡ planned held (post_of posted now bits stand.config.retention)) →
     OnOk result (refusal held verdict id_held (post_of posted now bits stand.config.retention) ≡ None) →
@@ -63,7 +63,7 @@ planned_by stand posted bits now verdict held id_held (Err e) judged is known pl
 )
 
 -- what finds no memory isn't refused for another cause
-pub refused_for_memory : (stand : Stand) (posted : Posted) (bits now : ℕ) (verdict : Verdict) (held : Option Mesh) (id_held : Bool) (result : Result Plan SilenceError) →
+pub refused_for_memory : (stand : InstanceState) (posted : Posted) (bits now : ℕ) (verdict : Verdict) (held : Option Mesh) (id_held : Bool) (result : Result Plan SilenceError) →
     held ≡ posted_over now stand.silences posted.id → id_held ≡ is_some (silence_at stand.silences (id_text bits)) →
     IfErr result (λ e. e ≡ silence_errors.Memory → refusal held verdict id_held (post_of posted now bits stand.config.retention) ≡ None) →
     IfErr result (λ e. e ≡ silence_errors.Memory → post_refusal stand posted bits now verdict ≡ None)
@@ -82,7 +82,7 @@ comes_first false false true patterns times older fresh size error is = is
 comes_first false false false patterns times older fresh size error is = absurd cc
 
 -- a post that is refused whatever its patterns are: there is a verdict on them, with which it is refused so
-pub unread_planned : (stand : Stand) (posted : Posted) (bits now : ℕ) (error : SilenceError) → unread_refusal (posted_over now stand.silences posted.id) posted ≡ Some error → IsPlanned stand posted bits now (Err error)
+pub unread_planned : (stand : InstanceState) (posted : Posted) (bits now : ℕ) (error : SilenceError) → unread_refusal (posted_over now stand.silences posted.id) posted ≡ Some error → IsPlanned stand posted bits now (Err error)
 unfolding refusal early_refusal posted_refusal matchers_refusal
 unread_planned stand posted bits now error is = λ other.
     let judged = has_verdict posted.matchers in
@@ -106,23 +106,23 @@ either_way true one other first second = first refl
 either_way false one other first second = second refl
 
 -- a post whose patterns are compiled isn't refused anyway, where it isn't refused whatever they are
-pub compiled_anyway : (stand : Stand) (posted : Posted) (bits now : ℕ) → has_regexp posted.matchers ≡ true → unread_refusal (posted_over now stand.silences posted.id) posted ≡ None →
+pub compiled_anyway : (stand : InstanceState) (posted : Posted) (bits now : ℕ) → has_regexp posted.matchers ≡ true → unread_refusal (posted_over now stand.silences posted.id) posted ≡ None →
     refused_anyway stand (events.Request (requests.Post posted bits)) now ≡ None
 compiled_anyway stand posted bits now regexp read = either_way (has_regexp posted.matchers) _ _ (λ _. read) (λ none. absurd (true≢false (sym regexp ∙ none)))
 
 -- a post that isn't refused by a verdict on its matchers isn't refused anyway
-pub judged_anyway : (stand : Stand) (posted : Posted) (bits now : ℕ) (verdict : Verdict) → IsVerdict posted.matchers verdict →
+pub judged_anyway : (stand : InstanceState) (posted : Posted) (bits now : ℕ) (verdict : Verdict) → IsVerdict posted.matchers verdict →
     unread_refusal (posted_over now stand.silences posted.id) posted ≡ None → post_refusal stand posted bits now verdict ≡ None →
     refused_anyway stand (events.Request (requests.Post posted bits)) now ≡ None
 judged_anyway stand posted bits now verdict judged read accepted = either_way (has_regexp posted.matchers) _ _ (λ _. read)
     (λ none. ap (post_refusal stand posted bits now) (sym (plain_is posted.matchers verdict none judged)) ∙ accepted)
 
-pub unread_is_told : (stand : Stand) (posted : Posted) (bits now : ℕ) (error : SilenceError) → unread_refusal (posted_over now stand.silences posted.id) posted ≡ Some error →
+pub unread_is_told : (stand : InstanceState) (posted : Posted) (bits now : ℕ) (error : SilenceError) → unread_refusal (posted_over now stand.silences posted.id) posted ≡ Some error →
     error ≡ silence_errors.Memory → refused_anyway stand (events.Request (requests.Post posted bits)) now ≡ None
 unread_is_told stand posted bits now error is memory = unread_aside _ _ _ error _ is memory
 
 -- a post that was planned and carried out
-pub post_done : (old new : Stand) (posted : Posted) (bits now : ℕ) (plan : Plan) (result : Result Outcome StepError) → IsPlanned old posted bits now (Ok plan) →
+pub post_done : (old new : InstanceState) (posted : Posted) (bits now : ℕ) (plan : Plan) (result : Result Outcome StepError) → IsPlanned old posted bits now (Ok plan) →
     IfOk result (λ outcome. IsPutHere old (versions plan) (replies.Posted (posted_id plan)) now outcome new) → IfErr result (λ e. e ≡ Memory 0) → OnErr result (new ≡ old) →
     unread_refusal (posted_over now old.silences posted.id) posted ≡ None → IsWork old (events.Request (requests.Post posted bits)) now result new
 post_done old new posted bits now plan (Ok outcome) plans put memory unchanged read =
@@ -137,7 +137,7 @@ post_done old new posted bits now plan (Err e) plans put memory unchanged read =
     (judged_anyway old posted bits now plans.0 plans.1 read plans.2)
 
 -- a post that was refused
-pub post_refused : (old : Stand) (posted : Posted) (bits now : ℕ) (error : SilenceError) (result : Result Outcome StepError) → IsPlanned old posted bits now (Err error) →
+pub post_refused : (old : InstanceState) (posted : Posted) (bits now : ℕ) (error : SilenceError) (result : Result Outcome StepError) → IsPlanned old posted bits now (Err error) →
     IfOk result (IsTurnedAway error) → IfErr result (λ e. (e ≡ Memory 0) × (error ≡ silence_errors.Memory)) →
     (error ≡ silence_errors.Memory → refused_anyway old (events.Request (requests.Post posted bits)) now ≡ None) → IsWork old (events.Request (requests.Post posted bits)) now result old
 post_refused old posted bits now error (Ok outcome) plans away memory read =
@@ -151,7 +151,7 @@ post_refused old posted bits now error (Ok outcome) plans away memory read =
 post_refused old posted bits now error (Err e) plans away memory read = stopped_work old old (events.Request (requests.Post posted bits)) now e memory.0 refl (read memory.1)
 
 -- a silence that was ended
-pub delete_done : (old new : Stand) (id : List ℕ) (now : ℕ) (held : Option Mesh) (v : Mesh) (result : Result Outcome StepError) → held ≡ silence_in_view now old.silences id →
+pub delete_done : (old new : InstanceState) (id : List ℕ) (now : ℕ) (held : Option Mesh) (v : Mesh) (result : Result Outcome StepError) → held ≡ silence_in_view now old.silences id →
     ended_of held now old.config.retention ≡ Some v → end_refusal held now old.config.retention ≡ None →
     IfOk result (λ outcome. IsPutHere old (v ∷ []) replies.Deleted now outcome new) → IfErr result (λ e. e ≡ Memory 0) → OnErr result (new ≡ old) →
     IsWork old (events.Request (requests.Delete id)) now result new
@@ -164,7 +164,7 @@ delete_done old new id now held v (Ok outcome) is ended accepted put memory unch
 delete_done old new id now held v (Err e) is ended accepted put memory unchanged = stopped_work old new (events.Request (requests.Delete id)) now e memory unchanged
     (ap (λ h. end_refusal h now old.config.retention) (sym is) ∙ accepted)
 
-pub delete_refused : (old : Stand) (id : List ℕ) (now : ℕ) (held : Option Mesh) (error : SilenceError) (result : Result Outcome StepError) → held ≡ silence_in_view now old.silences id →
+pub delete_refused : (old : InstanceState) (id : List ℕ) (now : ℕ) (held : Option Mesh) (error : SilenceError) (result : Result Outcome StepError) → held ≡ silence_in_view now old.silences id →
     (error ≢ silence_errors.Memory → end_refusal held now old.config.retention ≡ Some error) → (error ≡ silence_errors.Memory → end_refusal held now old.config.retention ≡ None) →
     IfOk result (IsTurnedAway error) → IfErr result (λ e. (e ≡ Memory 0) × (error ≡ silence_errors.Memory)) → IsWork old (events.Request (requests.Delete id)) now result old
 delete_refused old id now held error (Ok outcome) is refused none away memory =

@@ -9,7 +9,7 @@ use Rattle.am_instance.specs.declared.error.StepError.{StepError}
 use Rattle.am_instance.specs.declared.error.StepError.TheVariants.{MomentBack, UnknownPeer, Frame, Memory}
 use Rattle.am_instance.specs.declared.reply.Outcome.{Outcome}
 use Rattle.am_instance.specs.Configs.{peers_but}
-use Rattle.am_instance.specs.Stands.{Stand, silence_at, entry_at}
+use Rattle.am_instance.specs.InstanceStates.{InstanceState, silence_at, entry_at}
 use Rattle.am_instance.specs.Changes.{changed_of}
 use Rattle.am_instance.specs.Sendings.{Sends, deltas_to, nothing_sent, sent_by}
 use Rattle.am_instance.specs.Steps.{IsAdmitted, IsUnadmitted, IsWork, counts, delivers, last_wanted, origin}
@@ -17,7 +17,7 @@ use Rattle.am_instance.specs.OneStep.{IsStep}
 use Rattle.am_instance.proofs.Passing.{silences_left, log_left}
 
 -- it was not admitted
-pub unadmitted_step : (stand : Stand) (event : Event) (now : ℕ) (e : StepError) → IsUnadmitted stand event now e → IsStep stand event now (Err e) stand
+pub unadmitted_step : (stand : InstanceState) (event : Event) (now : ℕ) (e : StepError) → IsUnadmitted stand event now e → IsStep stand event now (Err e) stand
 unadmitted_step stand event now (MomentBack last) why = record {
   accepted = tt;
   refused = why;
@@ -44,13 +44,13 @@ unadmitted_step stand event now (Frame fault) why = absurd why
 unadmitted_step stand event now (Memory taken) why = absurd why
 
 -- it was admitted, and is refused for a fault
-pub refused_step : (old new : Stand) (event : Event) (now : ℕ) (result : Result Outcome StepError) → IsAdmitted old event now → IsWork old event now result new → counts result ≡ false →
+pub refused_step : (old new : InstanceState) (event : Event) (now : ℕ) (result : Result Outcome StepError) → IsAdmitted old event now → IsWork old event now result new → counts result ≡ false →
     IsStep old event now result new
 refused_step old new event now (Ok outcome) admitted work stays = absurd cc
 refused_step old new event now (Err (Memory taken)) admitted work stays = absurd cc
 refused_step old new event now (Err (MomentBack last)) admitted work stays = absurd work.answer
 refused_step old new event now (Err UnknownPeer) admitted work stays = absurd work.answer
-refused_step old new event now (Err (Frame fault)) admitted work stays = subst (λ (s : Stand). IsStep old event now (Err (Frame fault)) s) (sym work.answer.1) (record {
+refused_step old new event now (Err (Frame fault)) admitted work stays = subst (λ (s : InstanceState). IsStep old event now (Err (Frame fault)) s) (sym work.answer.1) (record {
   accepted = tt;
   refused = (admitted.forward, admitted.known, work.answer.0);
   unchanged = λ _. refl;
@@ -63,7 +63,7 @@ refused_step old new event now (Err (Frame fault)) admitted work stays = subst (
 })
 
 -- what is sent last doesn't look at the moment
-last_same : (event : Event) (stand : Stand) (now : ℕ) → last_wanted event stand ≡ last_wanted event (record stand { last = now })
+last_same : (event : Event) (stand : InstanceState) (now : ℕ) → last_wanted event stand ≡ last_wanted event (record stand { last = now })
 last_same (events.Request request) stand now = refl
 last_same (events.Frame sender (frames.Delta part)) stand now = refl
 last_same (events.Frame sender (frames.Push parts)) stand now = refl
@@ -77,7 +77,7 @@ last_same events.Tick stand now = refl
 last_same (events.PullFrom place) stand now = refl
 
 -- it was admitted, and its moment counts
-pub counted_step : (old mid : Stand) (event : Event) (now : ℕ) (result : Result Outcome StepError) → IsAdmitted old event now → IsWork old event now result mid → counts result ≡ true →
+pub counted_step : (old mid : InstanceState) (event : Event) (now : ℕ) (result : Result Outcome StepError) → IsAdmitted old event now → IsWork old event now result mid → counts result ≡ true →
     IsStep old event now result (record mid { last = now })
 counted_step old mid event now (Ok outcome) admitted work counted = record {
   accepted = record { forward = admitted.forward; known = admitted.known; sound = work.answer.sound };

@@ -18,17 +18,17 @@ use Rattle.am_instance.specs.declared.reply.Outcome.{Outcome}
 use Rattle.am_instance.specs.Configs.{peers_but}
 use Rattle.am_instance.specs.Deliveries.{Delivery, to_silences, to_log, events_at}
 use Rattle.am_instance.specs.Deliveries.Delivery.{OfSilence, OfEntry}
-use Rattle.am_instance.specs.Stands.{Stand, silence_at, entry_at}
+use Rattle.am_instance.specs.InstanceStates.{InstanceState, silence_at, entry_at}
 use Rattle.am_instance.specs.Changes.{changed_of}
 use Rattle.am_instance.specs.Sendings.{Sends, deltas_to, nothing_sent, sent_by}
-use Rattle.am_instance.specs.Replies.{IsReply, IsNothing, AreMade, listed}
+use Rattle.am_instance.specs.Replies.{IsReply, IsNothing, AreSilencesMade, listed}
 use Rattle.am_instance.specs.Steps.{IsWork, AreSwept, Delivers, brought, collects, delivers, fault_of, last_wanted, made_here, refused_anyway, origin, step_events, wanted, deltas_here}
 use Rattle.am_instance.proofs.Arrivals.{delivers_none}
 
 pub made_nothing : (made : Made) → IsNothing made → made_here made ≡ []
 made_nothing made nothing = ap (λ (vs : List Mesh). map OfSilence vs ++ map OfEntry (listed made.log)) nothing.silences ∙ ap (λ (e : Option LogMesh). map OfEntry (listed e)) nothing.log
 
-pub made_silences : (made : Made) (vs : List Mesh) → AreMade made vs → made_here made ≡ map OfSilence vs
+pub made_silences : (made : Made) (vs : List Mesh) → AreSilencesMade made vs → made_here made ≡ map OfSilence vs
 made_silences made vs are =
     ap (λ (xs : List Mesh). map OfSilence xs ++ map OfEntry (listed made.log)) are.silences
     ∙ ap (λ (e : Option LogMesh). map OfSilence vs ++ map OfEntry (listed e)) are.log ∙ append-nil (map OfSilence vs)
@@ -44,7 +44,7 @@ events_of_answer of_delivery event now outcome ds stays is =
     ap (λ (test : Bool). if test then (Collected, now) ∷ [] else events_at of_delivery now (delivers event outcome.made)) stays ∙ ap (events_at of_delivery now) is
 
 -- An event that was answered and doesn't collect: what it delivers changes the maps, and its frames are those that are wanted.
-pub answered : (old new : Stand) (event : Event) (now : ℕ) (outcome : Outcome) (ds : List Delivery) →
+pub answered : (old new : InstanceState) (event : Event) (now : ℕ) (outcome : Outcome) (ds : List Delivery) →
     collects event ≡ false → delivers event outcome.made ≡ ds → Delivers now ds old new → fault_of old.config now event ≡ None →
     Sends (deltas_to (peers_but old.config (origin old.config event)) (changed_of now (silence_at old.silences) (entry_at old.log) ds) ++ last_wanted event new) nothing_sent (sent_by outcome) →
     IsReply old event now outcome.reply outcome.made → IsWork old event now (Ok outcome) new
@@ -62,7 +62,7 @@ answered old new event now outcome ds stays is delivered sound sent reply = reco
 }
 
 -- one that brings nothing, makes nothing and sends nothing
-pub quiet_work : (old : Stand) (event : Event) (now : ℕ) (outcome : Outcome) → collects event ≡ false → brought event ≡ [] → last_wanted event old ≡ [] →
+pub quiet_work : (old : InstanceState) (event : Event) (now : ℕ) (outcome : Outcome) → collects event ≡ false → brought event ≡ [] → last_wanted event old ≡ [] →
     fault_of old.config now event ≡ None → sent_by outcome ≡ nothing_sent → IsNothing outcome.made → IsReply old event now outcome.reply outcome.made →
     IsWork old event now (Ok outcome) old
 quiet_work old event now outcome stays brings last sound sent nothing reply =
@@ -70,7 +70,7 @@ quiet_work old event now outcome stays brings last sound sent nothing reply =
     (subst (λ xs. Sends xs nothing_sent (sent_by outcome)) (sym last) sent) reply
 
 -- one that brings nothing and takes what it made here
-pub made_work : (old new : Stand) (event : Event) (now : ℕ) (outcome : Outcome) (ds : List Delivery) → collects event ≡ false → brought event ≡ [] → last_wanted event new ≡ [] →
+pub made_work : (old new : InstanceState) (event : Event) (now : ℕ) (outcome : Outcome) (ds : List Delivery) → collects event ≡ false → brought event ≡ [] → last_wanted event new ≡ [] →
     origin old.config event ≡ old.config.place → fault_of old.config now event ≡ None → made_here outcome.made ≡ ds → Delivers now ds old new →
     Sends (deltas_here old now ds) nothing_sent (sent_by outcome) → IsReply old event now outcome.reply outcome.made → IsWork old event now (Ok outcome) new
 made_work old new event now outcome ds stays brings last own sound is delivered sent reply =
@@ -82,7 +82,7 @@ made_work old new event now outcome ds stays brings last own sound is delivered 
     (subst (λ xs. Sends xs nothing_sent (sent_by outcome)) whole sent) reply
 
 -- memory ran out before anything was taken
-pub memory_work : (old new : Stand) (event : Event) (now : ℕ) → new ≡ old → refused_anyway old event now ≡ None → IsWork old event now (Err (Memory 0)) new
+pub memory_work : (old new : InstanceState) (event : Event) (now : ℕ) → new ≡ old → refused_anyway old event now ≡ None → IsWork old event now (Err (Memory 0)) new
 memory_work old new event now same wanting = subst (λ stand. IsWork old event now (Err (Memory 0)) stand) (sym same) (record {
   config = refl;
   last = refl;
@@ -92,17 +92,17 @@ memory_work old new event now same wanting = subst (λ stand. IsWork old event n
 })
 
 -- memory ran out, or something else did not
-pub stopped_work : (old new : Stand) (event : Event) (now : ℕ) (e : StepError) → e ≡ Memory 0 → new ≡ old → refused_anyway old event now ≡ None → IsWork old event now (Err e) new
+pub stopped_work : (old new : InstanceState) (event : Event) (now : ℕ) (e : StepError) → e ≡ Memory 0 → new ≡ old → refused_anyway old event now ≡ None → IsWork old event now (Err e) new
 stopped_work old new event now e is same wanting = subst (λ error. IsWork old event now (Err error) new) (sym is) (memory_work old new event now same wanting)
 
-nothing_wanted : (old new : Stand) (event : Event) (now : ℕ) (made : Made) → brought event ≡ [] → last_wanted event new ≡ [] → IsNothing made → wanted old event now made new ≡ []
+nothing_wanted : (old new : InstanceState) (event : Event) (now : ℕ) (made : Made) → brought event ≡ [] → last_wanted event new ≡ [] → IsNothing made → wanted old event now made new ≡ []
 nothing_wanted old new event now made brings last nothing =
     ap (λ ds. deltas_to (peers_but old.config (origin old.config event)) (changed_of now (silence_at old.silences) (entry_at old.log) ds) ++ last_wanted event new)
     (ap (λ xs. xs ++ made_here made) brings ∙ made_nothing made nothing)
     ∙ last
 
 -- an event that collects
-pub collected_work : (old new : Stand) (event : Event) (now : ℕ) (outcome : Outcome) → collects event ≡ true → brought event ≡ [] → last_wanted event new ≡ [] →
+pub collected_work : (old new : InstanceState) (event : Event) (now : ℕ) (outcome : Outcome) → collects event ≡ true → brought event ≡ [] → last_wanted event new ≡ [] →
     fault_of old.config now event ≡ None → new.config ≡ old.config → new.last ≡ old.last → AreSwept now old new →
     ((key : List ℕ) → silence_at new.silences key ≡ if_live mesh_version now (silence_at old.silences key)) →
     ((key : LogKey) → entry_at new.log key ≡ if_live entry_version now (entry_at old.log key)) →

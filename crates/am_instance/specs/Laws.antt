@@ -17,7 +17,7 @@ use Rattle.am_instance.specs.declared.event.Request.TheVariants as requests
 use Rattle.am_instance.specs.declared.error.StepError.{StepError}
 use Rattle.am_instance.specs.declared.reply.Outcome.{Outcome}
 use Rattle.am_instance.specs.Deliveries.{Delivery, to_silences, to_log}
-use Rattle.am_instance.specs.Stands.{Stand, kept_silences, kept_log, AreSilencesLeftBy, IsLogLeftBy}
+use Rattle.am_instance.specs.InstanceStates.{InstanceState, kept_silences, kept_log, AreSilencesLeftBy, IsLogLeftBy}
 use Rattle.am_instance.specs.Replies.{silence_in_view, entry_in_view}
 use Rattle.am_instance.specs.Steps.{step_events}
 
@@ -26,10 +26,10 @@ pub record Happened : Type 0 where
   pub event : Event
   pub now : ℕ
   pub answer : Result Outcome StepError
-  pub left : Stand
+  pub left : InstanceState
 
 -- steps made one after the other, each of which changed both maps as the contract of a step says
-abbrev pub AreMade : Stand → List Happened → Stand → Type 0
+abbrev pub AreMade : InstanceState → List Happened → InstanceState → Type 0
 AreMade old [] new = new ≡ old
 AreMade old (h ∷ hs) new =
     AreSilencesLeftBy (kept_silences old) (step_events to_silences h.event h.now h.answer) (kept_silences h.left)
@@ -41,27 +41,27 @@ abbrev pub run_events : {X : Type 0} → (Delivery → MapEvent X) → List Happ
 run_events of_delivery hs = flat_map (λ h. step_events of_delivery h.event h.now h.answer) hs
 
 -- the bare sets: every silence that an instance began with or that was delivered
-abbrev pub all_silences : Stand → List Happened → List Mesh
+abbrev pub all_silences : InstanceState → List Happened → List Mesh
 all_silences start steps = taken start.silences (run_events to_silences steps)
 
 -- every entry that an instance began with or that was delivered
-abbrev pub all_entries : Stand → List Happened → List LogMesh
+abbrev pub all_entries : InstanceState → List Happened → List LogMesh
 all_entries start steps = taken start.log (run_events to_log steps)
 
 -- both lists of an instance are maps: in the order of the keys, none twice
-pub record HasMaps (stand : Stand) : Type 0 where
+pub record HasMaps (stand : InstanceState) : Type 0 where
   pub silences : IsMap mesh_version (slice_cmp nat_cmp) stand.silences
   pub log : IsMap entry_version key_cmp stand.log
 
 -- steps from one instance to another that were calm for both maps
-pub record AreCalmSteps (start : Stand) (steps : List Happened) (new : Stand) : Type 0 where
+pub record AreCalmSteps (start : InstanceState) (steps : List Happened) (new : InstanceState) : Type 0 where
   pub maps : HasMaps start
   pub made : AreMade start steps new
   pub silences : IsCalm mesh_version start.silences start.last (run_events to_silences steps)
   pub log : IsCalm entry_version start.log start.last (run_events to_log steps)
 
 -- two instances have the same in view, of each identifier and of each key of the log
-pub record ShowSame (now : ℕ) (one other : Stand) : Type 0 where
+pub record ShowSame (now : ℕ) (one other : InstanceState) : Type 0 where
   pub silences : (id : List ℕ) → silence_in_view now one.silences id ≡ silence_in_view now other.silences id
   pub log : (key : LogKey) → entry_in_view now one.log key ≡ entry_in_view now other.log key
 

@@ -1,5 +1,5 @@
 pub mod Configs
-pub mod Stands
+pub mod InstanceStates
 pub mod Deliveries
 pub mod Changes
 pub mod Sendings

@@ -4,13 +4,13 @@ use Rattle.am_instance.specs.declared.event.Event.{Event}
 use Rattle.am_instance.specs.declared.error.StepError.{StepError}
 use Rattle.am_instance.specs.declared.reply.Outcome.{Outcome}
 use Rattle.am_instance.specs.Deliveries.{to_silences, to_log}
-use Rattle.am_instance.specs.Stands.{Stand, AreSilencesLeftBy, IsLogLeftBy, kept_silences, kept_log}
+use Rattle.am_instance.specs.InstanceStates.{InstanceState, AreSilencesLeftBy, IsLogLeftBy, kept_silences, kept_log}
 use Rattle.am_instance.specs.Sendings.{Sends, nothing_sent, sent_by}
 use Rattle.am_instance.specs.Replies.{IsReply}
 use Rattle.am_instance.specs.Steps.{AreSwept, IsAccepted, IsRefusal, IsRefused, collects, step_events, wanted}
 
 -- one step, as `Instance::step` makes it
-pub record IsStep (old : Stand) (event : Event) (now : ℕ) (result : Result Outcome StepError) (new : Stand) : Type 0 where
+pub record IsStep (old : InstanceState) (event : Event) (now : ℕ) (result : Result Outcome StepError) (new : InstanceState) : Type 0 where
   -- it is answered only where no cause of a refusal stands, memory aside
   pub accepted : OnOk result (IsAccepted old event now)
   -- it is refused by the first cause that stands

@@ -28,7 +28,7 @@ use Rattle.am_instance.specs.declared.event.Request.TheVariants as requests
 use Rattle.am_instance.specs.declared.reply.Reply.{Reply}
 use Rattle.am_instance.specs.declared.reply.Reply.TheVariants as replies
 use Rattle.am_instance.specs.declared.reply.Made.{Made}
-use Rattle.am_instance.specs.Stands.{Stand, silence_at, entry_at, silences_in_view, log_in_view}
+use Rattle.am_instance.specs.InstanceStates.{InstanceState, silence_at, entry_at, silences_in_view, log_in_view}
 use Rattle.am_instance.specs.Changes.{changes}
 use Rattle.am_silence.specs.Mesh.{mesh_version}
 
@@ -74,7 +74,7 @@ pub record IsNothing (made : Made) : Type 0 where
   pub log : made.log ≡ None
 
 -- silences were made here, and no entry
-pub record AreMade (made : Made) (versions : List Mesh) : Type 0 where
+pub record AreSilencesMade (made : Made) (versions : List Mesh) : Type 0 where
   pub silences : made.silences.items ≡ versions
   pub log : made.log ≡ None
 
@@ -104,12 +104,12 @@ pub record IsRefused (error : SilenceError) (reply : Reply) (made : Made) : Type
 -- a post does as planned
 pub record IsDone (plan : Plan) (reply : Reply) (made : Made) : Type 0 where
   pub answer : reply ≡ replies.Posted (posted_id plan)
-  pub copies : AreMade made (versions plan)
+  pub copies : AreSilencesMade made (versions plan)
 
 -- a silence is ended by one version
 pub record IsEnded (version : Option Mesh) (reply : Reply) (made : Made) : Type 0 where
   pub answer : reply ≡ replies.Deleted
-  pub copies : AreMade made (listed version)
+  pub copies : AreSilencesMade made (listed version)
 
 -- refused for that reason, or else done
 abbrev pub RefusedOr : Option SilenceError → (Reply → Made → Type 0) → Reply → Made → Type 0
@@ -155,7 +155,7 @@ HoldsMutes Muted (replies.Muted mutes) = Muted mutes.ids mutes.broken
 HoldsMutes Muted _ = ⊥
 
 -- the reply to a request, and the versions that are made for it
-abbrev pub IsRequestReply : Stand → Request → ℕ → Reply → Made → Type 0
+abbrev pub IsRequestReply : InstanceState → Request → ℕ → Reply → Made → Type 0
 IsRequestReply stand (requests.List filters) now reply made =
     HoldsSilences (silences_shown now filters.items stand.silences) reply × IsNothing made
 IsRequestReply stand (requests.Get id) now reply made = found_reply now (silence_in_view now stand.silences id) reply × IsNothing made
@@ -163,7 +163,7 @@ IsRequestReply stand (requests.Post posted bits) now reply made = IsPosted now s
 IsRequestReply stand (requests.Delete id) now reply made = IsDeleted now stand.config.retention stand.silences id reply made
 
 -- the reply to an event, and the versions that are made for it
-abbrev pub IsReply : Stand → Event → ℕ → Reply → Made → Type 0
+abbrev pub IsReply : InstanceState → Event → ℕ → Reply → Made → Type 0
 IsReply stand (events.Request request) now reply made = IsRequestReply stand request now reply made
 IsReply stand (events.Frame sender frame) now reply made = (reply ≡ replies.Nothing) × IsNothing made
 IsReply stand (events.Notified group_key receiver firing resolved repeat) now reply made =

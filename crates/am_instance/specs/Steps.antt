@@ -29,12 +29,12 @@ use Rattle.am_instance.specs.declared.error.StepError.TheVariants.{MomentBack, U
 use Rattle.am_instance.specs.declared.reply.Made.{Made}
 use Rattle.am_instance.specs.declared.reply.Outcome.{Outcome}
 use Rattle.am_instance.specs.Configs.{Settings, is_peer, peers_but}
-use Rattle.am_instance.specs.Stands.{Stand, silence_at, entry_at, silences_in_view, log_in_view}
+use Rattle.am_instance.specs.InstanceStates.{InstanceState, silence_at, entry_at, silences_in_view, log_in_view}
 use Rattle.am_instance.specs.Deliveries.{Delivery, events_at, to_silences, to_log, before_fault, first_fault, rows_in, parts_of}
 use Rattle.am_instance.specs.Deliveries.Delivery.{OfSilence, OfEntry}
 use Rattle.am_instance.specs.Changes.{changes, changed_of, silences_after, log_after}
 use Rattle.am_instance.specs.Sendings.{Sent, Sends, deltas_to, nothing_sent, sent_by, whole_state}
-use Rattle.am_instance.specs.Replies.{IsReply, IsNothing, AreMade, listed, not_found, posted_over, silence_in_view, unread_refusal}
+use Rattle.am_instance.specs.Replies.{IsReply, IsNothing, AreSilencesMade, listed, not_found, posted_over, silence_in_view, unread_refusal}
 use Rattle.am_instance.specs.declared.reply.Reply.{Reply}
 use Rattle.am_instance.specs.declared.reply.Reply.TheVariants as replies
 use Rattle.am_merge.specs.declared.held.Taken.{Taken}
@@ -79,13 +79,13 @@ brought (events.Frame sender frame) = before_fault (rows_in (parts_of frame))
 brought _ = []
 
 -- No cause of a refusal stands, memory aside.
-pub record IsAccepted (old : Stand) (event : Event) (now : ℕ) : Type 0 where
+pub record IsAccepted (old : InstanceState) (event : Event) (now : ℕ) : Type 0 where
   pub forward : old.last ≤ now
   pub known : knows_peer old.config (peer_of event) ≡ true
   pub sound : fault_of old.config now event ≡ None
 
 -- what is known of a post: the silence in view of its id, and whether its fresh id is held
-abbrev pub post_refusal : Stand → Posted → ℕ → ℕ → Verdict → Option SilenceError
+abbrev pub post_refusal : InstanceState → Posted → ℕ → ℕ → Verdict → Option SilenceError
 post_refusal stand posted bits now verdict =
     refusal (posted_over now stand.silences posted.id) verdict (is_some (silence_at stand.silences (id_text bits)))
     (post_of posted now bits stand.config.retention)
@@ -97,7 +97,7 @@ plain_verdict matchers = if list_all (λ m. matches_value m []) matchers then ve
 -- Why a request is refused, where no memory is needed to find that out: the silence that is asked for is not in view, the one
 -- that is to be ended can't be ended so, or a post is refused. (Of a post with a regular expression, which is compiled, only
 -- what comes before its patterns counts.)
-abbrev pub refused_anyway : Stand → Event → ℕ → Option SilenceError
+abbrev pub refused_anyway : InstanceState → Event → ℕ → Option SilenceError
 refused_anyway stand (events.Request (requests.Get id)) now = not_found (silence_in_view now stand.silences id)
 refused_anyway stand (events.Request (requests.Delete id)) now =
     end_refusal (silence_in_view now stand.silences id) now stand.config.retention
@@ -114,7 +114,7 @@ RunsOut fault ds taken = (taken ≡ 0) ⊎ ((fault ≡ None) × (taken < length 
 
 -- The cause of a refusal stands, and none that comes before it. Memory may run out before the fault of a frame is found, but
 -- not where a request is refused anyway.
-abbrev pub IsRefusal : Stand → Event → ℕ → StepError → Type 0
+abbrev pub IsRefusal : InstanceState → Event → ℕ → StepError → Type 0
 IsRefusal old event now (MomentBack last) = (last ≡ old.last) × (now < old.last)
 IsRefusal old event now UnknownPeer = (old.last ≤ now) × (knows_peer old.config (peer_of event) ≡ false)
 IsRefusal old event now (Frame fault) = (old.last ≤ now) × (knows_peer old.config (peer_of event) ≡ true)
@@ -154,21 +154,21 @@ origin config (events.Frame sender frame) = sender
 origin config _ = config.place
 
 -- what is sent last: a Pull for a Push that came, and a Push for a peer to be pulled from, with both maps as they stand then
-abbrev pub last_wanted : Event → Stand → List (ℕ × GossipFrame)
+abbrev pub last_wanted : Event → InstanceState → List (ℕ × GossipFrame)
 last_wanted (events.Frame sender (frames.Push parts)) new = (sender, frames.Pull (whole_state new.silences new.log)) ∷ []
 last_wanted (events.PullFrom place) new = (place, frames.Push (whole_state new.silences new.log)) ∷ []
 last_wanted _ new = []
 
 -- All frames that a step wants to send: for each version whose taking was answered Changed, in the order taken, a Delta to
 -- every peer but the one that it came from, in the order of their names.
-abbrev pub wanted : Stand → Event → ℕ → Made → Stand → List (ℕ × GossipFrame)
+abbrev pub wanted : InstanceState → Event → ℕ → Made → InstanceState → List (ℕ × GossipFrame)
 wanted old event now made new =
     deltas_to (peers_but old.config (origin old.config event))
     (changed_of now (silence_at old.silences) (entry_at old.log) (delivers event made))
     ++ last_wanted event new
 
 -- both views are left of what was held
-pub record AreSwept (now : ℕ) (old new : Stand) : Type 0 where
+pub record AreSwept (now : ℕ) (old new : InstanceState) : Type 0 where
   pub silences : new.silences ≡ silences_in_view now old.silences
   pub log : new.log ≡ log_in_view now old.log
 
@@ -187,25 +187,25 @@ counts (Err _) = false
 -- ---- the work of a step, before its moment is set
 
 -- the moment is not before the last one, and a place that is named is that of a peer
-pub record IsAdmitted (old : Stand) (event : Event) (now : ℕ) : Type 0 where
+pub record IsAdmitted (old : InstanceState) (event : Event) (now : ℕ) : Type 0 where
   pub forward : old.last ≤ now
   pub known : knows_peer old.config (peer_of event) ≡ true
 
 -- the moment is before the last one, or else a place that is named is that of no peer
-abbrev pub IsUnadmitted : Stand → Event → ℕ → StepError → Type 0
+abbrev pub IsUnadmitted : InstanceState → Event → ℕ → StepError → Type 0
 IsUnadmitted old event now (MomentBack last) = (last ≡ old.last) × (now < old.last)
 IsUnadmitted old event now UnknownPeer = (old.last ≤ now) × (knows_peer old.config (peer_of event) ≡ false)
 IsUnadmitted old event now _ = ⊥
 
 -- versions were delivered at a moment, one after the other
-pub record Delivers (now : ℕ) (ds : List Delivery) (old new : Stand) : Type 0 where
+pub record Delivers (now : ℕ) (ds : List Delivery) (old new : InstanceState) : Type 0 where
   pub config : new.config ≡ old.config
   pub last : new.last ≡ old.last
   pub silences : silence_at new.silences ≡ silences_after now (silence_at old.silences) ds
   pub log : entry_at new.log ≡ log_after now (entry_at old.log) ds
 
 -- only the first ones were delivered, and not all of them; so many more are counted
-pub record StopsDelivering (now : ℕ) (ds : List Delivery) (old new : Stand) (before count : ℕ) : Type 0 where
+pub record StopsDelivering (now : ℕ) (ds : List Delivery) (old new : InstanceState) (before count : ℕ) : Type 0 where
   pub number : ℕ
   pub within : number < length ds
   pub counted : count ≡ before + number
@@ -224,7 +224,7 @@ IsJudgement fault _ = ⊥
 
 -- What came of the parts of a frame: all versions in them are taken, and those that change a map sent to all peers but the
 -- sender; or a row is at fault and nothing is taken; or memory ran out.
-abbrev pub IsArrival : Stand → ℕ → List Part → ℕ → Result Sent StepError → Stand → Type 0
+abbrev pub IsArrival : InstanceState → ℕ → List Part → ℕ → Result Sent StepError → InstanceState → Type 0
 IsArrival old sender parts now (Ok sent) new =
     let ds = before_fault (rows_in parts) in
     (first_fault (rows_in parts) ≡ None) × Delivers now ds old new
@@ -236,14 +236,14 @@ IsArrival old sender parts now (Err (Memory taken)) new =
 IsArrival old sender parts now (Err _) new = ⊥
 
 -- what is answered, where no cause of a refusal stands
-pub record IsOutcome (old : Stand) (event : Event) (now : ℕ) (outcome : Outcome) (new : Stand) : Type 0 where
+pub record IsOutcome (old : InstanceState) (event : Event) (now : ℕ) (outcome : Outcome) (new : InstanceState) : Type 0 where
   pub sound : fault_of old.config now event ≡ None
   pub swept : collects event ≡ true → AreSwept now old new
   pub sent : Sends (wanted old event now outcome.made new) nothing_sent (sent_by outcome)
   pub reply : IsReply old event now outcome.reply outcome.made
 
 -- what is answered to an event that is admitted, and what is left of the instance
-abbrev pub IsAnswered : Stand → Event → ℕ → Result Outcome StepError → Stand → Type 0
+abbrev pub IsAnswered : InstanceState → Event → ℕ → Result Outcome StepError → InstanceState → Type 0
 IsAnswered old event now (Ok outcome) new = IsOutcome old event now outcome new
 IsAnswered old event now (Err (Frame fault)) new = (fault_of old.config now event ≡ Some fault) × (new ≡ old)
 IsAnswered old event now (Err (Memory taken)) new =
@@ -251,7 +251,7 @@ IsAnswered old event now (Err (Memory taken)) new =
 IsAnswered old event now (Err _) new = ⊥
 
 -- what an event does, but for the moment
-pub record IsWork (old : Stand) (event : Event) (now : ℕ) (result : Result Outcome StepError) (new : Stand) : Type 0 where
+pub record IsWork (old : InstanceState) (event : Event) (now : ℕ) (result : Result Outcome StepError) (new : InstanceState) : Type 0 where
   pub config : new.config ≡ old.config
   pub last : new.last ≡ old.last
   pub silences : silence_at new.silences ≡ after_all mesh_version (slice_cmp nat_cmp) (silence_at old.silences)
@@ -268,18 +268,18 @@ is_changed takens.Kept = false
 is_changed takens.Expired = false
 
 -- all peers get the Deltas of what was made here
-abbrev pub deltas_here : Stand → ℕ → List Delivery → List (ℕ × GossipFrame)
+abbrev pub deltas_here : InstanceState → ℕ → List Delivery → List (ℕ × GossipFrame)
 deltas_here old now ds = deltas_to (peers_but old.config old.config.place) (changed_of now (silence_at old.silences) (entry_at old.log) ds)
 
 -- silences that were made here are taken, and sent where that changes the map
-pub record IsPutHere (old : Stand) (vs : List Mesh) (reply : Reply) (now : ℕ) (outcome : Outcome) (new : Stand) : Type 0 where
+pub record IsPutHere (old : InstanceState) (vs : List Mesh) (reply : Reply) (now : ℕ) (outcome : Outcome) (new : InstanceState) : Type 0 where
   pub answer : outcome.reply ≡ reply
-  pub made : AreMade outcome.made vs
+  pub made : AreSilencesMade outcome.made vs
   pub delivered : Delivers now (map OfSilence vs) old new
   pub sent : Sends (deltas_here old now (map OfSilence vs)) nothing_sent (sent_by outcome)
 
 -- an entry that was made here is taken, and sent where that changes the log
-pub record IsLoggedHere (old : Stand) (entry : LogMesh) (now : ℕ) (outcome : Outcome) (new : Stand) : Type 0 where
+pub record IsLoggedHere (old : InstanceState) (entry : LogMesh) (now : ℕ) (outcome : Outcome) (new : InstanceState) : Type 0 where
   pub answer : outcome.reply ≡ replies.Logged (changes entry_version now (entry_at old.log) entry)
   pub no_silences : outcome.made.silences.items ≡ []
   pub made : outcome.made.log ≡ Some entry
@@ -287,7 +287,7 @@ pub record IsLoggedHere (old : Stand) (entry : LogMesh) (now : ℕ) (outcome : O
   pub sent : Sends (deltas_here old now (OfEntry entry ∷ [])) nothing_sent (sent_by outcome)
 
 -- the plan of a post, or why it is refused
-abbrev pub IsPlanned : Stand → Posted → ℕ → ℕ → Result Plan SilenceError → Type 0
+abbrev pub IsPlanned : InstanceState → Posted → ℕ → ℕ → Result Plan SilenceError → Type 0
 IsPlanned stand posted bits now (Ok plan) =
     (verdict : Verdict) × IsVerdict posted.matchers verdict × (post_refusal stand posted bits now verdict ≡ None)
     × (plan ≡ planned (posted_over now stand.silences posted.id) (post_of posted now bits stand.config.retention))

@@ -10,7 +10,7 @@ ghost use Rattle.am_gossip.specs.declared.frame.Frame.TheVariants as frames;
 ghost use Rattle.am_instance.specs.declared.event.Event.TheVariants as events;
 ghost use Rattle.am_instance.specs.Configs.{peers_but, places_but};
 ghost use Rattle.am_instance.specs.Deliveries.{before_fault, first_fault, rows_in, rows_of};
-ghost use Rattle.am_instance.specs.Stands.{silence_at, entry_at, silences_in_view, log_in_view};
+ghost use Rattle.am_instance.specs.InstanceStates.{silence_at, entry_at, silences_in_view, log_in_view};
 ghost use Rattle.am_instance.specs.Changes.{changed_of};
 ghost use Rattle.am_instance.specs.Sendings.{Sends, deltas_to, nothing_sent, sent_by};
 ghost use Rattle.am_instance.specs.Replies.{IsNothing};

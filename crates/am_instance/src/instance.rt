@@ -45,9 +45,9 @@ impl Drop for Instance {
 }
 
 impl Model for Instance {
-    ghost use Rattle.am_instance.specs.Stands.{Stand};
+    ghost use Rattle.am_instance.specs.InstanceStates.{InstanceState};
 
-    ghost Value = { Stand };
+    ghost Value = { InstanceState };
 
     ghost view = { λ i. record { config = i.config; silences = i.silences; log = i.log; last = i.last } };
 }

@@ -16,7 +16,7 @@ ghost use Rattle.am_merge.specs.Views.{IsViewAt};
 ghost use Rattle.am_collect.specs.Events.{HaveSame, taken};
 ghost use Rattle.am_collect.specs.Calm.{IsCalm};
 ghost use Rattle.am_instance.specs.Deliveries.{to_silences, to_log};
-ghost use Rattle.am_instance.specs.Stands.{Stand};
+ghost use Rattle.am_instance.specs.InstanceStates.{InstanceState};
 ghost use Rattle.am_instance.specs.declared.event.Event.{Event};
 ghost use Rattle.am_instance.specs.declared.reply.Made.{Made};
 ghost use Rattle.am_instance.specs.declared.reply.Reply.{Reply};
@@ -34,11 +34,11 @@ use am_version_order::Version;
 /// After any steps from any maps and moment, each map that they were calm for shows, at every key and at every moment
 /// from the last step on, what the bare set of all versions shows that the instance began with or that were delivered.
 pub fn steps_show_the_bare_sets()
-    ensures silences { (start new : Stand) (steps : List Happened) (now : ℕ) (id : List ℕ) →
+    ensures silences { (start new : InstanceState) (steps : List Happened) (now : ℕ) (id : List ℕ) →
         IsMap mesh_version (slice_cmp nat_cmp) start.silences → AreMade start steps new →
         IsCalm mesh_version start.silences start.last (run_events to_silences steps) → new.last ≤ now →
         IsViewAt mesh_version (taken start.silences (run_events to_silences steps)) now id (silence_in_view now new.silences id) }
-    ensures log { (start new : Stand) (steps : List Happened) (now : ℕ) (key : LogKey) →
+    ensures log { (start new : InstanceState) (steps : List Happened) (now : ℕ) (key : LogKey) →
         IsMap entry_version key_cmp start.log → AreMade start steps new →
         IsCalm entry_version start.log start.last (run_events to_log steps) → new.last ≤ now →
         IsViewAt entry_version (taken start.log (run_events to_log steps)) now key (entry_in_view now new.log key) }
@@ -50,7 +50,7 @@ pub fn steps_show_the_bare_sets()
 /// Two instances that began with or were delivered the same versions in calm steps, in any order and however often, show
 /// the same from the later one of their last moments on.
 pub fn equal_sets_show_alike()
-    ensures { (start begin one other : Stand) (steps others : List Happened) (now : ℕ) →
+    ensures { (start begin one other : InstanceState) (steps others : List Happened) (now : ℕ) →
         AreCalmSteps start steps one → AreCalmSteps begin others other →
         HaveSame (all_silences start steps) (all_silences begin others) → HaveSame (all_entries start steps) (all_entries begin others) →
         All IsMesh (all_silences start steps) → All IsLogMesh (all_entries start steps) →
@@ -69,7 +69,7 @@ fn equal_views_are_one<V: Version>()
 
 /// Two instances that show the same have the same replies to what is answered from the views alone.
 pub fn equal_views_reply_alike()
-    ensures { (one other : Stand) (event : Event) (now : ℕ) (reply : Reply) (made : Made) → HasMaps one → HasMaps other →
+    ensures { (one other : InstanceState) (event : Event) (now : ℕ) (reply : Reply) (made : Made) → HasMaps one → HasMaps other →
         ShowSame now one other →
         asks_views event ≡ true → IsReply one event now reply made → IsReply other event now reply made }
 {
@@ -80,7 +80,7 @@ pub fn equal_views_reply_alike()
 /// Of two instances that show the same, a silence that mutes an alert at one mutes it at the other, if its patterns are not
 /// told as broken there.
 pub fn equal_views_mute_alike()
-    ensures { (one other : Stand) (now : ℕ) (labels : List Label) (ids broken others broken_too : List (List ℕ)) →
+    ensures { (one other : InstanceState) (now : ℕ) (labels : List Label) (ids broken others broken_too : List (List ℕ)) →
         HasMaps one → HasMaps other → ShowSame now one other →
         AreMuted labels now one.silences ids broken → AreMuted labels now other.silences others broken_too →
         (id : List ℕ) → Contains ids id → ¬ Contains broken_too id → Contains others id }
@@ -98,7 +98,7 @@ fn live_versions_are_the_view<V: Version>()
 /// An instance that shows of each identifier and of each key of the log what bare sets show replies to what is answered from
 /// what is shown as those sets say.
 pub fn what_is_shown_replies()
-    ensures { (stand : Stand) (silences : List Mesh) (log : List LogMesh) (event : Event) (now : ℕ) (reply : Reply) (made : Made) →
+    ensures { (stand : InstanceState) (silences : List Mesh) (log : List LogMesh) (event : Event) (now : ℕ) (reply : Reply) (made : Made) →
         HasMaps stand → ((id : List ℕ) → IsViewAt mesh_version silences now id (silence_in_view now stand.silences id)) →
         ((key : LogKey) → IsViewAt entry_version log now key (entry_in_view now stand.log key)) →
         asks_shown event ≡ true → IsReply stand event now reply made → IsBareReply silences log event now reply }
@@ -111,7 +111,7 @@ pub fn what_is_shown_replies()
 /// an alert is, at every moment from the last step on, the one that the bare sets give of all versions that the instance
 /// began with or that were delivered.
 pub fn calm_steps_reply_as_the_bare_sets()
-    ensures { (start new : Stand) (steps : List Happened) (event : Event) (now : ℕ) (reply : Reply) (made : Made) →
+    ensures { (start new : InstanceState) (steps : List Happened) (event : Event) (now : ℕ) (reply : Reply) (made : Made) →
         AreCalmSteps start steps new → HasMaps new → new.last ≤ now → asks_shown event ≡ true → IsReply new event now reply made →
         IsBareReply (all_silences start steps) (all_entries start steps) event now reply }
 {

@@ -7,7 +7,7 @@ ghost use Rattle.am_silence.specs.Ids.{id_text};
 ghost use Rattle.am_silence.specs.Plans.{versions};
 ghost use Rattle.am_silence.specs.declared.error.SilenceError.TheVariants as silence_errors;
 ghost use Rattle.am_matcher.specs.Matching.{has_regexp, IsVerdict};
-ghost use Rattle.am_instance.specs.Stands.{silence_at};
+ghost use Rattle.am_instance.specs.InstanceStates.{silence_at};
 ghost use Rattle.am_instance.specs.declared.error.StepError.TheVariants as errors;
 ghost use Rattle.am_instance.specs.declared.event.Event.TheVariants as events;
 ghost use Rattle.am_instance.specs.declared.event.Request.TheVariants as requests;
@@ -16,7 +16,7 @@ ghost use Rattle.am_instance.specs.Deliveries.Delivery.{OfSilence};
 ghost use Rattle.am_instance.specs.declared.reply.Reply.TheVariants as replies;
 ghost use Rattle.am_instance.specs.Changes.{only_if};
 ghost use Rattle.am_instance.specs.Sendings.{Sends, deltas_to, nothing_sent, sent_by};
-ghost use Rattle.am_instance.specs.Replies.{AreMade, IsNothing, posted_id, posted_over, unread_refusal};
+ghost use Rattle.am_instance.specs.Replies.{AreSilencesMade, IsNothing, posted_id, posted_over, unread_refusal};
 ghost use Rattle.am_instance.specs.Steps.{IsPlanned, IsPutHere, IsTurnedAway, IsWork, is_changed, post_refusal};
 
 use crate::error::StepError;
@@ -339,7 +339,7 @@ pub(crate) fn quiet(alloc: Global, reply: Reply) -> Outcome
 fn made_outcome(reply: Reply, outbox: Outbox, silences: Vec<MeshSilence>) -> Outcome
     ensures reply { result.reply ≡ reply }
     ensures sent { sent_by result ≡ outbox }
-    ensures made { AreMade result.made silences.items }
+    ensures made { AreSilencesMade result.made silences.items }
 {
     let (frames, unsent) = outbox.into_parts();
     Outcome {

@@ -5,7 +5,7 @@ ghost use Rattle.std.specs.List.{list_all};
 ghost use Rattle.std.specs.Option.{option_copied};
 ghost use Rattle.am_matcher.specs.Matching.{passes};
 ghost use Rattle.am_merge.specs.Maps.{if_live};
-ghost use Rattle.am_instance.specs.Stands.{log_in_view};
+ghost use Rattle.am_instance.specs.InstanceStates.{log_in_view};
 ghost use Rattle.am_instance.specs.Replies.{entry_in_view, silence_in_view, silences_shown};
 
 use am_matcher::Filter;

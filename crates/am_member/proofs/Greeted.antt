@@ -10,7 +10,7 @@ use Rattle.am_gossip.proofs.Greeted.{hello_found, hello_more}
 use Rattle.am_http.specs.Receiving.{behind}
 use Rattle.am_instance.specs.Configs.{AreMembers, Settings}
 use Rattle.am_instance.proofs.Names.{one_place}
-use Rattle.am_instance.specs.Stands.{Stand}
+use Rattle.am_instance.specs.InstanceStates.{InstanceState}
 use Rattle.am_member.specs.declared.fault.Fault.{Fault}
 use Rattle.am_member.specs.declared.fault.Fault.TheVariants.{Read, Write, TooLarge, Frame as InFrame, UnknownName, Step}
 use Rattle.am_member.specs.Incoming.{Effects, IsHeard, IsOnlyPeerOf, IsPeerOf, IsUngreeted, most_bytes, no_effects}
@@ -58,7 +58,7 @@ still_greets bytes later name len greeting (inl same) = same ∙ greeting
 still_greets bytes later name len greeting (inr open_) = absurd (none-some _ (ok_same _ _ _ open_ greeting))
 
 -- what came behind its greeting
-pub speaks : (now : ℕ) (input mid_input left : Option (List ℕ)) (old new : Stand) (bytes name : List ℕ) (len place : ℕ) (effects : Effects) (fault : Option Fault) →
+pub speaks : (now : ℕ) (input mid_input left : Option (List ℕ)) (old new : InstanceState) (bytes name : List ℕ) (len place : ℕ) (effects : Effects) (fault : Option Fault) →
     Consumes input mid_input bytes → hello_of bytes ≡ Ok (Some (name, len)) → IsOnlyPeerOf old.config name place →
     HearsPeer place now len (drop len bytes) mid_input left old new effects fault → IsHeard now input left old new effects fault
 speaks now input mid_input left old new bytes name len place effects fault consumed greeting peer h =
@@ -80,7 +80,7 @@ speaks now input mid_input left old new bytes name len place effects fault consu
     }
 
 -- the same in other words
-pub hears_as : (sender now len : ℕ) (piece other : List ℕ) (input left : Option (List ℕ)) (old new : Stand) (effects others : Effects) (fault again : Option Fault) →
+pub hears_as : (sender now len : ℕ) (piece other : List ℕ) (input left : Option (List ℕ)) (old new : InstanceState) (effects others : Effects) (fault again : Option Fault) →
     piece ≡ other → effects ≡ others → fault ≡ again → HearsPeer sender now len piece input left old new effects fault → HearsPeer sender now len other input left old new others again
 hears_as sender now len piece other input left old new effects others fault again same_piece same_effects same_fault h =
     subst (λ (f : Option Fault). HearsPeer sender now len other input left old new others f) same_fault
@@ -94,7 +94,7 @@ greets_peer config same input left bytes greeted place len is some h =
     subst (λ (g : Option (ℕ × ℕ)). Greets same input left bytes (Ok g)) some (subst (λ (c : Settings). Greets c input left bytes (Ok greeted)) is h)
 
 -- there was no memory for the first byte
-pub no_room : (now : ℕ) (first : List ℕ) (left : Option (List ℕ)) (old : Stand) (effects : Effects) (fault : Option Fault) →
+pub no_room : (now : ℕ) (first : List ℕ) (left : Option (List ℕ)) (old : InstanceState) (effects : Effects) (fault : Option Fault) →
     length first ≤ most_bytes → effects ≡ no_effects → fault ≡ Some (InFrame Memory) → IsHeard now (behind first left) left old old effects fault
 no_room now first left old effects fault within nothing is = record {
   came = first;

@@ -9,7 +9,7 @@ use Rattle.am_gossip.specs.declared.frame.Frame.{Frame}
 use Rattle.am_gossip.specs.Streams.{Stream, stream_of, put_before, ends_with}
 use Rattle.am_gossip.proofs.Streaming.{stream_cut}
 use Rattle.am_gossip.proofs.Written.{stream_again}
-use Rattle.am_instance.specs.Stands.{Stand}
+use Rattle.am_instance.specs.InstanceStates.{InstanceState}
 use Rattle.am_member.specs.declared.fault.Fault.{Fault}
 use Rattle.am_member.specs.declared.fault.Fault.TheVariants.{Read, Write, TooLarge, Frame as InFrame, UnknownName, Step}
 use Rattle.am_member.specs.Incoming.{Effects, EndsHearing, MakesAll, StopsAt, most_bytes, no_effects, result_of}
@@ -21,7 +21,7 @@ cut_at : (fed piece rest : List ℕ) → (stream_of fed).ending ≡ Ok rest → 
 cut_at fed piece rest is = stream_cut 0 fed piece (omega arith) ∙ ap (λ ending. ends_with (stream_of fed) ending piece) is
 
 -- one piece more was taken
-pub heard_more : (sender now : ℕ) (fed piece : List ℕ) (before after : Option (List ℕ)) (start : Stand) (nothing : Effects) (mid : Stand) (between : Effects) (new : Stand) (effects : Effects)
+pub heard_more : (sender now : ℕ) (fed piece : List ℕ) (before after : Option (List ℕ)) (start : InstanceState) (nothing : Effects) (mid : InstanceState) (between : Effects) (new : InstanceState) (effects : Effects)
     (h : HasHeard sender now fed before start nothing mid between) → TakesPiece sender now (stream_of (h.rest ++ piece)) after mid between new effects (Ok tt) →
     HasHeard sender now (fed ++ piece) after start nothing new effects
 heard_more sender now fed piece before (Some rest) start nothing mid between new effects h taken =
@@ -36,7 +36,7 @@ heard_more sender now fed piece before (Some rest) start nothing mid between new
 heard_more sender now fed piece before None start nothing mid between new effects h taken = absurd (false≢true taken.2)
 
 -- nothing was read so far
-pub hears_nothing : (sender now first : ℕ) (fed : List ℕ) (waiting : Option (List ℕ)) (input : Option (List ℕ)) (start : Stand) (nothing : Effects) (stand : Stand) (effects : Effects) →
+pub hears_nothing : (sender now first : ℕ) (fed : List ℕ) (waiting : Option (List ℕ)) (input : Option (List ℕ)) (start : InstanceState) (nothing : Effects) (stand : InstanceState) (effects : Effects) →
     HasHeard sender now fed waiting start nothing stand effects → HearsOn sender now first first fed waiting input input start nothing stand effects
 hears_nothing sender now first fed waiting None start nothing stand effects h =
     record { took = []; consumed = tt; counted = omega arith; heard = subst (λ (bytes : List ℕ). HasHeard sender now bytes waiting start nothing stand effects) (sym (append-nil fed)) h }
@@ -45,7 +45,7 @@ hears_nothing sender now first fed waiting (Some bytes) start nothing stand effe
 
 -- a piece was read and taken
 pub hears_more : (sender now first count read : ℕ) (fed buffer : List ℕ) (before after : Option (List ℕ)) (input mid_input left : Option (List ℕ))
-    (start : Stand) (nothing : Effects) (mid : Stand) (between : Effects) (new : Stand) (effects : Effects)
+    (start : InstanceState) (nothing : Effects) (mid : InstanceState) (between : Effects) (new : InstanceState) (effects : Effects)
     (h : HearsOn sender now first count fed before input mid_input start nothing mid between) → IsPiece count mid_input left buffer (Ok read) →
     TakesPiece sender now (stream_of (h.heard.rest ++ take read buffer)) after mid between new effects (Ok tt) →
     HearsOn sender now first (count + read) fed after input left start nothing new effects
@@ -60,7 +60,7 @@ hears_more sender now first count read fed buffer before after input mid_input l
 
 -- the input ended
 pub hears_end : (sender now first count read : ℕ) (fed buffer : List ℕ) (before : Option (List ℕ)) (input mid_input left : Option (List ℕ))
-    (start : Stand) (nothing : Effects) (mid : Stand) (between : Effects) →
+    (start : InstanceState) (nothing : Effects) (mid : InstanceState) (between : Effects) →
     count ≤ most_bytes → HearsOn sender now first count fed before input mid_input start nothing mid between → IsPiece count mid_input left buffer (Ok read) → read ≡ 0 →
     Hears sender now first fed input left start nothing mid between (Ok tt)
 hears_end sender now first count read fed buffer before input mid_input left start nothing mid between within h piece none =
@@ -73,7 +73,7 @@ hears_end sender now first count read fed buffer before input mid_input left sta
 
 -- there was no piece
 pub hears_fault : (sender now first count : ℕ) (fed buffer : List ℕ) (before : Option (List ℕ)) (input mid_input left : Option (List ℕ))
-    (start : Stand) (nothing : Effects) (mid : Stand) (between : Effects) (fault : Fault) →
+    (start : InstanceState) (nothing : Effects) (mid : InstanceState) (between : Effects) (fault : Fault) →
     count ≤ most_bytes → HearsOn sender now first count fed before input mid_input start nothing mid between → IsPiece count mid_input left buffer (Err fault) →
     Hears sender now first fed input left start nothing mid between (Err fault)
 hears_fault sender now first count fed buffer before input mid_input left start nothing mid between (Read at) within h piece =
@@ -112,7 +112,7 @@ within_piece first count read took buffer counted all within =
 
 -- a piece ended the stream
 pub hears_stop : (sender now first count read : ℕ) (fed buffer : List ℕ) (before after : Option (List ℕ)) (input mid_input left : Option (List ℕ))
-    (start : Stand) (nothing : Effects) (mid : Stand) (between : Effects) (new : Stand) (effects : Effects) (fault : Fault)
+    (start : InstanceState) (nothing : Effects) (mid : InstanceState) (between : Effects) (new : InstanceState) (effects : Effects) (fault : Fault)
     (h : HearsOn sender now first count fed before input mid_input start nothing mid between) → IsPiece count mid_input left buffer (Ok read) →
     TakesPiece sender now (stream_of (h.heard.rest ++ take read buffer)) after mid between new effects (Err fault) →
     Hears sender now first fed input left start nothing new effects (Err fault)
@@ -155,14 +155,14 @@ hears_stop sender now first count read fed buffer before after input mid_input l
 hears_stop sender now first count read fed buffer before after input mid_input left start nothing mid between new effects UnknownName h piece stop = absurd stop
 
 -- the same peer
-pub by_sender : (one other now : ℕ) (stream : Stream) (waiting : Option (List ℕ)) (old : Stand) (before : Effects) (new : Stand) (after : Effects) (fault : Fault) → one ≡ other →
+pub by_sender : (one other now : ℕ) (stream : Stream) (waiting : Option (List ℕ)) (old : InstanceState) (before : Effects) (new : InstanceState) (after : Effects) (fault : Fault) → one ≡ other →
     TakesPiece one now stream waiting old before new after (Err fault) → TakesPiece other now stream waiting old before new after (Err fault)
 by_sender one other now stream waiting old before new after fault same taken = subst (λ (sender : ℕ). TakesPiece sender now stream waiting old before new after (Err fault)) same taken
 
 -- ---- the frames behind a greeting
 
 -- what had come with the greeting was taken
-pub first_heard : (sender now : ℕ) (piece : List ℕ) (waiting : Option (List ℕ)) (old : Stand) (before : Effects) (mid : Stand) (between : Effects) →
+pub first_heard : (sender now : ℕ) (piece : List ℕ) (waiting : Option (List ℕ)) (old : InstanceState) (before : Effects) (mid : InstanceState) (between : Effects) →
     TakesPiece sender now (stream_of ([] ++ piece)) waiting old before mid between (Ok tt) → HasHeard sender now piece waiting old before mid between
 first_heard sender now piece (Some rest) old before mid between taken = record { rest = rest; waits = refl; ending = taken.1 rest refl; made = taken.0 }
 first_heard sender now piece None old before mid between taken = absurd (false≢true taken.2)
@@ -180,11 +180,11 @@ none_before (Some bytes) = refl
 stream_empty : (stream_of []).frames ≡ []
 stream_empty = ap (λ (s : Stream). s.frames) (sym (stream_again [] (All-nil _)))
 
-no_step : (sender now : ℕ) (old new : Stand) (after : Effects) → new ≡ old → after ≡ no_effects → MakesAll sender now (stream_of []).frames old no_effects new after
+no_step : (sender now : ℕ) (old new : InstanceState) (after : Effects) → new ≡ old → after ≡ no_effects → MakesAll sender now (stream_of []).frames old no_effects new after
 no_step sender now old new after same none = subst (λ (fs : List Frame). MakesAll sender now fs old no_effects new after) (sym stream_empty) (same, none)
 
 -- it ended the stream
-pub peer_stops : (sender now len : ℕ) (piece : List ℕ) (waiting : Option (List ℕ)) (input : Option (List ℕ)) (old : Stand) (before : Effects) (new : Stand) (effects : Effects) (fault : Fault) →
+pub peer_stops : (sender now len : ℕ) (piece : List ℕ) (waiting : Option (List ℕ)) (input : Option (List ℕ)) (old : InstanceState) (before : Effects) (new : InstanceState) (effects : Effects) (fault : Fault) →
     len + length piece ≤ most_bytes → before ≡ no_effects → TakesPiece sender now (stream_of ([] ++ piece)) waiting old before new effects (Err fault) →
     HearsPeer sender now len piece input input old new effects (Some fault)
 peer_stops sender now len piece waiting input old before new effects (InFrame error) within nothing (inl none) =
@@ -220,7 +220,7 @@ peer_stops sender now len piece waiting input old before new effects (Write writ
 peer_stops sender now len piece waiting input old before new effects UnknownName within nothing stop = absurd stop
 
 -- others came behind it
-pub peer_hears : (sender now len first : ℕ) (piece : List ℕ) (input left : Option (List ℕ)) (old new : Stand) (effects : Effects) (result : Result Unit Fault) →
+pub peer_hears : (sender now len first : ℕ) (piece : List ℕ) (input left : Option (List ℕ)) (old new : InstanceState) (effects : Effects) (result : Result Unit Fault) →
     first ≡ len + length piece → Hears sender now first piece input left old no_effects new effects result →
     HearsPeer sender now len piece input left old new effects (fault_in result)
 peer_hears sender now len first piece input left old new effects result count h =
@@ -236,10 +236,10 @@ peer_hears sender now len first piece input left old new effects result count h 
     }
 
 -- the piece was taken, and then those that came
-pub peer_goes_on : (one other now len first : ℕ) (piece : List ℕ) (waiting : Option (List ℕ)) (input left : Option (List ℕ)) (old : Stand) (before : Effects) (mid : Stand) (between : Effects)
-    (new : Stand) (effects : Effects) (result : Result Unit Fault) → one ≡ other → before ≡ no_effects → first ≡ len + length piece →
+pub peer_goes_on : (one other now len first : ℕ) (piece : List ℕ) (waiting : Option (List ℕ)) (input left : Option (List ℕ)) (old : InstanceState) (before : Effects) (mid : InstanceState) (between : Effects)
+    (new : InstanceState) (effects : Effects) (result : Result Unit Fault) → one ≡ other → before ≡ no_effects → first ≡ len + length piece →
     TakesPiece other now (stream_of ([] ++ piece)) waiting old before mid between (Ok tt) →
-    ((fed : List ℕ) (start : Stand) (nothing : Effects) → HasHeard one now fed waiting start nothing mid between → Hears one now first fed input left start nothing new effects result) →
+    ((fed : List ℕ) (start : InstanceState) (nothing : Effects) → HasHeard one now fed waiting start nothing mid between → Hears one now first fed input left start nothing new effects result) →
     HearsPeer other now len piece input left old new effects (fault_in result)
 peer_goes_on one other now len first piece waiting input left old before mid between new effects result same nothing count taken listens =
     let heard = first_heard other now piece waiting old before mid between taken in

@@ -6,7 +6,7 @@ use Rattle.am_gossip.specs.declared.error.FrameError.TheVariants.{Memory}
 use Rattle.am_gossip.specs.Hellos.{hello_of}
 use Rattle.am_gossip.specs.Streams.{Stream, stream_of}
 use Rattle.am_instance.specs.Configs.{Settings}
-use Rattle.am_instance.specs.Stands.{Stand}
+use Rattle.am_instance.specs.InstanceStates.{InstanceState}
 use Rattle.am_member.specs.declared.fault.Fault.{Fault}
 use Rattle.am_member.specs.declared.fault.Fault.TheVariants.{Read, TooLarge, Frame as InFrame, UnknownName, Step}
 use Rattle.am_member.specs.Incoming.{Effects, EndsHearing, IsOnlyPeerOf, IsPeerOf, IsUngreeted, MakesAll, StopsAt, most_bytes, no_effects, result_of}
@@ -21,7 +21,7 @@ IsPiece count old new piece (Err _) = ⊥
 
 -- What the frames of a stream did, the last bytes of which came as one piece: each was answered, and `waiting` is the rest that
 -- waits; or why the stream ends with that piece.
-abbrev pub TakesPiece : ℕ → ℕ → Stream → Option (List ℕ) → Stand → Effects → Stand → Effects → Result Unit Fault → Type 0
+abbrev pub TakesPiece : ℕ → ℕ → Stream → Option (List ℕ) → InstanceState → Effects → InstanceState → Effects → Result Unit Fault → Type 0
 TakesPiece sender now stream waiting old before new after (Ok _) =
     MakesAll sender now stream.frames old before new after × ForSome waiting (λ rest. stream.ending ≡ Ok rest) × IsSome waiting
 TakesPiece sender now stream waiting old before new after (Err (InFrame error)) =
@@ -31,8 +31,8 @@ TakesPiece sender now stream waiting old before new after (Err (Step error)) = S
 TakesPiece sender now stream waiting old before new after (Err _) = ⊥
 
 -- The frames in the bytes so far were answered, and the rest of those bytes waits.
-pub record HasHeard (sender now : ℕ) (fed : List ℕ) (waiting : Option (List ℕ)) (start : Stand) (nothing : Effects)
-    (stand : Stand) (effects : Effects) : Type 0 where
+pub record HasHeard (sender now : ℕ) (fed : List ℕ) (waiting : Option (List ℕ)) (start : InstanceState) (nothing : Effects)
+    (stand : InstanceState) (effects : Effects) : Type 0 where
   pub rest : List ℕ
   pub waits : waiting ≡ Some rest
   pub ending : (stream_of fed).ending ≡ Ok rest
@@ -40,15 +40,15 @@ pub record HasHeard (sender now : ℕ) (fed : List ℕ) (waiting : Option (List 
 
 -- So it is of bytes that had come, of which there were `first`, and those that the reader gave since, up to `count`.
 pub record HearsOn (sender now first count : ℕ) (fed : List ℕ) (waiting : Option (List ℕ)) (input left : Option (List ℕ))
-    (start : Stand) (nothing : Effects) (stand : Stand) (effects : Effects) : Type 0 where
+    (start : InstanceState) (nothing : Effects) (stand : InstanceState) (effects : Effects) : Type 0 where
   pub took : List ℕ
   pub consumed : Consumes input left took
   pub counted : count ≡ first + length took
   pub heard : HasHeard sender now (fed ++ took) waiting start nothing stand effects
 
 -- All that came of the frames in bytes that had come, of which there were `first`, and those that the reader gave since.
-pub record Hears (sender now first : ℕ) (fed : List ℕ) (input left : Option (List ℕ)) (start : Stand) (nothing : Effects)
-    (new : Stand) (after : Effects) (result : Result Unit Fault) : Type 0 where
+pub record Hears (sender now first : ℕ) (fed : List ℕ) (input left : Option (List ℕ)) (start : InstanceState) (nothing : Effects)
+    (new : InstanceState) (after : Effects) (result : Result Unit Fault) : Type 0 where
   pub took : List ℕ
   pub lost : List ℕ
   pub consumed : Consumes input left (took ++ lost)
@@ -74,7 +74,7 @@ Greets config input left bytes (Ok None) = Consumes input left bytes × IsUngree
 Greets config input left bytes (Err fault) = (came : List ℕ) × Consumes input left came × IsUngreeted config came left (Some fault)
 
 -- What came behind a greeting of `len` bytes: what was taken as frames, and what was not.
-pub record HearsPeer (sender now len : ℕ) (piece : List ℕ) (input left : Option (List ℕ)) (old new : Stand) (effects : Effects)
+pub record HearsPeer (sender now len : ℕ) (piece : List ℕ) (input left : Option (List ℕ)) (old new : InstanceState) (effects : Effects)
     (fault : Option Fault) : Type 0 where
   pub gave : List ℕ
   pub consumed : Consumes input left gave

@@ -11,7 +11,7 @@ use Rattle.am_instance.specs.declared.event.Event.TheVariants as events
 use Rattle.am_instance.specs.declared.error.StepError.{StepError}
 use Rattle.am_instance.specs.declared.reply.Outcome.{Outcome}
 use Rattle.am_instance.specs.Configs.{Settings, is_peer}
-use Rattle.am_instance.specs.Stands.{Stand}
+use Rattle.am_instance.specs.InstanceStates.{InstanceState}
 use Rattle.am_instance.specs.Sendings.{Sent, nothing_sent, sent_by}
 use Rattle.am_instance.specs.Steps.{collects}
 use Rattle.am_instance.specs.OneStep.{IsStep}
@@ -56,26 +56,26 @@ pub record Adds (more : Sent) (ticks : Bool) (before after : Effects) : Type 0 w
   pub ticked : after.ticked ≡ (before.ticked || ticks)
 
 -- the step of a frame that came from a peer is answered
-pub record MakesStep (sender now : ℕ) (frame : Frame) (old : Stand) (before : Effects) (new : Stand) (after : Effects) : Type 0 where
+pub record MakesStep (sender now : ℕ) (frame : Frame) (old : InstanceState) (before : Effects) (new : InstanceState) (after : Effects) : Type 0 where
   pub outcome : Outcome
   pub step : IsStep old (events.Frame sender frame) now (Ok outcome) new
   pub adds : Adds (sent_by outcome) (collects (events.Frame sender frame)) before after
 
 -- so is that of each frame, from where the one before it left the instance
-abbrev pub MakesAll : ℕ → ℕ → List Frame → Stand → Effects → Stand → Effects → Type 0
+abbrev pub MakesAll : ℕ → ℕ → List Frame → InstanceState → Effects → InstanceState → Effects → Type 0
 MakesAll sender now [] old before new after = (new ≡ old) × (after ≡ before)
 MakesAll sender now (frame ∷ frames) old before new after =
-    (mid : Stand) × (between : Effects) × MakesStep sender now frame old before mid between
+    (mid : InstanceState) × (between : Effects) × MakesStep sender now frame old before mid between
     × MakesAll sender now frames mid between new after
 
 -- the steps up to the first one that is refused
-pub record StopsAt (sender now : ℕ) (frames : List Frame) (old : Stand) (before : Effects) (new : Stand) (after : Effects)
+pub record StopsAt (sender now : ℕ) (frames : List Frame) (old : InstanceState) (before : Effects) (new : InstanceState) (after : Effects)
     (error : StepError) : Type 0 where
   pub made : List Frame
   pub frame : Frame
   pub others : List Frame
   pub frames_are : frames ≡ made ++ frame ∷ others
-  pub mid : Stand
+  pub mid : InstanceState
   pub made_all : MakesAll sender now made old before mid after
   pub refused : IsStep mid (events.Frame sender frame) now (Err error) new
 
@@ -88,7 +88,7 @@ most_bytes = 134217728
 -- Why hearing ended, where `lost` came behind the `count` bytes that were taken: the input ended, a read failed, there was a
 -- byte too many, the stream was at fault, or memory ran out for it, or a step was refused. Whatever it was, no more came than a
 -- connection may have, and the one byte too many that is told.
-abbrev pub EndsHearing : ℕ → ℕ → ℕ → Stream → List ℕ → Option (List ℕ) → Stand → Effects → Stand → Effects → Result Unit Fault → Type 0
+abbrev pub EndsHearing : ℕ → ℕ → ℕ → Stream → List ℕ → Option (List ℕ) → InstanceState → Effects → InstanceState → Effects → Result Unit Fault → Type 0
 EndsHearing sender now count stream lost left old before new after (Ok _) =
     MakesAll sender now stream.frames old before new after × (lost ≡ []) × IsAtEnd left × IsOk stream.ending × (count ≤ most_bytes)
 EndsHearing sender now count stream lost left old before new after (Err (Read at)) =
@@ -136,7 +136,7 @@ IsUngreeted config came left (Some UnknownName) = NamesNobody config (hello_of c
 IsUngreeted config came left (Some _) = ⊥
 
 -- A peer spoke: the bytes begin with its greeting, behind which the steps of its frames were made.
-pub record Speaks (config : Settings) (now : ℕ) (came : List ℕ) (left : Option (List ℕ)) (old new : Stand) (effects : Effects)
+pub record Speaks (config : Settings) (now : ℕ) (came : List ℕ) (left : Option (List ℕ)) (old new : InstanceState) (effects : Effects)
     (fault : Option Fault) : Type 0 where
   pub name : List ℕ
   pub len : ℕ
@@ -149,14 +149,14 @@ pub record Speaks (config : Settings) (now : ℕ) (came : List ℕ) (left : Opti
   pub ending : EndsHearing place now (len + length took) (stream_of took) lost left old no_effects new effects (result_of fault)
 
 -- nobody spoke, and no step was made
-pub record Silence (config : Settings) (came : List ℕ) (left : Option (List ℕ)) (old new : Stand) (effects : Effects)
+pub record Silence (config : Settings) (came : List ℕ) (left : Option (List ℕ)) (old new : InstanceState) (effects : Effects)
     (fault : Option Fault) : Type 0 where
   pub same : new ≡ old
   pub nothing : effects ≡ no_effects
   pub ungreeted : IsUngreeted config came left fault
 
 -- all that comes of a connection of frames
-pub record IsHeard (now : ℕ) (input left : Option (List ℕ)) (old new : Stand) (effects : Effects) (fault : Option Fault) : Type 0 where
+pub record IsHeard (now : ℕ) (input left : Option (List ℕ)) (old new : InstanceState) (effects : Effects) (fault : Option Fault) : Type 0 where
   pub came : List ℕ
   pub consumed : Consumes input left came
   pub answer : Silence old.config came left old new effects fault ⊎ Speaks old.config now came left old new effects fault

@@ -6,7 +6,7 @@ use Rattle.am_api_silences.specs.declared.serving.Fault.TheVariants as request_f
 use Rattle.am_api_silences.specs.declared.serving.Served.{Served}
 use Rattle.am_api_silences.specs.Serving.{Serves, sent_after}
 use Rattle.am_http.specs.Receiving.{behind}
-use Rattle.am_instance.specs.Stands.{Stand}
+use Rattle.am_instance.specs.InstanceStates.{InstanceState}
 use Rattle.am_member.specs.declared.ended.Ended.{Ended}
 use Rattle.am_member.specs.declared.fault.Fault.{Fault}
 use Rattle.am_member.specs.declared.fault.Fault.TheVariants.{Read, Write}
@@ -23,13 +23,13 @@ pub record EndsAs (served : Served) (ended : Ended) : Type 0 where
   pub fault : ended.fault ≡ option_map fault_told served.fault
 
 -- What comes of a connection by its first byte: a peer is heard, and nothing is written; or a request is served.
-pub record IsBegun (first bits now : ℕ) (input left : Option (List ℕ)) (old new : Stand) (before after : Option (List ℕ))
+pub record IsBegun (first bits now : ℕ) (input left : Option (List ℕ)) (old new : InstanceState) (before after : Option (List ℕ))
     (ended : Ended) : Type 0 where
   pub peer : first < 32 → IsHeard now input left old new (effects_of ended) ended.fault × (after ≡ before)
   pub request : 32 ≤ first → (served : Served) × Serves bits now (first ∷ []) input left old new before after served × EndsAs served ended
 
 -- nothing came: the input ended, or the first read failed
-pub record IsIdle (input left : Option (List ℕ)) (old new : Stand) (before after : Option (List ℕ)) (ended : Ended) : Type 0 where
+pub record IsIdle (input left : Option (List ℕ)) (old new : InstanceState) (before after : Option (List ℕ)) (ended : Ended) : Type 0 where
   pub consumed : Consumes input left []
   pub why : ((ended.fault ≡ None) × IsAtEnd left) ⊎ (ended.fault ≡ Some (Read 0))
   pub same : new ≡ old
@@ -37,7 +37,7 @@ pub record IsIdle (input left : Option (List ℕ)) (old new : Stand) (before aft
   pub nothing : effects_of ended ≡ no_effects
 
 -- nothing came, or a first byte, with which the connection began
-abbrev pub IsServed : ℕ → ℕ → Option (List ℕ) → Option (List ℕ) → Stand → Stand → Option (List ℕ) → Option (List ℕ) → Ended → Type 0
+abbrev pub IsServed : ℕ → ℕ → Option (List ℕ) → Option (List ℕ) → InstanceState → InstanceState → Option (List ℕ) → Option (List ℕ) → Ended → Type 0
 IsServed bits now input left old new before after ended =
     IsIdle input left old new before after ended
     ⊎ ((first : ℕ) × (mid_input : Option (List ℕ)) × Consumes input mid_input (first ∷ [])

@@ -3,7 +3,7 @@
 ghost use Rattle.std.specs.Prelude.{◌≡◌, ◌+◌, ◌++◌, ◌≤◌, List, [], ◌∷◌, ℕ, Some, drop, length};
 ghost use Rattle.am_gossip.specs.Streams.{stream_of};
 ghost use Rattle.am_http.specs.Receiving.{behind};
-ghost use Rattle.am_instance.specs.Stands.{Stand};
+ghost use Rattle.am_instance.specs.InstanceStates.{InstanceState};
 ghost use Rattle.am_member.specs.Incoming.{Effects, IsHeard, effects_of, most_bytes, no_effects};
 ghost use Rattle.am_member.specs.Hearing.{HasHeard, Hears, HearsPeer, TakesPiece, fault_in};
 
@@ -70,7 +70,7 @@ fn listen<R: io::Read>(
     now: Moment,
 ) -> Result<(), Fault>
     requires { first ≤ most_bytes }
-    ensures { (fed : List ℕ) (start : Stand) (nothing : Effects) →
+    ensures { (fed : List ℕ) (start : InstanceState) (nothing : Effects) →
         HasHeard incoming.old.sender now fed incoming.old.feeder start nothing instance.old incoming.old.gathered →
         Hears incoming.old.sender now first fed (R.remaining reader.old)
         (R.remaining reader.new) start nothing instance.new incoming.new.gathered result }

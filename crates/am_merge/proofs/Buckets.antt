@@ -12,9 +12,9 @@ use Rattle.std.specs.Cmp.{IsTotalOrder}
 use Rattle.std.specs.Cmp.Lexicographic.{slice_cmp, options_total}
 use Rattle.std.proofs.lemmas.Cmp.{nat_cmp_total, nat_list_cmp_total, on_total, then_total, ranked}
 use Rattle.std.proofs.lemmas.Map.Lookups.{exact_bytes}
-use Rattle.am_blocks.specs.declared.spot.Spot.{Spot}
+use Rattle.am_blocks.specs.declared.cursor.Cursor.{Cursor}
 use Rattle.am_blocks.specs.Rows.{Rows, entries}
-use Rattle.am_blocks.specs.Spots.{place}
+use Rattle.am_blocks.specs.Cursors.{place}
 use Rattle.am_blocks.specs.Searches.{IsRising, IsFound, IsMissing}
 use Rattle.am_version_order.specs.Versions.{Version}
 use Rattle.am_merge.specs.Maps.{IsMap}
@@ -22,11 +22,11 @@ use Rattle.am_merge.specs.Places.{IsGapFor}
 use Rattle.am_merge.specs.Indexes.{Changes, filed}
 use Rattle.am_merge.specs.Entries.{tie_of}
 use Rattle.am_merge.specs.Buckets.{bucket_slot, numbered, number_of, bytes_cmp, bucket_cmp, bytes_tie, bytes_order, front_order, by_bucket, bucket_entry, bucket_order}
-use Rattle.am_merge.specs.Shelves.{IsBucketIndex, IsAbsent}
+use Rattle.am_merge.specs.Stores.{IsBucketIndex, IsAbsent}
 use Rattle.am_merge.specs.declared.entry.BucketEntry.{BucketEntry}
 use Rattle.am_merge.proofs.Keys.{IsKeyOrder, key_order as order_of_keys}
 use Rattle.am_merge.proofs.Indexes as indexes
-use Rattle.am_merge.proofs.Shelves.{then_equal, item_within, spot_within}
+use Rattle.am_merge.proofs.Stores.{then_equal, item_within, cursor_within}
 
 -- ---- the order of places
 pub bytes_exact : (b c : List ℕ) → bytes_cmp b c ≡ Equal → b ≡ c
@@ -108,8 +108,8 @@ module _ {K X : Type 0} (seen : X → Version K) (head_of : K → ℕ) (cmp : K 
     pub front_rising : (es : List BucketEntry) → Filed table es → IsRising (front_order bucket_of table number bucket) es
     front_rising es is = indexes.rising bucket_slot own slot_entry under (bucket_cmp cmp) (places cmp keys) table (bucket, None) (front_order bucket_of table number bucket) front_agrees es is.index.sound is.order
 
-    pub front_missed : (rows : Rows BucketEntry) (spot : Spot) → Filed table (entries rows) → IsMissing (front_order bucket_of table number bucket) rows spot → IsGapFor under (bucket_cmp cmp) (listed table (entries rows)) (bucket, None) (place rows spot)
-    front_missed rows spot is missing = indexes.missed bucket_slot own slot_entry under (bucket_cmp cmp) (places cmp keys) table (bucket, None) (front_order bucket_of table number bucket) front_agrees (entries rows) (place rows spot) is.index.sound (spot_within rows spot missing.within) missing.before missing.behind
+    pub front_missed : (rows : Rows BucketEntry) (cursor : Cursor) → Filed table (entries rows) → IsMissing (front_order bucket_of table number bucket) rows cursor → IsGapFor under (bucket_cmp cmp) (listed table (entries rows)) (bucket, None) (place rows cursor)
+    front_missed rows cursor is missing = indexes.missed bucket_slot own slot_entry under (bucket_cmp cmp) (places cmp keys) table (bucket, None) (front_order bucket_of table number bucket) front_agrees (entries rows) (place rows cursor) is.index.sound (cursor_within rows cursor missing.within) missing.before missing.behind
 
     -- nothing is the front
     never_equal : (o : Ordering) → ordering_then o Greater ≡ Equal → ⊥
@@ -117,8 +117,8 @@ module _ {K X : Type 0} (seen : X → Version K) (head_of : K → ℕ) (cmp : K 
     never_equal Equal e = cc
     never_equal Greater e = cc
 
-    pub front_never_met : (rows : Rows BucketEntry) (spot : Spot) → IsFound (front_order bucket_of table number bucket) rows spot → ⊥
-    front_never_met rows spot found = never_equal (bytes_order bucket_of table number bucket (get_or (entries rows) (place rows spot) fallback)) (found.equal fallback)
+    pub front_never_met : (rows : Rows BucketEntry) (cursor : Cursor) → IsFound (front_order bucket_of table number bucket) rows cursor → ⊥
+    front_never_met rows cursor found = never_equal (bytes_order bucket_of table number bucket (get_or (entries rows) (place rows cursor) fallback)) (found.equal fallback)
 
     module _ (heads : (x y : K) → ordering_then (nat_cmp (head_of x) (head_of y)) (cmp x y) ≡ cmp x y) (key : K) (head : ℕ) (head_is : head ≡ head_of key) where
       abbrev order : BucketEntry → Ordering
@@ -133,31 +133,31 @@ module _ {K X : Type 0} (seen : X → Version K) (head_of : K → ℕ) (cmp : K 
       pub bucket_rising : (es : List BucketEntry) → Filed table es → IsRising order es
       bucket_rising es is = indexes.rising bucket_slot own slot_entry under (bucket_cmp cmp) (places cmp keys) table (bucket, Some key) order bucket_agrees es is.index.sound is.order
 
-      pub bucket_missed : (rows : Rows BucketEntry) (spot : Spot) → Filed table (entries rows) → IsMissing order rows spot → IsGapFor under (bucket_cmp cmp) (listed table (entries rows)) (bucket, Some key) (place rows spot)
-      bucket_missed rows spot is missing = indexes.missed bucket_slot own slot_entry under (bucket_cmp cmp) (places cmp keys) table (bucket, Some key) order bucket_agrees (entries rows) (place rows spot) is.index.sound (spot_within rows spot missing.within) missing.before missing.behind
+      pub bucket_missed : (rows : Rows BucketEntry) (cursor : Cursor) → Filed table (entries rows) → IsMissing order rows cursor → IsGapFor under (bucket_cmp cmp) (listed table (entries rows)) (bucket, Some key) (place rows cursor)
+      bucket_missed rows cursor is missing = indexes.missed bucket_slot own slot_entry under (bucket_cmp cmp) (places cmp keys) table (bucket, Some key) order bucket_agrees (entries rows) (place rows cursor) is.index.sound (cursor_within rows cursor missing.within) missing.before missing.behind
 
       -- a key that no version has isn't found
-      pub bucket_never_met : (rows : Rows BucketEntry) (spot : Spot) → IsAbsent seen table key → Filed table (entries rows) → IsFound order rows spot → ⊥
-      bucket_never_met rows spot absent is found =
-          let within = item_within rows spot found.item in
-          let e = get_or (entries rows) (place rows spot) fallback in
-          let names = indexes.sound-at bucket_slot own slot_entry table (entries rows) (place rows spot) e is.index.sound within (sym (get_or_default (entries rows) (place rows spot) fallback e within)) in
+      pub bucket_never_met : (rows : Rows BucketEntry) (cursor : Cursor) → IsAbsent seen table key → Filed table (entries rows) → IsFound order rows cursor → ⊥
+      bucket_never_met rows cursor absent is found =
+          let within = item_within rows cursor found.item in
+          let e = get_or (entries rows) (place rows cursor) fallback in
+          let names = indexes.sound-at bucket_slot own slot_entry table (entries rows) (place rows cursor) e is.index.sound within (sym (get_or_default (entries rows) (place rows cursor) fallback e within)) in
           let tie : bucket_cmp cmp (under names.value).key (bucket, Some key) ≡ Equal = sym (bucket_agrees e names.value names.there names.is) ∙ found.equal fallback in
           let same : (seen names.value).key ≡ key = keys.exact (seen names.value).key key (then_equal (bytes_cmp (bucket_of names.value) bucket) (cmp (seen names.value).key key) tie).1 in
           absent (bucket_slot e) names.value names.there same
 
-  module _ (heads : (x y : K) → ordering_then (nat_cmp (head_of x) (head_of y)) (cmp x y) ≡ cmp x y) (table : ℕ → Option X) (slot : ℕ) (v : X) (there : table slot ≡ Some v) (number head : ℕ) (number_is : number ≡ number_of (bucket_of v)) (head_is : head ≡ head_of (seen v).key) (rows : Rows BucketEntry) (spot : Spot) (is : Filed table (entries rows)) where
+  module _ (heads : (x y : K) → ordering_then (nat_cmp (head_of x) (head_of y)) (cmp x y) ≡ cmp x y) (table : ℕ → Option X) (slot : ℕ) (v : X) (there : table slot ≡ Some v) (number head : ℕ) (number_is : number ≡ number_of (bucket_of v)) (head_is : head ≡ head_of (seen v).key) (rows : Rows BucketEntry) (cursor : Cursor) (is : Filed table (entries rows)) where
     abbrev own_order : BucketEntry → Ordering
     own_order = bucket_order seen bucket_of cmp table number (bucket_of v) head (seen v).key
 
     own_agrees : (e : BucketEntry) (w : X) → table (bucket_slot e) ≡ Some w → e ≡ own (bucket_slot e) w → own_order e ≡ bucket_cmp cmp (under w).key (under v).key
     own_agrees = bucket_agrees table (bucket_of v) number number_is heads (seen v).key head head_is
 
-    pub bucket_never_missed : IsMissing own_order rows spot → ⊥
-    bucket_never_missed missing = indexes.never-missed bucket_slot own slot_entry under (bucket_cmp cmp) (places cmp keys) table slot v there (entries rows) is.index is.order own_order own_agrees (place rows spot) missing.before missing.behind
+    pub bucket_never_missed : IsMissing own_order rows cursor → ⊥
+    bucket_never_missed missing = indexes.never-missed bucket_slot own slot_entry under (bucket_cmp cmp) (places cmp keys) table slot v there (entries rows) is.index is.order own_order own_agrees (place rows cursor) missing.before missing.behind
 
-    pub bucket_met_own : IsFound own_order rows spot → HoldsAt (λ e. bucket_slot e ≡ slot) (entries rows) (place rows spot)
-    bucket_met_own found = indexes.met-own bucket_slot own slot_entry under (bucket_cmp cmp) (places cmp keys) table slot v there (entries rows) is.index is.order own_order own_agrees (place rows spot) (item_within rows spot found.item) found.equal
+    pub bucket_met_own : IsFound own_order rows cursor → HoldsAt (λ e. bucket_slot e ≡ slot) (entries rows) (place rows cursor)
+    bucket_met_own found = indexes.met-own bucket_slot own slot_entry under (bucket_cmp cmp) (places cmp keys) table slot v there (entries rows) is.index is.order own_order own_agrees (place rows cursor) (item_within rows cursor found.item) found.equal
 
   -- ---- changes
   pub bucket_put : (old new : ℕ → Option X) (es : List BucketEntry) (slot : ℕ) (v : X) (i : ℕ) → old slot ≡ None → Changes old new slot (Some v) → Filed old es → IsGapFor under (bucket_cmp cmp) (listed old es) (under v).key i → Filed new (insert es i (own slot v))

@@ -12,12 +12,12 @@ use Rattle.am_version_order.specs.Versions.{Version, is_live}
 use Rattle.am_merge.specs.Maps.{IsMap, IsLeastExpiry, swept}
 use Rattle.am_merge.specs.Indexes.{filed, Names}
 use Rattle.am_merge.specs.Entries.{versions_of, key_slot, expiry_slot, key_entry, expiry_entry, with_slots, by_time, time_cmp}
-use Rattle.am_merge.specs.Shelves.{IsExpiryIndex, IsKeyIndex, IsWithout}
+use Rattle.am_merge.specs.Stores.{IsExpiryIndex, IsKeyIndex, IsWithout}
 use Rattle.am_merge.specs.declared.entry.KeyEntry.{KeyEntry}
 use Rattle.am_merge.specs.declared.entry.ExpiryEntry.{ExpiryEntry}
 use Rattle.am_merge.proofs.Keys.{AreAbove}
 use Rattle.am_merge.proofs.Indexes as indexes
-use Rattle.am_merge.proofs.Shelves.{with_slots_is, some_with_slots}
+use Rattle.am_merge.proofs.Stores.{with_slots_is, some_with_slots}
 
 no_more : {X : Type 0} (xs : List X) → AllByRecursion (λ _. ⊥) xs → xs ≡ []
 no_more [] none = refl

@@ -7,7 +7,7 @@ pub mod Sweeps
 pub mod Exists
 pub mod Values
 pub mod Indexes
-pub mod Shelves
+pub mod Stores
 pub mod Firsts
 pub mod Buckets
 pub mod Walks

@@ -1,4 +1,4 @@
--- A shelf when a version is put in, replaced or taken out.
+-- A store when a version is put in, replaced or taken out.
 use Rattle.std.proofs.Common.{◌≡◌, ℕ, ◌<◌, ◌≤◌, ◌+◌, zero, suc, Bool, true, false, cond, append_assoc, List, [], ◌∷◌, ◌++◌, length, take, drop, get_or, set, Option, Some, None, refl, sym, ap, ◌∙◌, subst, arith, inl, inr}
 use Rattle.std.specs.Prelude.{insert, slice_index_or, count_by, is_some, is_none, if◌then◌else◌, Result, Ok, Err, OnOk}
 use Rattle.std.specs.List.{HoldsAt, remove}
@@ -10,9 +10,9 @@ use Rattle.std.specs.Ordering.{is_lt, eq_by_cmp}
 use Rattle.std.proofs.lemmas.List.Edits.{length-insert, length-remove}
 use Rattle.std.specs.declared.cmp.Ordering.{Ordering}
 use Rattle.slab.specs.Slab.{Slab, get, slab_len, Updates}
-use Rattle.am_blocks.specs.declared.spot.Spot.{Spot}
+use Rattle.am_blocks.specs.declared.cursor.Cursor.{Cursor}
 use Rattle.am_blocks.specs.Rows.{Rows, joined, entries, HasRoom}
-use Rattle.am_blocks.specs.Spots.{IsItem, place, place_in, block_at}
+use Rattle.am_blocks.specs.Cursors.{IsItem, place, place_in, block_at}
 use Rattle.am_version_order.specs.Versions.{Version, is_below, rank_cmp}
 use Rattle.am_merge.specs.Maps.{IsMap, at, replaces, greater_of, is_above}
 use Rattle.am_merge.specs.Takings.{IsPut, new_keys, new_versions}
@@ -20,49 +20,49 @@ use Rattle.am_merge.specs.Places.{IsPlaceOf, IsGapFor}
 use Rattle.am_merge.specs.Indexes.{Changes, filed}
 use Rattle.am_merge.specs.Entries.{versions_of, key_slot, expiry_slot, key_entry, with_slots, by_time, time_cmp}
 use Rattle.am_merge.specs.Buckets.{bucket_slot, bucket_entry, by_bucket, bucket_cmp}
-use Rattle.am_merge.specs.Shelves.{versions, IsAbsent, IsExpiryIndex, IsKeyIndex, IsBucketIndex, IsShelf, IsKeySpot, IsGapSpot, IsSlotAt, IsWithout, HasRooms}
+use Rattle.am_merge.specs.Stores.{versions, IsAbsent, IsExpiryIndex, IsKeyIndex, IsBucketIndex, IsStore, IsKeyCursor, IsGapCursor, IsSlotAt, IsWithout, HasRooms}
 use Rattle.am_merge.specs.declared.entry.KeyEntry.{KeyEntry}
 use Rattle.am_merge.specs.declared.entry.BucketEntry.{BucketEntry}
 use Rattle.am_merge.specs.declared.entry.ExpiryEntry.{ExpiryEntry}
-use Rattle.am_merge.specs.declared.shelf.Shelf.{Shelf}
+use Rattle.am_merge.specs.declared.store.Store.{Store}
 use Rattle.am_merge.proofs.Keys.{IsKeyOrder, IsMap-without, both_parts, eq_itself}
 use Rattle.am_merge.proofs.Puts.{cut_at, place_over, place_nowhere, at-member, at_found, at_absent}
 use Rattle.am_merge.proofs.Firsts.{version_inside}
 use Rattle.am_merge.proofs.Buckets.{bucket_put, bucket_taken, bucket_swapped}
 use Rattle.std.proofs.lemmas.Bool.{cases_eq}
-use Rattle.am_merge.proofs.Shelves.{item_within, spot_within, changes_of, changes_after, expiry_taken, expiry_put, key_put, versions_put, key_taken, versions_taken, version_here, versions_swapped, key_swapped, key_unique, versions_length}
+use Rattle.am_merge.proofs.Stores.{item_within, cursor_within, changes_of, changes_after, expiry_taken, expiry_put, key_put, versions_put, key_taken, versions_taken, version_here, versions_swapped, key_swapped, key_unique, versions_length}
 
 module _ {K X : Type 0} (seen : X → Version K) where
-  pub taken_out : (old new : Slab X) (rows after : Rows ExpiryEntry) (slot : ℕ) (v : X) (spot : Spot) → get old slot ≡ Some v → Updates old new slot None → IsExpiryIndex seen (get old) (entries rows) → IsItem rows spot → HoldsAt (λ e. expiry_slot e ≡ slot) (entries rows) (place rows spot) → entries after ≡ remove (entries rows) (place rows spot) → IsExpiryIndex seen (get new) (entries after)
-  taken_out old new rows after slot v spot there updates is item own left =
-      subst (IsExpiryIndex seen (get new)) (sym left) (expiry_taken seen (get old) (get new) (entries rows) slot v (place rows spot) there (changes_of old new slot None updates) is (item_within rows spot item) own)
+  pub taken_out : (old new : Slab X) (rows after : Rows ExpiryEntry) (slot : ℕ) (v : X) (cursor : Cursor) → get old slot ≡ Some v → Updates old new slot None → IsExpiryIndex seen (get old) (entries rows) → IsItem rows cursor → HoldsAt (λ e. expiry_slot e ≡ slot) (entries rows) (place rows cursor) → entries after ≡ remove (entries rows) (place rows cursor) → IsExpiryIndex seen (get new) (entries after)
+  taken_out old new rows after slot v cursor there updates is item own left =
+      subst (IsExpiryIndex seen (get new)) (sym left) (expiry_taken seen (get old) (get new) (entries rows) slot v (place rows cursor) there (changes_of old new slot None updates) is (item_within rows cursor item) own)
 
-  pub put_in : (old new : Slab X) (rows after : Rows ExpiryEntry) (slot given expires : ℕ) (v : X) (spot : Spot) → get old slot ≡ None → Updates old new given (Some v) → given ≡ slot → expires ≡ (seen v).expires → IsExpiryIndex seen (get old) (entries rows) → IsGapFor (by_time seen) time_cmp (filed expiry_slot (with_slots (get old)) (entries rows)) (expires, slot) (place rows spot) → entries after ≡ insert (entries rows) (place rows spot) (record { expires = expires; slot = slot }) → IsExpiryIndex seen (get new) (entries after)
-  put_in old new rows after slot given expires v spot vacant updates same moment is gap left =
-      let known : entries after ≡ insert (entries rows) (place rows spot) (record { expires = (seen v).expires; slot = slot }) = left ∙ ap (λ t. insert (entries rows) (place rows spot) (record { expires = t; slot = slot })) moment in
+  pub put_in : (old new : Slab X) (rows after : Rows ExpiryEntry) (slot given expires : ℕ) (v : X) (cursor : Cursor) → get old slot ≡ None → Updates old new given (Some v) → given ≡ slot → expires ≡ (seen v).expires → IsExpiryIndex seen (get old) (entries rows) → IsGapFor (by_time seen) time_cmp (filed expiry_slot (with_slots (get old)) (entries rows)) (expires, slot) (place rows cursor) → entries after ≡ insert (entries rows) (place rows cursor) (record { expires = expires; slot = slot }) → IsExpiryIndex seen (get new) (entries after)
+  put_in old new rows after slot given expires v cursor vacant updates same moment is gap left =
+      let known : entries after ≡ insert (entries rows) (place rows cursor) (record { expires = (seen v).expires; slot = slot }) = left ∙ ap (λ t. insert (entries rows) (place rows cursor) (record { expires = t; slot = slot })) moment in
       subst (IsExpiryIndex seen (get new)) (sym known)
-      (expiry_put seen (get old) (get new) (entries rows) slot v (place rows spot) vacant
+      (expiry_put seen (get old) (get new) (entries rows) slot v (place rows cursor) vacant
       (changes_of old new slot (Some v) (subst (λ s. Updates old new s (Some v)) same updates)) is
-      (subst (λ t. IsGapFor (by_time seen) time_cmp (filed expiry_slot (with_slots (get old)) (entries rows)) (t, slot) (place rows spot)) moment gap))
+      (subst (λ t. IsGapFor (by_time seen) time_cmp (filed expiry_slot (with_slots (get old)) (entries rows)) (t, slot) (place rows cursor)) moment gap))
 
   module _ (head_of : K → ℕ) (cmp : K → K → Ordering) (keys : IsKeyOrder cmp) (bucket_of : X → List ℕ) where
-    abbrev Whole : Shelf X → Type 0
-    Whole shelf = IsShelf seen head_of cmp bucket_of shelf
+    abbrev Whole : Store X → Type 0
+    Whole store = IsStore seen head_of cmp bucket_of store
 
     abbrev Filed : (ℕ → Option X) → List BucketEntry → Type 0
     Filed table es = IsBucketIndex seen head_of cmp bucket_of table es
 
     -- ---- the index by bucket
-    pub filed_put : (old new : Slab X) (rows mid after : Rows BucketEntry) (slot given : ℕ) (v : X) (e : BucketEntry) (spot : Spot) → get old slot ≡ None → Updates old new slot (Some v) → Filed (get old) (entries rows) → IsGapFor (by_bucket seen bucket_of) (bucket_cmp cmp) (filed bucket_slot (get old) (entries rows)) (by_bucket seen bucket_of v).key (place rows spot) → mid ≡ rows → e ≡ bucket_entry seen bucket_of head_of given v → given ≡ slot → entries after ≡ insert (entries mid) (place mid spot) e → Filed (get new) (entries after)
-    filed_put old new rows mid after slot given v e spot vacant updates is gap same entry_is slot_is put =
-        let known : entries after ≡ insert (entries rows) (place rows spot) (bucket_entry seen bucket_of head_of slot v) =
-        put ∙ (λ i. insert (entries (same i)) (place (same i) spot) (entry_is i)) ∙ ap (λ s. insert (entries rows) (place rows spot) (bucket_entry seen bucket_of head_of s v)) slot_is in
-        subst (Filed (get new)) (sym known) (bucket_put seen head_of cmp keys bucket_of (get old) (get new) (entries rows) slot v (place rows spot) vacant (changes_of old new slot (Some v) updates) is gap)
+    pub filed_put : (old new : Slab X) (rows mid after : Rows BucketEntry) (slot given : ℕ) (v : X) (e : BucketEntry) (cursor : Cursor) → get old slot ≡ None → Updates old new slot (Some v) → Filed (get old) (entries rows) → IsGapFor (by_bucket seen bucket_of) (bucket_cmp cmp) (filed bucket_slot (get old) (entries rows)) (by_bucket seen bucket_of v).key (place rows cursor) → mid ≡ rows → e ≡ bucket_entry seen bucket_of head_of given v → given ≡ slot → entries after ≡ insert (entries mid) (place mid cursor) e → Filed (get new) (entries after)
+    filed_put old new rows mid after slot given v e cursor vacant updates is gap same entry_is slot_is put =
+        let known : entries after ≡ insert (entries rows) (place rows cursor) (bucket_entry seen bucket_of head_of slot v) =
+        put ∙ (λ i. insert (entries (same i)) (place (same i) cursor) (entry_is i)) ∙ ap (λ s. insert (entries rows) (place rows cursor) (bucket_entry seen bucket_of head_of s v)) slot_is in
+        subst (Filed (get new)) (sym known) (bucket_put seen head_of cmp keys bucket_of (get old) (get new) (entries rows) slot v (place rows cursor) vacant (changes_of old new slot (Some v) updates) is gap)
 
-    pub filed_taken : (old new : Slab X) (rows mid after : Rows BucketEntry) (slot : ℕ) (w : X) (spot : Spot) → get old slot ≡ Some w → Updates old new slot None → Filed (get old) (entries rows) → IsItem rows spot → HoldsAt (λ e. bucket_slot e ≡ slot) (entries rows) (place rows spot) → mid ≡ rows → entries after ≡ remove (entries mid) (place mid spot) → Filed (get new) (entries after)
-    filed_taken old new rows mid after slot w spot there out is item own same left =
-        let known : entries after ≡ remove (entries rows) (place rows spot) = left ∙ (λ i. remove (entries (same i)) (place (same i) spot)) in
-        subst (Filed (get new)) (sym known) (bucket_taken seen head_of cmp keys bucket_of (get old) (get new) (entries rows) slot w (place rows spot) there (changes_of old new slot None out) is (item_within rows spot item) own)
+    pub filed_taken : (old new : Slab X) (rows mid after : Rows BucketEntry) (slot : ℕ) (w : X) (cursor : Cursor) → get old slot ≡ Some w → Updates old new slot None → Filed (get old) (entries rows) → IsItem rows cursor → HoldsAt (λ e. bucket_slot e ≡ slot) (entries rows) (place rows cursor) → mid ≡ rows → entries after ≡ remove (entries mid) (place mid cursor) → Filed (get new) (entries after)
+    filed_taken old new rows mid after slot w cursor there out is item own same left =
+        let known : entries after ≡ remove (entries rows) (place rows cursor) = left ∙ (λ i. remove (entries (same i)) (place (same i) cursor)) in
+        subst (Filed (get new)) (sym known) (bucket_taken seen head_of cmp keys bucket_of (get old) (get new) (entries rows) slot w (place rows cursor) there (changes_of old new slot None out) is (item_within rows cursor item) own)
 
     pub filed_swapped : (old mid new : Slab X) (rows after : Rows BucketEntry) (slot : ℕ) (w v : X) → get old slot ≡ Some w → Updates old mid slot None → Updates mid new slot (Some v) → (seen v).key ≡ (seen w).key → bucket_of v ≡ bucket_of w → Filed (get old) (entries rows) → after ≡ rows → Filed (get new) (entries after)
     filed_swapped old mid new rows after slot w v there out back key bucket is same =
@@ -71,77 +71,77 @@ module _ {K X : Type 0} (seen : X → Version K) where
         (changes_after (get old) (get mid) (get new) slot None (Some v) (changes_of old mid slot None out) (changes_of mid new slot (Some v) back)) key bucket is)
 
     -- ---- keys that no slot has
-    pub gap_absent : (shelf : Shelf X) (key : K) (spot : Spot) → Whole shelf → IsGapSpot seen cmp shelf key spot → IsAbsent seen (get shelf.table) key
-    gap_absent shelf key spot is gap slot v there same =
-        let here = at-member seen cmp keys (versions shelf) v is.keys.order (version_inside seen (get shelf.table) head_of cmp (entries shelf.keys) is.keys slot v there) in
-        let nothing = at_absent seen cmp keys (versions shelf) key (place shelf.keys spot) gap.gap in
-        let found : at seen cmp (versions shelf) key ≡ Some v = ap (λ k. at seen cmp (versions shelf) k) (sym same) ∙ here in
+    pub gap_absent : (store : Store X) (key : K) (cursor : Cursor) → Whole store → IsGapCursor seen cmp store key cursor → IsAbsent seen (get store.table) key
+    gap_absent store key cursor is gap slot v there same =
+        let here = at-member seen cmp keys (versions store) v is.keys.order (version_inside seen (get store.table) head_of cmp (entries store.keys) is.keys slot v there) in
+        let nothing = at_absent seen cmp keys (versions store) key (place store.keys cursor) gap.gap in
+        let found : at seen cmp (versions store) key ≡ Some v = ap (λ k. at seen cmp (versions store) k) (sym same) ∙ here in
         cc
 
-    pub taken_absent : (old : Shelf X) (mid : Slab X) (slot : ℕ) (w : X) (key : K) → Whole old → get old.table slot ≡ Some w → (seen w).key ≡ key → Updates old.table mid slot None → IsAbsent seen (get mid) key
+    pub taken_absent : (old : Store X) (mid : Slab X) (slot : ℕ) (w : X) (key : K) → Whole old → get old.table slot ≡ Some w → (seen w).key ≡ key → Updates old.table mid slot None → IsAbsent seen (get mid) key
     taken_absent old mid slot w key is there own out s v here same = elim (cases_eq s slot) [
       | inl met ↦ let none : get mid s ≡ None = ap (get mid) met ∙ out.changed in cc
       | inr differs ↦ differs (key_unique seen head_of cmp keys (get old.table) (entries old.keys) s slot v w is.keys (sym (out.others s differs) ∙ here) there (same ∙ sym own))
     ]
 
-    -- the version at a spot has its key
-    pub spot_key : (old : Shelf X) (key : K) (spot : Spot) (slot : ℕ) (w : X) → Whole old → IsKeySpot seen cmp old key spot → IsSlotAt old.keys spot slot → get old.table slot ≡ Some w → (seen w).key ≡ key
-    spot_key old key spot slot w is at own there =
-        ap (λ x. (seen x).key) (sym (version_here seen head_of cmp keys (get old.table) (get old.table) (entries old.keys) slot w is.keys (place old.keys spot) there (item_within old.keys spot at.item) own)) ∙ at.place.here w
+    -- the version at a cursor has its key
+    pub cursor_key : (old : Store X) (key : K) (cursor : Cursor) (slot : ℕ) (w : X) → Whole old → IsKeyCursor seen cmp old key cursor → IsSlotAt old.keys cursor slot → get old.table slot ≡ Some w → (seen w).key ≡ key
+    cursor_key old key cursor slot w is at own there =
+        ap (λ x. (seen x).key) (sym (version_here seen head_of cmp keys (get old.table) (get old.table) (entries old.keys) slot w is.keys (place old.keys cursor) there (item_within old.keys cursor at.item) own)) ∙ at.place.here w
 
-    module _ (old mid : Shelf X) (after : Rows KeyEntry) (slot head : ℕ) (v : X) (spot : Spot) (is : Whole old) (gap : IsGapSpot seen cmp old (seen v).key spot) (vacant : get old.table slot ≡ None) (updates : Updates old.table mid.table slot (Some v)) (same : mid.keys ≡ old.keys) (head_is : head ≡ head_of (seen v).key) (put : entries after ≡ insert (entries mid.keys) (place mid.keys spot) (record { head = head; slot = slot })) where
-      known : entries after ≡ insert (entries old.keys) (place old.keys spot) (key_entry seen head_of slot v)
-      known = put ∙ (λ i. insert (entries (same i)) (place (same i) spot) (record { head = head_is i; slot = slot }))
+    module _ (old mid : Store X) (after : Rows KeyEntry) (slot head : ℕ) (v : X) (cursor : Cursor) (is : Whole old) (gap : IsGapCursor seen cmp old (seen v).key cursor) (vacant : get old.table slot ≡ None) (updates : Updates old.table mid.table slot (Some v)) (same : mid.keys ≡ old.keys) (head_is : head ≡ head_of (seen v).key) (put : entries after ≡ insert (entries mid.keys) (place mid.keys cursor) (record { head = head; slot = slot })) where
+      known : entries after ≡ insert (entries old.keys) (place old.keys cursor) (key_entry seen head_of slot v)
+      known = put ∙ (λ i. insert (entries (same i)) (place (same i) cursor) (record { head = head_is i; slot = slot }))
 
       changes : Changes (get old.table) (get mid.table) slot (Some v)
       changes = changes_of old.table mid.table slot (Some v) updates
 
-      pub added_versions : versions_of (get mid.table) (entries after) ≡ insert (versions old) (place old.keys spot) v
-      added_versions = ap (versions_of (get mid.table)) known ∙ versions_put seen head_of cmp keys (get old.table) (get mid.table) (entries old.keys) slot v is.keys (place old.keys spot) vacant changes
+      pub added_versions : versions_of (get mid.table) (entries after) ≡ insert (versions old) (place old.keys cursor) v
+      added_versions = ap (versions_of (get mid.table)) known ∙ versions_put seen head_of cmp keys (get old.table) (get mid.table) (entries old.keys) slot v is.keys (place old.keys cursor) vacant changes
 
       pub added : (rows : Rows BucketEntry) → IsExpiryIndex seen (get mid.table) (entries mid.expiries) → Filed (get mid.table) (entries rows) → slab_len mid.table ≡ slab_len old.table + 1 → Whole (record mid { keys = after; buckets = rows })
       added rows expiries buckets long =
           record {
-            keys = subst (IsKeyIndex seen head_of cmp (get mid.table)) (sym known) (key_put seen head_of cmp keys (get old.table) (get mid.table) (entries old.keys) slot v is.keys (place old.keys spot) vacant changes gap.gap);
+            keys = subst (IsKeyIndex seen head_of cmp (get mid.table)) (sym known) (key_put seen head_of cmp keys (get old.table) (get mid.table) (entries old.keys) slot v is.keys (place old.keys cursor) vacant changes gap.gap);
             expiries = expiries;
             buckets = buckets;
-            count = let longer = length-insert (entries old.keys) (place old.keys spot) (key_entry seen head_of slot v) (spot_within old.keys spot gap.within) in let count = is.count in let now = ap length known in omega arith;
+            count = let longer = length-insert (entries old.keys) (place old.keys cursor) (key_entry seen head_of slot v) (cursor_within old.keys cursor gap.within) in let count = is.count in let now = ap length known in omega arith;
           }
 
-    module _ (old mid new : Shelf X) (slot : ℕ) (w v : X) (spot : Spot) (is : Whole old) (at : IsKeySpot seen cmp old (seen v).key spot) (own : IsSlotAt old.keys spot slot) (there : get old.table slot ≡ Some w) (out : Updates old.table mid.table slot None) (back : Updates mid.table new.table slot (Some v)) (same_mid : mid.keys ≡ old.keys) (same_new : new.keys ≡ mid.keys) where
-      within : place old.keys spot < length (entries old.keys)
-      within = item_within old.keys spot at.item
+    module _ (old mid new : Store X) (slot : ℕ) (w v : X) (cursor : Cursor) (is : Whole old) (at : IsKeyCursor seen cmp old (seen v).key cursor) (own : IsSlotAt old.keys cursor slot) (there : get old.table slot ≡ Some w) (out : Updates old.table mid.table slot None) (back : Updates mid.table new.table slot (Some v)) (same_mid : mid.keys ≡ old.keys) (same_new : new.keys ≡ mid.keys) where
+      within : place old.keys cursor < length (entries old.keys)
+      within = item_within old.keys cursor at.item
 
       swap : Changes (get old.table) (get new.table) slot (Some v)
       swap = changes_after (get old.table) (get mid.table) (get new.table) slot None (Some v) (changes_of old.table mid.table slot None out) (changes_of mid.table new.table slot (Some v) back)
 
       same_key : (seen v).key ≡ (seen w).key
-      same_key = sym (spot_key old (seen v).key spot slot w is at own there)
+      same_key = sym (cursor_key old (seen v).key cursor slot w is at own there)
 
       rows_same : entries new.keys ≡ entries old.keys
       rows_same = ap entries (same_new ∙ same_mid)
 
-      pub replaced_versions : versions new ≡ set (versions old) (place old.keys spot) v
+      pub replaced_versions : versions new ≡ set (versions old) (place old.keys cursor) v
       replaced_versions =
           ap (versions_of (get new.table)) rows_same
-          ∙ versions_swapped seen head_of cmp keys (get old.table) (get new.table) (entries old.keys) slot w is.keys (place old.keys spot) there within own v swap same_key
-          ∙ sym (set_split (versions old) (place old.keys spot) v (let long = versions_length seen head_of cmp keys (get old.table) (entries old.keys) is.keys in let low = within in omega arith))
+          ∙ versions_swapped seen head_of cmp keys (get old.table) (get new.table) (entries old.keys) slot w is.keys (place old.keys cursor) there within own v swap same_key
+          ∙ sym (set_split (versions old) (place old.keys cursor) v (let long = versions_length seen head_of cmp keys (get old.table) (entries old.keys) is.keys in let low = within in omega arith))
 
       pub replaced : IsExpiryIndex seen (get new.table) (entries new.expiries) → Filed (get new.table) (entries new.buckets) → slab_len mid.table + 1 ≡ slab_len old.table → slab_len new.table ≡ slab_len mid.table + 1 → Whole new
       replaced expiries buckets less more =
           record {
-            keys = subst (IsKeyIndex seen head_of cmp (get new.table)) (sym rows_same) (key_swapped seen head_of cmp keys (get old.table) (get new.table) (entries old.keys) slot w is.keys (place old.keys spot) there within own v swap same_key);
+            keys = subst (IsKeyIndex seen head_of cmp (get new.table)) (sym rows_same) (key_swapped seen head_of cmp keys (get old.table) (get new.table) (entries old.keys) slot w is.keys (place old.keys cursor) there within own v swap same_key);
             expiries = expiries;
             buckets = buckets;
             count = let count = is.count in let now = ap length rows_same in omega arith;
           }
 
-    module _ (old mid : Shelf X) (after : Rows KeyEntry) (slot : ℕ) (w : X) (spot : Spot) (is : Whole old) (item : IsItem old.keys spot) (own : HoldsAt (λ e. key_slot e ≡ slot) (entries old.keys) (place old.keys spot)) (there : get old.table slot ≡ Some w) (out : Updates old.table mid.table slot None) (same : mid.keys ≡ old.keys) (left : entries after ≡ remove (entries mid.keys) (place mid.keys spot)) where
-      known_left : entries after ≡ remove (entries old.keys) (place old.keys spot)
-      known_left = left ∙ (λ i. remove (entries (same i)) (place (same i) spot))
+    module _ (old mid : Store X) (after : Rows KeyEntry) (slot : ℕ) (w : X) (cursor : Cursor) (is : Whole old) (item : IsItem old.keys cursor) (own : HoldsAt (λ e. key_slot e ≡ slot) (entries old.keys) (place old.keys cursor)) (there : get old.table slot ≡ Some w) (out : Updates old.table mid.table slot None) (same : mid.keys ≡ old.keys) (left : entries after ≡ remove (entries mid.keys) (place mid.keys cursor)) where
+      known_left : entries after ≡ remove (entries old.keys) (place old.keys cursor)
+      known_left = left ∙ (λ i. remove (entries (same i)) (place (same i) cursor))
 
-      inside : place old.keys spot < length (entries old.keys)
-      inside = item_within old.keys spot item
+      inside : place old.keys cursor < length (entries old.keys)
+      inside = item_within old.keys cursor item
 
       gone : Changes (get old.table) (get mid.table) slot None
       gone = changes_of old.table mid.table slot None out
@@ -149,23 +149,23 @@ module _ {K X : Type 0} (seen : X → Version K) where
       pub dropped_versions : IsWithout w (versions old) (versions_of (get mid.table) (entries after))
       dropped_versions =
           record {
-            front = take (place old.keys spot) (versions old);
-            back = drop (suc (place old.keys spot)) (versions old);
-            before = cut_at (versions old) (place old.keys spot) w (let long = versions_length seen head_of cmp keys (get old.table) (entries old.keys) is.keys in let low = inside in omega arith) (sym (version_here seen head_of cmp keys (get old.table) (get mid.table) (entries old.keys) slot w is.keys (place old.keys spot) there inside own));
-            after = ap (versions_of (get mid.table)) known_left ∙ versions_taken seen head_of cmp keys (get old.table) (get mid.table) (entries old.keys) slot w is.keys (place old.keys spot) there inside own gone;
+            front = take (place old.keys cursor) (versions old);
+            back = drop (suc (place old.keys cursor)) (versions old);
+            before = cut_at (versions old) (place old.keys cursor) w (let long = versions_length seen head_of cmp keys (get old.table) (entries old.keys) is.keys in let low = inside in omega arith) (sym (version_here seen head_of cmp keys (get old.table) (get mid.table) (entries old.keys) slot w is.keys (place old.keys cursor) there inside own));
+            after = ap (versions_of (get mid.table)) known_left ∙ versions_taken seen head_of cmp keys (get old.table) (get mid.table) (entries old.keys) slot w is.keys (place old.keys cursor) there inside own gone;
           }
 
       pub dropped : (rows : Rows BucketEntry) → IsExpiryIndex seen (get mid.table) (entries mid.expiries) → Filed (get mid.table) (entries rows) → slab_len mid.table + 1 ≡ slab_len old.table → Whole (record mid { keys = after; buckets = rows })
       dropped rows expiries buckets less =
           record {
-            keys = subst (IsKeyIndex seen head_of cmp (get mid.table)) (sym known_left) (key_taken seen head_of cmp keys (get old.table) (get mid.table) (entries old.keys) slot w is.keys (place old.keys spot) there inside own gone);
+            keys = subst (IsKeyIndex seen head_of cmp (get mid.table)) (sym known_left) (key_taken seen head_of cmp keys (get old.table) (get mid.table) (entries old.keys) slot w is.keys (place old.keys cursor) there inside own gone);
             expiries = expiries;
             buckets = buckets;
-            count = let shorter = length-remove (entries old.keys) (place old.keys spot) inside in let count = is.count in let now = ap length known_left in omega arith;
+            count = let shorter = length-remove (entries old.keys) (place old.keys cursor) inside in let count = is.count in let now = ap length known_left in omega arith;
           }
 
-    -- a shelf with the same slots and the same blocks
-    pub moved : (old new : Shelf X) → new.table.slots ≡ old.table.slots → new.keys.blocks ≡ old.keys.blocks → new.expiries.blocks ≡ old.expiries.blocks → new.buckets.blocks ≡ old.buckets.blocks → Whole old → Whole new
+    -- a store with the same slots and the same blocks
+    pub moved : (old new : Store X) → new.table.slots ≡ old.table.slots → new.keys.blocks ≡ old.keys.blocks → new.expiries.blocks ≡ old.expiries.blocks → new.buckets.blocks ≡ old.buckets.blocks → Whole old → Whole new
     moved old new slots key_blocks expiry_blocks bucket_blocks is =
         record {
           keys = subst (λ t. IsKeyIndex seen head_of cmp t (entries new.keys)) table_is (subst (IsKeyIndex seen head_of cmp (get old.table)) (ap joined (sym key_blocks)) is.keys);
@@ -177,31 +177,31 @@ module _ {K X : Type 0} (seen : X → Version K) where
         table_is : get old.table ≡ get new.table
         table_is = λ i key. slice_index_or (sym slots i) key None
 
-    pub moved_spot : (old new : Shelf X) (key : K) (spot : Spot) → new.table.slots ≡ old.table.slots → new.keys.blocks ≡ old.keys.blocks → IsKeySpot seen cmp old key spot → IsKeySpot seen cmp new key spot
-    moved_spot old new key spot slots blocks at =
+    pub moved_cursor : (old new : Store X) (key : K) (cursor : Cursor) → new.table.slots ≡ old.table.slots → new.keys.blocks ≡ old.keys.blocks → IsKeyCursor seen cmp old key cursor → IsKeyCursor seen cmp new key cursor
+    moved_cursor old new key cursor slots blocks at =
         record {
-          item = record { offset = subst (λ bs. spot.offset < length (block_at bs spot)) (sym blocks) at.item.offset };
-          place = subst (λ t. IsPlaceOf seen cmp (versions_of t (entries new.keys)) key (place new.keys spot)) (λ i k. slice_index_or (sym slots i) k None)
-              (subst (λ bs. IsPlaceOf seen cmp (versions_of (get old.table) (joined bs)) key (place_in bs spot)) (sym blocks) at.place);
+          item = record { offset = subst (λ bs. cursor.offset < length (block_at bs cursor)) (sym blocks) at.item.offset };
+          place = subst (λ t. IsPlaceOf seen cmp (versions_of t (entries new.keys)) key (place new.keys cursor)) (λ i k. slice_index_or (sym slots i) k None)
+              (subst (λ bs. IsPlaceOf seen cmp (versions_of (get old.table) (joined bs)) key (place_in bs cursor)) (sym blocks) at.place);
         }
 
-    pub moved_gap : (old new : Shelf X) (key : K) (spot : Spot) → new.table.slots ≡ old.table.slots → new.keys.blocks ≡ old.keys.blocks → IsGapSpot seen cmp old key spot → IsGapSpot seen cmp new key spot
-    moved_gap old new key spot slots blocks at =
+    pub moved_gap : (old new : Store X) (key : K) (cursor : Cursor) → new.table.slots ≡ old.table.slots → new.keys.blocks ≡ old.keys.blocks → IsGapCursor seen cmp old key cursor → IsGapCursor seen cmp new key cursor
+    moved_gap old new key cursor slots blocks at =
         record {
           within = record {
-            block = subst (λ bs. spot.block ≤ length bs) (sym blocks) at.within.block;
-            offset = subst (λ bs. spot.offset ≤ length (block_at bs spot)) (sym blocks) at.within.offset;
+            block = subst (λ bs. cursor.block ≤ length bs) (sym blocks) at.within.block;
+            offset = subst (λ bs. cursor.offset ≤ length (block_at bs cursor)) (sym blocks) at.within.offset;
           };
-          gap = subst (λ t. IsGapFor seen cmp (versions_of t (entries new.keys)) key (place new.keys spot)) (λ i k. slice_index_or (sym slots i) k None)
-              (subst (λ bs. IsGapFor seen cmp (versions_of (get old.table) (joined bs)) key (place_in bs spot)) (sym blocks) at.gap);
+          gap = subst (λ t. IsGapFor seen cmp (versions_of t (entries new.keys)) key (place new.keys cursor)) (λ i k. slice_index_or (sym slots i) k None)
+              (subst (λ bs. IsGapFor seen cmp (versions_of (get old.table) (joined bs)) key (place_in bs cursor)) (sym blocks) at.gap);
         }
 
 -- room for more is room for less
 pub less_room : {T : Type 0} (rows : Rows T) (n : ℕ) → HasRoom rows (n + 1) → HasRoom rows n
 less_room rows n room = let spares = room.spares in let places = room.places in record { spares = omega arith; places = omega arith }
 
-pub count_is : {K X : Type 0} (seen : X → Version K) (head_of : K → ℕ) (cmp : K → K → Ordering) (keys : IsKeyOrder cmp) (bucket_of : X → List ℕ) (shelf : Shelf X) → IsShelf seen head_of cmp bucket_of shelf → slab_len shelf.table ≡ length (versions shelf)
-count_is seen head_of cmp keys bucket_of shelf is = is.count ∙ sym (versions_length seen head_of cmp keys (get shelf.table) (entries shelf.keys) is.keys)
+pub count_is : {K X : Type 0} (seen : X → Version K) (head_of : K → ℕ) (cmp : K → K → Ordering) (keys : IsKeyOrder cmp) (bucket_of : X → List ℕ) (store : Store X) → IsStore seen head_of cmp bucket_of store → slab_len store.table ≡ length (versions store)
+count_is seen head_of cmp keys bucket_of store is = is.count ∙ sym (versions_length seen head_of cmp keys (get store.table) (entries store.keys) is.keys)
 
 module _ {K X : Type 0} (seen : X → Version K) (cmp : K → K → Ordering) (keys : IsKeyOrder cmp) where
   -- whether a version is greater than the one of its key
@@ -248,9 +248,9 @@ element (x ∷ xs) zero within = (x, refl)
 element (x ∷ xs) (suc i) within = element xs i (omega arith)
 
 -- room for so many is room for fewer
-pub fewer_rooms : {X : Type 0} (shelf : Shelf X) (n m k l : ℕ) → k ≤ n → l ≤ m → HasRooms shelf n m → HasRooms shelf k l
-fewer_rooms shelf n m k l fewer few room =
-    record { table = let have = room.table in omega arith; keys = at_most shelf.keys n k fewer room.keys; expiries = at_most shelf.expiries m l few room.expiries; buckets = at_most shelf.buckets m l few room.buckets }
+pub fewer_rooms : {X : Type 0} (store : Store X) (n m k l : ℕ) → k ≤ n → l ≤ m → HasRooms store n m → HasRooms store k l
+fewer_rooms store n m k l fewer few room =
+    record { table = let have = room.table in omega arith; keys = at_most store.keys n k fewer room.keys; expiries = at_most store.expiries m l few room.expiries; buckets = at_most store.buckets m l few room.buckets }
   where
     at_most : {T : Type 0} (rows : Rows T) (n k : ℕ) → k ≤ n → HasRoom rows n → HasRoom rows k
     at_most rows n k less room = let spares = room.spares in let places = room.places in record { spares = omega arith; places = omega arith }

@@ -16,7 +16,7 @@ use Rattle.am_merge.specs.Places.{IsGapFor}
 use Rattle.am_merge.specs.Indexes.{filed}
 use Rattle.am_merge.specs.Entries.{versions_of}
 use Rattle.am_merge.specs.Buckets.{bucket_slot, bytes_cmp, bucket_cmp, by_bucket, bucket_entry, run_of}
-use Rattle.am_merge.specs.Shelves.{IsKeyIndex, IsBucketIndex}
+use Rattle.am_merge.specs.Stores.{IsKeyIndex, IsBucketIndex}
 use Rattle.am_merge.specs.declared.entry.KeyEntry.{KeyEntry}
 use Rattle.am_merge.specs.declared.entry.BucketEntry.{BucketEntry}
 use Rattle.am_merge.proofs.Keys.{IsKeyOrder, AreAbove, at-Contains}

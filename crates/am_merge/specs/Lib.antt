@@ -3,6 +3,6 @@ pub mod Entries
 pub mod Indexes
 pub mod Maps
 pub mod Places
-pub mod Shelves
+pub mod Stores
 pub mod Takings
 pub mod Views

@@ -1,97 +1,101 @@
-//! What taking, merging and sweeping do to a shelf.
+//! What taking, merging and sweeping do to a store.
 
 ghost use Rattle.std.specs.Prelude.{◌≡◌, ℕ, List, ◌+◌, ◌<◌, ◌≤◌, ◌++◌, [], ◌∷◌, length, take, count_by, IfErr, IfOk};
 ghost use Rattle.std.specs.Prelude.{IfSome, IfNone, IsOk, OnOk, OnErr, IsTrue, IsPermutation, true, false, ◌↔◌, insert};
 ghost use Rattle.std.specs.Prelude.{slice_set};
 ghost use Rattle.am_merge.specs.Maps.{IsMap, IsJoin, HasTwice, replaces, swept};
-ghost use Rattle.am_merge.specs.Shelves.{versions, HasRooms, IsShelf, IsKeySpot, IsGapSpot, IsExpiredAt};
-ghost use Rattle.am_blocks.specs.Spots.{place};
+ghost use Rattle.am_merge.specs.Stores.{versions, HasRooms, IsStore, IsKeyCursor, IsGapCursor, IsExpiredAt};
+ghost use Rattle.am_blocks.specs.Cursors.{place};
 ghost use Rattle.am_merge.specs.Takings.{IsPut, new_keys, new_versions, taken_by};
 
 use crate::held::{MergeError, Taken};
-use crate::iter::walk_shelf;
-use crate::shelf::{
-    Shelf, add, drop_at, empty_shelf, find, replace, reserve, reserve_over, version_at,
+use crate::iter::walk_store;
+use crate::store::{
+    Store, add, drop_at, empty_store, find, replace, reserve, reserve_over, version_at,
 };
-use am_blocks::Spot;
+use am_blocks::Cursor;
 use am_version_order::{Moment, Version};
 use std::alloc::{AllocError, Global};
 
-/// Whether a version is greater than the one at the spot, which has its key.
-fn is_greater<V: Version>(shelf: &Shelf<V>, spot: Spot, version: &V) -> bool
-    requires shelf { IsShelf V.seen V.head_of V.Key.cmp V.bucket_of shelf.now }
-    requires spot { IsKeySpot V.seen V.Key.cmp shelf.now (V.seen version.now).key spot }
-    ensures answer { result ≡ replaces V.seen V.Key.cmp (versions shelf.now) version.now }
+/// Whether a version is greater than the one at the cursor, which has its key.
+fn is_greater<V: Version>(store: &Store<V>, cursor: Cursor, version: &V) -> bool
+    requires store { IsStore V.seen V.head_of V.Key.cmp V.bucket_of store.now }
+    requires cursor { IsKeyCursor V.seen V.Key.cmp store.now (V.seen version.now).key cursor }
+    ensures answer { result ≡ replaces V.seen V.Key.cmp (versions store.now) version.now }
     ensures kept { result ≡ false →
-        IsPut V.seen V.Key.cmp (versions shelf.now) version.now (versions shelf.now) }
-    ensures over { result ≡ true → IsPut V.seen V.Key.cmp (versions shelf.now) version.now
-        (slice_set (versions shelf.now) (place shelf.now.keys spot) version.now) }
+        IsPut V.seen V.Key.cmp (versions store.now) version.now (versions store.now) }
+    ensures over { result ≡ true → IsPut V.seen V.Key.cmp (versions store.now) version.now
+        (slice_set (versions store.now) (place store.now.keys cursor) version.now) }
 {
-    version_at(shelf, spot).compare(version).is_lt()
+    version_at(store, cursor).compare(version).is_lt()
 }
 
 /// Puts a version over the lesser one of its key. All growth comes before any change.
-fn put_over<V: Version>(shelf: &mut Shelf<V>, spot: Spot, version: V) -> Result<(), AllocError>
-    requires shelf { IsShelf V.seen V.head_of V.Key.cmp V.bucket_of shelf.old }
-    requires spot { IsKeySpot V.seen V.Key.cmp shelf.old (V.seen version).key spot }
-    requires over { IsPut V.seen V.Key.cmp (versions shelf.old) version
-        (slice_set (versions shelf.old) (place shelf.old.keys spot) version) }
-    ensures shelf { IsShelf V.seen V.head_of V.Key.cmp V.bucket_of shelf.new }
-    ensures put { OnOk result (IsPut V.seen V.Key.cmp (versions shelf.old) version (versions shelf.new)) }
-    ensures err { OnErr result (versions shelf.new ≡ versions shelf.old) }
-    ensures succeeds { HasRooms shelf.old 0 1 → IsOk result }
-    ensures room { (n m : ℕ) → HasRooms shelf.old n (m + 1) → HasRooms shelf.new n m }
+fn put_over<V: Version>(store: &mut Store<V>, cursor: Cursor, version: V) -> Result<(), AllocError>
+    requires store { IsStore V.seen V.head_of V.Key.cmp V.bucket_of store.old }
+    requires cursor { IsKeyCursor V.seen V.Key.cmp store.old (V.seen version).key cursor }
+    requires over { IsPut V.seen V.Key.cmp (versions store.old) version
+        (slice_set (versions store.old) (place store.old.keys cursor) version) }
+    ensures store { IsStore V.seen V.head_of V.Key.cmp V.bucket_of store.new }
+    ensures put { OnOk result (IsPut V.seen V.Key.cmp (versions store.old) version (versions store.new)) }
+    ensures err { OnErr result (versions store.new ≡ versions store.old) }
+    ensures succeeds { HasRooms store.old 0 1 → IsOk result }
+    ensures room { (n m : ℕ) → HasRooms store.old n (m + 1) → HasRooms store.new n m }
 {
-    reserve_over(shelf, spot, &version)?;
-    replace(shelf, spot, version);
+    reserve_over(store, cursor, &version)?;
+    replace(store, cursor, version);
     Ok(())
 }
 
 /// Puts the first version of its key in. All growth comes before any change.
-pub fn put_new<V: Version>(shelf: &mut Shelf<V>, spot: Spot, version: V) -> Result<(), AllocError>
-    requires shelf { IsShelf V.seen V.head_of V.Key.cmp V.bucket_of shelf.old }
-    requires spot { IsGapSpot V.seen V.Key.cmp shelf.old (V.seen version).key spot }
-    ensures shelf { IsShelf V.seen V.head_of V.Key.cmp V.bucket_of shelf.new }
-    ensures put { OnOk result (IsPut V.seen V.Key.cmp (versions shelf.old) version (versions shelf.new)) }
-    ensures new { replaces V.seen V.Key.cmp (versions shelf.old) version ≡ true }
+pub fn put_new<V: Version>(
+    store: &mut Store<V>,
+    cursor: Cursor,
+    version: V,
+) -> Result<(), AllocError>
+    requires store { IsStore V.seen V.head_of V.Key.cmp V.bucket_of store.old }
+    requires cursor { IsGapCursor V.seen V.Key.cmp store.old (V.seen version).key cursor }
+    ensures store { IsStore V.seen V.head_of V.Key.cmp V.bucket_of store.new }
+    ensures put { OnOk result (IsPut V.seen V.Key.cmp (versions store.old) version (versions store.new)) }
+    ensures new { replaces V.seen V.Key.cmp (versions store.old) version ≡ true }
     ensures added { OnOk result
-        (versions shelf.new ≡ insert (versions shelf.old) (place shelf.old.keys spot) version) }
-    ensures err { OnErr result (versions shelf.new ≡ versions shelf.old) }
-    ensures succeeds { HasRooms shelf.old 1 1 → IsOk result }
-    ensures room { (n m : ℕ) → HasRooms shelf.old (n + 1) (m + 1) → HasRooms shelf.new n m }
+        (versions store.new ≡ insert (versions store.old) (place store.old.keys cursor) version) }
+    ensures err { OnErr result (versions store.new ≡ versions store.old) }
+    ensures succeeds { HasRooms store.old 1 1 → IsOk result }
+    ensures room { (n m : ℕ) → HasRooms store.old (n + 1) (m + 1) → HasRooms store.new n m }
 {
-    reserve(shelf, 1, 1)?;
-    add(shelf, spot, version);
+    reserve(store, 1, 1)?;
+    add(store, cursor, version);
     Ok(())
 }
 
 /// How many keys come with a version, and how many versions.
-pub fn needs<V: Version>(shelf: &Shelf<V>, version: &V) -> (usize, usize)
-    requires { IsShelf V.seen V.head_of V.Key.cmp V.bucket_of shelf.now }
-    ensures keys { result.0 ≡ new_keys V.seen V.Key.cmp (versions shelf.now) version.now }
-    ensures versions { result.1 ≡ new_versions V.seen V.Key.cmp (versions shelf.now) version.now }
+pub fn needs<V: Version>(store: &Store<V>, version: &V) -> (usize, usize)
+    requires { IsStore V.seen V.head_of V.Key.cmp V.bucket_of store.now }
+    ensures keys { result.0 ≡ new_keys V.seen V.Key.cmp (versions store.now) version.now }
+    ensures versions { result.1 ≡ new_versions V.seen V.Key.cmp (versions store.now) version.now }
 {
-    match find(shelf, version.key()) {
-        Ok(spot) => (0, usize::from(is_greater(shelf, spot, version))),
+    match find(store, version.key()) {
+        Ok(cursor) => (0, usize::from(is_greater(store, cursor, version))),
         Err(_) => (1, 1),
     }
 }
 
 /// How many keys come with a version once another one was taken, and how many versions.
-pub fn needs_after<V: Version>(shelf: &Shelf<V>, before: &V, version: &V) -> (usize, usize)
-    requires { IsShelf V.seen V.head_of V.Key.cmp V.bucket_of shelf.now }
-    ensures keys { (map : List V) → IsPut V.seen V.Key.cmp (versions shelf.now) before.now map →
+pub fn needs_after<V: Version>(store: &Store<V>, before: &V, version: &V) -> (usize, usize)
+    requires { IsStore V.seen V.head_of V.Key.cmp V.bucket_of store.now }
+    ensures keys { (map : List V) → IsPut V.seen V.Key.cmp (versions store.now) before.now map →
         result.0 ≡ new_keys V.seen V.Key.cmp map version.now }
-    ensures versions { (map : List V) → IsPut V.seen V.Key.cmp (versions shelf.now) before.now map →
+    ensures versions { (map : List V) → IsPut V.seen V.Key.cmp (versions store.now) before.now map →
         result.1 ≡ new_versions V.seen V.Key.cmp map version.now }
     ensures few_keys { result.0 ≤ 1 }
     ensures few_versions { result.1 ≤ 1 }
 {
-    let (keys, versions) = needs(shelf, version);
+    let (keys, versions) = needs(store, version);
     if before.key().cmp(version.key()).is_ne() {
         return (keys, versions);
     }
-    let (_, came) = needs(shelf, before);
+    let (_, came) = needs(store, before);
     if came == 0 {
         return (0, versions);
     }
@@ -100,30 +104,30 @@ pub fn needs_after<V: Version>(shelf: &Shelf<V>, before: &V, version: &V) -> (us
 
 /// Puts a version in where it is greater than the one that its key has, and says whether it did. Where
 /// it stays out nothing is asked for.
-pub fn put<V: Version>(shelf: &mut Shelf<V>, version: V) -> Result<bool, AllocError>
-    requires { IsShelf V.seen V.head_of V.Key.cmp V.bucket_of shelf.old }
-    ensures shelf { IsShelf V.seen V.head_of V.Key.cmp V.bucket_of shelf.new }
-    ensures put { OnOk result (IsPut V.seen V.Key.cmp (versions shelf.old) version (versions shelf.new)) }
+pub fn put<V: Version>(store: &mut Store<V>, version: V) -> Result<bool, AllocError>
+    requires { IsStore V.seen V.head_of V.Key.cmp V.bucket_of store.old }
+    ensures store { IsStore V.seen V.head_of V.Key.cmp V.bucket_of store.new }
+    ensures put { OnOk result (IsPut V.seen V.Key.cmp (versions store.old) version (versions store.new)) }
     ensures answer { IfOk result (λ changed.
-        changed ≡ replaces V.seen V.Key.cmp (versions shelf.old) version) }
-    ensures err { OnErr result (versions shelf.new ≡ versions shelf.old) }
-    ensures succeeds { HasRooms shelf.old (new_keys V.seen V.Key.cmp (versions shelf.old) version)
-        (new_versions V.seen V.Key.cmp (versions shelf.old) version) → IsOk result }
+        changed ≡ replaces V.seen V.Key.cmp (versions store.old) version) }
+    ensures err { OnErr result (versions store.new ≡ versions store.old) }
+    ensures succeeds { HasRooms store.old (new_keys V.seen V.Key.cmp (versions store.old) version)
+        (new_versions V.seen V.Key.cmp (versions store.old) version) → IsOk result }
     ensures room { (n m : ℕ) →
-        HasRooms shelf.old (n + new_keys V.seen V.Key.cmp (versions shelf.old) version)
-        (m + new_versions V.seen V.Key.cmp (versions shelf.old) version) →
-        HasRooms shelf.new n m }
+        HasRooms store.old (n + new_keys V.seen V.Key.cmp (versions store.old) version)
+        (m + new_versions V.seen V.Key.cmp (versions store.old) version) →
+        HasRooms store.new n m }
 {
-    match find(shelf, version.key()) {
-        Ok(spot) => {
-            let greater = is_greater(shelf, spot, &version);
+    match find(store, version.key()) {
+        Ok(cursor) => {
+            let greater = is_greater(store, cursor, &version);
             if greater {
-                put_over(shelf, spot, version)?;
+                put_over(store, cursor, version)?;
             }
             Ok(greater)
         }
-        Err(spot) => {
-            put_new(shelf, spot, version)?;
+        Err(cursor) => {
+            put_new(store, cursor, version)?;
             Ok(true)
         }
     }
@@ -132,42 +136,42 @@ pub fn put<V: Version>(shelf: &mut Shelf<V>, version: V) -> Result<bool, AllocEr
 /// Puts a copy in where the version is greater than the one that its key has, and says whether it did.
 /// Where it stays out it isn't copied.
 pub fn put_copy<V: Version>(
-    shelf: &mut Shelf<V>,
+    store: &mut Store<V>,
     version: &V,
     alloc: Global,
 ) -> Result<bool, AllocError>
-    requires { IsShelf V.seen V.head_of V.Key.cmp V.bucket_of shelf.old }
-    ensures shelf { IsShelf V.seen V.head_of V.Key.cmp V.bucket_of shelf.new }
+    requires { IsStore V.seen V.head_of V.Key.cmp V.bucket_of store.old }
+    ensures store { IsStore V.seen V.head_of V.Key.cmp V.bucket_of store.new }
     ensures put { OnOk result
-        (IsPut V.seen V.Key.cmp (versions shelf.old) version.now (versions shelf.new)) }
+        (IsPut V.seen V.Key.cmp (versions store.old) version.now (versions store.new)) }
     ensures answer { IfOk result (λ changed.
-        changed ≡ replaces V.seen V.Key.cmp (versions shelf.old) version.now) }
-    ensures err { OnErr result (versions shelf.new ≡ versions shelf.old) }
+        changed ≡ replaces V.seen V.Key.cmp (versions store.old) version.now) }
+    ensures err { OnErr result (versions store.new ≡ versions store.old) }
 {
-    match find(shelf, version.key()) {
-        Ok(spot) => {
-            let greater = is_greater(shelf, spot, version);
+    match find(store, version.key()) {
+        Ok(cursor) => {
+            let greater = is_greater(store, cursor, version);
             if greater {
-                put_over(shelf, spot, version.try_clone(alloc)?)?;
+                put_over(store, cursor, version.try_clone(alloc)?)?;
             }
             Ok(greater)
         }
-        Err(spot) => {
-            put_new(shelf, spot, version.try_clone(alloc)?)?;
+        Err(cursor) => {
+            put_new(store, cursor, version.try_clone(alloc)?)?;
             Ok(true)
         }
     }
 }
 
 /// Puts a version behind all others.
-pub fn append<V: Version>(shelf: &mut Shelf<V>, version: V) -> Result<(), AllocError>
-    requires shelf { IsShelf V.seen V.head_of V.Key.cmp V.bucket_of shelf.old }
-    requires last { IsMap V.seen V.Key.cmp (versions shelf.old ++ version ∷ []) }
-    ensures shelf { IsShelf V.seen V.head_of V.Key.cmp V.bucket_of shelf.new }
-    ensures appended { OnOk result (versions shelf.new ≡ versions shelf.old ++ version ∷ []) }
+pub fn append<V: Version>(store: &mut Store<V>, version: V) -> Result<(), AllocError>
+    requires store { IsStore V.seen V.head_of V.Key.cmp V.bucket_of store.old }
+    requires last { IsMap V.seen V.Key.cmp (versions store.old ++ version ∷ []) }
+    ensures store { IsStore V.seen V.head_of V.Key.cmp V.bucket_of store.new }
+    ensures appended { OnOk result (versions store.new ≡ versions store.old ++ version ∷ []) }
 {
-    let end = shelf.keys.end();
-    put_new(shelf, end, version)
+    let end = store.keys.end();
+    put_new(store, end, version)
 }
 
 /// Puts versions in the order of their keys, and says whether each has a key of its own.
@@ -180,55 +184,55 @@ pub fn order_by_key<V: Version>(versions: &mut Vec<V>) -> bool
     versions.is_sorted_by(|one, next| one.key().cmp(next.key()).is_lt())
 }
 
-/// The shelf of versions that are in the order of their keys.
-pub fn shelve<V: Version>(alloc: Global, sorted: Vec<V>) -> Result<Shelf<V>, AllocError>
+/// The store of versions that are in the order of their keys.
+pub fn shelve<V: Version>(alloc: Global, sorted: Vec<V>) -> Result<Store<V>, AllocError>
     requires { IsMap V.seen V.Key.cmp sorted.items }
-    ensures shelf { IfOk result (IsShelf V.seen V.head_of V.Key.cmp V.bucket_of) }
-    ensures all { IfOk result (λ shelf. versions shelf ≡ sorted.items) }
+    ensures store { IfOk result (IsStore V.seen V.head_of V.Key.cmp V.bucket_of) }
+    ensures all { IfOk result (λ store. versions store ≡ sorted.items) }
 {
-    let mut shelf = empty_shelf(alloc);
+    let mut store = empty_store(alloc);
     for version in sorted {
-        append(&mut shelf, version)?;
+        append(&mut store, version)?;
     }
-    Ok(shelf)
+    Ok(store)
 }
 
-/// A shelf with a copy of each version.
-pub fn copy_shelf<V: Version>(held: &Shelf<V>, alloc: Global) -> Result<Shelf<V>, AllocError>
-    requires { IsShelf V.seen V.head_of V.Key.cmp V.bucket_of held.now }
-    ensures shelf { IfOk result (IsShelf V.seen V.head_of V.Key.cmp V.bucket_of) }
-    ensures all { IfOk result (λ shelf. versions shelf ≡ versions held.now) }
+/// A store with a copy of each version.
+pub fn copy_store<V: Version>(held: &Store<V>, alloc: Global) -> Result<Store<V>, AllocError>
+    requires { IsStore V.seen V.head_of V.Key.cmp V.bucket_of held.now }
+    ensures store { IfOk result (IsStore V.seen V.head_of V.Key.cmp V.bucket_of) }
+    ensures all { IfOk result (λ store. versions store ≡ versions held.now) }
 {
-    let mut shelf = empty_shelf(alloc);
-    for version in walk_shelf(held) {
-        append(&mut shelf, version.try_clone(alloc)?)?;
+    let mut store = empty_store(alloc);
+    for version in walk_store(held) {
+        append(&mut store, version.try_clone(alloc)?)?;
     }
-    Ok(shelf)
+    Ok(store)
 }
 
-/// Takes copies of another shelf's versions in the order of their keys, and says how many came to be held.
+/// Takes copies of another store's versions in the order of their keys, and says how many came to be held.
 pub fn merge_in<V: Version>(
-    shelf: &mut Shelf<V>,
-    other: &Shelf<V>,
+    store: &mut Store<V>,
+    other: &Store<V>,
     alloc: Global,
 ) -> Result<usize, MergeError>
-    requires shelf { IsShelf V.seen V.head_of V.Key.cmp V.bucket_of shelf.old }
-    requires other { IsShelf V.seen V.head_of V.Key.cmp V.bucket_of other.now }
-    ensures shelf { IsShelf V.seen V.head_of V.Key.cmp V.bucket_of shelf.new }
+    requires store { IsStore V.seen V.head_of V.Key.cmp V.bucket_of store.old }
+    requires other { IsStore V.seen V.head_of V.Key.cmp V.bucket_of other.now }
+    ensures store { IsStore V.seen V.head_of V.Key.cmp V.bucket_of store.new }
     ensures joined { OnOk result
-        (IsJoin V.seen V.Key.cmp (versions shelf.old) (versions other.now) (versions shelf.new)) }
+        (IsJoin V.seen V.Key.cmp (versions store.old) (versions other.now) (versions store.new)) }
     ensures count { IfOk result (λ changed.
-        changed ≡ count_by (replaces V.seen V.Key.cmp (versions shelf.old)) (versions other.now)) }
+        changed ≡ count_by (replaces V.seen V.Key.cmp (versions store.old)) (versions other.now)) }
     ensures within { IfErr result (λ e. e.taken < length (versions other.now)) }
     ensures stopped { IfErr result (λ e.
-        IsJoin V.seen V.Key.cmp (versions shelf.old) (take e.taken (versions other.now)) (versions shelf.new)) }
+        IsJoin V.seen V.Key.cmp (versions store.old) (take e.taken (versions other.now)) (versions store.new)) }
 {
     // Neither count below goes past this one, so no sum is too large.
     let _size = other.table.len();
     let mut changed = 0;
     let mut taken = 0;
-    for version in walk_shelf(other) {
-        let Ok(more) = put_copy(shelf, version, alloc) else {
+    for version in walk_store(other) {
+        let Ok(more) = put_copy(store, version, alloc) else {
             return Err(MergeError { taken });
         };
         changed += usize::from(more);
@@ -238,12 +242,12 @@ pub fn merge_in<V: Version>(
 }
 
 /// The slot of the version that expires first, where it isn't live.
-fn expired<V: Version>(shelf: &Shelf<V>, now: Moment) -> Option<usize>
-    requires { IsShelf V.seen V.head_of V.Key.cmp V.bucket_of shelf.now }
-    ensures first { IfSome result (IsExpiredAt V.seen now shelf.now.table) }
-    ensures none { IfNone result (swept V.seen now (versions shelf.now) ≡ versions shelf.now) }
+fn expired<V: Version>(store: &Store<V>, now: Moment) -> Option<usize>
+    requires { IsStore V.seen V.head_of V.Key.cmp V.bucket_of store.now }
+    ensures first { IfSome result (IsExpiredAt V.seen now store.now.table) }
+    ensures none { IfNone result (swept V.seen now (versions store.now) ≡ versions store.now) }
 {
-    let first = shelf.expiries.first()?;
+    let first = store.expiries.first()?;
     if now < first.expires {
         None
     } else {
@@ -252,17 +256,17 @@ fn expired<V: Version>(shelf: &Shelf<V>, now: Moment) -> Option<usize>
 }
 
 /// Drops each version that isn't live, and says how many went. It takes no memory.
-pub fn drop_expired<V: Version>(shelf: &mut Shelf<V>, now: Moment) -> usize
-    requires { IsShelf V.seen V.head_of V.Key.cmp V.bucket_of shelf.old }
-    ensures shelf { IsShelf V.seen V.head_of V.Key.cmp V.bucket_of shelf.new }
-    ensures swept { versions shelf.new ≡ swept V.seen now (versions shelf.old) }
-    ensures went { result + length (versions shelf.new) ≡ length (versions shelf.old) }
+pub fn drop_expired<V: Version>(store: &mut Store<V>, now: Moment) -> usize
+    requires { IsStore V.seen V.head_of V.Key.cmp V.bucket_of store.old }
+    ensures store { IsStore V.seen V.head_of V.Key.cmp V.bucket_of store.new }
+    ensures swept { versions store.new ≡ swept V.seen now (versions store.old) }
+    ensures went { result + length (versions store.new) ≡ length (versions store.old) }
 {
-    let before = shelf.table.len();
-    while let Some(slot) = expired(shelf, now) {
-        drop_at(shelf, slot);
+    let before = store.table.len();
+    while let Some(slot) = expired(store, now) {
+        drop_at(store, slot);
     }
-    before - shelf.table.len()
+    before - store.table.len()
 }
 
 /// What taking a version did, by whether it is live and whether it came to be held.

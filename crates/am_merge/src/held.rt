@@ -6,11 +6,11 @@ ghost use Rattle.std.specs.Option.{option_copied};
 ghost use Rattle.am_merge.specs.Maps.{IsMap, IsJoin, IsLeastExpiry, HasTwice, at, if_live, in_bucket, replaces, swept};
 
 use crate::changes::{
-    copy_shelf, drop_expired, merge_in, needs, needs_after, order_by_key, put, put_new, shelve,
+    copy_store, drop_expired, merge_in, needs, needs_after, order_by_key, put, put_new, shelve,
     taken_as,
 };
-use crate::iter::{InBucket, Iter, walk_bucket, walk_shelf};
-use crate::shelf::{Shelf, empty_shelf, find, reserve, version_at};
+use crate::iter::{InBucket, Iter, walk_bucket, walk_store};
+use crate::store::{Store, empty_store, find, reserve, version_at};
 use am_version_order::{Moment, Version, versions_are_values};
 use std::alloc::{AllocError, Global};
 use std::marker::Model;
@@ -45,27 +45,27 @@ pub enum FromVersionsError {
 ///
 /// Contracts see it as the list of its versions in the order of their keys.
 pub struct Held<V: Version> {
-    shelf: Shelf<V>,
+    store: Store<V>,
     alloc: Global,
 }
 
 // (so that crates above cite one drop, and don't prove those of all that is inside)
 impl<V: Version> Drop for Held<V> {
     fn drop(self) {
-        let Held { shelf: _, alloc: _ } = self;
+        let Held { store: _, alloc: _ } = self;
     }
 }
 
 impl<V: Version> Model for Held<V> {
     ghost use Rattle.std.specs.Prelude.{List, All};
-    ghost use Rattle.am_merge.specs.Shelves.{versions, IsShelf};
+    ghost use Rattle.am_merge.specs.Stores.{versions, IsStore};
 
     ghost Value = { List V };
 
-    ghost view = { λ held. versions held.shelf };
+    ghost view = { λ held. versions held.store };
 
-    ghost invariant = { λ held. IsShelf V.seen V.head_of V.Key.cmp V.bucket_of held.shelf
-        × All V.is_value (versions held.shelf) };
+    ghost invariant = { λ held. IsStore V.seen V.head_of V.Key.cmp V.bucket_of held.store
+        × All V.is_value (versions held.store) };
 }
 
 impl<V: Version> Held<V> {
@@ -77,7 +77,7 @@ impl<V: Version> Held<V> {
         ensures { result ≡ [] }
     {
         Held {
-            shelf: empty_shelf(alloc),
+            store: empty_store(alloc),
             alloc,
         }
     }
@@ -98,7 +98,7 @@ impl<V: Version> Held<V> {
             return Err(FromVersionsError::DuplicateKey);
         }
         match shelve(alloc, versions) {
-            Ok(shelf) => Ok(Held { shelf, alloc }),
+            Ok(store) => Ok(Held { store, alloc }),
             Err(_) => Err(FromVersionsError::Memory),
         }
     }
@@ -112,8 +112,8 @@ impl<V: Version> Held<V> {
         ensures { IfOk result (λ copy. copy ≡ self.now) }
     {
         let alloc = self.alloc;
-        let shelf = copy_shelf(&self.shelf, alloc)?;
-        Ok(Held { shelf, alloc })
+        let store = copy_store(&self.store, alloc)?;
+        Ok(Held { store, alloc })
     }
 
     /// The allocator that the map was made with. It takes no memory.
@@ -128,22 +128,22 @@ impl<V: Version> Held<V> {
     pub fn len(&self) -> usize
         ensures { result ≡ length self.now }
     {
-        self.shelf.table.len()
+        self.store.table.len()
     }
 
     /// Whether the map has no key.
     pub fn is_empty(&self) -> bool
         ensures { result ≡ (length self.now == 0) }
     {
-        self.shelf.table.is_empty()
+        self.store.table.is_empty()
     }
 
     /// The version of a key, live or not.
     pub fn get(&self, key: &V::Key) -> Option<&V>
         ensures { option_copied result ≡ at V.seen V.Key.cmp self.now key.now }
     {
-        match find(&self.shelf, key) {
-            Ok(spot) => Some(version_at(&self.shelf, spot)),
+        match find(&self.store, key) {
+            Ok(cursor) => Some(version_at(&self.store, cursor)),
             Err(_) => None,
         }
     }
@@ -154,7 +154,7 @@ impl<V: Version> Held<V> {
         ensures values { All V.is_value self.now }
         ensures order { IsMap V.seen V.Key.cmp self.now }
     {
-        let _ = &self.shelf;
+        let _ = &self.store;
     }
 
     /// The versions in the order of their keys.
@@ -162,7 +162,7 @@ impl<V: Version> Held<V> {
         ensures items { result ≡ self.now }
         ensures order { IsMap V.seen V.Key.cmp self.now }
     {
-        walk_shelf(&self.shelf)
+        walk_store(&self.store)
     }
 
     /// The versions of a bucket, in the order of their keys. It takes no memory.
@@ -170,14 +170,14 @@ impl<V: Version> Held<V> {
         ensures items { result ≡ in_bucket V.bucket_of bucket.now self.now }
         ensures order { IsMap V.seen V.Key.cmp self.now }
     {
-        walk_bucket(&self.shelf, bucket)
+        walk_bucket(&self.store, bucket)
     }
 
     /// The least expiry of the versions, or `None` where there is none. It takes no memory.
     pub fn next_expiry(&self) -> Option<Moment>
         ensures { MatchOption result (self.now ≡ []) (IsLeastExpiry V.seen self.now) }
     {
-        match self.shelf.expiries.first() {
+        match self.store.expiries.first() {
             Some(first) => Some(first.expires),
             None => None,
         }
@@ -194,7 +194,7 @@ impl<V: Version> Held<V> {
     {
         let is_live = now < version.expires();
         let _content = version.canonical();
-        let changed = put(&mut self.shelf, version)?;
+        let changed = put(&mut self.store, version)?;
         Ok(taken_as(is_live, changed))
     }
 
@@ -211,11 +211,11 @@ impl<V: Version> Held<V> {
         ensures held { result ≡ Ok false → self.new ≡ self.old }
         ensures err { OnErr result (self.new ≡ self.old) }
     {
-        match find(&self.shelf, version.key()) {
+        match find(&self.store, version.key()) {
             Ok(_) => Ok(false),
-            Err(spot) => {
+            Err(cursor) => {
                 let _content = version.canonical();
-                put_new(&mut self.shelf, spot, version)?;
+                put_new(&mut self.store, cursor, version)?;
                 Ok(true)
             }
         }
@@ -239,15 +239,15 @@ impl<V: Version> Held<V> {
         let is_second_live = now < second.expires();
         let _content = first.canonical();
         let _content = second.canonical();
-        let (first_keys, first_versions) = needs(&self.shelf, &first);
-        let (second_keys, second_versions) = needs_after(&self.shelf, &first, &second);
+        let (first_keys, first_versions) = needs(&self.store, &first);
+        let (second_keys, second_versions) = needs_after(&self.store, &first, &second);
         reserve(
-            &mut self.shelf,
+            &mut self.store,
             first_keys + second_keys,
             first_versions + second_versions,
         )?;
-        let is_first_new = put(&mut self.shelf, first)?;
-        let is_second_new = put(&mut self.shelf, second)?;
+        let is_first_new = put(&mut self.store, first)?;
+        let is_second_new = put(&mut self.store, second)?;
         Ok((
             taken_as(is_first_live, is_first_new),
             taken_as(is_second_live, is_second_new),
@@ -269,7 +269,7 @@ impl<V: Version> Held<V> {
         ensures stopped { IfErr result (λ e.
             IsJoin V.seen V.Key.cmp self.old (take e.taken other.now) self.new) }
     {
-        merge_in(&mut self.shelf, &other.shelf, self.alloc)
+        merge_in(&mut self.store, &other.store, self.alloc)
     }
 
     /// Drops each version that isn't live, and says how many went. It takes no memory.
@@ -279,6 +279,6 @@ impl<V: Version> Held<V> {
             at V.seen V.Key.cmp self.new key ≡ if_live V.seen now (at V.seen V.Key.cmp self.old key) }
         ensures went { result + length self.new ≡ length self.old }
     {
-        drop_expired(&mut self.shelf, now)
+        drop_expired(&mut self.store, now)
     }
 }

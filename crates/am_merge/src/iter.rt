@@ -3,10 +3,10 @@
 ghost use Rattle.std.specs.Prelude.{◌≡◌};
 ghost use Rattle.std.specs.Iterator.{YieldsFirstRef, item_count};
 ghost use Rattle.am_merge.specs.Maps.{in_bucket};
-ghost use Rattle.am_merge.specs.Shelves.{versions, IsShelf};
+ghost use Rattle.am_merge.specs.Stores.{versions, IsStore};
 
 use crate::entry::{BucketEntry, KeyEntry};
-use crate::shelf::{Shelf, bucket_front};
+use crate::store::{Store, bucket_front};
 use am_blocks::Walk;
 use am_version_order::Version;
 use slab::Slab;
@@ -46,14 +46,14 @@ impl<'a, V> Iterator for Iter<'a, V> {
     }
 }
 
-/// All versions of a shelf, in the order of their keys.
-pub fn walk_shelf<V: Version>(shelf: &Shelf<V>) -> Iter<'_, V>
-    requires { IsShelf V.seen V.head_of V.Key.cmp V.bucket_of shelf.now }
-    ensures { result ≡ versions shelf.now }
+/// All versions of a store, in the order of their keys.
+pub fn walk_store<V: Version>(store: &Store<V>) -> Iter<'_, V>
+    requires { IsStore V.seen V.head_of V.Key.cmp V.bucket_of store.now }
+    ensures { result ≡ versions store.now }
 {
     Iter {
-        table: &shelf.table,
-        walk: shelf.keys.walk(),
+        table: &store.table,
+        walk: store.keys.walk(),
     }
 }
 
@@ -100,15 +100,15 @@ impl<'a, V: Version> Iterator for InBucket<'a, V> {
     }
 }
 
-/// The versions of a shelf whose bucket is this one, in the order of their keys.
-pub fn walk_bucket<'a, V: Version>(shelf: &'a Shelf<V>, bucket: &'a [u8]) -> InBucket<'a, V>
-    requires { IsShelf V.seen V.head_of V.Key.cmp V.bucket_of shelf.now }
-    ensures { result ≡ in_bucket V.bucket_of bucket.now (versions shelf.now) }
+/// The versions of a store whose bucket is this one, in the order of their keys.
+pub fn walk_bucket<'a, V: Version>(store: &'a Store<V>, bucket: &'a [u8]) -> InBucket<'a, V>
+    requires { IsStore V.seen V.head_of V.Key.cmp V.bucket_of store.now }
+    ensures { result ≡ in_bucket V.bucket_of bucket.now (versions store.now) }
 {
-    let front = bucket_front(shelf, bucket);
+    let front = bucket_front(store, bucket);
     InBucket {
-        table: &shelf.table,
-        walk: shelf.buckets.walk_from(front),
+        table: &store.table,
+        walk: store.buckets.walk_from(front),
         bucket,
     }
 }

@@ -6,7 +6,7 @@ mod entry;
 mod held;
 mod iter;
 pub mod laws;
-mod shelf;
+mod store;
 
 pub use held::{FromVersionsError, Held, MergeError, Taken};
 pub use iter::{InBucket, Iter};

@@ -9,7 +9,7 @@ use Rattle.am_wire.specs.declared.error.WireError.{WireError}
 use Rattle.am_wire.specs.Varint.{varint_at, varint_within, shortest}
 use Rattle.am_wire.specs.Fields.{pieces}
 use Rattle.am_wire.specs.Reading.{until_fault}
-use Rattle.am_wire.specs.Again.Varints.{varint_again, shortest_filled}
+use Rattle.am_wire.specs.RoundTrip.Varints.{varint_again, shortest_filled}
 use Rattle.am_wire.proofs.Unpacking.{unpacked-first, packed_filled}
 use Rattle.am_nflog.specs.Packed.{packed_in, IsPacked}
 

@@ -5,8 +5,8 @@ use Rattle.std.proofs.lemmas.Bool.{eqb-true, lt-ltb}
 use Rattle.std.proofs.lemmas.List.{nil_from_length, drop-append-le}
 use Rattle.am_wire.specs.Varint.{shortest, groups}
 use Rattle.am_wire.specs.Writing.{tag, writes_delimited, writes_text}
-use Rattle.am_nflog.specs.declared.places.Place.{Place}
-use Rattle.am_nflog.specs.Places.{StandsAt}
+use Rattle.am_nflog.specs.declared.offsets.Offset.{Offset}
+use Rattle.am_nflog.specs.Offsets.{StandsAt}
 
 -- what is put behind a text, in two steps
 pub put_behind : (a b c x y : List ℕ) → b ≡ a ++ x → c ≡ b ++ y → c ≡ a ++ (x ++ y)
@@ -20,7 +20,7 @@ short_tag n low =
     rw one refl
 
 -- bytes that are written behind others stand behind the tag
-pub placed : (before part text : List ℕ) (n : ℕ) (place : Place) → n < 16 → length text < 2 ^ 64 → text ≡ before ++ writes_text n part
+pub placed : (before part text : List ℕ) (n : ℕ) (place : Offset) → n < 16 → length text < 2 ^ 64 → text ≡ before ++ writes_text n part
     → place.start ≡ cond (eqb (length part) 0) 0 (length before + 1) → StandsAt part place text
 placed before part text n place low small is start =
     elim (eqb (length part) 0) as (λ b. eqb (length part) 0 ≡ b → text ≡ before ++ cond b [] (writes_delimited n part)
@@ -45,7 +45,7 @@ placed before part text n place low small is start =
     ] refl is start
 
 -- more is put behind
-pub placed_before : (part text more whole : List ℕ) (place : Place) → whole ≡ text ++ more → StandsAt part place text → StandsAt part place whole
+pub placed_before : (part text more whole : List ℕ) (place : Offset) → whole ≡ text ++ more → StandsAt part place text → StandsAt part place whole
 placed_before part text more whole place is h =
     elim h [
       | inl none ↦ inl none

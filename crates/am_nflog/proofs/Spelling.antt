@@ -1,7 +1,7 @@
 -- The text of a version spells it.
 use Rattle.std.proofs.Common.{◌≡◌, ℕ, List, Result, Ok, Err, ap, ◌∙◌, arith}
 use Rattle.am_wire.specs.declared.error.WireError.{WireError}
-use Rattle.am_nflog.specs.Again.{mesh_again}
+use Rattle.am_nflog.specs.RoundTrip.{mesh_again}
 use Rattle.am_nflog.specs.Mesh.{Mesh, IsMesh, writes_mesh_entry}
 use Rattle.am_nflog.specs.Spelled.{no_version, spelled}
 

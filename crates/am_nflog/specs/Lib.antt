@@ -6,8 +6,8 @@ pub mod Keys
 pub mod Mesh
 pub mod MeshTable
 pub mod Spelled
-pub mod Places
+pub mod Offsets
 pub mod Packed
 pub mod Drafts
-pub mod Again
+pub mod RoundTrip
 pub mod Made

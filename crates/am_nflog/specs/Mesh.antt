@@ -2,7 +2,7 @@
 use Rattle.std.specs.Prelude.{ℕ, ◌≤◌, ◌^◌, List, length}
 use Rattle.am_version_order.specs.Moments.{greatest}
 use Rattle.am_version_order.specs.Versions.{Version}
-use Rattle.am_wire.specs.Dated.{writes_dated}
+use Rattle.am_wire.specs.Expiring.{writes_expiring}
 use Rattle.am_nflog.specs.declared.entry.Entry.{Entry}
 use Rattle.am_nflog.specs.LogKeys.{LogKey}
 use Rattle.am_nflog.specs.Entries.{writes_entry, IsEntry}
@@ -14,7 +14,7 @@ pub record Mesh : Type 0 where
 
 -- the canonical text of a version
 unfoldable pub writes_mesh_entry : Mesh → List ℕ
-writes_mesh_entry m = writes_dated (writes_entry m.entry) m.expires_at
+writes_mesh_entry m = writes_expiring (writes_entry m.entry) m.expires_at
 
 -- the values of the type
 pub record IsMesh (m : Mesh) : Type 0 where

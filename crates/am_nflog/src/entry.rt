@@ -194,7 +194,7 @@ impl<'a> Draft<'a> for EntryDraft<'a> {
 
 impl Message for Entry {
     ghost use Rattle.am_nflog.specs.Entries.{IsEntry, reads_entry, writes_entry};
-    ghost use Rattle.am_nflog.specs.Again.{entry_again};
+    ghost use Rattle.am_nflog.specs.RoundTrip.{entry_again};
 
     ghost is_value = { IsEntry };
 
@@ -202,7 +202,7 @@ impl Message for Entry {
 
     ghost reads = { reads_entry };
 
-    ghost again = { entry_again };
+    ghost round_trip = { entry_again };
 
     fn size(&self) -> u64 {
         EntryFields::of(self).size()

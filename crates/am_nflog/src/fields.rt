@@ -7,13 +7,13 @@ ghost use Rattle.am_wire.specs.Varint.{shortest};
 ghost use Rattle.am_wire.specs.Writing.{writes_text, writes_delimited, writes_numbers};
 ghost use Rattle.am_nflog.specs.Entries.{writes_entry, IsEntry};
 ghost use Rattle.am_nflog.specs.Fields.{entry_in};
-ghost use Rattle.am_nflog.specs.Places.{StandsAt, StandAt};
+ghost use Rattle.am_nflog.specs.Offsets.{StandsAt, StandAt};
 ghost use Rattle.am_nflog.specs.Receivers.{writes_receiver, IsReceiver};
 
 use crate::entry::Entry;
 use crate::hashes::Hashes;
 use crate::key::LogKey;
-use crate::places::{Place, Places};
+use crate::offsets::{Offset, Offsets};
 use crate::receiver::ReceiverRef;
 use am_version_order::Moment;
 use am_wire::Bytes;
@@ -111,7 +111,7 @@ impl<'a> EntryFields<'a> {
     ///
     /// [`AllocError`] where memory runs out, or 2^32 bytes or more stand before a part. Some of the text may be left.
     #[tactic(auto, unfolding(crate::specs::Entries::writes_entry))]
-    pub fn write(&self, out: &mut Vec<u8>) -> Result<Places, AllocError>
+    pub fn write(&self, out: &mut Vec<u8>) -> Result<Offsets, AllocError>
         ensures written { OnOk result (out.new.items ≡ out.old.items ++ writes_entry (entry_in self.now)) }
         ensures value { OnOk result (IsEntry (entry_in self.now)) }
         ensures places { IfOk result (λ places. StandAt (entry_in self.now) places out.new.items) }
@@ -123,7 +123,7 @@ impl<'a> EntryFields<'a> {
         write_message(out, 5, &self.timestamp)?;
         let firing_alerts = push_numbers(out, 6, self.firing_alerts)?;
         let resolved_alerts = push_numbers(out, 7, self.resolved_alerts)?;
-        Ok(Places {
+        Ok(Offsets {
             group_hash,
             firing_alerts,
             resolved_alerts,
@@ -141,24 +141,24 @@ fn push_receiver(out: &mut Vec<u8>, receiver: &ReceiverRef<'_>) -> Result<(), Al
 }
 
 // Writes bytes as a field, where there are any, and tells where they stand.
-fn push_bytes(out: &mut Vec<u8>, number: u32, bytes: &[u8]) -> Result<Place, AllocError>
+fn push_bytes(out: &mut Vec<u8>, number: u32, bytes: &[u8]) -> Result<Offset, AllocError>
     requires { number < 16 }
     ensures written { OnOk result (out.new.items ≡ out.old.items ++ writes_text number bytes.now) }
     ensures place { IfOk result (λ place. StandsAt bytes.now place out.new.items) }
 {
-    let place = Place::behind_tag(out.len(), bytes.is_empty())?;
+    let place = Offset::behind_tag(out.len(), bytes.is_empty())?;
     write_bytes(out, number, bytes)?;
     Ok(place)
 }
 
 // Writes numbers packed in one field, where there are any, and tells where they stand.
-fn push_numbers(out: &mut Vec<u8>, number: u32, numbers: &[u64]) -> Result<Place, AllocError>
+fn push_numbers(out: &mut Vec<u8>, number: u32, numbers: &[u64]) -> Result<Offset, AllocError>
     requires { number < 16 }
     ensures written { OnOk result (out.new.items ≡ out.old.items ++ writes_numbers number numbers.now) }
     ensures range { OnOk result (All (λ n. n < 2 ^ 64) numbers.now) }
     ensures place { IfOk result (λ place. StandsAt (flat_map shortest numbers.now) place out.new.items) }
 {
-    let place = Place::behind_tag(out.len(), numbers.is_empty())?;
+    let place = Offset::behind_tag(out.len(), numbers.is_empty())?;
     write_numbers(out, number, numbers)?;
     Ok(place)
 }

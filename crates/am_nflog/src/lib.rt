@@ -8,7 +8,7 @@ mod hashes;
 mod key;
 mod make;
 mod mesh;
-mod places;
+mod offsets;
 mod receiver;
 mod record;
 

@@ -8,16 +8,16 @@ ghost use Rattle.am_wire.specs.Sizes.{counted};
 ghost use Rattle.am_nflog.specs.Entries.{writes_entry, IsEntry};
 ghost use Rattle.am_nflog.specs.Fields.{entry_in};
 ghost use Rattle.am_nflog.specs.Mesh.{Mesh, writes_mesh_entry};
-ghost use Rattle.am_nflog.specs.Places.{StandAt};
+ghost use Rattle.am_nflog.specs.Offsets.{StandAt};
 
 use crate::entry::{Entry, EntryDraft};
 use crate::fields::EntryFields;
 use crate::hash_iter::HashIter;
 use crate::key::LogKey;
-use crate::places::Places;
+use crate::offsets::Offsets;
 use am_version_order::{Moment, Version, head_of_text};
-use am_wire::reading::{Dated, DatedDraft, read_message};
-use am_wire::writing::{append_text, dated_size, write_message, write_prefix};
+use am_wire::reading::{Expiring, ExpiringDraft, read_message};
+use am_wire::writing::{append_text, expiring_size, write_message, write_prefix};
 use am_wire::{MOST_MESSAGE_BYTES, Message, WireError};
 use std::alloc::{AllocError, Global};
 use std::marker::Model;
@@ -31,7 +31,7 @@ pub struct MeshEntry {
     key: LogKey,
     timestamp: Moment,
     expires_at: Moment,
-    places: Places,
+    places: Offsets,
     resolved: bool,
     canonical: Vec<u8>,
 }
@@ -54,7 +54,7 @@ impl Model for MeshEntry {
     ghost use Rattle.std.specs.Prelude.{◌≡◌};
     ghost use Rattle.am_nflog.specs.Mesh.{Mesh, IsMesh, writes_mesh_entry};
     ghost use Rattle.am_nflog.specs.Spelled.{spelled};
-    ghost use Rattle.am_nflog.specs.Places.{StandAt};
+    ghost use Rattle.am_nflog.specs.Offsets.{StandAt};
 
     ghost Value = { Mesh };
 
@@ -102,7 +102,7 @@ impl MeshEntry {
         ensures refused { IfErr result (λ e. (e ≡ errors.Memory) ⊎ (e ≡ errors.TooLarge)) }
     {
         let size = fields.size();
-        if dated_size(size, expires_at) > MOST_MESSAGE_BYTES {
+        if expiring_size(size, expires_at) > MOST_MESSAGE_BYTES {
             return Err(WireError::TooLarge);
         }
         let version = MeshEntry::of_sized(alloc, fields, size, expires_at)?;
@@ -120,7 +120,7 @@ impl MeshEntry {
         requires { size ≡ counted (length (writes_entry (entry_in fields.now))) }
         ensures { IfOk result (λ m. m ≡ record { entry = entry_in fields.now; expires_at = expires_at }) }
     {
-        let room = dated_size(size, expires_at) as usize;
+        let room = expiring_size(size, expires_at) as usize;
         let mut canonical = Vec::with_capacity(alloc, room)?;
         let places = write_version(&mut canonical, fields, size, expires_at)?;
         let key = fields.key(alloc)?;
@@ -189,7 +189,7 @@ fn write_version(
     fields: &EntryFields<'_>,
     size: u64,
     expires_at: Moment,
-) -> Result<Places, AllocError>
+) -> Result<Offsets, AllocError>
     requires { size ≡ counted (length (writes_entry (entry_in fields.now))) }
     ensures written { OnOk result (out.new.items ≡
         out.old.items ++ writes_mesh_entry (record { entry = entry_in fields.now; expires_at = expires_at })) }
@@ -206,7 +206,7 @@ fn write_version(
 impl Message for MeshEntry {
     ghost use Rattle.am_nflog.specs.Mesh.{IsMesh};
     ghost use Rattle.am_nflog.specs.MeshTable.{reads_mesh_entry};
-    ghost use Rattle.am_nflog.specs.Again.{mesh_again};
+    ghost use Rattle.am_nflog.specs.RoundTrip.{mesh_again};
 
     ghost is_value = { IsMesh };
 
@@ -214,7 +214,7 @@ impl Message for MeshEntry {
 
     ghost reads = { reads_mesh_entry };
 
-    ghost again = { mesh_again };
+    ghost round_trip = { mesh_again };
 
     fn size(&self) -> u64 {
         self.canonical().len() as u64
@@ -230,10 +230,10 @@ impl Message for MeshEntry {
 
     #[tactic(auto, unfolding(crate::specs::MeshTable::reads_mesh_entry))]
     fn decode_at(alloc: Global, bytes: &[u8], at: usize) -> Result<MeshEntry, WireError> {
-        let Dated {
+        let Expiring {
             message: entry,
             expires_at,
-        } = read_message::<DatedDraft<EntryDraft>>(alloc, bytes, at, at)?;
+        } = read_message::<ExpiringDraft<EntryDraft>>(alloc, bytes, at, at)?;
         let fields = entry.fields();
         let size = fields.size();
         let version = MeshEntry::of_sized(alloc, &fields, size, expires_at)?;
@@ -247,7 +247,7 @@ impl Version for MeshEntry {
     ghost use Rattle.std.specs.Prelude.{[]};
     ghost use Rattle.am_nflog.specs.Mesh.{IsMesh, mesh_version};
     ghost use Rattle.am_nflog.specs.Keys.{exact_keys};
-    ghost use Rattle.am_nflog.specs.Again.{mesh_exact};
+    ghost use Rattle.am_nflog.specs.RoundTrip.{mesh_exact};
 
     type Key = LogKey;
 

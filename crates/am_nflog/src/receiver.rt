@@ -190,7 +190,7 @@ impl<'a> Draft<'a> for ReceiverDraft<'a> {
 
 impl Message for Receiver {
     ghost use Rattle.am_nflog.specs.Receivers.{IsReceiver, reads_receiver, writes_receiver};
-    ghost use Rattle.am_nflog.specs.Again.{receiver_again};
+    ghost use Rattle.am_nflog.specs.RoundTrip.{receiver_again};
 
     ghost is_value = { IsReceiver };
 
@@ -198,7 +198,7 @@ impl Message for Receiver {
 
     ghost reads = { reads_receiver };
 
-    ghost again = { receiver_again };
+    ghost round_trip = { receiver_again };
 
     fn size(&self) -> u64 {
         self.borrowed().size()

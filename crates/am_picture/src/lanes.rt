@@ -127,7 +127,7 @@ fn append_fault(
     start: u64,
     end: u64,
 ) -> Result<(), AllocError> {
-    let Some(fault) = spot_of(sheet, line) else {
+    let Some(fault) = cursor_of(sheet, line) else {
         return Ok(());
     };
     if fault >= end {
@@ -139,7 +139,7 @@ fn append_fault(
 }
 
 /// Where the line of a number stands.
-fn spot_of(sheet: &Sheet<'_>, line: u64) -> Option<u64> {
+fn cursor_of(sheet: &Sheet<'_>, line: u64) -> Option<u64> {
     for (column, mark) in sheet.scene.marks.iter().enumerate() {
         if mark.line == line {
             return Some(middle_of(column));
@@ -160,7 +160,7 @@ fn append_fault_line(sheet: &Sheet<'_>, out: &mut String, place: Place) -> Resul
     let Some(line) = sheet.cluster.calm(place).first_fault else {
         return Ok(());
     };
-    let Some(x) = spot_of(sheet, line) else {
+    let Some(x) = cursor_of(sheet, line) else {
         return Ok(());
     };
     let y = lane_of(place);

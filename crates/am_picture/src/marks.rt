@@ -66,7 +66,7 @@ fn append_mark(
 
 /// Appends what a line is called, and what came of it.
 fn append_words(sheet: &Sheet<'_>, out: &mut String, mark: &Mark) -> Result<(), AllocError> {
-    let (label, answer) = spots_of(sheet, mark);
+    let (label, answer) = cursors_of(sheet, mark);
     write!(out, "<text {label}>")?;
     append_label(sheet, out, mark)?;
     out.push_str("</text>")?;
@@ -78,7 +78,7 @@ fn append_words(sheet: &Sheet<'_>, out: &mut String, mark: &Mark) -> Result<(), 
 
 /// Where the words of a line stand: what it is called, and what came of it. At a lane they leave the way free on which
 /// a frame comes, and those that go.
-fn spots_of(sheet: &Sheet<'_>, mark: &Mark) -> (&'static str, &'static str) {
+fn cursors_of(sheet: &Sheet<'_>, mark: &Mark) -> (&'static str, &'static str) {
     if height_of_mark(sheet, mark) == HEAD {
         return ("y=\"-10\"", "y=\"3\"");
     }

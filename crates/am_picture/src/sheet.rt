@@ -44,7 +44,7 @@ impl<'a> Sheet<'a> {
     }
 }
 
-/// Two spots.
+/// Two cursors.
 #[derive(Clone, Copy)]
 pub struct Stroke {
     pub x1: u64,
@@ -53,7 +53,7 @@ pub struct Stroke {
     pub y2: u64,
 }
 
-/// Appends a line between two spots, up to what it holds.
+/// Appends a line between two cursors, up to what it holds.
 pub fn open_stroke(out: &mut String, class: &str, stroke: &Stroke) -> Result<(), AllocError> {
     let (x1, y1, x2, y2) = (stroke.x1, stroke.y1, stroke.x2, stroke.y2);
     write!(
@@ -62,7 +62,7 @@ pub fn open_stroke(out: &mut String, class: &str, stroke: &Stroke) -> Result<(),
     )
 }
 
-/// Appends a line from one spot to another that is the steeper the nearer it comes, up to what it holds.
+/// Appends a line from one cursor to another that is the steeper the nearer it comes, up to what it holds.
 pub fn open_curve(out: &mut String, class: &str, stroke: &Stroke) -> Result<(), AllocError>
     requires x { stroke.now.x1 + 3 * stroke.now.x2 < 2 ^ 64 }
     requires y { 3 * stroke.now.y1 + stroke.now.y2 < 2 ^ 64 }
@@ -75,7 +75,7 @@ pub fn open_curve(out: &mut String, class: &str, stroke: &Stroke) -> Result<(), 
     )
 }
 
-/// Appends a text at a spot, of at most so many characters.
+/// Appends a text at a cursor, of at most so many characters.
 pub fn append_text(
     alloc: Global,
     out: &mut String,

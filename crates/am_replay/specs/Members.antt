@@ -1,15 +1,15 @@
 -- The members of a cluster by their names and places.
 use Rattle.std.specs.Prelude.{ℕ, List, [], Option, Some, None, slice_get, option_map, unwrap_or}
-use Rattle.am_instance.specs.Stands.{Stand}
+use Rattle.am_instance.specs.InstanceStates.{InstanceState}
 use Rattle.am_steps.specs.Places.{place_named}
 use Rattle.am_cluster.specs.Worlds.{World, replica_at}
 
 -- where the instance of the member at a place stands
-abbrev pub stand_at : World → ℕ → Option Stand
+abbrev pub stand_at : World → ℕ → Option InstanceState
 stand_at world place = option_map (λ replica. replica.stand) (replica_at world place)
 
 -- the names of all members, as the first one is told of them: in the order of the names, which is that of the places
-abbrev pub names_by : Option Stand → List (List ℕ)
+abbrev pub names_by : Option InstanceState → List (List ℕ)
 names_by None = []
 names_by (Some stand) = stand.config.members
 
@@ -18,7 +18,7 @@ abbrev pub names_of : World → List (List ℕ)
 names_of world = names_by (stand_at world 0)
 
 -- the name of the member at a place
-abbrev pub name_by : Option Stand → ℕ → List ℕ
+abbrev pub name_by : Option InstanceState → ℕ → List ℕ
 name_by None place = []
 name_by (Some stand) place = unwrap_or (slice_get stand.config.members place) []
 
@@ -27,15 +27,15 @@ abbrev pub name_at : World → ℕ → List ℕ
 name_at world place = name_by (stand_at world 0) place
 
 -- the place of the member of a name
-abbrev pub place_by : Option Stand → List ℕ → Option ℕ
+abbrev pub place_by : Option InstanceState → List ℕ → Option ℕ
 place_by None name = None
 place_by (Some stand) name = place_named stand.config name
 
 -- where the instance of the member of a name stands
-abbrev pub stand_by : World → Option ℕ → Option Stand
+abbrev pub stand_by : World → Option ℕ → Option InstanceState
 stand_by world None = None
 stand_by world (Some place) = stand_at world place
 
 -- how the member of a name stands
-abbrev pub stand_named : World → List ℕ → Option Stand
+abbrev pub stand_named : World → List ℕ → Option InstanceState
 stand_named world name = stand_by world (place_by (stand_at world 0) name)

@@ -3,7 +3,7 @@ use Rattle.std.specs.Prelude.{◌≡◌, ℕ, Bool, List, [], ◌++◌, Option, 
 use Rattle.std.specs.Borrow.{Bor}
 use Rattle.am_gossip.specs.Frames.{kind_of}
 use Rattle.am_matcher.specs.declared.muted.Mutes.{Mutes}
-use Rattle.am_instance.specs.Stands.{Stand}
+use Rattle.am_instance.specs.InstanceStates.{InstanceState}
 use Rattle.am_instance.specs.declared.reply.Reply.{Reply}
 use Rattle.am_instance.specs.declared.reply.Reply.TheVariants as replies
 use Rattle.am_schedule.specs.declared.step.Action.{Action}
@@ -36,7 +36,7 @@ told line = line_text line ++ codes "\n"
 -- ---- what a member answers
 
 -- what it shows: the view of both its maps at the moment
-abbrev pub shown_text : Option Stand → List ℕ → ℕ → List ℕ
+abbrev pub shown_text : Option InstanceState → List ℕ → ℕ → List ℕ
 shown_text None name now = []
 shown_text (Some stand) name now = view_text (Some name) now stand.silences stand.log
 

@@ -11,8 +11,8 @@ use Rattle.std.proofs.lemmas.List.Elements.{All-contains}
 use Rattle.am_version_order.specs.Versions.{Version}
 use Rattle.am_runs.specs.Steps.{Step, moment, clock_after}
 use Rattle.am_runs.specs.Steps.Step.{Took, Ticked, Back, Refused, Saved, Stopped, Started}
-use Rattle.am_runs.specs.Spells.{starts, saves, HoldsFrom, IsSpell}
-use Rattle.am_runs.specs.Tests.{Watched, later, runs_after, is_onward, are_onward, is_due, ran_after, ran_from, is_wanting, counts_for, watched, watch_after, comes, brings, ComesToAll}
+use Rattle.am_runs.specs.Uptimes.{starts, saves, HoldsFrom, IsUptime}
+use Rattle.am_runs.specs.Tests.{Watched, later, runs_after, is_monotone, are_monotone, is_due, ran_after, ran_from, is_wanting, counts_for, watched, watch_after, comes, brings, ComesToAll}
 use Rattle.am_runs.proofs.Loops.{all_from}
 use Rattle.am_runs.proofs.Takes.{drop_all}
 
@@ -74,16 +74,16 @@ unwanted_early due w (Some t) clock now before early =
 
 -- ---- the clock goes on
 
-forward : (clock : ℕ) (o : Option ℕ) → is_onward clock o ≡ true → clock ≤ clock_after clock o
+forward : (clock : ℕ) (o : Option ℕ) → is_monotone clock o ≡ true → clock ≤ clock_after clock o
 forward clock None on = omega arith
 forward clock (Some now) on = leb-true clock now on
 
-reached : {X : Type 0} (clock : ℕ) (before : List (Step X)) (s : Step X) (rest : List (Step X)) (now : ℕ) → are_onward clock (before ++ s ∷ rest) ≡ true → moment s ≡ Some now → clock ≤ now
+reached : {X : Type 0} (clock : ℕ) (before : List (Step X)) (s : Step X) (rest : List (Step X)) (now : ℕ) → are_monotone clock (before ++ s ∷ rest) ≡ true → moment s ≡ Some now → clock ≤ now
 reached clock [] s rest now on at =
-    let here = (and_parts (is_onward clock (moment s)) (are_onward (clock_after clock (moment s)) rest) on).0 in
-    leb-true clock now (subst (λ o. is_onward clock o ≡ true) at here)
+    let here = (and_parts (is_monotone clock (moment s)) (are_monotone (clock_after clock (moment s)) rest) on).0 in
+    leb-true clock now (subst (λ o. is_monotone clock o ≡ true) at here)
 reached clock (b ∷ before) s rest now on at =
-    let both = and_parts (is_onward clock (moment b)) (are_onward (clock_after clock (moment b)) (before ++ s ∷ rest)) on in
+    let both = and_parts (is_monotone clock (moment b)) (are_monotone (clock_after clock (moment b)) (before ++ s ∷ rest)) on in
     let first = forward clock (moment b) both.0 in
     let then = reached (clock_after clock (moment b)) before s rest now both.1 at in
     omega (arith, first, then)
@@ -247,7 +247,7 @@ module _ {K X : Type 0} (seen : X → Version K) (cmp : K → K → Ordering) (s
   brought_has w (Started place now) b = absurd (false≢true b)
 
   comes_brought : (clock : ℕ) (w : Watched) (before : List (Step X)) (s : Step X) (rest : List (Step X))
-      → are_onward clock (before ++ s ∷ rest) ≡ true → brings seen cmp spread q v s ≡ true → Held rest
+      → are_monotone clock (before ++ s ∷ rest) ≡ true → brings seen cmp spread q v s ≡ true → Held rest
       → comes seen cmp spread q v w (before ++ s ∷ rest) ≡ true
   comes_brought clock w [] s rest on brought kept =
       let at = brought_at s brought in
@@ -257,18 +257,18 @@ module _ {K X : Type 0} (seen : X → Version K) (cmp : K → K → Ordering) (s
       (kept (watch_after seen cmp q v w s) (brought_has w s brought))
   comes_brought clock w (b ∷ before) s rest on brought kept =
       let at = brought_at s brought in
-      let both = and_parts (is_onward clock (moment b)) (are_onward (clock_after clock (moment b)) (before ++ s ∷ rest)) on in
+      let both = and_parts (is_monotone clock (moment b)) (are_monotone (clock_after clock (moment b)) (before ++ s ∷ rest)) on in
       and_from (not (is_wanting due w (moment b))) (comes seen cmp spread q v (watch_after seen cmp q v w b) (before ++ s ∷ rest))
       (unwanted_early due w (moment b) clock at.0 (reached (clock_after clock (moment b)) before s rest at.0 both.1 at.1) at.2)
       (comes_brought (clock_after clock (moment b)) (watch_after seen cmp q v w b) before s rest both.1 brought kept)
 
-  pub comes_told : (w : Watched) (steps : List (Step X)) (n : ℕ) (s : Step X) → slice_get steps n ≡ Some s → are_onward 0 steps ≡ true
+  pub comes_told : (w : Watched) (steps : List (Step X)) (n : ℕ) (s : Step X) → slice_get steps n ≡ Some s → are_monotone 0 steps ≡ true
       → brings seen cmp spread q v s ≡ true → HoldsFrom seen cmp spread q v steps (n + 1) → comes seen cmp spread q v w steps ≡ true
   comes_told w steps n s is on brought held =
       let cut : take n steps ++ s ∷ drop (n + 1) steps ≡ steps = ap (λ ss. take n steps ++ ss) (sym (at_number steps n s is))
       ∙ take-append-drop n steps in
       subst (λ ss. comes seen cmp spread q v w ss ≡ true) cut
-      (comes_brought 0 w (take n steps) s (drop (n + 1) steps) (subst (λ ss. are_onward 0 ss ≡ true) (sym cut) on) brought held)
+      (comes_brought 0 w (take n steps) s (drop (n + 1) steps) (subst (λ ss. are_monotone 0 ss ≡ true) (sym cut) on) brought held)
 
 -- ---- one member after the other
 module _ {K X : Type 0} (seen : X → Version K) (cmp : K → K → Ordering) (spread members : ℕ) (steps : List (Step X)) where
@@ -281,7 +281,7 @@ module _ {K X : Type 0} (seen : X → Version K) (cmp : K → K → Ordering) (s
   pub to_member : (vs : List X) (q : ℕ) → q < members → All (ComesToAll seen cmp spread members steps) vs → ComeTo q vs
   to_member vs q within all = all_from (λ v. comes seen cmp spread q v (record { runs = true; has = false; saved = false }) steps ≡ true) vs (λ v has. All-contains (ComesToAll seen cmp spread members steps) vs v all has q within)
 
--- ---- spells
+-- ---- uptimes
 module _ {K X : Type 0} (seen : X → Version K) (cmp : K → K → Ordering) (q : ℕ) (steps : List (Step X)) where
   -- a place from which on it has at each step, up to one of this number, what it has there
   pub record IsBack (place number : ℕ) : Type 0 where
@@ -299,11 +299,11 @@ module _ {K X : Type 0} (seen : X → Version K) (cmp : K → K → Ordering) (q
         ];
       }
 
-  -- the spell that ends there
-  pub back_spell : (place number : ℕ) (kept : Bool) → IsBack place number
+  -- the uptime that ends there
+  pub back_uptime : (place number : ℕ) (kept : Bool) → IsBack place number
       → (kept ≡ true → (spread : ℕ) (v : X) → HoldsFrom seen cmp spread q v steps number)
-      → IsSpell seen cmp q steps (record { from = place; until = number; kept = kept })
-  back_spell place number kept back there = record {
+      → IsUptime seen cmp q steps (record { from = place; until = number; kept = kept })
+  back_uptime place number kept back there = record {
     rises = back.low;
     holds = λ keeps spread v n low high. back.holds spread v n low high (there keeps spread v);
   }

@@ -10,20 +10,20 @@ use Rattle.am_version_order.specs.Versions.{Version}
 use Rattle.am_merge.specs.Indexes.{IsIndex, filed}
 use Rattle.am_merge.specs.Maps.{IsMap}
 use Rattle.am_merge.proofs.Indexes.{some_is}
-use Rattle.am_runs.specs.declared.place.Place.{Place}
-use Rattle.am_runs.specs.declared.peaks.Head.{Head}
-use Rattle.am_runs.specs.declared.peaks.Peak.{Peak}
-use Rattle.am_runs.specs.declared.peaks.Peaks.{Peaks}
+use Rattle.am_runs.specs.declared.position.Position.{Position}
+use Rattle.am_runs.specs.declared.maxima.Head.{Head}
+use Rattle.am_runs.specs.declared.maxima.Maximum.{Maximum}
+use Rattle.am_runs.specs.declared.maxima.Maxima.{Maxima}
 use Rattle.am_runs.specs.declared.step.Source.{Source}
 use Rattle.am_runs.specs.Steps.{Step}
 use Rattle.am_runs.specs.Steps.Step.{Took, Ticked, Back, Refused, Saved, Stopped, Started}
 use Rattle.am_runs.specs.Tests.{Tops, tops_after, tops_from}
-use Rattle.am_runs.specs.Peaks.{in_step, version_at, row_of, row_entry, owner_at, owner_in, owner_cmp, by_owner, IsOrder, IsRowOf, ArePeaks, IsPeak, IsPlaced, IsRemade, raised_all, tops_in, HasRowRoom}
+use Rattle.am_runs.specs.Maxima.{in_step, version_at, row_of, row_entry, owner_at, owner_in, owner_cmp, by_owner, IsOrder, IsRowOf, AreMaxima, IsMaximum, IsPlaced, IsRemade, raised_all, tops_in, HasRowRoom}
 use Rattle.am_runs.proofs.Spreads.{get_left}
 use Rattle.am_runs.specs.declared.standing.Standing.{Standing}
 use Rattle.am_runs.specs.Accounts.{IsAccount}
 use Rattle.am_runs.specs.Standings.{AreStandings}
-use Rattle.am_runs.proofs.Owners.{same_peaks, rows_kept}
+use Rattle.am_runs.proofs.Owners.{same_maxima, rows_kept}
 
 take_front : {A : Type 0} (xs ys : List A) → take (length xs) (xs ++ ys) ≡ xs
 take_front [] ys = refl
@@ -39,7 +39,7 @@ module _ {K X : Type 0} (seen : X → Version K) (cmp : K → K → Ordering) wh
   tops_from-push q key t (u ∷ before) s = tops_from-push q key (tops_after seen cmp q key t u) before s
 
   -- ---- more places
-  module _ (at_place wider : Place → Option X) (more : (place : Place) (v : X) → at_place place ≡ Some v → wider place ≡ Some v) where
+  module _ (at_place wider : Position → Option X) (more : (place : Position) (v : X) → at_place place ≡ Some v → wider place ≡ Some v) where
     owner_same : (heads : List Head) → ((row : ℕ) → row < length heads → IsSome (owner_at at_place heads row)) → (row : ℕ) → owner_at at_place heads row ≡ owner_at wider heads row
     owner_same heads there row = by (slice_get heads row) refl where
       inside : (head : Head) → (o : Option X) → at_place head.first ≡ o → IsSome (owner_in at_place (Some head)) → owner_in at_place (Some head) ≡ owner_in wider (Some head)
@@ -50,39 +50,39 @@ module _ {K X : Type 0} (seen : X → Version K) (cmp : K → K → Ordering) wh
       by None e = ap (owner_in at_place) e ∙ sym (ap (owner_in wider) e)
       by (Some head) e = ap (owner_in at_place) e ∙ inside head (at_place head.first) refl (subst (λ o. IsSome (owner_in at_place o)) e (there row (slice_get_within heads row head e))) ∙ sym (ap (owner_in wider) e)
 
-    placed_more : (place : Option Place) (top : Option X) → IsPlaced at_place place top → IsPlaced wider place top
+    placed_more : (place : Option Position) (top : Option X) → IsPlaced at_place place top → IsPlaced wider place top
     placed_more None top is = is
     placed_more (Some place) top is = (is.0, more place is.0 is.1, is.2)
 
-    pub peaks_more : (p : Peaks) (tops_of : ℕ → K → Tops X) → ArePeaks seen cmp at_place p tops_of → ArePeaks seen cmp wider p tops_of
-    peaks_more p tops_of peaks =
-        let same = owner_same p.heads.items peaks.there in
+    pub maxima_more : (p : Maxima) (tops_of : ℕ → K → Tops X) → AreMaxima seen cmp at_place p tops_of → AreMaxima seen cmp wider p tops_of
+    maxima_more p tops_of maxima =
+        let same = owner_same p.heads.items maxima.there in
         let tables : owner_at at_place p.heads.items ≡ owner_at wider p.heads.items = λ i row. same row i in
         record {
           order = record {
-            index = subst (λ t. IsIndex row_of row_entry t (entries p.order)) tables peaks.order.index;
-            order = subst (λ t. IsMap (by_owner seen) (owner_cmp cmp) (filed row_of t (entries p.order))) tables peaks.order.order;
+            index = subst (λ t. IsIndex row_of row_entry t (entries p.order)) tables maxima.order.index;
+            order = subst (λ t. IsMap (by_owner seen) (owner_cmp cmp) (filed row_of t (entries p.order))) tables maxima.order.order;
           };
-          long = peaks.long;
-          there = λ row within. subst IsSome (same row) (peaks.there row within);
-          own = λ row member v peak owner is. (let was = peaks.own row member v peak (same row ∙ owner) is in record { top = placed_more peak.top (tops_of member (seen v).key).top was.top; saved = placed_more peak.saved (tops_of member (seen v).key).saved was.saved });
-          others = λ member key nobody. peaks.others member key (λ row own. nobody row (record { version = own.version; owner = sym (same row) ∙ own.owner; same_key = own.same_key }));
+          long = maxima.long;
+          there = λ row within. subst IsSome (same row) (maxima.there row within);
+          own = λ row member v maximum owner is. (let was = maxima.own row member v maximum (same row ∙ owner) is in record { top = placed_more maximum.top (tops_of member (seen v).key).top was.top; saved = placed_more maximum.saved (tops_of member (seen v).key).saved was.saved });
+          others = λ member key nobody. maxima.others member key (λ row own. nobody row (record { version = own.version; owner = sym (same row) ∙ own.owner; same_key = own.same_key }));
         }
 
-  pub version_more : (before : List (Step X)) (s : Step X) (place : Place) (v : X) → version_at before place ≡ Some v → version_at (before ++ s ∷ []) place ≡ Some v
+  pub version_more : (before : List (Step X)) (s : Step X) (place : Position) (v : X) → version_at before place ≡ Some v → version_at (before ++ s ∷ []) place ≡ Some v
   version_more before s place v is = by (slice_get before place.step) refl is where
     by : (o : Option (Step X)) → slice_get before place.step ≡ o → in_step o place.number ≡ Some v → version_at (before ++ s ∷ []) place ≡ Some v
     by None e found = absurd cc
     by (Some t) e found = ap (λ o. in_step o place.number) (get_left before (s ∷ []) place.step (slice_get_within before place.step t e) ∙ e) ∙ found
 
   -- ---- saves and starts
-  module _ (at_place : Place → Option X) (made : Peak → Peak) (made_tops : Tops X → Tops X) (fits : (peak : Peak) (tops : Tops X) → IsPeak at_place peak tops → IsPeak at_place (made peak) (made_tops tops)) (nothing : made_tops (record { top = None; saved = None }) ≡ record { top = None; saved = None }) where
+  module _ (at_place : Position → Option X) (made : Maximum → Maximum) (made_tops : Tops X → Tops X) (fits : (maximum : Maximum) (tops : Tops X) → IsMaximum at_place maximum tops → IsMaximum at_place (made maximum) (made_tops tops)) (nothing : made_tops (record { top = None; saved = None }) ≡ record { top = None; saved = None }) where
     abbrev remade : ℕ → (ℕ → K → Tops X) → ℕ → K → Tops X
     remade member tops_of q key = cond (eqb member q) (made_tops (tops_of q key)) (tops_of q key)
 
-    fits_where : (b : Bool) (peak : Peak) (tops : Tops X) → IsPeak at_place peak tops → IsPeak at_place (cond b (made peak) peak) (cond b (made_tops tops) tops)
-    fits_where true peak tops is = fits peak tops is
-    fits_where false peak tops is = is
+    fits_where : (b : Bool) (maximum : Maximum) (tops : Tops X) → IsMaximum at_place maximum tops → IsMaximum at_place (cond b (made maximum) maximum) (cond b (made_tops tops) tops)
+    fits_where true maximum tops is = fits maximum tops is
+    fits_where false maximum tops is = is
 
     none_where : (b : Bool) (tops : Tops X) → tops ≡ record { top = None; saved = None } → cond b (made_tops tops) tops ≡ record { top = None; saved = None }
     none_where true tops e = ap made_tops e ∙ nothing
@@ -96,69 +96,69 @@ module _ {K X : Type 0} (seen : X → Version K) (cmp : K → K → Ordering) wh
       by true e false f = absurd (false≢true (sym f ∙ eq-eqb b a (sym (eqb-true a b e))))
       by false e true f = absurd (false≢true (sym e ∙ eq-eqb a b (sym (eqb-true b a f))))
 
-    pub peaks_remade : (old new : Peaks) (member : ℕ) (tops_of : ℕ → K → Tops X) → new.heads.items ≡ old.heads.items → new.order ≡ old.order → IsRemade made old.heads.items member old.peaks.items new.peaks.items → ArePeaks seen cmp at_place old tops_of → ArePeaks seen cmp at_place new (remade member tops_of)
-    peaks_remade old new member tops_of heads order is peaks = record {
-      order = subst (λ hs. IsOrder seen cmp at_place hs (entries new.order)) (sym heads) (subst (λ rows. IsOrder seen cmp at_place old.heads.items (entries rows)) (sym order) peaks.order);
-      long = is.long ∙ peaks.long ∙ sym (ap length heads);
-      there = subst (λ hs. (r : ℕ) → r < length hs → IsSome (owner_at at_place hs r)) (sym heads) peaks.there;
-      own = λ row q v peak owner there. own_at row q v peak (ap (λ hs. owner_at at_place hs row) (sym heads) ∙ owner) there;
-      others = λ q key nobody. none_where (eqb member q) (tops_of q key) (peaks.others q key (λ r own. nobody r (subst (λ hs. IsRowOf seen at_place hs key q r) (sym heads) own)));
+    pub maxima_remade : (old new : Maxima) (member : ℕ) (tops_of : ℕ → K → Tops X) → new.heads.items ≡ old.heads.items → new.order ≡ old.order → IsRemade made old.heads.items member old.maxima.items new.maxima.items → AreMaxima seen cmp at_place old tops_of → AreMaxima seen cmp at_place new (remade member tops_of)
+    maxima_remade old new member tops_of heads order is maxima = record {
+      order = subst (λ hs. IsOrder seen cmp at_place hs (entries new.order)) (sym heads) (subst (λ rows. IsOrder seen cmp at_place old.heads.items (entries rows)) (sym order) maxima.order);
+      long = is.long ∙ maxima.long ∙ sym (ap length heads);
+      there = subst (λ hs. (r : ℕ) → r < length hs → IsSome (owner_at at_place hs r)) (sym heads) maxima.there;
+      own = λ row q v maximum owner there. own_at row q v maximum (ap (λ hs. owner_at at_place hs row) (sym heads) ∙ owner) there;
+      others = λ q key nobody. none_where (eqb member q) (tops_of q key) (maxima.others q key (λ r own. nobody r (subst (λ hs. IsRowOf seen at_place hs key q r) (sym heads) own)));
     } where
-      own_by : (row q : ℕ) (v : X) (peak was : Peak) (head : Head) → slice_get old.heads.items row ≡ Some head → slice_get old.peaks.items row ≡ Some was → owner_at at_place old.heads.items row ≡ Some (q, v) → slice_get new.peaks.items row ≡ Some peak → head.member ≡ q → IsPeak at_place peak (remade member tops_of q (seen v).key)
-      own_by row q v peak was head at_head at_was owner there own =
-          let put : cond (eqb head.member member) (made was) was ≡ peak = some_is (sym (is.own row head was at_head at_was) ∙ there) in
-          subst (λ b. IsPeak at_place peak (cond b (made_tops (tops_of q (seen v).key)) (tops_of q (seen v).key))) (ap (λ m. eqb m member) own ∙ swap q member)
-          (subst (λ p. IsPeak at_place p (cond (eqb head.member member) (made_tops (tops_of q (seen v).key)) (tops_of q (seen v).key))) put (fits_where (eqb head.member member) was (tops_of q (seen v).key) (peaks.own row q v was owner at_was)))
+      own_by : (row q : ℕ) (v : X) (maximum was : Maximum) (head : Head) → slice_get old.heads.items row ≡ Some head → slice_get old.maxima.items row ≡ Some was → owner_at at_place old.heads.items row ≡ Some (q, v) → slice_get new.maxima.items row ≡ Some maximum → head.member ≡ q → IsMaximum at_place maximum (remade member tops_of q (seen v).key)
+      own_by row q v maximum was head at_head at_was owner there own =
+          let put : cond (eqb head.member member) (made was) was ≡ maximum = some_is (sym (is.own row head was at_head at_was) ∙ there) in
+          subst (λ b. IsMaximum at_place maximum (cond b (made_tops (tops_of q (seen v).key)) (tops_of q (seen v).key))) (ap (λ m. eqb m member) own ∙ swap q member)
+          (subst (λ p. IsMaximum at_place p (cond (eqb head.member member) (made_tops (tops_of q (seen v).key)) (tops_of q (seen v).key))) put (fits_where (eqb head.member member) was (tops_of q (seen v).key) (maxima.own row q v was owner at_was)))
 
       member_is : (head : Head) (o : Option X) (q : ℕ) (v : X) → at_place head.first ≡ o → owner_in at_place (Some head) ≡ Some (q, v) → head.member ≡ q
       member_is head None q v e owner = let none : owner_in at_place (Some head) ≡ None = ap (λ o. elim o [ None ↦ None | Some w ↦ Some (head.member, w) ]) e in absurd cc
       member_is head (Some w) q v e owner = let some : owner_in at_place (Some head) ≡ Some (head.member, w) = ap (λ o. elim o [ None ↦ None | Some w ↦ Some (head.member, w) ]) e in ap (λ (y : ℕ × X). y.0) (some_is (sym some ∙ owner))
 
-      own_at : (row q : ℕ) (v : X) (peak : Peak) → owner_at at_place old.heads.items row ≡ Some (q, v) → slice_get new.peaks.items row ≡ Some peak → IsPeak at_place peak (remade member tops_of q (seen v).key)
-      own_at row q v peak owner there = by (slice_get old.heads.items row) refl where
-        by : (o : Option Head) → slice_get old.heads.items row ≡ o → IsPeak at_place peak (remade member tops_of q (seen v).key)
+      own_at : (row q : ℕ) (v : X) (maximum : Maximum) → owner_at at_place old.heads.items row ≡ Some (q, v) → slice_get new.maxima.items row ≡ Some maximum → IsMaximum at_place maximum (remade member tops_of q (seen v).key)
+      own_at row q v maximum owner there = by (slice_get old.heads.items row) refl where
+        by : (o : Option Head) → slice_get old.heads.items row ≡ o → IsMaximum at_place maximum (remade member tops_of q (seen v).key)
         by None e = let none : owner_at at_place old.heads.items row ≡ None = ap (owner_in at_place) e in absurd cc
         by (Some head) e =
-            let long = peaks.long in
+            let long = maxima.long in
             let low = slice_get_within old.heads.items row head e in
-            let inside : row < length old.peaks.items = omega arith in
-            own_by row q v peak (get_or old.peaks.items row (record { top = None; saved = None })) head e (slice_get-get_or old.peaks.items row (record { top = None; saved = None }) inside) owner there (member_is head (at_place head.first) q v refl (sym (ap (owner_in at_place) e) ∙ owner))
+            let inside : row < length old.maxima.items = omega arith in
+            own_by row q v maximum (get_or old.maxima.items row (record { top = None; saved = None })) head e (slice_get-get_or old.maxima.items row (record { top = None; saved = None }) inside) owner there (member_is head (at_place head.first) q v refl (sym (ap (owner_in at_place) e) ∙ owner))
 
   -- ---- a step more
-  module _ (at_place : Place → Option X) (p : Peaks) (before : List (Step X)) where
+  module _ (at_place : Position → Option X) (p : Maxima) (before : List (Step X)) where
     abbrev pub After : Step X → Type 0
-    After s = ArePeaks seen cmp at_place p (tops_in seen cmp (before ++ s ∷ []))
+    After s = AreMaxima seen cmp at_place p (tops_in seen cmp (before ++ s ∷ []))
 
-    pushed : (s : Step X) (tops_of : ℕ → K → Tops X) → ((q : ℕ) (key : K) → tops_of q key ≡ tops_after seen cmp q key (tops_in seen cmp before q key) s) → ArePeaks seen cmp at_place p tops_of → After s
-    pushed s tops_of same peaks = same_peaks seen cmp at_place p tops_of (tops_in seen cmp (before ++ s ∷ [])) (λ q key. same q key ∙ sym (tops_from-push q key (record { top = None; saved = None }) before s)) peaks
+    pushed : (s : Step X) (tops_of : ℕ → K → Tops X) → ((q : ℕ) (key : K) → tops_of q key ≡ tops_after seen cmp q key (tops_in seen cmp before q key) s) → AreMaxima seen cmp at_place p tops_of → After s
+    pushed s tops_of same maxima = same_maxima seen cmp at_place p tops_of (tops_in seen cmp (before ++ s ∷ [])) (λ q key. same q key ∙ sym (tops_from-push q key (record { top = None; saved = None }) before s)) maxima
 
-    pub took : (place now : ℕ) (source : Source) (versions : List X) (frames : List (List X)) → ArePeaks seen cmp at_place p (raised_all seen cmp (tops_in seen cmp before) place versions) → After (Took place now source versions frames)
+    pub took : (place now : ℕ) (source : Source) (versions : List X) (frames : List (List X)) → AreMaxima seen cmp at_place p (raised_all seen cmp (tops_in seen cmp before) place versions) → After (Took place now source versions frames)
     took place now source versions frames = pushed (Took place now source versions frames) (raised_all seen cmp (tops_in seen cmp before) place versions) (λ q key. refl)
 
-    pub saved : (place : ℕ) → ArePeaks seen cmp at_place p (λ q key. cond (eqb place q) (record { top = (tops_in seen cmp before q key).top; saved = (tops_in seen cmp before q key).top }) (tops_in seen cmp before q key)) → After (Saved place)
+    pub saved : (place : ℕ) → AreMaxima seen cmp at_place p (λ q key. cond (eqb place q) (record { top = (tops_in seen cmp before q key).top; saved = (tops_in seen cmp before q key).top }) (tops_in seen cmp before q key)) → After (Saved place)
     saved place = pushed (Saved place) _ (λ q key. refl)
 
-    pub started : (place now : ℕ) → ArePeaks seen cmp at_place p (λ q key. cond (eqb place q) (record { top = (tops_in seen cmp before q key).saved; saved = (tops_in seen cmp before q key).saved }) (tops_in seen cmp before q key)) → After (Started place now)
+    pub started : (place now : ℕ) → AreMaxima seen cmp at_place p (λ q key. cond (eqb place q) (record { top = (tops_in seen cmp before q key).saved; saved = (tops_in seen cmp before q key).saved }) (tops_in seen cmp before q key)) → After (Started place now)
     started place now = pushed (Started place now) _ (λ q key. refl)
 
     same_where : (b : Bool) (t : Tops X) → t ≡ cond b t t
     same_where true t = refl
     same_where false t = refl
 
-    pub ticked : (place now : ℕ) → ArePeaks seen cmp at_place p (tops_in seen cmp before) → After (Ticked place now)
+    pub ticked : (place now : ℕ) → AreMaxima seen cmp at_place p (tops_in seen cmp before) → After (Ticked place now)
     ticked place now = pushed (Ticked place now) (tops_in seen cmp before) (λ q key. same_where (eqb place q) (tops_in seen cmp before q key))
 
-    pub back : (place now : ℕ) → ArePeaks seen cmp at_place p (tops_in seen cmp before) → After (Back place now)
+    pub back : (place now : ℕ) → AreMaxima seen cmp at_place p (tops_in seen cmp before) → After (Back place now)
     back place now = pushed (Back place now) (tops_in seen cmp before) (λ q key. same_where (eqb place q) (tops_in seen cmp before q key))
 
-    pub refused : (now : ℕ) → ArePeaks seen cmp at_place p (tops_in seen cmp before) → After (Refused now)
+    pub refused : (now : ℕ) → AreMaxima seen cmp at_place p (tops_in seen cmp before) → After (Refused now)
     refused now = pushed (Refused now) (tops_in seen cmp before) (λ q key. refl)
 
-    pub stopped : (place : ℕ) → ArePeaks seen cmp at_place p (tops_in seen cmp before) → After (Stopped place)
+    pub stopped : (place : ℕ) → AreMaxima seen cmp at_place p (tops_in seen cmp before) → After (Stopped place)
     stopped place = pushed (Stopped place) (tops_in seen cmp before) (λ q key. same_where (eqb place q) (tops_in seen cmp before q key))
 
   -- ---- what a run keeps
-  pub account_kept : (is_value : X → Type 0) (members : ℕ) (steps others : List (Step X)) (old new : Peaks) (standings newer : List Standing) (spare more : ℕ) → IsAccount seen cmp is_value members steps old standings spare → others ≡ steps → new.heads.items ≡ old.heads.items → new.peaks.items ≡ old.peaks.items → entries new.order ≡ entries old.order → (AreStandings seen cmp standings steps → AreStandings seen cmp newer steps) → HasRowRoom new more → IsAccount seen cmp is_value members others new newer more
+  pub account_kept : (is_value : X → Type 0) (members : ℕ) (steps others : List (Step X)) (old new : Maxima) (standings newer : List Standing) (spare more : ℕ) → IsAccount seen cmp is_value members steps old standings spare → others ≡ steps → new.heads.items ≡ old.heads.items → new.maxima.items ≡ old.maxima.items → entries new.order ≡ entries old.order → (AreStandings seen cmp standings steps → AreStandings seen cmp newer steps) → HasRowRoom new more → IsAccount seen cmp is_value members others new newer more
   account_kept is_value members steps others old new standings newer spare more account same heads places order stands room =
       subst (λ ss. IsAccount seen cmp is_value members ss new newer more) (sym same) (record {
         run = account.run;
@@ -172,11 +172,11 @@ module _ {K X : Type 0} (seen : X → Version K) (cmp : K → K → Ordering) wh
     taken_back : take number (steps ++ s ∷ []) ≡ steps
     taken_back = ap (λ n. take n (steps ++ s ∷ [])) long ∙ take_front steps (s ∷ [])
 
-    pub grown_rows : (p : Peaks) → ArePeaks seen cmp (version_at (map f steps)) p (tops_in seen cmp (map f steps)) → ArePeaks seen cmp (version_at (map f (steps ++ s ∷ []))) p (tops_in seen cmp (map f (take number (steps ++ s ∷ []))))
-    grown_rows p peaks =
-        subst (λ xs. ArePeaks seen cmp (version_at (map f (steps ++ s ∷ []))) p (tops_in seen cmp (map f xs))) (sym taken_back)
-        (subst (λ ss. ArePeaks seen cmp (version_at ss) p (tops_in seen cmp (map f steps))) (sym (map-append f steps (s ∷ [])))
-        (peaks_more (version_at (map f steps)) (version_at (map f steps ++ f s ∷ [])) (version_more (map f steps) (f s)) p (tops_in seen cmp (map f steps)) peaks))
+    pub grown_rows : (p : Maxima) → AreMaxima seen cmp (version_at (map f steps)) p (tops_in seen cmp (map f steps)) → AreMaxima seen cmp (version_at (map f (steps ++ s ∷ []))) p (tops_in seen cmp (map f (take number (steps ++ s ∷ []))))
+    grown_rows p maxima =
+        subst (λ xs. AreMaxima seen cmp (version_at (map f (steps ++ s ∷ []))) p (tops_in seen cmp (map f xs))) (sym taken_back)
+        (subst (λ ss. AreMaxima seen cmp (version_at ss) p (tops_in seen cmp (map f steps))) (sym (map-append f steps (s ∷ [])))
+        (maxima_more (version_at (map f steps)) (version_at (map f steps ++ f s ∷ [])) (version_more (map f steps) (f s)) p (tops_in seen cmp (map f steps)) maxima))
 
     pub grown_stands : (standings : List Standing) → AreStandings seen cmp standings (map f steps) → AreStandings seen cmp standings (map f (take number (steps ++ s ∷ [])))
     grown_stands standings are = subst (λ xs. AreStandings seen cmp standings (map f xs)) (sym taken_back) are

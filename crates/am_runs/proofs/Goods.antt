@@ -14,7 +14,7 @@ use Rattle.am_collect.specs.Events.Event.{Delivered, Collected, Passed}
 use Rattle.am_collect.specs.Calm.{IsCalm, IsInTime}
 use Rattle.am_runs.specs.declared.step.Source.{Source}
 use Rattle.am_runs.specs.declared.step.Source.TheVariants.{Made, Written, Arrived, Lent}
-use Rattle.am_runs.specs.Steps.{Step, EachStep, Flight, moment, clock_after, clock_from, delivered_by, delivered_in, flights_by, flights_of, is_at, is_back_at}
+use Rattle.am_runs.specs.Steps.{Step, EachStep, SentFrame, moment, clock_after, clock_from, delivered_by, delivered_in, flights_by, flights_of, is_at, is_back_at}
 use Rattle.am_runs.specs.Steps.Step.{Took, Ticked, Back, Refused, Saved, Stopped, Started}
 use Rattle.am_runs.specs.Members.{Member, passes, stepped, member_after, member_of, set_of, last_of, map_of}
 use Rattle.am_runs.specs.Runs.{IsPossible, IsRun, AreFrom, IsSent, IsCalmStep, IsCalmAt, changed}
@@ -33,10 +33,10 @@ module _ {X : Type 0} where
   clock_from-push clock [] s = refl
   clock_from-push clock (t ∷ before) s = clock_from-push (clock_after clock (moment t)) before s
 
-  flown : (now : ℕ) (frames : List (List X)) (f : Flight X) → Contains (map (λ frame. record { sent = now; versions = frame }) frames) f → (frame : List X) × (Contains frames frame) × (◌≡◌ {A = Flight X} (record { sent = now; versions = frame }) f)
+  flown : (now : ℕ) (frames : List (List X)) (f : SentFrame X) → Contains (map (λ frame. record { sent = now; versions = frame }) frames) f → (frame : List X) × (Contains frames frame) × (◌≡◌ {A = SentFrame X} (record { sent = now; versions = frame }) f)
   flown now [] f c = absurd (empty f c)
   flown now (frame ∷ frames) f c = by (Contains-append_cases (record { sent = now; versions = frame } ∷ []) (map (λ g. record { sent = now; versions = g }) frames) f c) (flown now frames f) where
-    by : Contains (record { sent = now; versions = frame } ∷ []) f ⊎ Contains (map (λ g. record { sent = now; versions = g }) frames) f → (Contains (map (λ g. record { sent = now; versions = g }) frames) f → (g : List X) × (Contains frames g) × (◌≡◌ {A = Flight X} (record { sent = now; versions = g }) f)) → (g : List X) × (Contains (frame ∷ frames) g) × (◌≡◌ {A = Flight X} (record { sent = now; versions = g }) f)
+    by : Contains (record { sent = now; versions = frame } ∷ []) f ⊎ Contains (map (λ g. record { sent = now; versions = g }) frames) f → (Contains (map (λ g. record { sent = now; versions = g }) frames) f → (g : List X) × (Contains frames g) × (◌≡◌ {A = SentFrame X} (record { sent = now; versions = g }) f)) → (g : List X) × (Contains (frame ∷ frames) g) × (◌≡◌ {A = SentFrame X} (record { sent = now; versions = g }) f)
     by (inl here) rest = (frame, Contains-append_left (frame ∷ []) frames frame (Contains-push [] frame), one_same (record { sent = now; versions = frame }) f here)
     by (inr there) rest = let r = rest there in (r.0, Contains-append_right (frame ∷ []) frames r.0 r.1, r.2)
 
@@ -52,18 +52,18 @@ module _ {K X : Type 0} (seen : X → Version K) (cmp : K → K → Ordering) (k
     pub within_saved : (x : X) → Contains (taken [] m.saved) x → Contains all x
 
   -- what was old when a frame was sent beats nothing live in it
-  pub record IsGoodFlight (clock : ℕ) (f : Flight X) : Type 0 where
+  pub record IsGoodFlight (clock : ℕ) (f : SentFrame X) : Type 0 where
     pub past : f.sent ≤ clock
     pub unbeaten : (v : X) → Contains f.versions v → (g : X) → Contains all g → (seen g).key ≡ (seen v).key → is_below (seen v) (seen g) ≡ true → (seen g).updated + spread ≤ f.sent → (seen v).expires ≤ f.sent
 
   pub record IsGood (before : List (Step X)) : Type 0 where
     pub each_member : (q : ℕ) → IsGoodMember (clock_from 0 before) (member_of members q before)
-    pub flights : (f : Flight X) → Contains (flights_of before) f → IsGoodFlight (clock_from 0 before) f
+    pub flights : (f : SentFrame X) → Contains (flights_of before) f → IsGoodFlight (clock_from 0 before) f
 
   later_member : (clock now : ℕ) (m : Member X) → clock ≤ now → IsGoodMember clock m → IsGoodMember now m
   later_member clock now m on h = record { fit = h.fit; past = (let past : last_of m ≤ clock = h.past in omega arith); within = h.within; within_saved = h.within_saved }
 
-  later_flight : (clock now : ℕ) (f : Flight X) → clock ≤ now → IsGoodFlight clock f → IsGoodFlight now f
+  later_flight : (clock now : ℕ) (f : SentFrame X) → clock ≤ now → IsGoodFlight clock f → IsGoodFlight now f
   later_flight clock now f on h = record { past = (let past : f.sent ≤ clock = h.past in omega arith); unbeaten = h.unbeaten }
 
   long : (g : X) → Contains all g → ((seen g).updated + spread) + flight ≤ (seen g).expires
@@ -129,7 +129,7 @@ module _ {K X : Type 0} (seen : X → Version K) (cmp : K → K → Ordering) (k
         let lasts : ((seen g).updated + spread) + flight ≤ (seen g).expires = long g has in
         absurd (omega arith)
 
-    safe_arrived : (f : Flight X) (v : X) → Contains (flights_of before) f → Contains f.versions v → now ≤ f.sent + flight → IsSafe now v
+    safe_arrived : (f : SentFrame X) (v : X) → Contains (flights_of before) f → Contains f.versions v → now ≤ f.sent + flight → IsSafe now v
     safe_arrived f v flies member swift g has same below dead =
         let lasts : ((seen g).updated + spread) + flight ≤ (seen g).expires = long g has in
         let old : (seen g).updated + spread ≤ f.sent = omega arith in
@@ -152,7 +152,7 @@ module _ {K X : Type 0} (seen : X → Version K) (cmp : K → K → Ordering) (k
         let past : last_of (member_of members q before) ≤ clock_from 0 before = m.past in
         omega arith
 
-    arrived : (number : ℕ) (vs : List X) (o : Option (Flight X)) → slice_get (flights_of before) number ≡ o → IsSomeAnd o (λ f. All (Contains f.versions) vs) → IfSome o (λ f. now ≤ f.sent + flight) → (v : X) → Contains vs v → IsSafe now v
+    arrived : (number : ℕ) (vs : List X) (o : Option (SentFrame X)) → slice_get (flights_of before) number ≡ o → IsSomeAnd o (λ f. All (Contains f.versions) vs) → IfSome o (λ f. now ≤ f.sent + flight) → (v : X) → Contains vs v → IsSafe now v
     arrived number vs None e from swift v has = absurd from
     arrived number vs (Some f) e from swift v has = safe_arrived f v (got_there (flights_of before) number f e) (All-contains (Contains f.versions) vs v from has) swift
 
@@ -213,7 +213,7 @@ module _ {K X : Type 0} (seen : X → Version K) (cmp : K → K → Ordering) (k
   took_calm : (before : List (Step X)) (place now : ℕ) (source : Source) (versions : List X) (frames : List (List X)) → IsGood before → HasBegun before (Took place now source versions frames) → IsCalm seen [] 0 ((member_of members place before).past ++ passes now versions)
   took_calm before place now source versions frames good b = (member_next (member_of members place before) (clock_from 0 before) (Took place now source versions frames) (good.each_member place) b.onward b.known (safe_step before (Took place now source versions frames) good b)).fit.past
 
-  flight_new : (before : List (Step X)) (s : Step X) → IsGood before → HasBegun before s → (f : Flight X) → Contains (flights_by s) f → IsGoodFlight (clock_after (clock_from 0 before) (moment s)) f
+  flight_new : (before : List (Step X)) (s : Step X) → IsGood before → HasBegun before s → (f : SentFrame X) → Contains (flights_by s) f → IsGoodFlight (clock_after (clock_from 0 before) (moment s)) f
   flight_new before (Took place now source versions frames) good b f c =
       let r = flown now frames f c in
       subst (IsGoodFlight now) r.2

@@ -11,23 +11,23 @@ use Rattle.std.proofs.lemmas.Bool.{eqb-true, eq-eqb, cases_eq, cases_lt, false�
 use Rattle.std.proofs.lemmas.Option.{slice_get_within, get_or_from_slice_get, slice_get_past, slice_get-get_or}
 use Rattle.std.proofs.Math.ListN.{length-set}
 use Rattle.std.proofs.lemmas.List.{take_more}
-use Rattle.am_blocks.specs.declared.spot.Spot.{Spot}
+use Rattle.am_blocks.specs.declared.cursor.Cursor.{Cursor}
 use Rattle.am_blocks.specs.Rows.{Rows, entries}
-use Rattle.am_blocks.specs.Spots.{place}
+use Rattle.am_blocks.specs.Cursors.{place}
 use Rattle.am_blocks.specs.Searches.{IsRising, IsFound, IsMissing}
 use Rattle.am_version_order.specs.Versions.{Version}
 use Rattle.am_merge.specs.Indexes.{Changes, filed}
 use Rattle.am_merge.specs.Maps.{IsMap, greater_of, at}
 use Rattle.am_merge.specs.Places.{IsGapFor}
 use Rattle.am_merge.proofs.Keys.{IsKeyOrder, key_order, eq_itself, same_key}
-use Rattle.am_merge.proofs.Shelves.{spot_within, then_equal}
+use Rattle.am_merge.proofs.Stores.{cursor_within, then_equal}
 use Rattle.am_merge.proofs.Indexes as indexes
-use Rattle.am_runs.specs.declared.place.Place.{Place}
-use Rattle.am_runs.specs.declared.peaks.Head.{Head}
-use Rattle.am_runs.specs.declared.peaks.Peak.{Peak}
-use Rattle.am_runs.specs.declared.peaks.Peaks.{Peaks}
+use Rattle.am_runs.specs.declared.position.Position.{Position}
+use Rattle.am_runs.specs.declared.maxima.Head.{Head}
+use Rattle.am_runs.specs.declared.maxima.Maximum.{Maximum}
+use Rattle.am_runs.specs.declared.maxima.Maxima.{Maxima}
 use Rattle.am_runs.specs.Tests.{Tops, top_among}
-use Rattle.am_runs.specs.Peaks.{row_of, row_entry, owner_at, owner_in, owner_cmp, owner_order, by_owner, IsOrder, IsRowOf, ArePeaks, IsPeak, HasRowRoom, raised, raised_all, tops_in, version_at}
+use Rattle.am_runs.specs.Maxima.{row_of, row_entry, owner_at, owner_in, owner_cmp, owner_order, by_owner, IsOrder, IsRowOf, AreMaxima, IsMaximum, HasRowRoom, raised, raised_all, tops_in, version_at}
 use Rattle.am_runs.proofs.Spreads.{get_left, get_right}
 
 entry_row : {Y : Type 0} (row : ℕ) (y : Y) → row_of (row_entry row y) ≡ row
@@ -60,7 +60,7 @@ module _ {K : Type 0} (cmp : K → K → Ordering) (keys : IsKeyOrder cmp) where
   pub owners : IsKeyOrder (owner_cmp cmp)
   owners = key_order owner_total owner_exact
 
-module _ {K X : Type 0} (seen : X → Version K) (cmp : K → K → Ordering) (keys : IsKeyOrder cmp) (at_place : Place → Option X) where
+module _ {K X : Type 0} (seen : X → Version K) (cmp : K → K → Ordering) (keys : IsKeyOrder cmp) (at_place : Position → Option X) where
   module _ (heads : List Head) (key : K) (member : ℕ) where
     agrees : (row : ℕ) (y : ℕ × X) → owner_at at_place heads (row_of row) ≡ Some y → row ≡ row_entry (row_of row) y → owner_order seen cmp (owner_at at_place heads row) key member ≡ owner_cmp cmp (by_owner seen y).key (key, member)
     agrees row y there is = ap (λ o. owner_order seen cmp o key member) there
@@ -68,13 +68,13 @@ module _ {K X : Type 0} (seen : X → Version K) (cmp : K → K → Ordering) (k
     pub owners_rising : (rows : List ℕ) → IsOrder seen cmp at_place heads rows → IsRising (λ row. owner_order seen cmp (owner_at at_place heads row) key member) rows
     owners_rising rows is = indexes.rising row_of row_entry entry_row (by_owner seen) (owner_cmp cmp) (owners cmp keys) (owner_at at_place heads) (key, member) (λ row. owner_order seen cmp (owner_at at_place heads row) key member) agrees rows is.index.sound is.order
 
-    pub owner_missed : (rows : Rows ℕ) (spot : Spot) → IsOrder seen cmp at_place heads (entries rows) → IsMissing (λ row. owner_order seen cmp (owner_at at_place heads row) key member) rows spot → IsGapFor (by_owner seen) (owner_cmp cmp) (filed row_of (owner_at at_place heads) (entries rows)) (key, member) (place rows spot)
-    owner_missed rows spot is missing = indexes.missed row_of row_entry entry_row (by_owner seen) (owner_cmp cmp) (owners cmp keys) (owner_at at_place heads) (key, member) (λ row. owner_order seen cmp (owner_at at_place heads row) key member) agrees (entries rows) (place rows spot) is.index.sound (spot_within rows spot missing.within) missing.before missing.behind
+    pub owner_missed : (rows : Rows ℕ) (cursor : Cursor) → IsOrder seen cmp at_place heads (entries rows) → IsMissing (λ row. owner_order seen cmp (owner_at at_place heads row) key member) rows cursor → IsGapFor (by_owner seen) (owner_cmp cmp) (filed row_of (owner_at at_place heads) (entries rows)) (key, member) (place rows cursor)
+    owner_missed rows cursor is missing = indexes.missed row_of row_entry entry_row (by_owner seen) (owner_cmp cmp) (owners cmp keys) (owner_at at_place heads) (key, member) (λ row. owner_order seen cmp (owner_at at_place heads row) key member) agrees (entries rows) (place rows cursor) is.index.sound (cursor_within rows cursor missing.within) missing.before missing.behind
 
-    pub none_missed : (rows : Rows ℕ) (spot : Spot) → IsOrder seen cmp at_place heads (entries rows) → IsMissing (λ row. owner_order seen cmp (owner_at at_place heads row) key member) rows spot → (row : ℕ) → ¬ IsRowOf seen at_place heads key member row
-    none_missed rows spot is missing row own =
+    pub none_missed : (rows : Rows ℕ) (cursor : Cursor) → IsOrder seen cmp at_place heads (entries rows) → IsMissing (λ row. owner_order seen cmp (owner_at at_place heads row) key member) rows cursor → (row : ℕ) → ¬ IsRowOf seen at_place heads key member row
+    none_missed rows cursor is missing row own =
         indexes.never-missed row_of row_entry entry_row (by_owner seen) (owner_cmp cmp) (owners cmp keys) (owner_at at_place heads) row (member, own.version) own.owner (entries rows) is.index is.order (λ r. owner_order seen cmp (owner_at at_place heads r) key member)
-        (λ r y there e. agrees r y there e ∙ ap (λ k. owner_cmp cmp (by_owner seen y).key (k, member)) (sym own.same_key)) (place rows spot) missing.before missing.behind
+        (λ r y there e. agrees r y there e ∙ ap (λ k. owner_cmp cmp (by_owner seen y).key (k, member)) (sym own.same_key)) (place rows cursor) missing.before missing.behind
 
     row_met : (row : ℕ) (o : Option (ℕ × X)) → owner_at at_place heads row ≡ o → owner_order seen cmp o key member ≡ Equal → IsRowOf seen at_place heads key member row
     row_met row None there tie = absurd cc
@@ -82,9 +82,9 @@ module _ {K X : Type 0} (seen : X → Version K) (cmp : K → K → Ordering) (k
         let same = owner_exact cmp keys ((seen owner.1).key, owner.0) (key, member) tie in
         record { version = owner.1; owner = there ∙ ap (λ m. Some (m, owner.1)) (ap (λ p. p.1) same); same_key = ap (λ p. p.0) same }
 
-    pub owner_met : (rows : Rows ℕ) (spot : Spot) (row : ℕ) → IsFound (λ r. owner_order seen cmp (owner_at at_place heads r) key member) rows spot → slice_get (entries rows) (place rows spot) ≡ Some row → IsRowOf seen at_place heads key member row
-    owner_met rows spot row found is =
-        row_met row (owner_at at_place heads row) refl (subst (λ r. owner_order seen cmp (owner_at at_place heads r) key member ≡ Equal) (get_or_from_slice_get (entries rows) (place rows spot) row row is) (found.equal row))
+    pub owner_met : (rows : Rows ℕ) (cursor : Cursor) (row : ℕ) → IsFound (λ r. owner_order seen cmp (owner_at at_place heads r) key member) rows cursor → slice_get (entries rows) (place rows cursor) ≡ Some row → IsRowOf seen at_place heads key member row
+    owner_met rows cursor row found is =
+        row_met row (owner_at at_place heads row) refl (subst (λ r. owner_order seen cmp (owner_at at_place heads r) key member ≡ Equal) (get_or_from_slice_get (entries rows) (place rows cursor) row row is) (found.equal row))
 
   -- no two rows have one owner
   row_unique : (heads : List Head) (rows : List ℕ) (key : K) (member row other : ℕ) → IsOrder seen cmp at_place heads rows → IsRowOf seen at_place heads key member row → IsRowOf seen at_place heads key member other → row ≡ other
@@ -160,116 +160,116 @@ module _ {K X : Type 0} (seen : X → Version K) (cmp : K → K → Ordering) (k
       by true m false k = absurd (false≢true k)
       by false m e k = absurd (false≢true m)
 
-  own_fits : (tops : Tops X) (peak other : Peak) → peak ≡ other → IsPeak at_place peak tops → IsPeak at_place other tops
-  own_fits tops peak other same is = subst (λ p. IsPeak at_place p tops) same is
+  own_fits : (tops : Tops X) (maximum other : Maximum) → maximum ≡ other → IsMaximum at_place maximum tops → IsMaximum at_place other tops
+  own_fits tops maximum other same is = subst (λ p. IsMaximum at_place p tops) same is
 
   -- the first version of a key that a member takes
-  module _ (old new : Peaks) (head : Head) (v : X) (i : ℕ) (is : at_place head.first ≡ Some v) (none : (row : ℕ) → ¬ IsRowOf seen at_place old.heads.items (seen v).key head.member row)
+  module _ (old new : Maxima) (head : Head) (v : X) (i : ℕ) (is : at_place head.first ≡ Some v) (none : (row : ℕ) → ¬ IsRowOf seen at_place old.heads.items (seen v).key head.member row)
       (gap : IsGapFor (by_owner seen) (owner_cmp cmp) (filed row_of (owner_at at_place old.heads.items) (entries old.order)) ((seen v).key, head.member) i)
-      (heads : new.heads.items ≡ old.heads.items ++ head ∷ []) (places : new.peaks.items ≡ old.peaks.items ++ (record { top = Some head.first; saved = None }) ∷ [])
-      (order : entries new.order ≡ insert (entries old.order) i (length old.heads.items)) (tops_of : ℕ → K → Tops X) (peaks : ArePeaks seen cmp at_place old tops_of) where
+      (heads : new.heads.items ≡ old.heads.items ++ head ∷ []) (places : new.maxima.items ≡ old.maxima.items ++ (record { top = Some head.first; saved = None }) ∷ [])
+      (order : entries new.order ≡ insert (entries old.order) i (length old.heads.items)) (tops_of : ℕ → K → Tops X) (maxima : AreMaxima seen cmp at_place old tops_of) where
     added_first : tops_of head.member (seen v).key ≡ record { top = None; saved = None }
-    added_first = peaks.others head.member (seen v).key none
+    added_first = maxima.others head.member (seen v).key none
 
-    first_peak : Peak
-    first_peak = record { top = Some head.first; saved = None }
+    first_maximum : Maximum
+    first_maximum = record { top = Some head.first; saved = None }
 
-    added_own : (row member : ℕ) (w : X) (peak : Peak) → owner_at at_place (old.heads.items ++ head ∷ []) row ≡ Some (member, w) → slice_get (old.peaks.items ++ (record { top = Some head.first; saved = None }) ∷ []) row ≡ Some peak → IsPeak at_place peak (raised seen cmp tops_of head.member v member (seen w).key)
-    added_own row member w peak owner there = elim (cases_lt row (length old.heads.items)) [
+    added_own : (row member : ℕ) (w : X) (maximum : Maximum) → owner_at at_place (old.heads.items ++ head ∷ []) row ≡ Some (member, w) → slice_get (old.maxima.items ++ (record { top = Some head.first; saved = None }) ∷ []) row ≡ Some maximum → IsMaximum at_place maximum (raised seen cmp tops_of head.member v member (seen w).key)
+    added_own row member w maximum owner there = elim (cases_lt row (length old.heads.items)) [
       | inl within ↦
           let before : owner_at at_place old.heads.items row ≡ Some (member, w) = sym (owner_left old.heads.items head row within) ∙ owner in
-          let long = peaks.long in
-          let inside : row < length old.peaks.items = omega arith in
-          let was = peaks.own row member w peak before (sym (get_left old.peaks.items ((record { top = Some head.first; saved = None }) ∷ []) row inside) ∙ there) in
-          subst (IsPeak at_place peak) (sym (raised_apart tops_of head.member v member (seen w).key (λ m k. none row (record { version = w; owner = before ∙ ap (λ n. Some (n, w)) (sym m); same_key = sym k })))) was
+          let long = maxima.long in
+          let inside : row < length old.maxima.items = omega arith in
+          let was = maxima.own row member w maximum before (sym (get_left old.maxima.items ((record { top = Some head.first; saved = None }) ∷ []) row inside) ∙ there) in
+          subst (IsMaximum at_place maximum) (sym (raised_apart tops_of head.member v member (seen w).key (λ m k. none row (record { version = w; owner = before ∙ ap (λ n. Some (n, w)) (sym m); same_key = sym k })))) was
       | inr past ↦
-          let long = peaks.long in
+          let long = maxima.long in
           let grown_long = length-append old.heads.items (head ∷ []) in
           let inside = owner_within (old.heads.items ++ head ∷ []) row (member, w) owner in
           let last : row ≡ length old.heads.items = omega arith in
-          let at_end : row ≡ length old.peaks.items = omega arith in
+          let at_end : row ≡ length old.maxima.items = omega arith in
           let both : (head.member, v) ≡ (member, w) = indexes.some_is (sym (owner_last old.heads.items head v is) ∙ ap (owner_at at_place (old.heads.items ++ head ∷ [])) (sym last) ∙ owner) in
-          let zero_past : length old.peaks.items - length old.peaks.items ≡ 0 = omega arith in
-          let here : slice_get (old.peaks.items ++ (record { top = Some head.first; saved = None }) ∷ []) row ≡ Some (record { top = Some head.first; saved = None }) =
-          ap (slice_get (old.peaks.items ++ (record { top = Some head.first; saved = None }) ∷ [])) at_end
-          ∙ get_right old.peaks.items ((record { top = Some head.first; saved = None }) ∷ []) (length old.peaks.items) (omega arith)
+          let zero_past : length old.maxima.items - length old.maxima.items ≡ 0 = omega arith in
+          let here : slice_get (old.maxima.items ++ (record { top = Some head.first; saved = None }) ∷ []) row ≡ Some (record { top = Some head.first; saved = None }) =
+          ap (slice_get (old.maxima.items ++ (record { top = Some head.first; saved = None }) ∷ [])) at_end
+          ∙ get_right old.maxima.items ((record { top = Some head.first; saved = None }) ∷ []) (length old.maxima.items) (omega arith)
           ∙ ap (slice_get ((record { top = Some head.first; saved = None }) ∷ [])) zero_past in
-          let same : ◌≡◌ {A = Peak} (record { top = Some head.first; saved = None }) peak = indexes.some_is (sym here ∙ there) in
+          let same : ◌≡◌ {A = Maximum} (record { top = Some head.first; saved = None }) maximum = indexes.some_is (sym here ∙ there) in
           let fresh : raised seen cmp tops_of head.member v head.member (seen v).key ≡ record { top = Some v; saved = None } =
           raised_here tops_of head.member v (seen v).key refl ∙ ap (λ (t : Tops X). record { top = greater_of seen t.top (Some v); saved = t.saved }) added_first in
-          let base : IsPeak at_place (record { top = Some head.first; saved = None }) (raised seen cmp tops_of head.member v head.member (seen v).key) =
-          subst (IsPeak at_place (record { top = Some head.first; saved = None })) (sym fresh) (record { top = (v, is, refl); saved = refl }) in
-          subst (λ (y : ℕ × X). IsPeak at_place peak (raised seen cmp tops_of head.member v y.0 (seen y.1).key)) both (own_fits (raised seen cmp tops_of head.member v head.member (seen v).key) (record { top = Some head.first; saved = None }) peak same base)
+          let base : IsMaximum at_place (record { top = Some head.first; saved = None }) (raised seen cmp tops_of head.member v head.member (seen v).key) =
+          subst (IsMaximum at_place (record { top = Some head.first; saved = None })) (sym fresh) (record { top = (v, is, refl); saved = refl }) in
+          subst (λ (y : ℕ × X). IsMaximum at_place maximum (raised seen cmp tops_of head.member v y.0 (seen y.1).key)) both (own_fits (raised seen cmp tops_of head.member v head.member (seen v).key) (record { top = Some head.first; saved = None }) maximum same base)
     ]
 
     added_others : (member : ℕ) (key : K) → ((row : ℕ) → ¬ IsRowOf seen at_place (old.heads.items ++ head ∷ []) key member row) → raised seen cmp tops_of head.member v member key ≡ record { top = None; saved = None }
     added_others member key nobody =
         raised_apart tops_of head.member v member key (λ m k. nobody (length old.heads.items) (record { version = v; owner = owner_last old.heads.items head v is ∙ ap (λ n. Some (n, v)) m; same_key = k }))
-        ∙ peaks.others member key (λ row own. nobody row (row_kept old.heads.items head key member row own))
+        ∙ maxima.others member key (λ row own. nobody row (row_kept old.heads.items head key member row own))
 
     added_there : (row : ℕ) → row < length (old.heads.items ++ head ∷ []) → IsSome (owner_at at_place (old.heads.items ++ head ∷ []) row)
     added_there row within = elim (cases_lt row (length old.heads.items)) [
-      | inl inside ↦ subst IsSome (sym (owner_left old.heads.items head row inside)) (peaks.there row inside)
+      | inl inside ↦ subst IsSome (sym (owner_left old.heads.items head row inside)) (maxima.there row inside)
       | inr past ↦
           let long = length-append old.heads.items (head ∷ []) in
           let last : row ≡ length old.heads.items = omega arith in
           subst IsSome (sym (ap (owner_at at_place (old.heads.items ++ head ∷ [])) last ∙ owner_last old.heads.items head v is)) refl
     ]
 
-    pub added : ArePeaks seen cmp at_place new (raised seen cmp tops_of head.member v)
+    pub added : AreMaxima seen cmp at_place new (raised seen cmp tops_of head.member v)
     added = record {
-      order = subst (λ hs. IsOrder seen cmp at_place hs (entries new.order)) (sym heads) (subst (IsOrder seen cmp at_place (old.heads.items ++ head ∷ [])) (sym order) (order_grown old.heads.items (entries old.order) head v i is peaks.order gap));
+      order = subst (λ hs. IsOrder seen cmp at_place hs (entries new.order)) (sym heads) (subst (IsOrder seen cmp at_place (old.heads.items ++ head ∷ [])) (sym order) (order_grown old.heads.items (entries old.order) head v i is maxima.order gap));
       long =
           let more = length-append old.heads.items (head ∷ []) in
-          let also : length (old.peaks.items ++ (record { top = Some head.first; saved = None }) ∷ []) ≡ length old.peaks.items + 1 = length-append old.peaks.items ((record { top = Some head.first; saved = None }) ∷ []) in
-          let long = peaks.long in
-          ap length places ∙ (let same : length (old.peaks.items ++ (record { top = Some head.first; saved = None }) ∷ []) ≡ length (old.heads.items ++ head ∷ []) = omega arith in same) ∙ sym (ap length heads);
+          let also : length (old.maxima.items ++ (record { top = Some head.first; saved = None }) ∷ []) ≡ length old.maxima.items + 1 = length-append old.maxima.items ((record { top = Some head.first; saved = None }) ∷ []) in
+          let long = maxima.long in
+          ap length places ∙ (let same : length (old.maxima.items ++ (record { top = Some head.first; saved = None }) ∷ []) ≡ length (old.heads.items ++ head ∷ []) = omega arith in same) ∙ sym (ap length heads);
       there = subst (λ hs. (row : ℕ) → row < length hs → IsSome (owner_at at_place hs row)) (sym heads) added_there;
-      own = λ row member w peak owner there. added_own row member w peak (ap (λ hs. owner_at at_place hs row) (sym heads) ∙ owner) (ap (λ ps. slice_get ps row) (sym places) ∙ there);
+      own = λ row member w maximum owner there. added_own row member w maximum (ap (λ hs. owner_at at_place hs row) (sym heads) ∙ owner) (ap (λ ps. slice_get ps row) (sym places) ∙ there);
       others = λ member key nobody. added_others member key (subst (λ hs. (row : ℕ) → ¬ IsRowOf seen at_place hs key member row) heads nobody);
     }
 
   -- one more version of a key
-  module _ (old new : Peaks) (member row : ℕ) (v : X) (peak : Peak) (own_row : IsRowOf seen at_place old.heads.items (seen v).key member row)
-      (heads : new.heads.items ≡ old.heads.items) (places : new.peaks.items ≡ slice_set old.peaks.items row peak) (order : new.order ≡ old.order) (tops_of : ℕ → K → Tops X) (peaks : ArePeaks seen cmp at_place old tops_of)
-      (fits : IsPeak at_place peak (record { top = greater_of seen (tops_of member (seen v).key).top (Some v); saved = (tops_of member (seen v).key).saved })) where
-    risen_own : (other q : ℕ) (w : X) (there : Peak) → owner_at at_place old.heads.items other ≡ Some (q, w) → slice_get (slice_set old.peaks.items row peak) other ≡ Some there → IsPeak at_place there (raised seen cmp tops_of member v q (seen w).key)
+  module _ (old new : Maxima) (member row : ℕ) (v : X) (maximum : Maximum) (own_row : IsRowOf seen at_place old.heads.items (seen v).key member row)
+      (heads : new.heads.items ≡ old.heads.items) (places : new.maxima.items ≡ slice_set old.maxima.items row maximum) (order : new.order ≡ old.order) (tops_of : ℕ → K → Tops X) (maxima : AreMaxima seen cmp at_place old tops_of)
+      (fits : IsMaximum at_place maximum (record { top = greater_of seen (tops_of member (seen v).key).top (Some v); saved = (tops_of member (seen v).key).saved })) where
+    risen_own : (other q : ℕ) (w : X) (there : Maximum) → owner_at at_place old.heads.items other ≡ Some (q, w) → slice_get (slice_set old.maxima.items row maximum) other ≡ Some there → IsMaximum at_place there (raised seen cmp tops_of member v q (seen w).key)
     risen_own other q w there owner is = elim (cases_eq other row) [
       | inl same ↦
           let both : (member, own_row.version) ≡ (q, w) = indexes.some_is (sym own_row.owner ∙ ap (owner_at at_place old.heads.items) (sym same) ∙ owner) in
-          let inside : row < length old.peaks.items = (let long = peaks.long in let low = owner_within old.heads.items row (member, own_row.version) own_row.owner in omega arith) in
-          let put : peak ≡ there = indexes.some_is (sym (got_same old.peaks.items row peak inside) ∙ ap (slice_get (slice_set old.peaks.items row peak)) (sym same) ∙ is) in
+          let inside : row < length old.maxima.items = (let long = maxima.long in let low = owner_within old.heads.items row (member, own_row.version) own_row.owner in omega arith) in
+          let put : maximum ≡ there = indexes.some_is (sym (got_same old.maxima.items row maximum inside) ∙ ap (slice_get (slice_set old.maxima.items row maximum)) (sym same) ∙ is) in
           let key : (seen v).key ≡ (seen w).key = sym own_row.same_key ∙ ap (λ (y : ℕ × X). (seen y.1).key) both in
           let here : raised seen cmp tops_of member v member (seen v).key ≡ record { top = greater_of seen (tops_of member (seen v).key).top (Some v); saved = (tops_of member (seen v).key).saved } = raised_here tops_of member v (seen v).key refl in
-          let base = own_fits (raised seen cmp tops_of member v member (seen v).key) peak there put (subst (IsPeak at_place peak) (sym here) fits) in
-          subst (λ m. IsPeak at_place there (raised seen cmp tops_of member v m (seen w).key)) (ap (λ (y : ℕ × X). y.0) both) (subst (λ k. IsPeak at_place there (raised seen cmp tops_of member v member k)) key base)
+          let base = own_fits (raised seen cmp tops_of member v member (seen v).key) maximum there put (subst (IsMaximum at_place maximum) (sym here) fits) in
+          subst (λ m. IsMaximum at_place there (raised seen cmp tops_of member v m (seen w).key)) (ap (λ (y : ℕ × X). y.0) both) (subst (λ k. IsMaximum at_place there (raised seen cmp tops_of member v member k)) key base)
       | inr differs ↦
-          let was = peaks.own other q w there owner (sym (got_other old.peaks.items row other peak differs) ∙ is) in
-          subst (IsPeak at_place there) (sym (raised_apart tops_of member v q (seen w).key (λ m k. differs (row_unique old.heads.items (entries old.order) (seen v).key member other row peaks.order (record { version = w; owner = owner ∙ ap (λ n. Some (n, w)) (sym m); same_key = sym k }) own_row)))) was
+          let was = maxima.own other q w there owner (sym (got_other old.maxima.items row other maximum differs) ∙ is) in
+          subst (IsMaximum at_place there) (sym (raised_apart tops_of member v q (seen w).key (λ m k. differs (row_unique old.heads.items (entries old.order) (seen v).key member other row maxima.order (record { version = w; owner = owner ∙ ap (λ n. Some (n, w)) (sym m); same_key = sym k }) own_row)))) was
     ]
 
-    pub risen : ArePeaks seen cmp at_place new (raised seen cmp tops_of member v)
+    pub risen : AreMaxima seen cmp at_place new (raised seen cmp tops_of member v)
     risen = record {
-      order = subst (λ hs. IsOrder seen cmp at_place hs (entries new.order)) (sym heads) (subst (λ rows. IsOrder seen cmp at_place old.heads.items (entries rows)) (sym order) peaks.order);
-      long = ap length places ∙ length-set old.peaks.items row peak ∙ peaks.long ∙ sym (ap length heads);
-      there = subst (λ hs. (r : ℕ) → r < length hs → IsSome (owner_at at_place hs r)) (sym heads) peaks.there;
+      order = subst (λ hs. IsOrder seen cmp at_place hs (entries new.order)) (sym heads) (subst (λ rows. IsOrder seen cmp at_place old.heads.items (entries rows)) (sym order) maxima.order);
+      long = ap length places ∙ length-set old.maxima.items row maximum ∙ maxima.long ∙ sym (ap length heads);
+      there = subst (λ hs. (r : ℕ) → r < length hs → IsSome (owner_at at_place hs r)) (sym heads) maxima.there;
       own = λ other q w there owner is. risen_own other q w there (ap (λ hs. owner_at at_place hs other) (sym heads) ∙ owner) (ap (λ ps. slice_get ps other) (sym places) ∙ is);
       others = λ q key nobody.
           raised_apart tops_of member v q key (λ m k. nobody row (record { version = own_row.version; owner = ap (λ hs. owner_at at_place hs row) heads ∙ own_row.owner ∙ ap (λ n. Some (n, own_row.version)) m; same_key = own_row.same_key ∙ k }))
-          ∙ peaks.others q key (λ r own. nobody r (subst (λ hs. IsRowOf seen at_place hs key q r) (sym heads) own));
+          ∙ maxima.others q key (λ r own. nobody r (subst (λ hs. IsRowOf seen at_place hs key q r) (sym heads) own));
     }
 
   -- what stands in a row
-  pub peak_there : (p : Peaks) (tops_of : ℕ → K → Tops X) (key : K) (member row : ℕ) (d : Peak) → ArePeaks seen cmp at_place p tops_of → IsRowOf seen at_place p.heads.items key member row → IsPeak at_place (get_or p.peaks.items row d) (tops_of member key)
-  peak_there p tops_of key member row d peaks own =
-      let long = peaks.long in
+  pub maximum_there : (p : Maxima) (tops_of : ℕ → K → Tops X) (key : K) (member row : ℕ) (d : Maximum) → AreMaxima seen cmp at_place p tops_of → IsRowOf seen at_place p.heads.items key member row → IsMaximum at_place (get_or p.maxima.items row d) (tops_of member key)
+  maximum_there p tops_of key member row d maxima own =
+      let long = maxima.long in
       let low = owner_within p.heads.items row (member, own.version) own.owner in
-      let inside : row < length p.peaks.items = omega arith in
-      subst (λ k. IsPeak at_place (get_or p.peaks.items row d) (tops_of member k)) own.same_key (peaks.own row member own.version (get_or p.peaks.items row d) own.owner (slice_get-get_or p.peaks.items row d inside))
+      let inside : row < length p.maxima.items = omega arith in
+      subst (λ k. IsMaximum at_place (get_or p.maxima.items row d) (tops_of member k)) own.same_key (maxima.own row member own.version (get_or p.maxima.items row d) own.owner (slice_get-get_or p.maxima.items row d inside))
 
-  pub row_within : (p : Peaks) (tops_of : ℕ → K → Tops X) (key : K) (member row : ℕ) → ArePeaks seen cmp at_place p tops_of → IsRowOf seen at_place p.heads.items key member row → row < length p.peaks.items
-  row_within p tops_of key member row peaks own =
-      let long = peaks.long in
+  pub row_within : (p : Maxima) (tops_of : ℕ → K → Tops X) (key : K) (member row : ℕ) → AreMaxima seen cmp at_place p tops_of → IsRowOf seen at_place p.heads.items key member row → row < length p.maxima.items
+  row_within p tops_of key member row maxima own =
+      let long = maxima.long in
       let low = owner_within p.heads.items row (member, own.version) own.owner in
       omega arith
 
@@ -279,8 +279,8 @@ module _ {K X : Type 0} (seen : X → Version K) (cmp : K → K → Ordering) wh
   top_among-push key top [] v = refl
   top_among-push key top (w ∷ vs) v = top_among-push key (greater_of seen top (at seen cmp (w ∷ []) key)) vs v
 
-  pub same_peaks : (at_place : Place → Option X) (p : Peaks) (one other : ℕ → K → Tops X) → ((q : ℕ) (key : K) → one q key ≡ other q key) → ArePeaks seen cmp at_place p one → ArePeaks seen cmp at_place p other
-  same_peaks at_place p one other same peaks = subst (ArePeaks seen cmp at_place p) (λ i q key. same q key i) peaks
+  pub same_maxima : (at_place : Position → Option X) (p : Maxima) (one other : ℕ → K → Tops X) → ((q : ℕ) (key : K) → one q key ≡ other q key) → AreMaxima seen cmp at_place p one → AreMaxima seen cmp at_place p other
+  same_maxima at_place p one other same maxima = subst (AreMaxima seen cmp at_place p) (λ i q key. same q key i) maxima
 
   pub raised_none : (tops_of : ℕ → K → Tops X) (member q : ℕ) (key : K) → tops_of q key ≡ raised_all seen cmp tops_of member [] q key
   raised_none tops_of member q key = by (eqb member q) where
@@ -294,14 +294,14 @@ module _ {K X : Type 0} (seen : X → Version K) (cmp : K → K → Ordering) wh
     by true = ap (λ top. record { top = top; saved = (tops_of q key).saved }) (sym (top_among-push key (tops_of q key).top vs v))
     by false = refl
 
-  pub peaks_none : (at_place : Place → Option X) (p : Peaks) (tops_of : ℕ → K → Tops X) (member : ℕ) → ArePeaks seen cmp at_place p tops_of → ArePeaks seen cmp at_place p (raised_all seen cmp tops_of member [])
-  peaks_none at_place p tops_of member = same_peaks at_place p tops_of (raised_all seen cmp tops_of member []) (raised_none tops_of member)
+  pub maxima_none : (at_place : Position → Option X) (p : Maxima) (tops_of : ℕ → K → Tops X) (member : ℕ) → AreMaxima seen cmp at_place p tops_of → AreMaxima seen cmp at_place p (raised_all seen cmp tops_of member [])
+  maxima_none at_place p tops_of member = same_maxima at_place p tops_of (raised_all seen cmp tops_of member []) (raised_none tops_of member)
 
-  pub peaks_push : (at_place : Place → Option X) (p : Peaks) (tops_of : ℕ → K → Tops X) (member : ℕ) (vs : List X) (n : ℕ) (v : X) → n < length vs → v ≡ get_or vs n v → ArePeaks seen cmp at_place p (raised seen cmp (raised_all seen cmp tops_of member (take n vs)) member v) → ArePeaks seen cmp at_place p (raised_all seen cmp tops_of member (take (n + 1) vs))
-  peaks_push at_place p tops_of member vs n v within is peaks =
+  pub maxima_push : (at_place : Position → Option X) (p : Maxima) (tops_of : ℕ → K → Tops X) (member : ℕ) (vs : List X) (n : ℕ) (v : X) → n < length vs → v ≡ get_or vs n v → AreMaxima seen cmp at_place p (raised seen cmp (raised_all seen cmp tops_of member (take n vs)) member v) → AreMaxima seen cmp at_place p (raised_all seen cmp tops_of member (take (n + 1) vs))
+  maxima_push at_place p tops_of member vs n v within is maxima =
       let more : take (n + 1) vs ≡ take n vs ++ v ∷ [] = take_more vs n v within ∙ ap (λ y. take n vs ++ y ∷ []) (sym is) in
-      subst (λ ws. ArePeaks seen cmp at_place p (raised_all seen cmp tops_of member ws)) (sym more)
-      (same_peaks at_place p (raised seen cmp (raised_all seen cmp tops_of member (take n vs)) member v) (raised_all seen cmp tops_of member (take n vs ++ v ∷ [])) (raised_push tops_of member (take n vs) v) peaks)
+      subst (λ ws. AreMaxima seen cmp at_place p (raised_all seen cmp tops_of member ws)) (sym more)
+      (same_maxima at_place p (raised seen cmp (raised_all seen cmp tops_of member (take n vs)) member v) (raised_all seen cmp tops_of member (take n vs ++ v ∷ [])) (raised_push tops_of member (take n vs) v) maxima)
 
   pub raised_top : (tops_of : ℕ → K → Tops X) (member : ℕ) (vs : List X) (key : K) → (raised_all seen cmp tops_of member vs member key).top ≡ top_among seen cmp key (tops_of member key).top vs
   raised_top tops_of member vs key = by (eqb member member) (eq-eqb member member refl) where
@@ -309,7 +309,7 @@ module _ {K X : Type 0} (seen : X → Version K) (cmp : K → K → Ordering) wh
     by true e = refl
     by false e = absurd (false≢true e)
 
-pub less_rows : (p : Peaks) (n m : ℕ) → n ≤ m → HasRowRoom p m → HasRowRoom p n
+pub less_rows : (p : Maxima) (n m : ℕ) → n ≤ m → HasRowRoom p m → HasRowRoom p n
 less_rows p n m less had =
     let heads = had.heads in
     let places = had.places in
@@ -318,13 +318,13 @@ less_rows p n m less had =
     record { heads = omega arith; places = omega arith; order = record { spares = omega arith; places = omega arith } }
 
 -- the same rows, with other room
-pub rows_kept : {K X : Type 0} (seen : X → Version K) (cmp : K → K → Ordering) (at_place : Place → Option X) (old new : Peaks) (tops_of : ℕ → K → Tops X) → new.heads.items ≡ old.heads.items → new.peaks.items ≡ old.peaks.items → entries new.order ≡ entries old.order → ArePeaks seen cmp at_place old tops_of → ArePeaks seen cmp at_place new tops_of
-rows_kept seen cmp at_place old new tops_of heads places order peaks = record {
-  order = subst (λ hs. IsOrder seen cmp at_place hs (entries new.order)) (sym heads) (subst (IsOrder seen cmp at_place old.heads.items) (sym order) peaks.order);
-  long = ap length places ∙ peaks.long ∙ sym (ap length heads);
-  there = subst (λ hs. (r : ℕ) → r < length hs → IsSome (owner_at at_place hs r)) (sym heads) peaks.there;
-  own = λ row member v peak owner is. peaks.own row member v peak (ap (λ hs. owner_at at_place hs row) (sym heads) ∙ owner) (ap (λ ps. slice_get ps row) (sym places) ∙ is);
-  others = λ q key nobody. peaks.others q key (λ r own. nobody r (subst (λ hs. IsRowOf seen at_place hs key q r) (sym heads) own));
+pub rows_kept : {K X : Type 0} (seen : X → Version K) (cmp : K → K → Ordering) (at_place : Position → Option X) (old new : Maxima) (tops_of : ℕ → K → Tops X) → new.heads.items ≡ old.heads.items → new.maxima.items ≡ old.maxima.items → entries new.order ≡ entries old.order → AreMaxima seen cmp at_place old tops_of → AreMaxima seen cmp at_place new tops_of
+rows_kept seen cmp at_place old new tops_of heads places order maxima = record {
+  order = subst (λ hs. IsOrder seen cmp at_place hs (entries new.order)) (sym heads) (subst (IsOrder seen cmp at_place old.heads.items) (sym order) maxima.order);
+  long = ap length places ∙ maxima.long ∙ sym (ap length heads);
+  there = subst (λ hs. (r : ℕ) → r < length hs → IsSome (owner_at at_place hs r)) (sym heads) maxima.there;
+  own = λ row member v maximum owner is. maxima.own row member v maximum (ap (λ hs. owner_at at_place hs row) (sym heads) ∙ owner) (ap (λ ps. slice_get ps row) (sym places) ∙ is);
+  others = λ q key nobody. maxima.others q key (λ r own. nobody r (subst (λ hs. IsRowOf seen at_place hs key q r) (sym heads) own));
 }
 
 -- no rows
@@ -335,14 +335,14 @@ module _ {K X : Type 0} (seen : X → Version K) (cmp : K → K → Ordering) wh
   none_within : (r : ℕ) → r < 0 → IsSome (owner_at (version_at {X = X} []) [] r)
   none_within r within = absurd (omega arith)
 
-  pub rows_none : (peaks : Peaks) → peaks.heads.items ≡ [] → peaks.peaks.items ≡ [] → entries peaks.order ≡ [] → ArePeaks seen cmp (version_at []) peaks (tops_in seen cmp [])
-  rows_none peaks heads places order = record {
-    order = subst (λ hs. IsOrder seen cmp (version_at []) hs (entries peaks.order)) (sym heads) (subst (IsOrder seen cmp (version_at []) []) (sym order) (record {
+  pub rows_none : (maxima : Maxima) → maxima.heads.items ≡ [] → maxima.maxima.items ≡ [] → entries maxima.order ≡ [] → AreMaxima seen cmp (version_at []) maxima (tops_in seen cmp [])
+  rows_none maxima heads places order = record {
+    order = subst (λ hs. IsOrder seen cmp (version_at []) hs (entries maxima.order)) (sym heads) (subst (IsOrder seen cmp (version_at []) []) (sym order) (record {
       index = record { sound = tt; complete = none_there };
       order = tt;
     }));
     long = ap length places ∙ sym (ap length heads);
     there = subst (λ hs. (r : ℕ) → r < length hs → IsSome (owner_at (version_at {X = X} []) hs r)) (sym heads) none_within;
-    own = λ row member v peak owner is. (let none : ◌≡◌ {A = Option Peak} None (Some peak) = ap (λ ps. slice_get ps row) (sym places) ∙ is in absurd cc);
+    own = λ row member v maximum owner is. (let none : ◌≡◌ {A = Option Maximum} None (Some maximum) = ap (λ ps. slice_get ps row) (sym places) ∙ is in absurd cc);
     others = λ q key nobody. refl;
   }

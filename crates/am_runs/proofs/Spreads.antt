@@ -12,12 +12,12 @@ use Rattle.am_version_order.specs.Versions.{Version, is_below}
 use Rattle.am_merge.proofs.Keys.{IsKeyOrder, eq_itself, same_key}
 use Rattle.am_collect.specs.Events.{taken}
 use Rattle.am_runs.specs.declared.step.Source.TheVariants.{Made, Written, Arrived, Lent}
-use Rattle.am_runs.specs.Steps.{Step, EachStep, Flight, moment, clock_after, clock_from, delivered_in, flights_by, flights_of, is_at}
+use Rattle.am_runs.specs.Steps.{Step, EachStep, SentFrame, moment, clock_after, clock_from, delivered_in, flights_by, flights_of, is_at}
 use Rattle.am_runs.specs.Steps.Step.{Took, Ticked, Back, Refused, Saved, Stopped, Started}
 use Rattle.am_runs.specs.Members.{Member, stepped, member_after, member_from, member_of, set_of}
 use Rattle.am_runs.specs.Runs.{IsPossible, IsRun}
 use Rattle.am_runs.specs.Timely.{IsSwift, HasCaughtUp, IsSpread, IsTimely}
-use Rattle.am_runs.specs.Tests.{Watched, is_onward, are_onward, sent_in, flies_short, is_swift, is_wanting, counts_for, watched, watch_after, comes, ComesToAll}
+use Rattle.am_runs.specs.Tests.{Watched, is_monotone, are_monotone, sent_in, flies_short, is_swift, is_wanting, counts_for, watched, watch_after, comes, ComesToAll}
 use Rattle.am_runs.proofs.Cuts.{carried, each_cons, each_nil, each_rest}
 use Rattle.am_runs.proofs.Loops.{all_from}
 use Rattle.am_runs.proofs.Pasts.{member_of-push, taken-passes, taken-tick, taken-pass}
@@ -45,11 +45,11 @@ module _ {A : Type 0} (p : A → Bool) where
 
 -- ---- onward
 
-onward_to : (clock : ℕ) (o : Option ℕ) → is_onward clock o ≡ true → IfSome o (λ now. clock ≤ now)
+onward_to : (clock : ℕ) (o : Option ℕ) → is_monotone clock o ≡ true → IfSome o (λ now. clock ≤ now)
 onward_to clock None e = tt
 onward_to clock (Some now) e = leb-true clock now e
 
-onward_from : (clock : ℕ) (o : Option ℕ) → IfSome o (λ now. clock ≤ now) → is_onward clock o ≡ true
+onward_from : (clock : ℕ) (o : Option ℕ) → IfSome o (λ now. clock ≤ now) → is_monotone clock o ≡ true
 onward_from clock None h = refl
 onward_from clock (Some now) h = le-leb clock now h
 
@@ -57,16 +57,16 @@ module _ {X : Type 0} where
   abbrev OnwardFrom : ℕ → List (Step X) → Step X → Type 0
   OnwardFrom clock before step = IfSome (moment step) (λ now. clock_from clock before ≤ now)
 
-  pub to_onward : (clock : ℕ) (steps : List (Step X)) → are_onward clock steps ≡ true → EachStep steps (OnwardFrom clock)
+  pub to_onward : (clock : ℕ) (steps : List (Step X)) → are_monotone clock steps ≡ true → EachStep steps (OnwardFrom clock)
   to_onward clock [] e = each_nil (OnwardFrom clock)
   to_onward clock (s ∷ steps) e =
-      let both = and_parts (is_onward clock (moment s)) (are_onward (clock_after clock (moment s)) steps) e in
+      let both = and_parts (is_monotone clock (moment s)) (are_monotone (clock_after clock (moment s)) steps) e in
       each_cons (OnwardFrom clock) s steps (onward_to clock (moment s) both.0) (to_onward (clock_after clock (moment s)) steps both.1)
 
-  pub from_onward : (clock : ℕ) (steps : List (Step X)) → EachStep steps (OnwardFrom clock) → are_onward clock steps ≡ true
+  pub from_onward : (clock : ℕ) (steps : List (Step X)) → EachStep steps (OnwardFrom clock) → are_monotone clock steps ≡ true
   from_onward clock [] each = refl
   from_onward clock (s ∷ steps) each =
-      and_from (is_onward clock (moment s)) (are_onward (clock_after clock (moment s)) steps) (onward_from clock (moment s) (each [] s steps refl))
+      and_from (is_monotone clock (moment s)) (are_monotone (clock_after clock (moment s)) steps) (onward_from clock (moment s) (each [] s steps refl))
       (from_onward (clock_after clock (moment s)) steps (each_rest (OnwardFrom clock) s steps each))
 
 -- ---- swift
@@ -82,16 +82,16 @@ get_right (x ∷ xs) ys zero past = absurd (omega arith)
 get_right (x ∷ xs) ys (suc n) past = let same : n - length xs ≡ suc n - length (x ∷ xs) = omega arith in get_right xs ys n (omega arith) ∙ ap (slice_get ys) same
 
 module _ {X : Type 0} where
-  sent_now : (now : ℕ) (frames : List (List X)) (n : ℕ) → n < length frames → Some now ≡ option_map (λ (f : Flight X). f.sent) (slice_get (map (λ frame. record { sent = now; versions = frame }) frames) n)
+  sent_now : (now : ℕ) (frames : List (List X)) (n : ℕ) → n < length frames → Some now ≡ option_map (λ (f : SentFrame X). f.sent) (slice_get (map (λ frame. record { sent = now; versions = frame }) frames) n)
   sent_now now [] n within = absurd (omega arith)
   sent_now now (frame ∷ frames) zero within = refl
   sent_now now (frame ∷ frames) (suc n) within = sent_now now frames n (omega arith)
 
-  flights_long : (now : ℕ) (frames : List (List X)) → length (map {B = Flight X} (λ frame. record { sent = now; versions = frame }) frames) ≡ length frames
+  flights_long : (now : ℕ) (frames : List (List X)) → length (map {B = SentFrame X} (λ frame. record { sent = now; versions = frame }) frames) ≡ length frames
   flights_long now [] = refl
   flights_long now (frame ∷ frames) = let same = flights_long now frames in omega (arith, same)
 
-  sent_here : (s : Step X) (n : ℕ) → n < length (flights_by s) → moment s ≡ option_map (λ (f : Flight X). f.sent) (slice_get (flights_by s) n)
+  sent_here : (s : Step X) (n : ℕ) → n < length (flights_by s) → moment s ≡ option_map (λ (f : SentFrame X). f.sent) (slice_get (flights_by s) n)
   sent_here (Took place now source versions frames) n within = let same = flights_long now frames in sent_now now frames n (omega (arith, same, within))
   sent_here (Ticked place now) n within = absurd (omega arith)
   sent_here (Back place now) n within = absurd (omega arith)
@@ -100,23 +100,23 @@ module _ {X : Type 0} where
   sent_here (Stopped place) n within = absurd (omega arith)
   sent_here (Started place now) n within = absurd (omega arith)
 
-  sent_told : (steps : List (Step X)) (n : ℕ) → sent_in n steps ≡ option_map (λ (f : Flight X). f.sent) (slice_get (flights_of steps) n)
+  sent_told : (steps : List (Step X)) (n : ℕ) → sent_in n steps ≡ option_map (λ (f : SentFrame X). f.sent) (slice_get (flights_of steps) n)
   sent_told [] n = refl
   sent_told (s ∷ steps) n = by (ltb n (length (flights_by s))) refl (λ m. sent_told steps m) where
-    by : (b : Bool) → ltb n (length (flights_by s)) ≡ b → ((m : ℕ) → sent_in m steps ≡ option_map (λ (f : Flight X). f.sent) (slice_get (flights_of steps) m)) → cond b (moment s) (sent_in (n - length (flights_by s)) steps) ≡ option_map (λ (f : Flight X). f.sent) (slice_get (flights_by s ++ flights_of steps) n)
-    by true e later = let within = ltb-true n (length (flights_by s)) e in sent_here s n within ∙ ap (option_map (λ (f : Flight X). f.sent)) (sym (get_left (flights_by s) (flights_of steps) n within))
-    by false e later = later (n - length (flights_by s)) ∙ ap (option_map (λ (f : Flight X). f.sent)) (sym (get_right (flights_by s) (flights_of steps) n (ltb-false n (length (flights_by s)) e)))
+    by : (b : Bool) → ltb n (length (flights_by s)) ≡ b → ((m : ℕ) → sent_in m steps ≡ option_map (λ (f : SentFrame X). f.sent) (slice_get (flights_of steps) m)) → cond b (moment s) (sent_in (n - length (flights_by s)) steps) ≡ option_map (λ (f : SentFrame X). f.sent) (slice_get (flights_by s ++ flights_of steps) n)
+    by true e later = let within = ltb-true n (length (flights_by s)) e in sent_here s n within ∙ ap (option_map (λ (f : SentFrame X). f.sent)) (sym (get_left (flights_by s) (flights_of steps) n within))
+    by false e later = later (n - length (flights_by s)) ∙ ap (option_map (λ (f : SentFrame X). f.sent)) (sym (get_right (flights_by s) (flights_of steps) n (ltb-false n (length (flights_by s)) e)))
 
   -- a frame that is in flight is the same one in the whole run
-  same_flight : (before rest : List (Step X)) (s : Step X) (steps : List (Step X)) (n : ℕ) (f : Flight X) → before ++ s ∷ rest ≡ steps → slice_get (flights_of before) n ≡ Some f → sent_in n steps ≡ Some f.sent
+  same_flight : (before rest : List (Step X)) (s : Step X) (steps : List (Step X)) (n : ℕ) (f : SentFrame X) → before ++ s ∷ rest ≡ steps → slice_get (flights_of before) n ≡ Some f → sent_in n steps ≡ Some f.sent
   same_flight before rest s steps n f e found =
       let within : n < length (flights_of before) = slice_get_within (flights_of before) n f found in
       let whole : flights_of steps ≡ flights_of before ++ flights_of (s ∷ rest) = ap flights_of (sym e) ∙ flat_map-append flights_by before (s ∷ rest) in
-      sent_told steps n ∙ ap (option_map (λ (g : Flight X). g.sent)) (ap (λ fs. slice_get fs n) whole ∙ (get_left (flights_of before) (flights_of (s ∷ rest)) n within ∙ found))
+      sent_told steps n ∙ ap (option_map (λ (g : SentFrame X). g.sent)) (ap (λ fs. slice_get fs n) whole ∙ (get_left (flights_of before) (flights_of (s ∷ rest)) n within ∙ found))
 
 module _ {K X : Type 0} (seen : X → Version K) (cmp : K → K → Ordering) (members flight : ℕ) where
   -- a delivery, by when it was sent
-  swift_arrived : (now : ℕ) (found : Option (Flight X)) (told : Option ℕ) → ((f : Flight X) → found ≡ Some f → told ≡ Some f.sent) → (P : Flight X → Type 0) → IsSomeAnd found P → (flies_short flight now told ≡ true) ↔ IfSome found (λ f. now ≤ f.sent + flight)
+  swift_arrived : (now : ℕ) (found : Option (SentFrame X)) (told : Option ℕ) → ((f : SentFrame X) → found ≡ Some f → told ≡ Some f.sent) → (P : SentFrame X → Type 0) → IsSomeAnd found P → (flies_short flight now told ≡ true) ↔ IfSome found (λ f. now ≤ f.sent + flight)
   swift_arrived now None told same P is = absurd is
   swift_arrived now (Some f) told same P is = let e = same f refl in (λ t. leb-true now (f.sent + flight) (subst (λ o. flies_short flight now o ≡ true) e t), λ h. subst (λ o. flies_short flight now o ≡ true) (sym e) (le-leb now (f.sent + flight) h))
 
@@ -302,7 +302,7 @@ module _ {K X : Type 0} (seen : X → Version K) where
         (λ before s rest e. if_some (HasCome spread v (member_of members q before)) (moment s) (λ now at old runs. some_if (IsSpread seen spread members (delivered_in steps) before) (moment s) now (each before s rest e) at v has old q runs)))
 
     -- all of it
-    pub timely_from : (spread flight members : ℕ) (steps : List (Step X)) → IsRun seen cmp members steps → are_onward 0 steps ≡ true → All (λ v. ((seen v).updated + spread) + flight ≤ (seen v).expires) (delivered_in steps) → list_all (is_swift flight steps) steps ≡ true → All (ComesToAll seen cmp spread members steps) (delivered_in steps) → IsTimely seen spread flight members steps
+    pub timely_from : (spread flight members : ℕ) (steps : List (Step X)) → IsRun seen cmp members steps → are_monotone 0 steps ≡ true → All (λ v. ((seen v).updated + spread) + flight ≤ (seen v).expires) (delivered_in steps) → list_all (is_swift flight steps) steps ≡ true → All (ComesToAll seen cmp spread members steps) (delivered_in steps) → IsTimely seen spread flight members steps
     timely_from spread flight members steps run onward lasting swift comes = record {
       onward = to_onward 0 steps onward;
       lasting = lasting;

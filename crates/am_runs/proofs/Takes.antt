@@ -12,7 +12,7 @@ use Rattle.am_runs.specs.declared.step.Source.{Source}
 use Rattle.am_runs.specs.Steps.{Step}
 use Rattle.am_runs.specs.Steps.Step.{Took}
 use Rattle.am_runs.specs.Tests.{Tops, top_among, in_time, last_in, StaysCalm}
-use Rattle.am_runs.specs.Peaks.{raised_all, tops_in}
+use Rattle.am_runs.specs.Maxima.{raised_all, tops_in}
 use Rattle.am_runs.proofs.Cuts.{each_front, each_last, each_push}
 use Rattle.am_runs.proofs.Owners.{raised_top}
 use Rattle.std.proofs.Common.{[], ◌∷◌, ◌++◌}

@@ -7,7 +7,7 @@ pub mod Tests
 pub mod Examples
 pub mod Flights
 pub mod Settles
-pub mod Peaks
+pub mod Maxima
 pub mod Standings
 pub mod Accounts
-pub mod Spells
+pub mod Uptimes

@@ -21,7 +21,7 @@ pub data Step (X : Type 0) : Type 0 where
   Started : (place now : ℕ) → Step X
 
 -- a frame in flight: when it was sent, and its versions
-pub record Flight (X : Type 0) : Type 0 where
+pub record SentFrame (X : Type 0) : Type 0 where
   pub sent : ℕ
   pub versions : List X
 
@@ -75,7 +75,7 @@ module _ {X : Type 0} where
   delivered_in steps = flat_map delivered_by steps
 
   -- the frames that a step sent
-  abbrev pub flights_by : Step X → List (Flight X)
+  abbrev pub flights_by : Step X → List (SentFrame X)
   flights_by (Took place now source versions frames) = map (λ frame. record { sent = now; versions = frame }) frames
   flights_by (Ticked place now) = []
   flights_by (Back place now) = []
@@ -85,7 +85,7 @@ module _ {X : Type 0} where
   flights_by (Started place now) = []
 
   -- all frames ever sent, in order
-  abbrev pub flights_of : List (Step X) → List (Flight X)
+  abbrev pub flights_of : List (Step X) → List (SentFrame X)
   flights_of steps = flat_map flights_by steps
 
   -- the step is one of this member

@@ -148,14 +148,14 @@ module _ {K X : Type 0} (seen : X → Version K) (cmp : K → K → Ordering) wh
 -- ---- whether the run is timely
 
 -- no moment before the last one written
-abbrev pub is_onward : ℕ → Option ℕ → Bool
-is_onward clock None = true
-is_onward clock (Some now) = nat_le clock now
+abbrev pub is_monotone : ℕ → Option ℕ → Bool
+is_monotone clock None = true
+is_monotone clock (Some now) = nat_le clock now
 
 -- the moments of steps never fall
-abbrev pub are_onward : {X : Type 0} → ℕ → List (Step X) → Bool
-are_onward clock [] = true
-are_onward clock (step ∷ steps) = is_onward clock (moment step) && are_onward (clock_after clock (moment step)) steps
+abbrev pub are_monotone : {X : Type 0} → ℕ → List (Step X) → Bool
+are_monotone clock [] = true
+are_monotone clock (step ∷ steps) = is_monotone clock (moment step) && are_monotone (clock_after clock (moment step)) steps
 
 -- when the frame of this number was sent
 abbrev pub sent_in : {X : Type 0} → ℕ → List (Step X) → Option ℕ

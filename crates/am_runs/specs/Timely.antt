@@ -4,7 +4,7 @@ use Rattle.std.specs.Prelude.{◌≡◌, ℕ, ◌+◌, ◌≤◌, List, true, fa
 use Rattle.am_version_order.specs.Versions.{Version, is_below}
 use Rattle.am_runs.specs.declared.step.Source.{Source}
 use Rattle.am_runs.specs.declared.step.Source.TheVariants.{Made, Written, Arrived, Lent}
-use Rattle.am_runs.specs.Steps.{Step, Flight, EachStep, moment, clock_from, delivered_in, flights_of}
+use Rattle.am_runs.specs.Steps.{Step, SentFrame, EachStep, moment, clock_from, delivered_in, flights_of}
 use Rattle.am_runs.specs.Steps.Step.{Took, Ticked, Back, Refused, Saved, Stopped, Started}
 use Rattle.am_runs.specs.Members.{member_of, set_of}
 
@@ -14,7 +14,7 @@ module _ {X : Type 0} where
   IsOnward before step = IfSome (moment step) (λ now. clock_from 0 before ≤ now)
 
   -- versions that came in a frame came in time: what is made now, and what is lent in a settle, flies no time
-  abbrev pub IsSwiftFrom : ℕ → List (Flight X) → ℕ → Source → Type 0
+  abbrev pub IsSwiftFrom : ℕ → List (SentFrame X) → ℕ → Source → Type 0
   IsSwiftFrom flight flights now Made = Unit {0}
   IsSwiftFrom flight flights now (Written sent) = now ≤ sent + flight
   IsSwiftFrom flight flights now (Arrived number) = IfSome (slice_get flights number) (λ f. now ≤ f.sent + flight)

@@ -10,7 +10,7 @@ ghost use Rattle.am_runs.specs.Timely.{IsTimely};
 use crate::calm::first_fault;
 use crate::follow::write_down;
 use crate::laws::{one_step_more, timely_runs_are_calm};
-use crate::peaks::{Peaks, make_rows, no_peaks};
+use crate::maxima::{Maxima, make_rows, no_maxima};
 use crate::running::{last_from, runs_from};
 use crate::spans::is_some_time;
 use crate::spread::is_timely;
@@ -27,7 +27,7 @@ use std::marker::Model;
 pub struct Run<V: Version> {
     members: usize,
     steps: Vec<Step<V>>,
-    peaks: Peaks,
+    maxima: Maxima,
     standings: Vec<Standing>,
     trails: Trails,
     // For how many more versions there is room.
@@ -40,7 +40,7 @@ impl<V: Version> Drop for Run<V> {
         let Run {
             members: _,
             steps: _,
-            peaks: _,
+            maxima: _,
             standings: _,
             trails: _,
             spare: _,
@@ -63,7 +63,7 @@ impl<V: Version> Model for Run<V> {
     } };
 
     ghost invariant = { λ run. IsAccount V.seen V.Key.cmp V.is_value run.members
-        (map step_of run.steps.items) run.peaks run.standings.items run.spare };
+        (map step_of run.steps.items) run.maxima run.standings.items run.spare };
 }
 
 impl<V: Version> Run<V> {
@@ -75,7 +75,7 @@ impl<V: Version> Run<V> {
         Run {
             members,
             steps: Vec::new(alloc),
-            peaks: no_peaks(alloc),
+            maxima: no_maxima(alloc),
             standings: Vec::new(alloc),
             trails: no_trails(alloc),
             spare: 0,
@@ -98,7 +98,7 @@ impl<V: Version> Run<V> {
 
     /// Says how the record hangs together: the steps are a run, and what was delivered in them are values of their type. It
     /// does nothing.
-    pub fn hangs_together(&self)
+    pub fn consistency(&self)
         ensures run { IsRun V.seen V.Key.cmp self.now.members self.now.steps }
         ensures values { All V.is_value (delivered_in self.now.steps) }
     {
@@ -122,7 +122,7 @@ impl<V: Version> Run<V> {
         fill_first(&mut self.standings, self.members, &self.steps)?;
         make_trails(&mut self.trails, versions)?;
         self.steps.reserve(steps)?;
-        make_rows(&mut self.peaks, versions)?;
+        make_rows(&mut self.maxima, versions)?;
         if self.spare < versions {
             self.spare = versions;
         }
@@ -146,7 +146,7 @@ impl<V: Version> Run<V> {
         self.spare -= versions.len();
         self.steps.push_reserved(step);
         write_down(
-            &mut self.peaks,
+            &mut self.maxima,
             &mut self.standings,
             &mut self.trails,
             &self.steps,

@@ -2,7 +2,7 @@
 
 ghost use Rattle.std.specs.Prelude.{◌≡◌, None, true, map};
 ghost use Rattle.am_runs.specs.Records.{step_of};
-ghost use Rattle.am_runs.specs.Spells.{starts, saves};
+ghost use Rattle.am_runs.specs.Uptimes.{starts, saves};
 ghost use Rattle.am_runs.specs.Tests.{runs_after, runs_from, last_after, last_from, ran_after, ran_from};
 
 use crate::calm::later;

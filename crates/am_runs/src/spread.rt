@@ -7,24 +7,24 @@
 ghost use Rattle.std.specs.Prelude.{◌≡◌, ◌↔◌, IsTrue, All, None, true, map};
 ghost use Rattle.am_runs.specs.Records.{step_of};
 ghost use Rattle.am_runs.specs.Runs.{IsRun};
-ghost use Rattle.am_runs.specs.Spells.{Comes, IsSpell};
+ghost use Rattle.am_runs.specs.Uptimes.{Comes, IsUptime};
 ghost use Rattle.am_runs.specs.Steps.{delivered_in};
 ghost use Rattle.am_runs.specs.Timely.{IsTimely};
-ghost use Rattle.am_runs.specs.Tests.{are_onward, brings, ran_from};
+ghost use Rattle.am_runs.specs.Tests.{are_monotone, brings, ran_from};
 
 use crate::flight::are_swift;
-use crate::place::Place;
+use crate::position::Position;
 use crate::running::ran_in;
 use crate::spans::ends_by;
-use crate::spells::{Spell, spell_at};
 use crate::step::Step;
-use crate::timely::{all_lasting, are_onward, comes, counts_for, is_due};
+use crate::timely::{all_lasting, are_monotone, comes, counts_for, is_due};
 use crate::trails::Cell;
+use crate::uptimes::{Uptime, uptime_at};
 use am_version_order::{Interval, Moment, Version};
 
 /// Of which member it is asked whether versions come to it, and where that is looked for.
 #[derive(Drop)]
-struct Asked<'a, V> {
+struct Search<'a, V> {
     spread: Interval,
     member: usize,
     /// The latest moment at which it ran as a step began.
@@ -35,7 +35,7 @@ struct Asked<'a, V> {
 
 /// Whether a step brings the member a version, or a greater one of its key, before that should have come, with the one of
 /// this number in it.
-fn brings<V: Version>(asked: &Asked<V>, version: &V, step: &Step<V>, number: usize) -> bool
+fn brings<V: Version>(asked: &Search<V>, version: &V, step: &Step<V>, number: usize) -> bool
     ensures { IsTrue result → brings V.seen V.Key.cmp asked.now.spread asked.now.member version.now (step_of step.now) ≡ true }
 {
     match step {
@@ -57,27 +57,27 @@ fn brings<V: Version>(asked: &Asked<V>, version: &V, step: &Step<V>, number: usi
 }
 
 /// Whether the member took a version with a cell before that should have come, and kept it.
-fn is_brought<V: Version>(asked: &Asked<V>, version: &V, cell: &Cell, spell: &mut Spell) -> bool
-    requires onward { are_onward 0 (map step_of asked.now.steps.now) ≡ true }
-    requires spell { IsSpell V.seen V.Key.cmp asked.now.member (map step_of asked.now.steps.now) spell.old }
-    ensures spell { IsSpell V.seen V.Key.cmp asked.now.member (map step_of asked.now.steps.now) spell.new }
+fn is_brought<V: Version>(asked: &Search<V>, version: &V, cell: &Cell, uptime: &mut Uptime) -> bool
+    requires onward { are_monotone 0 (map step_of asked.now.steps.now) ≡ true }
+    requires uptime { IsUptime V.seen V.Key.cmp asked.now.member (map step_of asked.now.steps.now) uptime.old }
+    ensures uptime { IsUptime V.seen V.Key.cmp asked.now.member (map step_of asked.now.steps.now) uptime.new }
     ensures comes { IsTrue result → Comes V.seen V.Key.cmp asked.now.spread asked.now.member (map step_of asked.now.steps.now) version.now }
 {
-    let Place { step, number } = cell.place;
+    let Position { step, number } = cell.place;
     match asked.steps.get(step) {
         Some(one) if brings(asked, version, one, number) => {
-            *spell = spell_at(asked.member, asked.steps, *spell, step + 1);
-            spell.kept
+            *uptime = uptime_at(asked.member, asked.steps, *uptime, step + 1);
+            uptime.kept
         }
         _ => false,
     }
 }
 
 /// Whether it did with one of the cells of a ring, looked for from one of them to both sides.
-fn is_found<V: Version>(asked: &Asked<V>, version: &V, at: usize, spell: &mut Spell) -> bool
-    requires onward { are_onward 0 (map step_of asked.now.steps.now) ≡ true }
-    requires spell { IsSpell V.seen V.Key.cmp asked.now.member (map step_of asked.now.steps.now) spell.old }
-    ensures spell { IsSpell V.seen V.Key.cmp asked.now.member (map step_of asked.now.steps.now) spell.new }
+fn is_found<V: Version>(asked: &Search<V>, version: &V, at: usize, uptime: &mut Uptime) -> bool
+    requires onward { are_monotone 0 (map step_of asked.now.steps.now) ≡ true }
+    requires uptime { IsUptime V.seen V.Key.cmp asked.now.member (map step_of asked.now.steps.now) uptime.old }
+    ensures uptime { IsUptime V.seen V.Key.cmp asked.now.member (map step_of asked.now.steps.now) uptime.new }
     ensures comes { IsTrue result → Comes V.seen V.Key.cmp asked.now.spread asked.now.member (map step_of asked.now.steps.now) version.now }
 {
     let mut after = at;
@@ -86,7 +86,7 @@ fn is_found<V: Version>(asked: &Asked<V>, version: &V, at: usize, spell: &mut Sp
         let (Some(later), Some(sooner)) = (asked.cells.get(after), asked.cells.get(before)) else {
             return false;
         };
-        if is_brought(asked, version, later, spell) || is_brought(asked, version, sooner, spell) {
+        if is_brought(asked, version, later, uptime) || is_brought(asked, version, sooner, uptime) {
             return true;
         }
         after = later.after;
@@ -96,18 +96,23 @@ fn is_found<V: Version>(asked: &Asked<V>, version: &V, at: usize, spell: &mut Sp
 }
 
 /// Whether each of some versions comes to the member. The first of them was delivered with the cell of this number.
-fn come_soon<V: Version>(asked: &Asked<V>, versions: &[V], first: usize, spell: &mut Spell) -> bool
-    requires onward { are_onward 0 (map step_of asked.now.steps.now) ≡ true }
+fn come_soon<V: Version>(
+    asked: &Search<V>,
+    versions: &[V],
+    first: usize,
+    uptime: &mut Uptime,
+) -> bool
+    requires onward { are_monotone 0 (map step_of asked.now.steps.now) ≡ true }
     requires ran { asked.now.ran ≡ ran_from asked.now.member true None (map step_of asked.now.steps.now) }
-    requires spell { IsSpell V.seen V.Key.cmp asked.now.member (map step_of asked.now.steps.now) spell.old }
-    ensures spell { IsSpell V.seen V.Key.cmp asked.now.member (map step_of asked.now.steps.now) spell.new }
+    requires uptime { IsUptime V.seen V.Key.cmp asked.now.member (map step_of asked.now.steps.now) uptime.old }
+    ensures uptime { IsUptime V.seen V.Key.cmp asked.now.member (map step_of asked.now.steps.now) uptime.new }
     ensures come { IsTrue result ↔ All (Comes V.seen V.Key.cmp asked.now.spread asked.now.member (map step_of asked.now.steps.now)) versions.now }
 {
     for number in 0..versions.len() {
         let version = &versions[number];
         let at = first.saturating_add(number);
         if is_due(asked.spread, version, asked.ran)
-            && !is_found(asked, version, at, spell)
+            && !is_found(asked, version, at, uptime)
             && !comes(asked.spread, asked.member, version, asked.steps)
         {
             return false;
@@ -123,18 +128,18 @@ fn all_come_soon<V: Version>(
     steps: &[Step<V>],
     cells: &[Cell],
 ) -> bool
-    requires onward { are_onward 0 (map step_of steps.now) ≡ true }
+    requires onward { are_monotone 0 (map step_of steps.now) ≡ true }
     ensures { IsTrue result ↔ All (Comes V.seen V.Key.cmp spread member (map step_of steps.now))
         (delivered_in (map step_of steps.now)) }
 {
-    let asked = Asked {
+    let asked = Search {
         spread,
         member,
         ran: ran_in(member, steps),
         steps,
         cells,
     };
-    let mut spell = Spell {
+    let mut uptime = Uptime {
         from: steps.len(),
         until: steps.len(),
         kept: true,
@@ -142,7 +147,7 @@ fn all_come_soon<V: Version>(
     let mut first = 0usize;
     for step in 0..steps.len() {
         let versions = steps[step].versions();
-        if !come_soon(&asked, versions, first, &mut spell) {
+        if !come_soon(&asked, versions, first, &mut uptime) {
             return false;
         }
         first = first.saturating_add(versions.len());
@@ -161,7 +166,7 @@ pub fn is_timely<V: Version>(
     requires run { IsRun V.seen V.Key.cmp members (map step_of steps.now) }
     ensures { IsTrue result ↔ IsTimely V.seen spread flight members (map step_of steps.now) }
 {
-    if !are_onward(steps) {
+    if !are_monotone(steps) {
         return false;
     }
     if !all_lasting(steps, spread, flight) {

@@ -4,7 +4,7 @@ ghost use Rattle.std.specs.Prelude.{◌≡◌, ◌+◌, ◌<◌, ◌≤◌, ◌�
 ghost use Rattle.std.specs.List.{list_all, list_any};
 ghost use Rattle.am_runs.specs.Records.{step_of, watch_seen};
 ghost use Rattle.am_runs.specs.Steps.{clock_after, delivered_by, delivered_in, moment};
-ghost use Rattle.am_runs.specs.Tests.{is_onward, are_onward, sent_in, sent_at, flies_short, is_due, is_swift, is_wanting};
+ghost use Rattle.am_runs.specs.Tests.{is_monotone, are_monotone, sent_in, sent_at, flies_short, is_due, is_swift, is_wanting};
 ghost use Rattle.am_runs.specs.Tests.{counts_for, watched, watch_after, comes, ComesToAll};
 ghost use Rattle.am_runs.specs.Runs.{IsRun};
 ghost use Rattle.am_runs.specs.Timely.{IsTimely};
@@ -14,8 +14,8 @@ use crate::spans::{both_end_by, ends_by, is_within};
 use crate::step::{Source, Step};
 use am_version_order::{Interval, Moment, Version};
 
-fn is_onward(clock: Moment, now: Option<Moment>) -> bool
-    ensures { result ≡ is_onward clock now }
+fn is_monotone(clock: Moment, now: Option<Moment>) -> bool
+    ensures { result ≡ is_monotone clock now }
 {
     match now {
         Some(now) => clock <= now,
@@ -24,12 +24,12 @@ fn is_onward(clock: Moment, now: Option<Moment>) -> bool
 }
 
 /// Whether the moments written in steps never fall.
-pub fn are_onward<V>(steps: &[Step<V>]) -> bool
-    ensures { result ≡ are_onward 0 (map step_of steps.now) }
+pub fn are_monotone<V>(steps: &[Step<V>]) -> bool
+    ensures { result ≡ are_monotone 0 (map step_of steps.now) }
 {
     let mut clock = Moment::LEAST;
     for step in steps {
-        if !is_onward(clock, step.moment()) {
+        if !is_monotone(clock, step.moment()) {
             return false;
         }
         clock = step.moment().unwrap_or(clock);
@@ -277,7 +277,7 @@ pub fn is_timely<V: Version>(
     ensures { IsRun V.seen V.Key.cmp members (map step_of steps.now)
         → IsTrue result ↔ IsTimely V.seen spread flight members (map step_of steps.now) }
 {
-    if !are_onward(steps) {
+    if !are_monotone(steps) {
         return false;
     }
     if !all_lasting(steps, spread, flight) {

@@ -3,13 +3,13 @@
 //! Nothing rests on it: a step that it leads to is looked at, and where it leads to nothing all steps are gone over. So
 //! what finds no room is left out, and the answer only takes longer.
 
-use crate::place::Place;
+use crate::position::Position;
 use std::alloc::{AllocError, Global};
 
 /// That a member took a version of a key, in the ring of all that were taken of that key.
 #[derive(Clone, Copy)]
 pub struct Cell {
-    pub place: Place,
+    pub place: Position,
     /// The one taken before it; the first one leads to the last.
     pub before: usize,
     /// The one taken after it; the last one leads to the first.
@@ -56,7 +56,7 @@ fn first_of(firsts: &mut Vec<usize>, row: usize, kin: Option<usize>, next: usize
 }
 
 /// Notes that what stands at a place was taken, of the key of a row, which another row may have too. It takes no memory.
-pub fn add_cell(trails: &mut Trails, row: usize, kin: Option<usize>, place: Place) {
+pub fn add_cell(trails: &mut Trails, row: usize, kin: Option<usize>, place: Position) {
     let number = trails.cells.len();
     let after = first_of(&mut trails.firsts, row, kin, number);
     let mut before = number;

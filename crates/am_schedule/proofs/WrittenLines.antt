@@ -30,7 +30,7 @@ use Rattle.am_schedule.specs.StepLines.{event_in, event_line_in, member_line_in,
 use Rattle.am_schedule.specs.Clusters.{is_name}
 use Rattle.am_schedule.specs.Schedules.{definition_in, said_in, labelled}
 use Rattle.am_schedule.specs.Written.{word_of, pair_word, event_words, written_version, IsSince1970, IsMember, is_writable_pair, ArePairs, IsWritableEvent, IsWritableLine, IsWritableVersion}
-use Rattle.am_schedule.specs.Laws.{LineIsRead, VersionIsRead, OneWay}
+use Rattle.am_schedule.specs.Laws.{LineIsRead, VersionIsRead, Unique}
 use Rattle.am_schedule.proofs.WrittenWords.{left_true, right_true, cut_place, cut_before, cut_behind, cut_inside, text_read, member_read, word_read}
 
 -- ---- lines without a member or a moment
@@ -174,9 +174,9 @@ line_read cluster version labels kinds.Frames is = frames_read cluster version
 the_line : Line → Result (Option Line) FaultKind
 the_line line = Ok (Some line)
 
-pub one_way : OneWay
+pub unique : Unique
 unfolding the_line
-one_way cluster version labels line other is too same =
+unique cluster version labels line other is too same =
     let reads = line_read cluster version labels line is in
     let reads_other = line_read cluster version labels other too in
     let both : the_line line ≡ the_line other = sym reads ∙ ap (λ words. said_in (Some cluster) version words) same ∙ reads_other in

@@ -46,8 +46,8 @@ VersionIsRead =
     → (said_in (Some cluster) version (written_version label line) ≡ Ok None) × (labelled label (written_version label line) ≡ Some line)
 
 -- two lines that are written alike are one
-abbrev pub OneWay : Type 0
-OneWay =
+abbrev pub Unique : Type 0
+Unique =
     (cluster : ClusterLine) (version : List ℕ → Option VersionLine) (labels : List (List ℕ)) (line other : Line)
     → IsWritableLine cluster.names version labels line → IsWritableLine cluster.names version labels other
     → written labels line ≡ written labels other → line ≡ other

@@ -1,6 +1,6 @@
 //! What holds of all texts.
 
-ghost use Rattle.am_schedule.specs.Laws.{FirstIsTold, NoLaterIsTold, LineIsRead, TextIsRead, VersionIsRead, OneWay, OneForm, OneVerb};
+ghost use Rattle.am_schedule.specs.Laws.{FirstIsTold, NoLaterIsTold, LineIsRead, TextIsRead, VersionIsRead, Unique, OneForm, OneVerb};
 
 /// Where two lines of a text are at fault, the first of them is told, and nothing of the later one.
 pub fn first_fault_is_told()
@@ -13,7 +13,7 @@ pub fn written_lines_are_read()
     ensures read { LineIsRead }
     ensures text { TextIsRead }
     ensures version { VersionIsRead }
-    ensures one_way { OneWay }
+    ensures unique { Unique }
 {}
 
 /// A line of words stands in one row of the table at most.

@@ -10,7 +10,7 @@ use Rattle.am_silence.specs.Kinds.{is_regexp}
 use Rattle.am_silence.specs.Matchers.{writes_matcher, wants_label}
 use Rattle.am_silence.specs.MatcherTexts.{writes_matchers}
 use Rattle.am_silence.specs.Mesh.{bucket_of}
-use Rattle.am_silence.specs.Places.{Follows}
+use Rattle.am_silence.specs.Offsets.{Follows}
 use Rattle.am_silence.proofs.MatcherTexts.{tag_2}
 use Rattle.am_silence.proofs.Parts.{follows_past}
 

@@ -10,10 +10,10 @@ use Rattle.am_silence.specs.declared.matcher.Matcher.{Matcher}
 use Rattle.am_silence.specs.declared.matcher.MatcherKind.{MatcherKind}
 use Rattle.am_silence.specs.declared.matcher.MatcherKind.TheVariants as kinds
 use Rattle.am_silence.specs.Kinds.{kind_code, kind_of}
-use Rattle.am_silence.specs.Again.{kind_again}
+use Rattle.am_silence.specs.RoundTrip.{kind_again}
 use Rattle.am_silence.specs.Matchers.{writes_matcher}
 use Rattle.am_silence.specs.MatcherTexts.{IsMatcherText, Leads}
-use Rattle.am_silence.specs.Places.{Follows}
+use Rattle.am_silence.specs.Offsets.{Follows}
 use Rattle.am_silence.proofs.MatcherTexts.{tag_2, tag_3}
 
 -- ---- the texts behind the kind

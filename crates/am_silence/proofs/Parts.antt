@@ -4,9 +4,9 @@ use Rattle.std.proofs.Math.Seq.{drop-append_seam, take-append_seam, drop-append-
 use Rattle.std.proofs.lemmas.List.{take_rest, drop-append-le}
 use Rattle.am_wire.specs.declared.error.WireError.{WireError}
 use Rattle.am_wire.specs.Varint.{varint_at, shortest}
-use Rattle.am_wire.specs.Again.Varints.{varint_read, shortest_spells}
-use Rattle.am_silence.specs.declared.place.Place.{Place}
-use Rattle.am_silence.specs.Places.{Follows, StandsAt}
+use Rattle.am_wire.specs.RoundTrip.Varints.{varint_read, shortest_spells}
+use Rattle.am_silence.specs.declared.offset.Offset.{Offset}
+use Rattle.am_silence.specs.Offsets.{Follows, StandsAt}
 
 module _ {part bytes : List ℕ} (h : Follows 0 part bytes) where
   length_read : varint_at 0 bytes ≡ Ok (length part, length (shortest (length part)))
@@ -50,14 +50,14 @@ follows_past {at} {part} {text} before h = record {
 }
 
 -- ---- the place of a part
-pub empty_at_0 : {part : List ℕ} {place : Place} {text : List ℕ} → place.start ≡ 0 → StandsAt part place text → [] ≡ part
+pub empty_at_0 : {part : List ℕ} {place : Offset} {text : List ℕ} → place.start ≡ 0 → StandsAt part place text → [] ≡ part
 empty_at_0 none h = elim h [ inl e ↦ sym e.1 | inr f ↦ let no : ⊥ = omega (arith, none, f.0) in absurd no ]
 
-pub follows_at : {part : List ℕ} {place : Place} {text : List ℕ} → 0 < place.start → StandsAt part place text → Follows place.start part text
+pub follows_at : {part : List ℕ} {place : Offset} {text : List ℕ} → 0 < place.start → StandsAt part place text → Follows place.start part text
 follows_at some h = elim h [ inl e ↦ let no : ⊥ = omega (arith, some, e.0) in absurd no | inr f ↦ f.1 ]
 
 -- the same of the rest of the text from there on
-pub follows_behind : {part : List ℕ} {place : Place} {text : List ℕ} → 0 < place.start → StandsAt part place text → Follows 0 part (take (length text - place.start) (drop place.start text))
+pub follows_behind : {part : List ℕ} {place : Offset} {text : List ℕ} → 0 < place.start → StandsAt part place text → Follows 0 part (take (length text - place.start) (drop place.start text))
 follows_behind {place = place} {text = text} some h =
     let f = follows_at some h in
     record { rest = f.rest; within = omega arith; short = f.short; is = take_rest text place.start ∙ f.is }

@@ -10,7 +10,7 @@ use Rattle.std.proofs.lemmas.Bool.Decides.{Decides-eqb}
 use Rattle.am_silence.specs.declared.matcher.Matcher.{Matcher}
 use Rattle.am_silence.specs.declared.matcher.MatcherKind.{MatcherKind}
 use Rattle.am_silence.specs.Kinds.{kind_code, kind_of}
-use Rattle.am_silence.specs.Again.{kind_again}
+use Rattle.am_silence.specs.RoundTrip.{kind_again}
 use Rattle.am_silence.specs.Matchers.{IsMatcher}
 use Rattle.am_silence.specs.MatcherTexts.{writes_matchers, matchers_in}
 use Rattle.am_silence.specs.Plans.{same_matcher, same_matchers}

@@ -3,10 +3,10 @@ use Rattle.std.proofs.Common.{◌≡◌, ℕ, ◌+◌, ◌-◌, ◌<◌, ◌≤�
 use Rattle.std.proofs.lemmas.List.{append-nil, append_assoc, drop-append-le}
 use Rattle.std.proofs.Math.Seq.{drop-append_seam, drop-append-add, take-append_seam}
 use Rattle.am_wire.specs.Varint.{shortest}
-use Rattle.am_silence.specs.declared.place.Place.{Place}
-use Rattle.am_silence.specs.declared.places.Places.{Places}
+use Rattle.am_silence.specs.declared.offset.Offset.{Offset}
+use Rattle.am_silence.specs.declared.offsets.Offsets.{Offsets}
 use Rattle.am_silence.specs.declared.silence.Silence.{Silence}
-use Rattle.am_silence.specs.Places.{Follows, StandsAt, StandsBetween, StandIn}
+use Rattle.am_silence.specs.Offsets.{Follows, StandsAt, StandsBetween, StandIn}
 
 module _ {start : ℕ} {part text : List ℕ} (h : Follows start part text) where
   pub follows_before : (more : List ℕ) → Follows start part (text ++ more)
@@ -19,11 +19,11 @@ module _ {start : ℕ} {part text : List ℕ} (h : Follows start part text) wher
         ∙ ap (λ (x : List ℕ). shortest (length part) ++ x) (append_assoc part h.rest more);
   }
 
-pub at_before : {part : List ℕ} {place : Place} {text : List ℕ} → StandsAt part place text → (more : List ℕ) → StandsAt part place (text ++ more)
+pub at_before : {part : List ℕ} {place : Offset} {text : List ℕ} → StandsAt part place text → (more : List ℕ) → StandsAt part place (text ++ more)
 at_before h more = elim h [ inl e ↦ inl e | inr f ↦ inr (f.0, follows_before f.1 more) ]
 
 -- a part behind its length, at the end of a text
-pub at_end : (front part : List ℕ) (place : Place) → place.start ≡ length front → 0 < length front → length part < 2 ^ 64
+pub at_end : (front part : List ℕ) (place : Offset) → place.start ≡ length front → 0 < length front → length part < 2 ^ 64
     → StandsAt part place ((front ++ shortest (length part)) ++ part)
 at_end front part place at some short =
     let size = shortest (length part) in
@@ -58,7 +58,7 @@ module _ {start end : ℕ} {part text : List ℕ} (h : StandsBetween start end p
       let rest : drop start text ≡ part ++ h.back = rw (h.begins, h.is) (drop-append_seam h.front (part ++ h.back)) in
       rw (long, rest) (take-append_seam part h.back)
 
-pub stand_before : {s : Silence} {p : Places} {text : List ℕ} → StandIn s p text → (more : List ℕ) → StandIn s p (text ++ more)
+pub stand_before : {s : Silence} {p : Offsets} {text : List ℕ} → StandIn s p text → (more : List ℕ) → StandIn s p (text ++ more)
 stand_before h more = record {
   matchers = between_before h.matchers more;
   created_by = at_before h.created_by more;
@@ -70,5 +70,5 @@ stand_before h more = record {
 pub between_grown : {start end : ℕ} {part text grown : List ℕ} → StandsBetween start end part text → (more : List ℕ) → grown ≡ text ++ more → StandsBetween start end part grown
 between_grown {start} {end} {part} h more is = subst (StandsBetween start end part) (sym is) (between_before h more)
 
-pub at_grown : {part : List ℕ} {place : Place} {text grown : List ℕ} → StandsAt part place text → (more : List ℕ) → grown ≡ text ++ more → StandsAt part place grown
+pub at_grown : {part : List ℕ} {place : Offset} {text grown : List ℕ} → StandsAt part place text → (more : List ℕ) → grown ≡ text ++ more → StandsAt part place grown
 at_grown {part} {place} h more is = subst (λ (x : List ℕ). StandsAt part place x) (sym is) (at_before h more)

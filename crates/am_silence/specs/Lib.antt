@@ -4,12 +4,12 @@ pub mod MatcherTexts
 pub mod Comments
 pub mod Silences
 pub mod Mesh
-pub mod Places
+pub mod Offsets
 pub mod Spelled
 pub mod Fields
 pub mod MeshTable
 pub mod Drafts
-pub mod Again
+pub mod RoundTrip
 pub mod States
 pub mod Ids
 pub mod Plans

@@ -4,7 +4,7 @@ use Rattle.std.specs.List.{list_any}
 use Rattle.std.specs.Option.{option_map_or}
 use Rattle.am_version_order.specs.Moments.{greatest}
 use Rattle.am_version_order.specs.Versions.{Version}
-use Rattle.am_wire.specs.Dated.{writes_dated}
+use Rattle.am_wire.specs.Expiring.{writes_expiring}
 use Rattle.am_silence.specs.declared.matcher.Matcher.{Matcher}
 use Rattle.am_silence.specs.declared.silence.Silence.{Silence}
 use Rattle.am_silence.specs.Kinds.{is_regexp}
@@ -18,7 +18,7 @@ pub record Mesh : Type 0 where
 
 -- the canonical text of a version
 unfoldable pub writes_mesh_silence : Mesh → List ℕ
-writes_mesh_silence m = writes_dated (writes_silence m.silence) m.expires_at
+writes_mesh_silence m = writes_expiring (writes_silence m.silence) m.expires_at
 
 -- the values of the type
 pub record IsMesh (m : Mesh) : Type 0 where

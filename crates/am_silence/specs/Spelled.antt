@@ -4,7 +4,7 @@ use Rattle.std.proofs.Common.{◌≡◌, ap, arith}
 use Rattle.am_wire.specs.declared.error.WireError.{WireError}
 use Rattle.am_silence.specs.Mesh.{Mesh, IsMesh, writes_mesh_silence}
 use Rattle.am_silence.specs.MeshTable.{reads_mesh_silence}
-use Rattle.am_silence.specs.Again.{mesh_again}
+use Rattle.am_silence.specs.RoundTrip.{mesh_again}
 
 -- a version of nothing
 abbrev no_version : Mesh

@@ -6,7 +6,7 @@ ghost use Rattle.am_silence.specs.Kinds.{is_regexp};
 ghost use Rattle.am_silence.specs.MatcherTexts.{writes_matchers};
 ghost use Rattle.am_silence.specs.Matchers.{writes_matcher, wants_label};
 ghost use Rattle.am_silence.specs.Mesh.{bucket_of};
-ghost use Rattle.am_silence.specs.Places.{Follows};
+ghost use Rattle.am_silence.specs.Offsets.{Follows};
 
 use crate::iter::MatcherIter;
 

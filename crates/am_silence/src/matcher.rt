@@ -259,7 +259,7 @@ impl<'a> Draft<'a> for MatcherDraft<'a> {
 
 impl Message for Matcher {
     ghost use Rattle.am_silence.specs.Matchers.{IsMatcher, reads_matcher, writes_matcher};
-    ghost use Rattle.am_silence.specs.Again.{matcher_again};
+    ghost use Rattle.am_silence.specs.RoundTrip.{matcher_again};
 
     ghost is_value = { IsMatcher };
 
@@ -267,7 +267,7 @@ impl Message for Matcher {
 
     ghost reads = { reads_matcher };
 
-    ghost again = { matcher_again };
+    ghost round_trip = { matcher_again };
 
     fn size(&self) -> u64 {
         self.borrowed().size()

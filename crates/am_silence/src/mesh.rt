@@ -11,12 +11,12 @@ ghost use Rattle.am_silence.specs.Mesh.{IsMesh, writes_mesh_silence, bucket_of};
 ghost use Rattle.am_silence.specs.States.{state_of, is_expired};
 
 use crate::iter::MatcherIter;
-use crate::places::{Places, write_silence};
+use crate::offsets::{Offsets, write_silence};
 use crate::silence::{Silence, SilenceDraft};
 use crate::sizes::{SilenceFields, version_size};
 use crate::state::{State, state_between};
 use am_version_order::{Moment, Version, head_of_text};
-use am_wire::reading::{Dated, DatedDraft, read_message};
+use am_wire::reading::{Expiring, ExpiringDraft, read_message};
 use am_wire::writing::{append_text, write_message, write_prefix};
 use am_wire::{MOST_MESSAGE_BYTES, Message, Text, WireError};
 use std::alloc::{AllocError, Global};
@@ -33,7 +33,7 @@ pub struct MeshSilence {
     ends_at: Moment,
     updated_at: Moment,
     expires_at: Moment,
-    places: Places,
+    places: Offsets,
     canonical: Vec<u8>,
 }
 
@@ -55,7 +55,7 @@ impl Drop for MeshSilence {
 impl Model for MeshSilence {
     ghost use Rattle.std.specs.Prelude.{◌≡◌};
     ghost use Rattle.am_silence.specs.Mesh.{Mesh, IsMesh, writes_mesh_silence};
-    ghost use Rattle.am_silence.specs.Places.{StandIn};
+    ghost use Rattle.am_silence.specs.Offsets.{StandIn};
     ghost use Rattle.am_silence.specs.Spelled.{version_in};
 
     ghost Value = { Mesh };
@@ -221,7 +221,7 @@ impl MeshSilence {
 impl Message for MeshSilence {
     ghost use Rattle.am_silence.specs.Mesh.{IsMesh};
     ghost use Rattle.am_silence.specs.MeshTable.{reads_mesh_silence};
-    ghost use Rattle.am_silence.specs.Again.{mesh_again};
+    ghost use Rattle.am_silence.specs.RoundTrip.{mesh_again};
 
     ghost is_value = { IsMesh };
 
@@ -229,7 +229,7 @@ impl Message for MeshSilence {
 
     ghost reads = { reads_mesh_silence };
 
-    ghost again = { mesh_again };
+    ghost round_trip = { mesh_again };
 
     fn size(&self) -> u64 {
         self.canonical().len() as u64
@@ -245,10 +245,10 @@ impl Message for MeshSilence {
 
     #[tactic(auto, unfolding(crate::specs::MeshTable::reads_mesh_silence))]
     fn decode_at(alloc: Global, bytes: &[u8], at: usize) -> Result<MeshSilence, WireError> {
-        let Dated {
+        let Expiring {
             message: silence,
             expires_at,
-        } = read_message::<DatedDraft<SilenceDraft>>(alloc, bytes, at, at)?;
+        } = read_message::<ExpiringDraft<SilenceDraft>>(alloc, bytes, at, at)?;
         let fields = silence.fields();
         let version = MeshSilence::of_sized(alloc, &fields, fields.size(), expires_at)?;
         Ok(version)
@@ -260,7 +260,7 @@ impl Version for MeshSilence {
     ghost use Rattle.am_version_order.proofs.Weights.{text_heads};
     ghost use Rattle.std.proofs.lemmas.Map.Lookups.{exact_bytes};
     ghost use Rattle.am_silence.specs.Mesh.{IsMesh, mesh_version};
-    ghost use Rattle.am_silence.specs.Again.{mesh_exact};
+    ghost use Rattle.am_silence.specs.RoundTrip.{mesh_exact};
 
     type Key = Text;
 

@@ -7,7 +7,7 @@ ghost use Rattle.am_silence.specs.Silences.{silence};
 
 use crate::comment::FirstComment;
 use crate::matchers::Matchers;
-use crate::places::write_silence;
+use crate::offsets::write_silence;
 use crate::sizes::SilenceFields;
 use am_version_order::Moment;
 use am_wire::reading::{
@@ -224,7 +224,7 @@ impl<'a> Draft<'a> for SilenceDraft<'a> {
 
 impl Message for Silence {
     ghost use Rattle.am_silence.specs.Silences.{IsSilence, reads_silence, writes_silence};
-    ghost use Rattle.am_silence.specs.Again.{silence_again};
+    ghost use Rattle.am_silence.specs.RoundTrip.{silence_again};
 
     ghost is_value = { IsSilence };
 
@@ -232,7 +232,7 @@ impl Message for Silence {
 
     ghost reads = { reads_silence };
 
-    ghost again = { silence_again };
+    ghost round_trip = { silence_again };
 
     fn size(&self) -> u64 {
         SilenceFields::of(self).size()

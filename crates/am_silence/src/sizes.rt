@@ -9,7 +9,7 @@ ghost use Rattle.am_silence.specs.Silences.{writes_silence};
 use crate::iter::MatcherIter;
 use crate::silence::Silence;
 use am_version_order::Moment;
-use am_wire::writing::{dated_size, message_size, text_size};
+use am_wire::writing::{expiring_size, message_size, text_size};
 
 /// The fields of a silence, whose texts and matchers are another's.
 #[derive(Drop)]
@@ -60,5 +60,5 @@ pub fn version_size(silence_size: u64, expires_at: Moment) -> u64
     ensures { (m : Mesh) → silence_size ≡ counted (length (writes_silence m.silence)) → expires_at ≡ m.expires_at →
         result ≡ counted (length (writes_mesh_silence m)) }
 {
-    dated_size(silence_size, expires_at)
+    expiring_size(silence_size, expires_at)
 }

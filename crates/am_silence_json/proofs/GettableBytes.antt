@@ -17,7 +17,7 @@ use Rattle.am_silence.specs.Silences.{IsSilence}
 use Rattle.am_silence.specs.Mesh.{Mesh, IsMesh}
 use Rattle.am_silence_json.specs.Gettables.{matcher_data, state_text, IsGettable, AreGettable}
 use Rattle.am_silence_json.specs.Written.{WritesMoment}
-use Rattle.am_silence_json.proofs.Again.{real_bounds}
+use Rattle.am_silence_json.proofs.RoundTrip.{real_bounds}
 use Rattle.am_silence_json.proofs.Bytes.{utf8_text}
 
 -- its texts are UTF-8, and it has no numbers

@@ -2,7 +2,7 @@ mod Fronts
 mod Sums
 mod Years
 mod Bytes
-mod Again
+mod RoundTrip
 mod One
 pub mod Bodies
 pub mod Rows

@@ -13,7 +13,7 @@ use Rattle.am_silence_json.specs.Gettables.{is_equal, matcher_data, gettable_dat
 use Rattle.am_silence_json.specs.Posts.{kind_of, matcher_of, matchers_of, text_in}
 use Rattle.am_silence_json.specs.Shown.{HasCut, IsShown, AreShown, cut_moment, cut_to_shown}
 use Rattle.am_silence_json.specs.Written.{WritesMoment}
-use Rattle.am_silence_json.proofs.Again.{texts_read}
+use Rattle.am_silence_json.proofs.RoundTrip.{texts_read}
 
 kind_again : (k : MatcherKind) → kind_of (is_regexp k) (is_equal k) ≡ k
 kind_again kinds.Equal = refl

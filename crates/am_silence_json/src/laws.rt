@@ -49,7 +49,7 @@ pub fn reads_again(
     alloc: Global,
     rows: &[(MeshSilence, State)],
 ) -> Result<Vec<MeshSilence>, ListError>
-    ensures again { IfOk result (λ vs. vs.items ≡ map (λ row. cut_to_shown row.0) rows.now) }
+    ensures round_trip { IfOk result (λ vs. vs.items ≡ map (λ row. cut_to_shown row.0) rows.now) }
     ensures refused { IfErr result (λ e. e ≢ errors.Memory → IsRowTooLarge rows.now e) }
 {
     rows_are_values(rows);

@@ -3,7 +3,7 @@ use Rattle.std.proofs.Common.{◌≡◌, ℕ, ◌+◌, ◌≤◌, List, [], ◌�
 use Rattle.std.proofs.lemmas.List.{drop-append-le}
 use Rattle.am_wire.specs.declared.error.WireError.{WireError}
 use Rattle.am_wire.specs.declared.error.WireError.TheVariants.{Truncated}
-use Rattle.am_wire.specs.Again.Pieces.{pieces-first}
+use Rattle.am_wire.specs.RoundTrip.Pieces.{pieces-first}
 use Rattle.am_wire.specs.Limits.{most}
 use Rattle.am_wire.specs.Inputs.{sound, message_at, messages_of, HasFaultAfter, IsCutAfter, IsTooLargeAfter}
 use Rattle.am_snapshot.proofs.Ends.{from, has_first, none_there}

@@ -9,8 +9,8 @@ use Rattle.am_wire.specs.Fields.{row_at, pieces}
 use Rattle.am_wire.specs.Varint.{shortest}
 use Rattle.am_wire.specs.Writing.{delimited}
 use Rattle.am_wire.specs.Grammar.{IsRow}
-use Rattle.am_wire.specs.Again.Varints.{shortest_spells, shortest_filled}
-use Rattle.am_wire.specs.Again.Pieces.{pieces-first}
+use Rattle.am_wire.specs.RoundTrip.Varints.{shortest_spells, shortest_filled}
+use Rattle.am_wire.specs.RoundTrip.Pieces.{pieces-first}
 use Rattle.am_wire.specs.Limits.{most}
 use Rattle.am_wire.specs.Inputs.{sound, message_at, messages_from}
 use Rattle.am_wire.proofs.Exact.{row_read}

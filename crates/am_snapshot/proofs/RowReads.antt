@@ -12,7 +12,7 @@ use Rattle.am_wire.specs.declared.reader.Standing.{Standing}
 use Rattle.am_wire.specs.declared.reader.Standing.TheVariants.{Before, Over, Refused}
 use Rattle.am_wire.specs.Varint.{varint_within}
 use Rattle.am_wire.specs.Fields.{row_at, pieces}
-use Rattle.am_wire.specs.Again.Pieces.{pieces-first}
+use Rattle.am_wire.specs.RoundTrip.Pieces.{pieces-first}
 use Rattle.am_wire.specs.Limits.{most}
 use Rattle.am_wire.specs.Reader.{IsCut, ReadsAs, HasBadLength, EndsInRow, Answers, all_but_last}
 use Rattle.am_wire.specs.Inputs.{sound, message_at, messages_of, AreMessages, HasFaultAfter, IsTooLargeAfter, StopsAfter}

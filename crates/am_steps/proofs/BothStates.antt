@@ -6,9 +6,9 @@ use Rattle.am_silence.specs.Mesh.{mesh_version}
 use Rattle.am_nflog.specs.Mesh.{mesh_version as entry_version}
 use Rattle.am_nflog.specs.Keys.{key_cmp}
 use Rattle.am_instance.specs.Deliveries.{to_silences, to_log}
-use Rattle.am_instance.specs.Stands.{entry_at, kept_log, kept_silences, silence_at}
+use Rattle.am_instance.specs.InstanceStates.{entry_at, kept_log, kept_silences, silence_at}
 use Rattle.am_steps.specs.Contents.{entries_in, silences_in}
-use Rattle.am_steps.proofs.Again.{entries_parted, silences_parted}
+use Rattle.am_steps.proofs.RoundTrip.{entries_parted, silences_parted}
 use Rattle.am_steps.proofs.States.{log_changed, log_state, silences_changed, silences_state}
 use Rattle.am_steps.proofs.Making.{entries_now, silences_now}
 use Rattle.am_steps.proofs.Happening.{IsStateOf}

@@ -13,7 +13,7 @@ use Rattle.am_instance.specs.declared.event.Request.{Request}
 use Rattle.am_instance.specs.declared.event.Request.TheVariants as requests
 use Rattle.am_instance.specs.declared.reply.Made.{Made}
 use Rattle.am_instance.specs.declared.reply.Reply.{Reply}
-use Rattle.am_instance.specs.Stands.{Stand}
+use Rattle.am_instance.specs.InstanceStates.{InstanceState}
 use Rattle.am_instance.specs.Replies.{IsDone, IsEnded, IsLogged, IsReply, IsRequestReply, RefusedOr, listed, posted_over, silence_in_view}
 
 -- two silences at most
@@ -47,7 +47,7 @@ refused_or : (refusal : Option SilenceError) (Done : Reply → Made → Type 0) 
 refused_or None Done reply made done is = done is
 refused_or (Some error) Done reply made done is = few made.silences.items [] is.nothing.silences no_silence
 
-request_few : (old : Stand) (request : Request) (now : ℕ) (reply : Reply) (made : Made) → IsRequestReply old request now reply made → AreFew made.silences.items
+request_few : (old : InstanceState) (request : Request) (now : ℕ) (reply : Reply) (made : Made) → IsRequestReply old request now reply made → AreFew made.silences.items
 request_few old (requests.List filters) now reply made is = few made.silences.items [] is.1.silences no_silence
 request_few old (requests.Get id) now reply made is = few made.silences.items [] is.1.silences no_silence
 request_few old (requests.Post posted bits) now reply made is =
@@ -63,7 +63,7 @@ logged_few : (now : ℕ) (log : List LogMesh) (made_now : Bool) (entry : LogMesh
 logged_few now log false entry reply made logged = few made.silences.items [] logged.1.silences no_silence
 logged_few now log true entry reply made logged = few made.silences.items [] logged.1 no_silence
 
-pub few_silences : (old : Stand) (event : Event) (now : ℕ) (reply : Reply) (made : Made) → IsReply old event now reply made → length made.silences.items ≤ 2
+pub few_silences : (old : InstanceState) (event : Event) (now : ℕ) (reply : Reply) (made : Made) → IsReply old event now reply made → length made.silences.items ≤ 2
 few_silences old (events.Request request) now reply made is = request_few old request now reply made is
 few_silences old (events.Frame sender frame) now reply made is = few made.silences.items [] is.1.silences no_silence
 few_silences old (events.Notified group_key receiver firing resolved repeat) now reply made is = logged_few now old.log _ _ reply made is

@@ -13,7 +13,7 @@ use Rattle.am_collect.specs.Kept.{Kept}
 use Rattle.am_collect.specs.Keepers.{IsLeftBy}
 use Rattle.am_runs.specs.declared.step.Source.{Source}
 use Rattle.am_runs.specs.declared.step.Source.TheVariants.{Made, Written, Arrived, Lent}
-use Rattle.am_runs.specs.Steps.{Flight, Step, flights_of}
+use Rattle.am_runs.specs.Steps.{SentFrame, Step, flights_of}
 use Rattle.am_runs.specs.Steps.Step.{Took, Ticked}
 use Rattle.am_runs.specs.Members.{Member, map_of, member_of, passes, stepped}
 use Rattle.am_runs.specs.Runs.{AreFrom, CanAct, IsPossible, IsSent, changed}
@@ -28,7 +28,7 @@ use Rattle.am_instance.specs.declared.reply.Outcome.{Outcome}
 use Rattle.am_instance.specs.Changes.{changed_of}
 use Rattle.am_instance.specs.Configs.{peers_but}
 use Rattle.am_instance.specs.Deliveries.{Delivery}
-use Rattle.am_instance.specs.Stands.{Stand, entry_at, silence_at}
+use Rattle.am_instance.specs.InstanceStates.{InstanceState, entry_at, silence_at}
 use Rattle.am_instance.specs.Sendings.{deltas_to, nothing_sent, sent_by}
 use Rattle.am_instance.specs.Replies.{IsReply}
 use Rattle.am_instance.specs.Steps.{brought, collects, counts, delivers, last_wanted, made_here, origin, step_events}
@@ -43,20 +43,20 @@ use Rattle.am_steps.proofs.Making.{MadeNow, frame_makes_nothing, reply_now}
 use Rattle.am_steps.proofs.Sendings.{AreKnown, IfFits, all_deltas, all_picked, all_sent, changed_values, deltas_known, last_holds, pull_known, push_known}
 
 -- what is told of a state of an instance
-pub record IsStateOf {K X : Type 0} (seen : X → Version K) (cmp : K → K → Ordering) (of_delivery : Delivery → MapEvent X) (pick : List Delivery → List X) (kept : Stand → Kept X) : Type 0 where
+pub record IsStateOf {K X : Type 0} (seen : X → Version K) (cmp : K → K → Ordering) (of_delivery : Delivery → MapEvent X) (pick : List Delivery → List X) (kept : InstanceState → Kept X) : Type 0 where
   pub state : IsState seen cmp of_delivery pick
   pub none : pick [] ≡ []
-  pub last : (stand : Stand) → (kept stand).last ≡ stand.last
-  pub parted : (stand : Stand) → pick (held_in stand.silences stand.log) ≡ (kept stand).held
-  pub changes : (now : ℕ) (stand : Stand) (ds : List Delivery) →
+  pub last : (stand : InstanceState) → (kept stand).last ≡ stand.last
+  pub parted : (stand : InstanceState) → pick (held_in stand.silences stand.log) ≡ (kept stand).held
+  pub changes : (now : ℕ) (stand : InstanceState) (ds : List Delivery) →
       pick (changed_of now (silence_at stand.silences) (entry_at stand.log) ds) ≡ changed seen cmp now (at seen cmp (kept stand).held) (pick ds)
   pub made : (now : ℕ) (made : MadeHere) → MadeNow now made → All (λ v. (seen v).updated ≡ now) (pick (made_here made))
-  pub left : (old new : Stand) (event : Event) (now : ℕ) (answer : Result Outcome StepError) → IsStep old event now answer new →
+  pub left : (old new : InstanceState) (event : Event) (now : ℕ) (answer : Result Outcome StepError) → IsStep old event now answer new →
       IsLeftBy seen cmp (kept old) (step_events of_delivery event now answer) (kept new)
 
 module _ {K X : Type 0} (seen : X → Version K) (cmp : K → K → Ordering) (members : ℕ) (before : List (Step X)) (now : ℕ) where
   -- the first of versions come from where all of them do
-  fewer_flown : (vs ws : List X) (flight : Option (Flight X)) → IsSomeAnd flight (λ f. All (Contains f.versions) (vs ++ ws)) → IsSomeAnd flight (λ f. All (Contains f.versions) vs)
+  fewer_flown : (vs ws : List X) (flight : Option (SentFrame X)) → IsSomeAnd flight (λ f. All (Contains f.versions) (vs ++ ws)) → IsSomeAnd flight (λ f. All (Contains f.versions) vs)
   fewer_flown vs ws None all = all
   fewer_flown vs ws (Some f) all = all_left (Contains f.versions) vs ws all
 
@@ -70,8 +70,8 @@ module _ {K X : Type 0} (seen : X → Version K) (cmp : K → K → Ordering) (m
   made_from : (source : Source) (vs : List X) → source ≡ Made → All (λ v. (seen v).updated ≡ now) vs → AreFrom seen cmp members before now source vs
   made_from source vs is all = subst (λ s. AreFrom seen cmp members before now s vs) (sym is) all
 
-  module _ (of_delivery : Delivery → MapEvent X) (pick : List Delivery → List X) (kept : Stand → Kept X) (facts : IsStateOf seen cmp of_delivery pick kept) where
-    delivered_from : (old : Stand) (event : Event) (source : Source) (reply : Reply) (made : MadeHere) → HasSource pick seen cmp members before now event source → IsReply old event now reply made →
+  module _ (of_delivery : Delivery → MapEvent X) (pick : List Delivery → List X) (kept : InstanceState → Kept X) (facts : IsStateOf seen cmp of_delivery pick kept) where
+    delivered_from : (old : InstanceState) (event : Event) (source : Source) (reply : Reply) (made : MadeHere) → HasSource pick seen cmp members before now event source → IsReply old event now reply made →
         AreFrom seen cmp members before now source (pick (delivers event made))
     delivered_from old (events.Frame sender frame) source reply made from is =
         subst (λ (ds : List Delivery). AreFrom seen cmp members before now source (pick ds)) (sym (ap (λ ds. carries frame ++ ds) (frame_makes_nothing made is.1) ∙ append-nil (carries frame))) from
@@ -103,8 +103,8 @@ module _ {K X : Type 0} (seen : X → Version K) (cmp : K → K → Ordering) (m
     stopped_from events.Tick source taken from = nothing_from source taken from
     stopped_from (events.PullFrom place) source taken from = nothing_from source taken from
 
-    module _ (hold : (stand : Stand) → HasMaps stand → All (λ v. at seen cmp (kept stand).held (seen v).key ≡ Some v) (kept stand).held)
-        (place : ℕ) (source : Source) (old new : Stand) (event : Event) (frames : List (ℕ × Frame))
+    module _ (hold : (stand : InstanceState) → HasMaps stand → All (λ v. at seen cmp (kept stand).held (seen v).key ≡ Some v) (kept stand).held)
+        (place : ℕ) (source : Source) (old new : InstanceState) (event : Event) (frames : List (ℕ × Frame))
         (gone : HasGoneThrough seen cmp (member_of members place before).past (kept old)) (from : HasSource pick seen cmp members before now event source) where
       abbrev member : Member X
       member = member_of members place before

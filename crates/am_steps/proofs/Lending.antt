@@ -15,7 +15,7 @@ use Rattle.am_collect.specs.Events.Event.{Passed}
 use Rattle.am_collect.specs.Kept.{Kept}
 use Rattle.am_runs.specs.declared.step.Source.{Source}
 use Rattle.am_runs.specs.declared.step.Source.TheVariants.{Arrived, Lent}
-use Rattle.am_runs.specs.Steps.{Flight, Step, flights_by, flights_of}
+use Rattle.am_runs.specs.Steps.{SentFrame, Step, flights_by, flights_of}
 use Rattle.am_runs.specs.Steps.Step.{Took, Ticked}
 use Rattle.am_runs.specs.Members.{map_of, member_of}
 use Rattle.am_runs.specs.Runs.{AreFrom}
@@ -33,10 +33,10 @@ use Rattle.am_instance.specs.Deliveries.Delivery.{OfSilence, OfEntry}
 use Rattle.am_instance.specs.OneStep.{IsStep}
 use Rattle.am_instance.specs.Replies.{listed}
 use Rattle.am_instance.specs.Sendings.{Sends, deltas_to, nothing_sent, sent_by, whole_state}
-use Rattle.am_instance.specs.Stands.{Stand, entry_at, silence_at}
+use Rattle.am_instance.specs.InstanceStates.{InstanceState, entry_at, silence_at}
 use Rattle.am_instance.specs.Steps.{brought, collects, delivers, fault_of, made_here, origin}
 use Rattle.am_steps.specs.Contents.{carries, held_in, IsReadable, IsValue}
-use Rattle.am_steps.proofs.Again.{whole_carries, whole_sound}
+use Rattle.am_steps.proofs.RoundTrip.{whole_carries, whole_sound}
 use Rattle.am_steps.specs.Recorded.{AreInFlight, HasGoneThrough, event_step, flights_in, sent_in}
 use Rattle.am_steps.proofs.Making.{frame_makes_nothing}
 
@@ -55,7 +55,7 @@ values_delivered event made came silences log =
     (All-append IsValue (map OfSilence made.silences.items) (map OfEntry (listed made.log)) (all_silences made.silences.items silences) (one_entry made.log log))
 
 -- ---- what is lent
-module _ (lent : Stand) (is : All IsReadable (map OfSilence lent.silences)) (are : All IsReadable (map OfEntry lent.log)) where
+module _ (lent : InstanceState) (is : All IsReadable (map OfSilence lent.silences)) (are : All IsReadable (map OfEntry lent.log)) where
   abbrev pub lending : Frame
   lending = frames.Pull (whole_state lent.silences lent.log)
 
@@ -72,7 +72,7 @@ module _ (lent : Stand) (is : All IsReadable (map OfSilence lent.silences)) (are
       (runs, subst (All (λ v. map_of seen cmp (member_of members lender before).past (seen v).key ≡ Some v)) (sym (ap pick lent_whole ∙ parted)) (λ k v within. sym (gone.map _) ∙ hold k v within))
 
 -- ---- what flies
-pub collecting_sends_nothing : (old : Stand) (event : Event) (now : ℕ) (outcome : Outcome) (new : Stand) → collects event ≡ true → IsStep old event now (Ok outcome) new → outcome.frames.items ≡ []
+pub collecting_sends_nothing : (old : InstanceState) (event : Event) (now : ℕ) (outcome : Outcome) (new : InstanceState) → collects event ≡ true → IsStep old event now (Ok outcome) new → outcome.frames.items ≡ []
 collecting_sends_nothing old event now outcome new collecting step = by_event event collecting step
   where
     unsent : (event : Event) → made_here outcome.made ≡ [] → Sends (deltas_to (peers_but old.config (origin old.config event)) (changed_of now (silence_at old.silences) (entry_at old.log) (made_here outcome.made)) ++ []) nothing_sent (sent_by outcome) → outcome.frames.items ≡ []
@@ -107,7 +107,7 @@ module _ {X : Type 0} (pick : List Delivery → List X) (place now : ℕ) (sourc
   fly_by true vs fs none = none_fly fs (none refl)
   fly_by false vs fs none = fly vs fs
 
-  step_flies : (old new : Stand) (event : Event) (answer : Result Outcome StepError) (fs : List (ℕ × Frame)) → IsStep old event now answer new → AreInFlight answer fs →
+  step_flies : (old new : InstanceState) (event : Event) (answer : Result Outcome StepError) (fs : List (ℕ × Frame)) → IsStep old event now answer new → AreInFlight answer fs →
       flights_by (event_step pick place now source event answer fs) ≡ flights_in pick now fs
   step_flies old new event (Ok outcome) fs step flying =
       fly_by (collects event) (pick (delivers event outcome.made)) fs
@@ -117,7 +117,7 @@ module _ {X : Type 0} (pick : List Delivery → List X) (place now : ℕ) (sourc
   step_flies old new event (Err UnknownPeer) fs step flying = none_fly fs flying
   step_flies old new event (Err (FrameFault fault)) fs step flying = none_fly fs flying
 
-  pub all_fly : (before : List (Step X)) (old new : Stand) (event : Event) (answer : Result Outcome StepError) (fs : List (ℕ × Frame)) → IsStep old event now answer new → AreInFlight answer fs →
+  pub all_fly : (before : List (Step X)) (old new : InstanceState) (event : Event) (answer : Result Outcome StepError) (fs : List (ℕ × Frame)) → IsStep old event now answer new → AreInFlight answer fs →
       flights_of (before ++ event_step pick place now source event answer fs ∷ []) ≡ flights_of before ++ flights_in pick now fs
   all_fly before old new event answer fs step flying =
       flights_of-push before (event_step pick place now source event answer fs) ∙ ap (λ flights. flights_of before ++ flights) (step_flies old new event answer fs step flying)
@@ -126,7 +126,7 @@ module _ {X : Type 0} (pick : List Delivery → List X) (place now : ℕ) (sourc
 pub flown : {K X : Type 0} (seen : X → Version K) (cmp : K → K → Ordering) (members now number sent : ℕ) (before : List (Step X)) (versions : List X) →
     slice_get (flights_of before) number ≡ Some (record { sent = sent; versions = versions }) → AreFrom seen cmp members before now (Arrived number) versions
 flown {K} {X} seen cmp members now number sent before versions is =
-    subst (λ (flight : Option (Flight X)). IsSomeAnd flight (λ f. All (Contains f.versions) versions)) (sym is) (All-contains_itself versions)
+    subst (λ (flight : Option (SentFrame X)). IsSomeAnd flight (λ f. All (Contains f.versions) versions)) (sym is) (All-contains_itself versions)
 
 pub started : {K X : Type 0} (seen : X → Version K) (cmp : K → K → Ordering) (saved : Events X) (now : ℕ) (kept : Kept X) → HasGoneThrough seen cmp saved kept →
     HasGoneThrough seen cmp (saved ++ (Passed, now) ∷ []) (record { held = kept.held; last = now })

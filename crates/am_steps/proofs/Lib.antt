@@ -1,7 +1,7 @@
 pub mod RowAdding
 pub mod Parting
 pub mod PartAdding
-pub mod Again
+pub mod RoundTrip
 pub mod States
 pub mod Going
 pub mod Making

@@ -20,11 +20,11 @@ use Rattle.am_instance.specs.declared.event.Request.TheVariants as requests
 use Rattle.am_instance.specs.declared.reply.Made.{Made}
 use Rattle.am_instance.specs.declared.reply.Reply.{Reply}
 use Rattle.am_instance.specs.Deliveries.Delivery.{OfSilence, OfEntry}
-use Rattle.am_instance.specs.Stands.{Stand}
-use Rattle.am_instance.specs.Replies.{AreMade, IsDone, IsEnded, IsLogged, IsNothing, IsReply, IsRequestReply, RefusedOr, listed, posted_over, silence_in_view}
+use Rattle.am_instance.specs.InstanceStates.{InstanceState}
+use Rattle.am_instance.specs.Replies.{AreSilencesMade, IsDone, IsEnded, IsLogged, IsNothing, IsReply, IsRequestReply, RefusedOr, listed, posted_over, silence_in_view}
 use Rattle.am_instance.specs.Steps.{made_here}
 use Rattle.am_steps.specs.Contents.{silences_in, entries_in}
-use Rattle.am_steps.proofs.Again.{silences_parted, entries_parted}
+use Rattle.am_steps.proofs.RoundTrip.{silences_parted, entries_parted}
 
 abbrev IsNow : ℕ → Mesh → Type 0
 IsNow now v = v.silence.updated_at ≡ now
@@ -43,7 +43,7 @@ none_made now made nothing = record {
   log = subst (λ (o : Option LogMesh). All (IsEntryNow now) (listed o)) (sym nothing.log) (All-nil (IsEntryNow now));
 }
 
-some_made : (now : ℕ) (made : Made) (vs : List Mesh) → All (IsNow now) vs → AreMade made vs → MadeNow now made
+some_made : (now : ℕ) (made : Made) (vs : List Mesh) → All (IsNow now) vs → AreSilencesMade made vs → MadeNow now made
 some_made now made vs is are = record {
   silences = subst (All (IsNow now)) (sym are.silences) is;
   log = subst (λ (o : Option LogMesh). All (IsEntryNow now) (listed o)) (sym are.log) (All-nil (IsEntryNow now));
@@ -96,7 +96,7 @@ refused_or : (now : ℕ) (refusal : Option SilenceError) (Done : Reply → Made 
 refused_or now None Done reply made done is = done refl is
 refused_or now (Some error) Done reply made done is = none_made now made is.nothing
 
-request_now : (old : Stand) (request : Request) (now : ℕ) (reply : Reply) (made : Made) → IsRequestReply old request now reply made → MadeNow now made
+request_now : (old : InstanceState) (request : Request) (now : ℕ) (reply : Reply) (made : Made) → IsRequestReply old request now reply made → MadeNow now made
 request_now old (requests.List filters) now reply made is = none_made now made is.1
 request_now old (requests.Get id) now reply made is = none_made now made is.1
 request_now old (requests.Post posted bits) now reply made is =
@@ -117,7 +117,7 @@ logged_now now log true entry reply made is logged = record {
   log = subst (λ (o : Option LogMesh). All (IsEntryNow now) (listed o)) (sym logged.2) (All-cons (IsEntryNow now) entry [] is (All-nil (IsEntryNow now)));
 }
 
-pub reply_now : (old : Stand) (event : Event) (now : ℕ) (reply : Reply) (made : Made) → IsReply old event now reply made → MadeNow now made
+pub reply_now : (old : InstanceState) (event : Event) (now : ℕ) (reply : Reply) (made : Made) → IsReply old event now reply made → MadeNow now made
 reply_now old (events.Request request) now reply made is = request_now old request now reply made is
 reply_now old (events.Frame sender frame) now reply made is = none_made now made is.1
 reply_now old (events.Notified group_key receiver firing resolved repeat) now reply made is = logged_now now old.log _ _ reply made refl is

@@ -14,10 +14,10 @@ use Rattle.am_instance.specs.Configs.{Settings, is_other, is_peer, peers_but}
 use Rattle.am_instance.specs.Deliveries.{Delivery, first_fault, parts_of, rows_in}
 use Rattle.am_instance.specs.OneStep.{IsStep}
 use Rattle.am_instance.specs.Sendings.{Sends, addressed, delta_of, deltas_to, nothing_sent, sent_by, whole_state}
-use Rattle.am_instance.specs.Stands.{Stand, entry_at, silence_at}
+use Rattle.am_instance.specs.InstanceStates.{InstanceState, entry_at, silence_at}
 use Rattle.am_instance.specs.Steps.{collects, delivers, knows_peer, last_wanted, made_here, origin, peer_of}
 use Rattle.am_steps.specs.Contents.{IsValue}
-use Rattle.am_steps.proofs.Again.{delta_readable, delta_rows, whole_readable, whole_sound}
+use Rattle.am_steps.proofs.RoundTrip.{delta_readable, delta_rows, whole_readable, whole_sound}
 use Rattle.am_steps.specs.Recorded.{AreValues}
 use Rattle.am_steps.proofs.Making.{frame_makes_nothing}
 use Rattle.am_steps.proofs.Sendings.{Delta_holds, IfFits, all_deltas, all_sent, changed_values, last_holds}
@@ -32,7 +32,7 @@ deltas_sound (d ∷ ds) values =
     All-cons (Delta_holds IsSound) d ds (λ place fitting. ap first_fault (delta_rows d (delta_readable d (All-head IsValue d ds values) fitting)))
     (deltas_sound ds (All-tail IsValue d ds values))
 
-pub all_sound : (old new : Stand) (event : Event) (now : ℕ) (outcome : Outcome) → IsStep old event now (Ok outcome) new → AreValues event outcome new → All IsSound outcome.frames.items
+pub all_sound : (old new : InstanceState) (event : Event) (now : ℕ) (outcome : Outcome) → IsStep old event now (Ok outcome) new → AreValues event outcome new → All IsSound outcome.frames.items
 all_sound old new event now outcome step are =
     let places : List ℕ = peers_but old.config (origin old.config event) in
     let changing : List Delivery = changed_of now (silence_at old.silences) (entry_at old.log) (delivers event outcome.made) in
@@ -87,7 +87,7 @@ module _ (config : Settings) where
   one_wanted : (place : ℕ) (frame : Frame) → IsPeer place → All (IfFits GoesToPeer) ((place, frame) ∷ [])
   one_wanted place frame is = All-cons (IfFits GoesToPeer) (place, frame) [] (λ fitting. is) (All-nil (IfFits GoesToPeer))
 
-  last_addressed : (event : Event) (new : Stand) → knows_peer config (peer_of event) ≡ true → All (IfFits GoesToPeer) (last_wanted event new)
+  last_addressed : (event : Event) (new : InstanceState) → knows_peer config (peer_of event) ≡ true → All (IfFits GoesToPeer) (last_wanted event new)
   last_addressed (events.Request request) new known = All-nil (IfFits GoesToPeer)
   last_addressed (events.Frame sender (frames.Delta part)) new known = All-nil (IfFits GoesToPeer)
   last_addressed (events.Frame sender (frames.Push parts)) new known = one_wanted sender (frames.Pull (whole_state new.silences new.log)) known
@@ -100,7 +100,7 @@ module _ (config : Settings) where
   last_addressed events.Tick new known = All-nil (IfFits GoesToPeer)
   last_addressed (events.PullFrom place) new known = one_wanted place (frames.Push (whole_state new.silences new.log)) known
 
-pub all_addressed : (old new : Stand) (event : Event) (now : ℕ) (outcome : Outcome) → IsStep old event now (Ok outcome) new → All (GoesToPeer old.config) outcome.frames.items
+pub all_addressed : (old new : InstanceState) (event : Event) (now : ℕ) (outcome : Outcome) → IsStep old event now (Ok outcome) new → All (GoesToPeer old.config) outcome.frames.items
 all_addressed old new event now outcome step =
     let places : List ℕ = peers_but old.config (origin old.config event) in
     let changing : List Delivery = changed_of now (silence_at old.silences) (entry_at old.log) (delivers event outcome.made) in
@@ -111,7 +111,7 @@ all_addressed old new event now outcome step =
     (All-nil (GoesToPeer old.config)) step.sent
 
 -- ---- one that collects sends nothing, and leaves nothing out
-pub collecting_sends : (old : Stand) (event : Event) (now : ℕ) (outcome : Outcome) (new : Stand) → collects event ≡ true → IsStep old event now (Ok outcome) new → sent_by outcome ≡ nothing_sent
+pub collecting_sends : (old : InstanceState) (event : Event) (now : ℕ) (outcome : Outcome) (new : InstanceState) → collects event ≡ true → IsStep old event now (Ok outcome) new → sent_by outcome ≡ nothing_sent
 collecting_sends old event now outcome new collecting step = by_event event collecting step
   where
     unsent : (event : Event) → made_here outcome.made ≡ [] → Sends (deltas_to (peers_but old.config (origin old.config event)) (changed_of now (silence_at old.silences) (entry_at old.log) (made_here outcome.made)) ++ []) nothing_sent (sent_by outcome) → sent_by outcome ≡ nothing_sent

@@ -3,7 +3,7 @@ use Rattle.std.proofs.Common.{◌≡◌, ◌+◌, ◌<◌, ◌≤◌, List, [], 
 use Rattle.std.proofs.lemmas.List.{map-append}
 use Rattle.am_instance.specs.Deliveries.{Delivery}
 use Rattle.am_instance.specs.Deliveries.Delivery.{OfSilence, OfEntry}
-use Rattle.am_steps.specs.declared.carried.version.Carried.{Carried}
+use Rattle.am_steps.specs.declared.carried.version.AnyVersion.{AnyVersion}
 use Rattle.am_steps.specs.Contents.{delivery_of, silences_in, entries_in}
 use Rattle.am_steps.specs.States.{Sorted}
 
@@ -18,21 +18,21 @@ entries_append (OfSilence v ∷ ds) es = entries_append ds es
 entries_append (OfEntry e ∷ ds) es = ap (λ vs. e ∷ vs) (entries_append ds es)
 
 -- of all, some were put, and the others are left
-pub record HasPut (old new : Sorted) (all done left : List Carried) : Type 0 where
+pub record HasPut (old new : Sorted) (all done left : List AnyVersion) : Type 0 where
   pub parts : all ≡ done ++ left
   pub silences : new.silences ≡ old.silences ++ silences_in (map delivery_of done)
   pub log : new.log ≡ old.log ++ entries_in (map delivery_of done)
   pub room : old.room ≤ new.room + length done
 
-pub put_none : (old : Sorted) (all : List Carried) → HasPut old old all [] all
+pub put_none : (old : Sorted) (all : List AnyVersion) → HasPut old old all [] all
 put_none old all = record { parts = refl; silences = sym (append-nil old.silences); log = sym (append-nil old.log); room = omega arith }
 
-module _ (old mid : Sorted) (all done left rest : List Carried) (v : Carried) (so_far : HasPut old mid all done left) (is : left ≡ v ∷ rest) where
+module _ (old mid : Sorted) (all done left rest : List AnyVersion) (v : AnyVersion) (so_far : HasPut old mid all done left) (is : left ≡ v ∷ rest) where
   pub room_left : length all ≤ old.room → 0 < mid.room
   room_left within =
-      let parts = ap (λ (xs : List Carried). length xs) so_far.parts in
+      let parts = ap (λ (xs : List AnyVersion). length xs) so_far.parts in
       let size = length-append done left in
-      let some = ap (λ (xs : List Carried). length xs) is in
+      let some = ap (λ (xs : List AnyVersion). length xs) is in
       omega (arith, within, parts, size, some, so_far.room)
 
   pub put_more : (new : Sorted) → new.silences ≡ mid.silences ++ silences_in (delivery_of v ∷ []) → new.log ≡ mid.log ++ entries_in (delivery_of v ∷ [])
@@ -40,7 +40,7 @@ module _ (old mid : Sorted) (all done left rest : List Carried) (v : Carried) (s
   put_more new silences log room =
       let moved : map delivery_of (done ++ v ∷ []) ≡ map delivery_of done ++ delivery_of v ∷ [] = map-append delivery_of done (v ∷ []) in
       record {
-        parts = so_far.parts ∙ ap (λ (xs : List Carried). done ++ xs) is ∙ sym (append_assoc done (v ∷ []) rest);
+        parts = so_far.parts ∙ ap (λ (xs : List AnyVersion). done ++ xs) is ∙ sym (append_assoc done (v ∷ []) rest);
         silences =
             silences ∙ ap (λ vs. vs ++ silences_in (delivery_of v ∷ [])) so_far.silences ∙ append_assoc old.silences (silences_in (map delivery_of done)) (silences_in (delivery_of v ∷ []))
             ∙ ap (λ vs. old.silences ++ vs) (sym (ap silences_in moved ∙ silences_append (map delivery_of done) (delivery_of v ∷ [])));
@@ -51,9 +51,9 @@ module _ (old mid : Sorted) (all done left rest : List Carried) (v : Carried) (s
       }
 
 -- none is left
-empty : (xs : List Carried) → length xs ≡ 0 → xs ≡ []
+empty : (xs : List AnyVersion) → length xs ≡ 0 → xs ≡ []
 empty [] none = refl
 empty (x ∷ xs) none = absurd (omega (arith, none))
 
-pub all_put : (old new : Sorted) (all done left : List Carried) → HasPut old new all done left → length left ≡ 0 → done ≡ all
-all_put old new all done left so_far none = sym (so_far.parts ∙ ap (λ (xs : List Carried). done ++ xs) (empty left none) ∙ append-nil done)
+pub all_put : (old new : Sorted) (all done left : List AnyVersion) → HasPut old new all done left → length left ≡ 0 → done ≡ all
+all_put old new all done left so_far none = sym (so_far.parts ∙ ap (λ (xs : List AnyVersion). done ++ xs) (empty left none) ∙ append-nil done)

@@ -11,16 +11,16 @@ use Rattle.am_wire.specs.Varint.{shortest}
 use Rattle.am_wire.specs.Writing.{delimited}
 use Rattle.am_wire.specs.Fields.{pieces}
 use Rattle.am_wire.specs.Grammar.{IsRow}
-use Rattle.am_wire.specs.Again.Varints.{shortest_spells}
-use Rattle.am_wire.specs.Again.Pieces.{Reads, pieces-reads}
+use Rattle.am_wire.specs.RoundTrip.Varints.{shortest_spells}
+use Rattle.am_wire.specs.RoundTrip.Pieces.{Reads, pieces-reads}
 use Rattle.am_wire.specs.Inputs.{sound, message_at, messages_from, AreMessages}
 use Rattle.am_wire.proofs.Exact.{row_read}
 use Rattle.am_silence.specs.Mesh.{Mesh, IsMesh, mesh_version, writes_mesh_silence}
 use Rattle.am_silence.specs.MeshTable.{reads_mesh_silence}
-use Rattle.am_silence.specs.Again.{mesh_again}
+use Rattle.am_silence.specs.RoundTrip.{mesh_again}
 use Rattle.am_nflog.specs.Mesh.{Mesh as LogMesh, IsMesh as IsLogMesh, mesh_version as entry_version, writes_mesh_entry}
 use Rattle.am_nflog.specs.MeshTable.{reads_mesh_entry}
-use Rattle.am_nflog.specs.Again.{mesh_again as log_again}
+use Rattle.am_nflog.specs.RoundTrip.{mesh_again as log_again}
 use Rattle.am_snapshot.specs.Texts.{row_text}
 use Rattle.am_gossip.specs.declared.frame.Part.{Part}
 use Rattle.am_gossip.specs.declared.frame.StateKey.TheVariants.{Sil, Nfl}

@@ -8,25 +8,25 @@ use Rattle.am_wire.specs.declared.error.WireError.{WireError}
 use Rattle.am_wire.specs.declared.error.WireError.TheVariants as errors
 use Rattle.am_wire.specs.Inputs.{GivesNext}
 use Rattle.am_instance.specs.Deliveries.{Delivery, before_fault, first_fault}
-use Rattle.am_steps.specs.declared.carried.version.Carried.{Carried}
+use Rattle.am_steps.specs.declared.carried.version.AnyVersion.{AnyVersion}
 use Rattle.am_steps.specs.Contents.{delivery_of, IsValue}
 
 module _ {V : Type 0} (delivered : V → Delivery) where
   -- what was added of a row, of which this is left
-  pub record HasAdded (all left : List (Result V WireError)) (old new : List Carried) : Type 0 where
+  pub record HasAdded (all left : List (Result V WireError)) (old new : List AnyVersion) : Type 0 where
     pub added : map delivery_of new ++ map delivered (before_fault left) ≡ map delivery_of old ++ map delivered (before_fault all)
     pub sound : is_none (first_fault left) ≡ is_none (first_fault all)
     pub values : All IsValue (map delivery_of old) → All IsValue (map delivery_of new)
 
-  pub added_none : (all left : List (Result V WireError)) (old : List Carried) → left ≡ all → HasAdded all left old old
+  pub added_none : (all left : List (Result V WireError)) (old : List AnyVersion) → left ≡ all → HasAdded all left old old
   added_none all left old same = record {
     added = ap (λ xs. map delivery_of old ++ map delivered (before_fault xs)) same;
     sound = ap (λ xs. is_none (first_fault xs)) same;
     values = λ is. is;
   }
 
-  module _ (all left : List (Result V WireError)) (old mid : List Carried) (so_far : HasAdded all left old mid) where
-    pub added_more : (rest : List (Result V WireError)) (v : V) (w : Carried) (given : Result V WireError) (new : List Carried) → GivesNext left (Some given) rest → given ≡ Ok v
+  module _ (all left : List (Result V WireError)) (old mid : List AnyVersion) (so_far : HasAdded all left old mid) where
+    pub added_more : (rest : List (Result V WireError)) (v : V) (w : AnyVersion) (given : Result V WireError) (new : List AnyVersion) → GivesNext left (Some given) rest → given ≡ Ok v
         → delivery_of w ≡ delivered v → IsValue (delivery_of w) → new ≡ mid ++ w ∷ [] → HasAdded all rest old new
     added_more rest v w given new gives is same value grown =
         let first : left ≡ Ok v ∷ rest = subst (λ g. GivesNext left (Some g) rest) is gives in

@@ -14,7 +14,7 @@ use Rattle.am_instance.specs.Deliveries.{Delivery}
 use Rattle.am_instance.specs.Deliveries.Delivery.{OfSilence, OfEntry}
 use Rattle.am_instance.specs.Changes.{changes, changed_of, only_if}
 use Rattle.am_instance.specs.Sendings.{IsSent, Sends, Sent, addressed, delta_of, deltas_to, one_more, whole_state}
-use Rattle.am_instance.specs.Stands.{Stand}
+use Rattle.am_instance.specs.InstanceStates.{InstanceState}
 use Rattle.am_instance.specs.Steps.{last_wanted}
 use Rattle.am_collect.specs.Events.{after}
 use Rattle.am_collect.specs.Events.Event.{Delivered}
@@ -22,7 +22,7 @@ use Rattle.am_nflog.specs.Keys.{key_cmp}
 use Rattle.std.specs.Ordering.{nat_cmp}
 use Rattle.std.specs.Cmp.Lexicographic.{slice_cmp}
 use Rattle.am_steps.specs.Contents.{carries, held_in, IsValue}
-use Rattle.am_steps.proofs.Again.{delta_carries, delta_readable, whole_carries, whole_readable}
+use Rattle.am_steps.proofs.RoundTrip.{delta_carries, delta_readable, whole_carries, whole_readable}
 use Rattle.am_steps.specs.Recorded.{sent_in}
 
 -- ---- what was handed out was wanted, and kept its limit
@@ -64,7 +64,7 @@ module _ (P : ℕ × Frame → Type 0) where
   one_wanted : (place : ℕ) (frame : Frame) → (fits frame ≡ true → P (place, frame)) → All IfFits ((place, frame) ∷ [])
   one_wanted place frame holds = All-cons IfFits (place, frame) [] holds (All-nil IfFits)
 
-  pub last_holds : (event : Event) (new : Stand)
+  pub last_holds : (event : Event) (new : InstanceState)
       → ((place : ℕ) → fits (frames.Pull (whole_state new.silences new.log)) ≡ true → P (place, frames.Pull (whole_state new.silences new.log)))
       → ((place : ℕ) → fits (frames.Push (whole_state new.silences new.log)) ≡ true → P (place, frames.Push (whole_state new.silences new.log)))
       → All IfFits (last_wanted event new)
@@ -126,7 +126,7 @@ module _ {X : Type 0} (pick : List Delivery → List X) (append : (ds es : List 
     pub deltas_known : All IsValue cs → All (Delta_holds AreKnown) cs
     deltas_known values k d within = delta_known _ (values k d within) (each_picked cs k d within)
 
-    module _ (new : Stand) (held : List X) (parted : pick (held_in new.silences new.log) ≡ held) (all_held : All Held held) (is : All IsMesh new.silences) (are : All IsLogMesh new.log) where
+    module _ (new : InstanceState) (held : List X) (parted : pick (held_in new.silences new.log) ≡ held) (all_held : All Held held) (is : All IsMesh new.silences) (are : All IsLogMesh new.log) where
       all_known : All IsKnown (pick (held_in new.silences new.log))
       all_known = subst (All IsKnown) (sym parted) (λ k x within. inr (all_held k x within))
 

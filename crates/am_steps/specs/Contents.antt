@@ -6,11 +6,11 @@ use Rattle.am_nflog.specs.Mesh.{Mesh as LogMesh, IsMesh as IsLogMesh, mesh_versi
 use Rattle.am_gossip.specs.declared.frame.Frame.{Frame}
 use Rattle.am_instance.specs.Deliveries.{Delivery, before_fault, parts_of, rows_in}
 use Rattle.am_instance.specs.Deliveries.Delivery.{OfSilence, OfEntry}
-use Rattle.am_steps.specs.declared.carried.version.Carried.{Carried}
-use Rattle.am_steps.specs.declared.carried.version.Carried.TheVariants.{Silence, Entry}
+use Rattle.am_steps.specs.declared.carried.version.AnyVersion.{AnyVersion}
+use Rattle.am_steps.specs.declared.carried.version.AnyVersion.TheVariants.{Silence, Entry}
 
 -- a version that was read, as what is delivered
-abbrev pub delivery_of : Carried → Delivery
+abbrev pub delivery_of : AnyVersion → Delivery
 delivery_of (Silence v) = OfSilence v
 delivery_of (Entry e) = OfEntry e
 

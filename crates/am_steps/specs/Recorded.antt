@@ -11,7 +11,7 @@ use Rattle.am_collect.specs.Events.{Events, last_moment}
 use Rattle.am_collect.specs.Kept.{Kept}
 use Rattle.am_runs.specs.declared.step.Source.{Source}
 use Rattle.am_runs.specs.declared.step.Source.TheVariants.{Made}
-use Rattle.am_runs.specs.Steps.{Step, Flight}
+use Rattle.am_runs.specs.Steps.{Step, SentFrame}
 use Rattle.am_runs.specs.Steps.Step.{Took, Ticked, Back, Refused}
 use Rattle.am_runs.specs.Members.{map_of}
 use Rattle.am_runs.specs.Runs.{AreFrom}
@@ -21,7 +21,7 @@ use Rattle.am_instance.specs.declared.error.StepError.{StepError}
 use Rattle.am_instance.specs.declared.error.StepError.TheVariants.{MomentBack, Memory}
 use Rattle.am_instance.specs.declared.reply.Outcome.{Outcome}
 use Rattle.am_instance.specs.Deliveries.{Delivery}
-use Rattle.am_instance.specs.Stands.{Stand}
+use Rattle.am_instance.specs.InstanceStates.{InstanceState}
 use Rattle.am_instance.specs.Steps.{brought, collects, delivers}
 use Rattle.am_instance.specs.Laws.{HasMaps}
 use Rattle.am_steps.specs.Contents.{carries, IsValue}
@@ -37,7 +37,7 @@ module _ {X : Type 0} (pick : List Delivery → List X) where
   sent_in frames = map (λ frame. pick (carries frame.1)) frames
 
   -- those frames as they fly from a moment on
-  abbrev pub flights_in : ℕ → List (ℕ × Frame) → List (Flight X)
+  abbrev pub flights_in : ℕ → List (ℕ × Frame) → List (SentFrame X)
   flights_in now frames = map (λ frame. record { sent = now; versions = pick (carries frame.1) }) frames
 
   -- What the step of the member at a place was, by its event, its answer and the frames that it left in flight. One that
@@ -61,7 +61,7 @@ AreInFlight (Ok outcome) frames = (frames ≡ outcome.frames.items) ⊎ (frames 
 AreInFlight (Err e) frames = frames ≡ []
 
 -- the versions that a step delivered, and those that are held after it, are values; both lists held are maps
-pub record AreValues (event : Event) (outcome : Outcome) (new : Stand) : Type 0 where
+pub record AreValues (event : Event) (outcome : Outcome) (new : InstanceState) : Type 0 where
   pub delivered : All IsValue (delivers event outcome.made)
   pub silences : All IsMesh new.silences
   pub log : All IsLogMesh new.log

@@ -8,4 +8,4 @@ mod version;
 
 pub use by_state::ByState;
 pub use reading::carried_by;
-pub use version::Carried;
+pub use version::AnyVersion;

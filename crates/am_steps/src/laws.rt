@@ -24,7 +24,7 @@ ghost use Rattle.am_instance.specs.declared.reply.Made.{Made};
 ghost use Rattle.am_instance.specs.declared.reply.Outcome.{Outcome};
 ghost use Rattle.am_instance.specs.Configs.{Settings};
 ghost use Rattle.am_instance.specs.Deliveries.Delivery.{OfSilence, OfEntry};
-ghost use Rattle.am_instance.specs.Stands.{Stand, kept_log, kept_silences};
+ghost use Rattle.am_instance.specs.InstanceStates.{InstanceState, kept_log, kept_silences};
 ghost use Rattle.am_instance.specs.Steps.{brought, counts, delivers, fault_of};
 ghost use Rattle.am_instance.specs.OneStep.{IsStep};
 ghost use Rattle.am_instance.specs.Sendings.{whole_state};
@@ -39,12 +39,12 @@ use am_version_order::Version;
 
 /// A member's map goes on as its past does: after a step it is what the past with the recorded step leaves.
 pub fn members_go_on()
-    ensures silences { (m : Member Mesh) (place now : ℕ) (source : Source) (old new : Stand) (event : Event)
+    ensures silences { (m : Member Mesh) (place now : ℕ) (source : Source) (old new : InstanceState) (event : Event)
         (answer : Result Outcome StepError) (frames : List (ℕ × Frame)) →
         HasGoneThrough mesh_version (slice_cmp nat_cmp) m.past (kept_silences old) → IsStep old event now answer new →
         HasGoneThrough mesh_version (slice_cmp nat_cmp)
         (stepped m (event_step silences_in place now source event answer frames)).past (kept_silences new) }
-    ensures log { (m : Member LogMesh) (place now : ℕ) (source : Source) (old new : Stand) (event : Event)
+    ensures log { (m : Member LogMesh) (place now : ℕ) (source : Source) (old new : InstanceState) (event : Event)
         (answer : Result Outcome StepError) (frames : List (ℕ × Frame)) →
         HasGoneThrough entry_version key_cmp m.past (kept_log old) → IsStep old event now answer new →
         HasGoneThrough entry_version key_cmp (stepped m (event_step entries_in place now source event answer frames)).past (kept_log new) }
@@ -85,7 +85,7 @@ fn maps_hold_their_versions<V: Version>()
 
 /// A step of an instance that is a member of a run can have happened in it.
 pub fn steps_are_possible()
-    ensures silences { (members place now : ℕ) (before : List (Step Mesh)) (source : Source) (old new : Stand) (event : Event)
+    ensures silences { (members place now : ℕ) (before : List (Step Mesh)) (source : Source) (old new : InstanceState) (event : Event)
         (answer : Result Outcome StepError) (frames : List (ℕ × Frame)) →
         let member = member_of members place before in
         (counts answer ≡ true → member.runs ≡ true) →
@@ -93,7 +93,7 @@ pub fn steps_are_possible()
         HasSource silences_in mesh_version (slice_cmp nat_cmp) members before now event source →
         AreInFlight answer frames → IfOk answer (λ outcome. AreValues event outcome new) →
         IsPossible mesh_version (slice_cmp nat_cmp) members before (event_step silences_in place now source event answer frames) }
-    ensures log { (members place now : ℕ) (before : List (Step LogMesh)) (source : Source) (old new : Stand) (event : Event)
+    ensures log { (members place now : ℕ) (before : List (Step LogMesh)) (source : Source) (old new : InstanceState) (event : Event)
         (answer : Result Outcome StepError) (frames : List (ℕ × Frame)) →
         let member = member_of members place before in
         (counts answer ≡ true → member.runs ≡ true) →
@@ -114,19 +114,19 @@ pub fn values_are_delivered()
 
 /// A Pull of the maps of a member that runs brings them whole, without a fault, and they come from that member.
 pub fn lent_maps_come_from_their_lender()
-    ensures silences { (members lender now : ℕ) (before : List (Step Mesh)) (lent : Stand) → (member_of members lender before).runs ≡ true →
+    ensures silences { (members lender now : ℕ) (before : List (Step Mesh)) (lent : InstanceState) → (member_of members lender before).runs ≡ true →
         HasGoneThrough mesh_version (slice_cmp nat_cmp) (member_of members lender before).past (kept_silences lent) → HasMaps lent →
         All IsReadable (map OfSilence lent.silences) → All IsReadable (map OfEntry lent.log) →
         AreFrom mesh_version (slice_cmp nat_cmp) members before now (Lent lender)
         (silences_in (carries (Pull (whole_state lent.silences lent.log)))) }
-    ensures log { (members lender now : ℕ) (before : List (Step LogMesh)) (lent : Stand) → (member_of members lender before).runs ≡ true →
+    ensures log { (members lender now : ℕ) (before : List (Step LogMesh)) (lent : InstanceState) → (member_of members lender before).runs ≡ true →
         HasGoneThrough entry_version key_cmp (member_of members lender before).past (kept_log lent) → HasMaps lent →
         All IsReadable (map OfSilence lent.silences) → All IsReadable (map OfEntry lent.log) →
         AreFrom entry_version key_cmp members before now (Lent lender) (entries_in (carries (Pull (whole_state lent.silences lent.log)))) }
-    ensures sound { (config : Settings) (sender now : ℕ) (lent : Stand) → All IsReadable (map OfSilence lent.silences) →
+    ensures sound { (config : Settings) (sender now : ℕ) (lent : InstanceState) → All IsReadable (map OfSilence lent.silences) →
         All IsReadable (map OfEntry lent.log) →
         fault_of config now (events.Frame sender (Pull (whole_state lent.silences lent.log))) ≡ None }
-    ensures whole { (sender : ℕ) (lent : Stand) → All IsReadable (map OfSilence lent.silences) → All IsReadable (map OfEntry lent.log) →
+    ensures whole { (sender : ℕ) (lent : InstanceState) → All IsReadable (map OfSilence lent.silences) → All IsReadable (map OfEntry lent.log) →
         brought (events.Frame sender (Pull (whole_state lent.silences lent.log))) ≡ held_in lent.silences lent.log }
 {
     maps_hold_their_versions::<MeshSilence>();
@@ -135,12 +135,12 @@ pub fn lent_maps_come_from_their_lender()
 
 /// The frames that a step left in flight are the flights that its recorded step adds.
 pub fn frames_are_flights()
-    ensures silences { (place now : ℕ) (before : List (Step Mesh)) (source : Source) (old new : Stand) (event : Event)
+    ensures silences { (place now : ℕ) (before : List (Step Mesh)) (source : Source) (old new : InstanceState) (event : Event)
         (answer : Result Outcome StepError) (frames : List (ℕ × Frame)) →
         IsStep old event now answer new → AreInFlight answer frames →
         flights_of (before ++ event_step silences_in place now source event answer frames ∷ [])
         ≡ flights_of before ++ flights_in silences_in now frames }
-    ensures log { (place now : ℕ) (before : List (Step LogMesh)) (source : Source) (old new : Stand) (event : Event)
+    ensures log { (place now : ℕ) (before : List (Step LogMesh)) (source : Source) (old new : InstanceState) (event : Event)
         (answer : Result Outcome StepError) (frames : List (ℕ × Frame)) →
         IsStep old event now answer new → AreInFlight answer frames →
         flights_of (before ++ event_step entries_in place now source event answer frames ∷ [])

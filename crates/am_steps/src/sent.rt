@@ -9,33 +9,33 @@ ghost use Rattle.am_instance.specs.Configs.{is_peer};
 ghost use Rattle.am_instance.specs.Deliveries.{first_fault, parts_of, rows_in};
 ghost use Rattle.am_instance.specs.OneStep.{IsStep};
 ghost use Rattle.am_instance.specs.Replies.{IsNothing};
-ghost use Rattle.am_instance.specs.Stands.{Stand};
+ghost use Rattle.am_instance.specs.InstanceStates.{InstanceState};
 ghost use Rattle.am_instance.specs.Steps.{collects};
 ghost use Rattle.am_steps.specs.Recorded.{AreValues};
 
 /// No row of a frame that a step sent is at fault, and each frame goes to a peer.
 pub fn sent_frames_are_sound()
-    ensures sound { (old new : Stand) (event : Event) (now : ℕ) (outcome : Outcome) → IsStep old event now (Ok outcome) new →
+    ensures sound { (old new : InstanceState) (event : Event) (now : ℕ) (outcome : Outcome) → IsStep old event now (Ok outcome) new →
         AreValues event outcome new →
         All (λ frame. first_fault (rows_in (parts_of frame.1)) ≡ None) outcome.frames.items }
-    ensures addressed { (old new : Stand) (event : Event) (now : ℕ) (outcome : Outcome) → IsStep old event now (Ok outcome) new →
+    ensures addressed { (old new : InstanceState) (event : Event) (now : ℕ) (outcome : Outcome) → IsStep old event now (Ok outcome) new →
         All (λ frame. is_peer old.config frame.0 ≡ true) outcome.frames.items }
 {}
 
 /// An event that collects sends no frame, and leaves none out.
 pub fn collecting_leaves_nothing_out()
-    ensures frames { (old new : Stand) (event : Event) (now : ℕ) (outcome : Outcome) → collects event ≡ true →
+    ensures frames { (old new : InstanceState) (event : Event) (now : ℕ) (outcome : Outcome) → collects event ≡ true →
         IsStep old event now (Ok outcome) new → outcome.frames.items ≡ [] }
-    ensures memory { (old new : Stand) (event : Event) (now : ℕ) (outcome : Outcome) → collects event ≡ true →
+    ensures memory { (old new : InstanceState) (event : Event) (now : ℕ) (outcome : Outcome) → collects event ≡ true →
         IsStep old event now (Ok outcome) new → outcome.unsent.memory ≡ 0 }
-    ensures limit { (old new : Stand) (event : Event) (now : ℕ) (outcome : Outcome) → collects event ≡ true →
+    ensures limit { (old new : InstanceState) (event : Event) (now : ℕ) (outcome : Outcome) → collects event ≡ true →
         IsStep old event now (Ok outcome) new → outcome.unsent.limit ≡ 0 }
 {}
 
 /// A step makes two silences at most, and one that takes a frame makes nothing.
 pub fn few_are_made()
-    ensures silences { (old new : Stand) (event : Event) (now : ℕ) (outcome : Outcome) → IsStep old event now (Ok outcome) new →
+    ensures silences { (old new : InstanceState) (event : Event) (now : ℕ) (outcome : Outcome) → IsStep old event now (Ok outcome) new →
         length outcome.made.silences.items ≤ 2 }
-    ensures arrivals { (old new : Stand) (sender : ℕ) (frame : Frame) (now : ℕ) (outcome : Outcome) →
+    ensures arrivals { (old new : InstanceState) (sender : ℕ) (frame : Frame) (now : ℕ) (outcome : Outcome) →
         IsStep old (events.Frame sender frame) now (Ok outcome) new → IsNothing outcome.made }
 {}

@@ -6,7 +6,7 @@ ghost use Rattle.std.specs.Ordering.{nat_cmp};
 ghost use Rattle.am_blocks.specs.Rows.{entries};
 
 use crate::notes::mixed;
-use am_blocks::{Blocks, Probe, Spot, Walk};
+use am_blocks::{Blocks, Cursor, Probe, Walk};
 use std::alloc::{AllocError, Global};
 use std::cmp::Ordering;
 
@@ -28,8 +28,8 @@ fn put(blocks: &mut Blocks<u64>, number: u64) -> Result<(), AllocError>
     ensures { AllPairs (λ x y. x < y) (entries blocks.new) }
 {
     blocks.reserve(1)?;
-    if let Err(spot) = blocks.search(&Number(number)) {
-        blocks.insert(spot, number);
+    if let Err(cursor) = blocks.search(&Number(number)) {
+        blocks.insert(cursor, number);
     }
     Ok(())
 }
@@ -39,8 +39,8 @@ fn take(blocks: &mut Blocks<u64>, number: u64)
     requires { AllPairs (λ x y. x < y) (entries blocks.old) }
     ensures { AllPairs (λ x y. x < y) (entries blocks.new) }
 {
-    if let Ok(spot) = blocks.search(&Number(number)) {
-        blocks.remove(spot);
+    if let Ok(cursor) = blocks.search(&Number(number)) {
+        blocks.remove(cursor);
     }
 }
 
@@ -82,7 +82,7 @@ impl Twins {
         let guesses = [(0, 0), (0, 63), (3, 64), (7, 200), (900, 0)];
         guesses.iter().all(|&(block, offset)| self
             .blocks
-            .search_near(Spot { block, offset }, &probe)
+            .search_near(Cursor { block, offset }, &probe)
             == place)
             && self.blocks.search_by(&probe, &probe) == place
             && self.blocks.search_by(&Number(1000), &probe) == place
@@ -95,12 +95,12 @@ impl Twins {
         }
         let found = self.blocks.search(&Number(number));
         match (found, self.plain.binary_search(&number)) {
-            (Ok(spot), Ok(place)) => {
-                self.blocks.get(spot) == number
-                    && is_walk_of(self.blocks.walk_from(spot), &self.plain[place..])
+            (Ok(cursor), Ok(place)) => {
+                self.blocks.get(cursor) == number
+                    && is_walk_of(self.blocks.walk_from(cursor), &self.plain[place..])
             }
-            (Err(spot), Err(place)) => {
-                is_walk_of(self.blocks.walk_from(spot), &self.plain[place..])
+            (Err(cursor), Err(place)) => {
+                is_walk_of(self.blocks.walk_from(cursor), &self.plain[place..])
             }
             _ => false,
         }

@@ -10,8 +10,8 @@ use Rattle.am_wire.specs.Fields.{FieldAt, fields_of, field_at, row_at, rows_of}
 use Rattle.am_wire.specs.Grammar.{IsField, AreFields, IsRow, AreRows, ArePacked, field_fits}
 use Rattle.am_wire.specs.Faults.{EndsInNumber, EndsInMessage, IsNumberFault, IsFieldFault, AreFieldsUntil, IsRowFault, AreRowsUntil, ArePackedUntil}
 use Rattle.am_wire.specs.Reading.{unpacked}
-use Rattle.am_wire.specs.Again.Varints.{varint_read, varint_filled}
-use Rattle.am_wire.specs.Again.Fields.{field_read}
+use Rattle.am_wire.specs.RoundTrip.Varints.{varint_read, varint_filled}
+use Rattle.am_wire.specs.RoundTrip.Fields.{field_read}
 use Rattle.am_wire.proofs.Found.{IsTaken, IsNumber, field_found, number_found, row_found, ok, err_ok}
 use Rattle.am_wire.proofs.Exact.{taken_parts, taken_from, fields_found, fields_read, row_read, rows_found, rows_read, numbers_found}
 use Rattle.am_wire.proofs.Stops.{number_fault_found, number_fails, field_fault_found, field_fails, row_fault_found, row_fails}

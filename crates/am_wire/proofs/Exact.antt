@@ -12,9 +12,9 @@ use Rattle.am_wire.specs.Fields.{FieldAt, fields_of, field_at, row_at, rows_of, 
 use Rattle.am_wire.specs.Grammar.{AreSpelled, AreFields, IsRow, AreRows, ArePacked, field_fits}
 use Rattle.am_wire.specs.Reading.{unpacked}
 use Rattle.am_wire.specs.Writing.{delimited, writes_rows}
-use Rattle.am_wire.specs.Again.Varints.{varint_read, varint_filled, shortest_spells}
-use Rattle.am_wire.specs.Again.Pieces.{done, Reads, pieces-spelled}
-use Rattle.am_wire.specs.Again.Fields.{field_read}
+use Rattle.am_wire.specs.RoundTrip.Varints.{varint_read, varint_filled, shortest_spells}
+use Rattle.am_wire.specs.RoundTrip.Pieces.{done, Reads, pieces-spelled}
+use Rattle.am_wire.specs.RoundTrip.Fields.{field_read}
 use Rattle.am_wire.proofs.Found.{IsTaken, IsNumber, field_found, number_found, row_found, pieces_found}
 
 -- ---- one way only

@@ -13,8 +13,8 @@ use Rattle.am_wire.specs.declared.value.WireType.TheVariants as kinds
 use Rattle.am_wire.specs.Varint.{IsVarint, varint_at}
 use Rattle.am_wire.specs.Fields.{FieldAt, Payload, varint, eight, four, delimited_at, ◌>>=◌, field_at, payload_at, number_at, payload_behind_length, tag_number, kind_of, next_piece, pieces, row_at}
 use Rattle.am_wire.specs.Grammar.{AreSpelled, IsPayload, IsField, IsRow, wire_type_of, wire_code, field_fits}
-use Rattle.am_wire.specs.Again.Pieces.{done, pieces-first}
-use Rattle.am_wire.specs.Again.Varints.{varint_filled}
+use Rattle.am_wire.specs.RoundTrip.Pieces.{done, pieces-first}
+use Rattle.am_wire.specs.RoundTrip.Varints.{varint_filled}
 use Rattle.am_wire.proofs.Spelled.{read_spells, varint_found}
 
 -- x is spelled by the first bytes

@@ -9,7 +9,7 @@ use Rattle.am_wire.specs.Grammar.{ArePacked}
 use Rattle.am_wire.specs.Faults.{ArePackedUntil}
 use Rattle.am_wire.specs.Reading.{Table, fields_in, faults_in, text_fault, item_fault, numbers_fault, first_fault, ◌then◌}
 use Rattle.am_wire.specs.Messages.{AreSound, HasFault, FailsTests, bytes_field}
-use Rattle.am_wire.specs.Again.Pieces.{done}
+use Rattle.am_wire.specs.RoundTrip.Pieces.{done}
 use Rattle.am_wire.proofs.Exact.{numbers_read}
 use Rattle.am_wire.proofs.Until.{until}
 use Rattle.am_wire.proofs.Broken.{numbers_until_read, numbers_always}

@@ -9,9 +9,9 @@ use Rattle.am_wire.specs.Grammar.{AreSpelled, IsField, AreFields, field_fits}
 use Rattle.am_wire.specs.Faults.{IsFieldFault}
 use Rattle.am_wire.specs.Reading.{Table, fields_in, faults_in, scan, sound_fields, fault_or_value, read_by, ◌then◌}
 use Rattle.am_wire.specs.Messages.{AreSound, IsMessage, HasFaultInside, HasNoField, HasFault, FailsTests}
-use Rattle.am_wire.specs.Again.Pieces.{done}
-use Rattle.am_wire.specs.Again.Fields.{field_read}
-use Rattle.am_wire.specs.Again.Puts.{sound_fields-done}
+use Rattle.am_wire.specs.RoundTrip.Pieces.{done}
+use Rattle.am_wire.specs.RoundTrip.Fields.{field_read}
+use Rattle.am_wire.specs.RoundTrip.Puts.{sound_fields-done}
 use Rattle.am_wire.proofs.Found.{IsTaken}
 use Rattle.am_wire.proofs.Exact.{taken_from, fields_found, fields_read}
 use Rattle.am_wire.proofs.Until.{Ends, pieces-then, pieces_end}

@@ -10,7 +10,7 @@ use Rattle.am_wire.specs.Fields.{FieldAt}
 use Rattle.am_wire.specs.Reading.{Table, picked, last_or, parts_in, message_in, messages, delimited_place, delimited_given}
 use Rattle.am_wire.specs.declared.parts.Submessage.{Submessage}
 use Rattle.am_wire.specs.Parts.{IsPart}
-use Rattle.am_wire.specs.Again.Slots.{picked-append}
+use Rattle.am_wire.specs.RoundTrip.Slots.{picked-append}
 
 pub text_is_at_fault : (at : ℕ) (bytes : List ℕ) → (IsUtf8 bytes → ⊥) → cond (is_utf8 bytes) None (Some (NotUtf8 at)) ≡ Some (NotUtf8 at)
 text_is_at_fault at bytes broken =

@@ -4,7 +4,7 @@ use Rattle.std.proofs.lemmas.Bool.{lt-ltb, le-ltb, cases_lt}
 use Rattle.am_wire.specs.declared.error.WireError.{WireError}
 use Rattle.am_wire.specs.declared.error.WireError.TheVariants.{LongVarint}
 use Rattle.am_wire.specs.Varint.{total, IsChain, one_more, varint_within, IsVarint}
-use Rattle.am_wire.specs.Again.Varints.{bound, longer}
+use Rattle.am_wire.specs.RoundTrip.Varints.{bound, longer}
 
 abbrev read_as : ℕ × ℕ → Result (ℕ × ℕ) WireError
 read_as y = Ok y

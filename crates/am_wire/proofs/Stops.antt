@@ -13,7 +13,7 @@ use Rattle.am_wire.specs.Varint.{IsVarint, varint_at}
 use Rattle.am_wire.specs.Fields.{FieldAt, Payload, varint, eight, four, delimited_at, ◌>>=◌, field_at, payload_at, number_at, payload_behind_length, tag_number, kind_of, row_at}
 use Rattle.am_wire.specs.Grammar.{wire_code}
 use Rattle.am_wire.specs.Faults.{EndsInNumber, HasLongNumber, IsNumberFault, HasNumber, HasTag, IsFieldNumber, IsNoFieldNumber, IsNoWireType, EndsInPayload, HasLongPayload, HasPayload, IsFieldFault, IsRowFault}
-use Rattle.am_wire.specs.Again.Varints.{varint_read}
+use Rattle.am_wire.specs.RoundTrip.Varints.{varint_read}
 use Rattle.am_wire.proofs.Found.{Finds, ok, err_ok, IsNumber, number_found, tag_number_found, kind_of_found}
 use Rattle.am_wire.proofs.Faults.{cut_found, cut_fails, long_found, long_fails, fault_is}
 

@@ -6,8 +6,8 @@ use Rattle.am_wire.specs.declared.error.WireError.{WireError}
 use Rattle.am_wire.specs.Varint.{varint_at, shortest}
 use Rattle.am_wire.specs.Fields.{pieces, next_piece}
 use Rattle.am_wire.specs.Reading.{until_fault, first_fault, unpacked}
-use Rattle.am_wire.specs.Again.Pieces.{pieces-first}
-use Rattle.am_wire.specs.Again.Varints.{shortest_filled}
+use Rattle.am_wire.specs.RoundTrip.Pieces.{pieces-first}
+use Rattle.am_wire.specs.RoundTrip.Varints.{shortest_filled}
 
 abbrev one_number : ℕ → ℕ → List ℕ → Result (ℕ × ℕ) WireError
 one_number tag at bytes = varint_at tag bytes

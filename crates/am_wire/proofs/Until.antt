@@ -4,7 +4,7 @@ use Rattle.am_wire.specs.declared.error.WireError.{WireError}
 use Rattle.am_wire.specs.Fields.{next_piece, pieces}
 use Rattle.am_wire.specs.Grammar.{AreSpelled}
 use Rattle.am_wire.specs.Faults.{AreSpelledUntil}
-use Rattle.am_wire.specs.Again.Pieces.{done, Reads, pieces-first, pieces-reads}
+use Rattle.am_wire.specs.RoundTrip.Pieces.{done, Reads, pieces-first, pieces-reads}
 use Rattle.am_wire.proofs.Found.{Finds, ok, first_ok, cons_rest}
 
 -- the pieces, and then the fault

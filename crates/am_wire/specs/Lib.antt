@@ -9,11 +9,11 @@ pub mod Writing
 pub mod Sizes
 pub mod Timestamps
 pub mod TimestampDrafts
-pub mod Dated
+pub mod Expiring
 pub mod Grammar
 pub mod Faults
 pub mod Messages
 pub mod SignedParts
-pub mod Again
+pub mod RoundTrip
 pub mod Reader
 pub mod Inputs

@@ -28,7 +28,7 @@ pub fn varints_are_the_grammar()
     ensures found { (at n len : ℕ) (bytes : List ℕ) → varint_at at bytes ≡ Ok (n, len) → (len ≤ length bytes)
         × IsVarint (take len bytes) n }
     ensures read { (at n : ℕ) (text rest : List ℕ) → IsVarint text n → varint_at at (text ++ rest) ≡ Ok (n, length text) }
-    ensures one_way { (n m : ℕ) (text other rest more : List ℕ) → IsVarint text n → IsVarint other m →
+    ensures unique { (n m : ℕ) (text other rest more : List ℕ) → IsVarint text n → IsVarint other m →
         text ++ rest ≡ other ++ more → (n ≡ m) × (text ≡ other) }
     ensures cut { (at : ℕ) (bytes : List ℕ) → (varint_at at bytes ≡ Err (Truncated at)) ↔ ((length bytes < 10) × All (λ b. 128 ≤ b) bytes) }
     ensures long { (at : ℕ) (bytes : List ℕ) → (varint_at at bytes ≡ Err (LongVarint at))
@@ -44,7 +44,7 @@ pub fn fields_are_the_grammar()
         fields_of fits at bytes ≡ map Ok es → AreFields es at bytes × AllPass (field_fits fits) es }
     ensures read { (fits : ℕ → WireType → Bool) (at : ℕ) (bytes : List ℕ) (es : List FieldAt) → AreFields es at bytes →
         AllPass (field_fits fits) es → fields_of fits at bytes ≡ map Ok es }
-    ensures one_way { (at : ℕ) (bytes : List ℕ) (es others : List FieldAt) → AreFields es at bytes → AreFields others at bytes →
+    ensures unique { (at : ℕ) (bytes : List ℕ) (es others : List FieldAt) → AreFields es at bytes → AreFields others at bytes →
         es ≡ others }
     ensures any_read { (at : ℕ) (bytes : List ℕ) (es : List FieldAt) → AreFields es at bytes → fields_of any at bytes ≡ map Ok es }
 {}
@@ -53,7 +53,7 @@ pub fn fields_are_the_grammar()
 pub fn rows_are_the_grammar()
     ensures found { (bytes : List ℕ) (messages : List (List ℕ)) → rows_of bytes ≡ map Ok messages → AreRows messages bytes }
     ensures read { (bytes : List ℕ) (messages : List (List ℕ)) → AreRows messages bytes → rows_of bytes ≡ map Ok messages }
-    ensures one_way { (bytes : List ℕ) (messages others : List (List ℕ)) → AreRows messages bytes → AreRows others bytes →
+    ensures unique { (bytes : List ℕ) (messages others : List (List ℕ)) → AreRows messages bytes → AreRows others bytes →
         messages ≡ others }
     ensures written { (messages : List (List ℕ)) → All (λ m. length m ≤ most) messages → AreRows messages (writes_rows messages) }
 {}
@@ -62,7 +62,7 @@ pub fn rows_are_the_grammar()
 pub fn packed_numbers_are_the_grammar()
     ensures found { (tag : ℕ) (bytes numbers : List ℕ) → unpacked tag bytes ≡ map Ok numbers → ArePacked numbers bytes }
     ensures read { (tag : ℕ) (bytes numbers : List ℕ) → ArePacked numbers bytes → unpacked tag bytes ≡ map Ok numbers }
-    ensures one_way { (bytes numbers others : List ℕ) → ArePacked numbers bytes → ArePacked others bytes → numbers ≡ others }
+    ensures unique { (bytes numbers others : List ℕ) → ArePacked numbers bytes → ArePacked others bytes → numbers ≡ others }
     ensures written { (numbers : List ℕ) → All (λ n. n < 2 ^ 64) numbers → ArePacked numbers (flat_map shortest numbers) }
 {}
 
@@ -86,7 +86,7 @@ pub fn field_faults_are_the_grammar()
         fields_of fits at bytes ≡ map Ok es ++ Err fault ∷ [] → AreFieldsUntil fits es fault at bytes }
     ensures read { (fits : ℕ → WireType → Bool) (at : ℕ) (bytes : List ℕ) (es : List FieldAt) (fault : WireError) →
         AreFieldsUntil fits es fault at bytes → fields_of fits at bytes ≡ map Ok es ++ Err fault ∷ [] }
-    ensures one_way { (fits : ℕ → WireType → Bool) (at : ℕ) (bytes : List ℕ) (es others : List FieldAt) (fault other : WireError) →
+    ensures unique { (fits : ℕ → WireType → Bool) (at : ℕ) (bytes : List ℕ) (es others : List FieldAt) (fault other : WireError) →
         AreFieldsUntil fits es fault at bytes → AreFieldsUntil fits others other at bytes →
         (es ≡ others) × (fault ≡ other) }
     ensures apart { (fits : ℕ → WireType → Bool) (at : ℕ) (bytes : List ℕ) (es others : List FieldAt) (fault : WireError) →
@@ -109,7 +109,7 @@ pub fn row_faults_are_the_grammar()
         rows_of bytes ≡ map Ok messages ++ Err fault ∷ [] → AreRowsUntil messages fault bytes }
     ensures read { (bytes : List ℕ) (messages : List (List ℕ)) (fault : WireError) →
         AreRowsUntil messages fault bytes → rows_of bytes ≡ map Ok messages ++ Err fault ∷ [] }
-    ensures one_way { (bytes : List ℕ) (messages others : List (List ℕ)) (fault other : WireError) →
+    ensures unique { (bytes : List ℕ) (messages others : List (List ℕ)) (fault other : WireError) →
         AreRowsUntil messages fault bytes → AreRowsUntil others other bytes → (messages ≡ others) × (fault ≡ other) }
     ensures apart { (bytes : List ℕ) (messages others : List (List ℕ)) (fault : WireError) →
         AreRows messages bytes → AreRowsUntil others fault bytes → ⊥ }
@@ -132,7 +132,7 @@ pub fn packed_faults_are_the_grammar()
         unpacked tag bytes ≡ map Ok numbers ++ Err fault ∷ [] → ArePackedUntil tag numbers fault bytes }
     ensures read { (tag : ℕ) (bytes numbers : List ℕ) (fault : WireError) →
         ArePackedUntil tag numbers fault bytes → unpacked tag bytes ≡ map Ok numbers ++ Err fault ∷ [] }
-    ensures one_way { (tag : ℕ) (bytes numbers others : List ℕ) (fault other : WireError) →
+    ensures unique { (tag : ℕ) (bytes numbers others : List ℕ) (fault other : WireError) →
         ArePackedUntil tag numbers fault bytes → ArePackedUntil tag others other bytes →
         (numbers ≡ others) × (fault ≡ other) }
     ensures always { (tag : ℕ) (bytes : List ℕ) →

@@ -2,9 +2,9 @@
 #![tactic(auto)]
 
 mod bytes;
-mod dated;
 mod draft;
 mod error;
+mod expiring;
 mod field;
 mod fields;
 pub mod laws;

@@ -82,7 +82,7 @@ pub trait Message: Sized + Drop {
     }
 
     /// What is written is read again, wherever it stands.
-    ghost again: { (v : Self) (at : ℕ) → is_value v → length (writes v) < 2 ^ 64 → reads at (writes v) ≡ Ok v };
+    ghost round_trip: { (v : Self) (at : ℕ) → is_value v → length (writes v) < 2 ^ 64 → reads at (writes v) ≡ Ok v };
 }
 
 /// Writes a message as a field, also where its text is empty.

@@ -1,7 +1,7 @@
 //! What a message is read with: its table of fields, its draft and the parts of drafts.
 
-pub use crate::dated::{Dated, DatedDraft};
 pub use crate::draft::{Draft, read_message, take_fields};
+pub use crate::expiring::{Expiring, ExpiringDraft};
 pub use crate::field::{AnyField, Schema};
 pub use crate::fields::Scan;
 pub use crate::lists::{LastBytes, take_numbers};

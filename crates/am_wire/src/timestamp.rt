@@ -96,7 +96,7 @@ impl Message for Moment {
     ghost use Rattle.am_wire.specs.Timestamps.{reads_moment, writes_moment};
     ghost use Rattle.std.specs.Prelude.{◌≤◌};
     ghost use Rattle.am_version_order.specs.Moments.{greatest};
-    ghost use Rattle.am_wire.specs.Again.Moments.{moment_again};
+    ghost use Rattle.am_wire.specs.RoundTrip.Moments.{moment_again};
 
     ghost is_value = { λ m. m ≤ greatest };
 
@@ -104,7 +104,7 @@ impl Message for Moment {
 
     ghost reads = { reads_moment };
 
-    ghost again = { moment_again };
+    ghost round_trip = { moment_again };
 
     #[tactic(auto, unfolding(crate::specs::Timestamps::writes_moment))]
     fn size(&self) -> u64 {

@@ -6,8 +6,8 @@ ghost use Rattle.am_wire.specs.Varint.{shortest};
 ghost use Rattle.am_wire.specs.declared.error.WireError.TheVariants as errors;
 ghost use Rattle.am_wire.specs.Writing.{tag, writes_number, writes_delimited, writes_text};
 
-pub use crate::dated::{dated_size, write_dated};
 use crate::error::WireError;
+pub use crate::expiring::{expiring_size, write_expiring};
 pub use crate::lists::{write_bytes, write_numbers};
 pub use crate::message::{write_message, write_sized_message};
 use crate::rows::MOST_MESSAGE_BYTES;

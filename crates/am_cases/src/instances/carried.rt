@@ -4,7 +4,7 @@ use crate::instances::frames::frames;
 use am_nflog::MeshEntry;
 use am_part_cases::common::{Fault, number, parts, print_line, say_all};
 use am_silence::MeshSilence;
-use am_steps::carried::{ByState, Carried, carried_by};
+use am_steps::carried::{AnyVersion, ByState, carried_by};
 
 /// `carried BYTES` and `carried first COUNT of BYTES`
 pub fn carried(rt: &HostRuntime, rest: &str) -> Result<(), Fault> {
@@ -21,7 +21,7 @@ pub fn carried(rt: &HostRuntime, rest: &str) -> Result<(), Fault> {
 }
 
 /// Says what the first so many of these versions are.
-fn say_sorted(rt: &HostRuntime, count: usize, versions: Vec<Carried>) -> Result<(), Fault> {
+fn say_sorted(rt: &HostRuntime, count: usize, versions: Vec<AnyVersion>) -> Result<(), Fault> {
     match ByState::with_room(rt.alloc(), versions.len()) {
         Ok(mut sorted) => {
             sorted.put_first(versions, count);

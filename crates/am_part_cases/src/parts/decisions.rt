@@ -10,7 +10,7 @@ use am_version_order::{Interval, Moment};
 
 /// What a decision is made on, beside the entry.
 #[derive(Clone, Copy)]
-struct Asked<'a> {
+struct Question<'a> {
     firing: &'a [u64],
     resolved: &'a [u64],
     repeat: Interval,
@@ -23,9 +23,9 @@ fn say_decisions(
     rt: &HostRuntime,
     entry: Option<&Entry>,
     version: Option<&MeshEntry>,
-    asked: &Asked<'_>,
+    asked: &Question<'_>,
 ) -> Result<(), Fault> {
-    let Asked {
+    let Question {
         firing,
         resolved,
         repeat,
@@ -38,7 +38,7 @@ fn say_decisions(
 }
 
 /// Asks over the words of an entry, as `g r/w/0 updated 100 firing 1,2`, or `no entry`.
-fn ask(rt: &HostRuntime, words: &str, asked: &Asked<'_>) -> Result<(), Fault> {
+fn ask(rt: &HostRuntime, words: &str, asked: &Question<'_>) -> Result<(), Fault> {
     if words == "no entry" {
         return say_decisions(rt, None, None, asked);
     }
@@ -46,7 +46,12 @@ fn ask(rt: &HostRuntime, words: &str, asked: &Asked<'_>) -> Result<(), Fault> {
     ask_over(rt, words, &entry, asked)
 }
 
-fn ask_over(rt: &HostRuntime, words: &str, entry: &Entry, asked: &Asked<'_>) -> Result<(), Fault> {
+fn ask_over(
+    rt: &HostRuntime,
+    words: &str,
+    entry: &Entry,
+    asked: &Question<'_>,
+) -> Result<(), Fault> {
     let version = version::<MeshEntry>(rt.alloc(), words)?;
     say_decisions(rt, Some(entry), Some(&version), asked)
 }
@@ -57,7 +62,7 @@ fn ask_firing(rt: &HostRuntime, entry: &str, firing: &[u64], words: &str) -> Res
     let now = moment_behind(words, " at ", "-")?;
     let wanted = behind(words, " wanted ") != Some("no");
     let resolved = numbers(rt.alloc(), behind(words, " resolved ").unwrap_or("-"))?;
-    let asked = Asked {
+    let asked = Question {
         firing,
         resolved: resolved.as_slice(),
         repeat,

@@ -3,7 +3,7 @@
 ghost use Rattle.std.specs.Prelude.{◌≡◌, ◌++◌, ◌+◌, ◌<◌, ◌≤◌, [], ◌∷◌, map, take, min, length, IfOk};
 ghost use Rattle.am_steps.specs.Contents.{delivery_of, entries_in, silences_in};
 
-use crate::carried::version::Carried;
+use crate::carried::version::AnyVersion;
 use am_nflog::MeshEntry;
 use am_silence::MeshSilence;
 use std::alloc::{AllocError, Global};
@@ -48,21 +48,21 @@ impl ByState {
     }
 
     /// Puts a version behind those of its state. It takes no memory.
-    pub fn put(&mut self, version: Carried)
+    pub fn put(&mut self, version: AnyVersion)
         requires { 0 < self.old.room }
         ensures silences { self.new.silences ≡ self.old.silences ++ silences_in (delivery_of version ∷ []) }
         ensures log { self.new.log ≡ self.old.log ++ entries_in (delivery_of version ∷ []) }
         ensures room { self.old.room ≤ self.new.room + 1 }
     {
         match version {
-            Carried::Silence(silence) => self.silences.push_reserved(silence),
-            Carried::Entry(entry) => self.log.push_reserved(entry),
+            AnyVersion::Silence(silence) => self.silences.push_reserved(silence),
+            AnyVersion::Entry(entry) => self.log.push_reserved(entry),
         }
     }
 
     /// Puts the first so many of the versions behind those of their states, or all where they are not so many. It takes
     /// no memory.
-    pub fn put_first(&mut self, versions: Vec<Carried>, count: usize)
+    pub fn put_first(&mut self, versions: Vec<AnyVersion>, count: usize)
         requires { min count (length versions.items) ≤ self.old.room }
         ensures silences { self.new.silences ≡ self.old.silences ++ silences_in (take count (map delivery_of versions.items)) }
         ensures log { self.new.log ≡ self.old.log ++ entries_in (take count (map delivery_of versions.items)) }

@@ -5,7 +5,7 @@ ghost use Rattle.am_wire.specs.Inputs.{messages_of};
 ghost use Rattle.am_instance.specs.Deliveries.{before_fault, first_fault, rows_in, rows_of};
 ghost use Rattle.am_steps.specs.Contents.{carries, delivery_of, IsValue};
 
-use crate::carried::version::{Carried, Carry};
+use crate::carried::version::{AnyVersion, Carry};
 use am_gossip::{Frame, Part, StateKey};
 use am_nflog::MeshEntry;
 use am_silence::MeshSilence;
@@ -17,7 +17,7 @@ use std::alloc::{AllocError, Global};
 /// # Errors
 ///
 /// [`AllocError`] where memory runs out.
-pub fn carried_by(alloc: Global, frame: &Frame) -> Result<Vec<Carried>, AllocError>
+pub fn carried_by(alloc: Global, frame: &Frame) -> Result<Vec<AnyVersion>, AllocError>
     ensures versions { IfOk result (λ versions. map delivery_of versions.items ≡ carries frame.now) }
     ensures values { IfOk result (λ versions. All IsValue (map delivery_of versions.items)) }
 {
@@ -27,7 +27,11 @@ pub fn carried_by(alloc: Global, frame: &Frame) -> Result<Vec<Carried>, AllocErr
 }
 
 /// Adds the versions of a frame.
-fn append_frame(alloc: Global, frame: &Frame, versions: &mut Vec<Carried>) -> Result<(), AllocError>
+fn append_frame(
+    alloc: Global,
+    frame: &Frame,
+    versions: &mut Vec<AnyVersion>,
+) -> Result<(), AllocError>
     ensures added { OnOk result (map delivery_of versions.new.items ≡ map delivery_of versions.old.items ++ carries frame.now) }
     ensures values { OnOk result (All IsValue (map delivery_of versions.old.items) → All IsValue (map delivery_of versions.new.items)) }
 {
@@ -45,7 +49,7 @@ fn append_frame(alloc: Global, frame: &Frame, versions: &mut Vec<Carried>) -> Re
 fn append_parts(
     alloc: Global,
     parts: &[Part],
-    versions: &mut Vec<Carried>,
+    versions: &mut Vec<AnyVersion>,
 ) -> Result<(), AllocError>
     ensures added { OnOk result (map delivery_of versions.new.items
         ≡ map delivery_of versions.old.items ++ before_fault (rows_in parts.now)) }
@@ -61,7 +65,11 @@ fn append_parts(
 
 /// Adds the versions in the row of a part up to the first fault, and answers whether there is none.
 #[tactic(auto, unfolding(am_instance::specs::Deliveries::rows_of))]
-fn append_part(alloc: Global, part: &Part, versions: &mut Vec<Carried>) -> Result<bool, AllocError>
+fn append_part(
+    alloc: Global,
+    part: &Part,
+    versions: &mut Vec<AnyVersion>,
+) -> Result<bool, AllocError>
     ensures added { OnOk result (map delivery_of versions.new.items
         ≡ map delivery_of versions.old.items ++ before_fault (rows_of part.now)) }
     ensures sound { IfOk result (λ sound. sound ≡ is_none (first_fault (rows_of part.now))) }
@@ -78,7 +86,7 @@ fn append_part(alloc: Global, part: &Part, versions: &mut Vec<Carried>) -> Resul
 fn append_row<V: Carry>(
     alloc: Global,
     row: &[u8],
-    versions: &mut Vec<Carried>,
+    versions: &mut Vec<AnyVersion>,
 ) -> Result<bool, AllocError>
     ensures added { OnOk result (map delivery_of versions.new.items
         ≡ map delivery_of versions.old.items ++ map V.delivered (before_fault (messages_of V.reads row.now))) }

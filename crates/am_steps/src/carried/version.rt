@@ -11,7 +11,7 @@ use am_wire::Message;
 
 /// A version that a frame carries.
 #[derive(Drop)]
-pub enum Carried {
+pub enum AnyVersion {
     /// A version of a silence.
     Silence(MeshSilence),
     /// A version of an entry of the log.
@@ -24,7 +24,7 @@ pub trait Carry: Message {
     ghost delivered: { Self → Delivery };
 
     /// The version as one of either state.
-    fn carried(self) -> Carried
+    fn carried(self) -> AnyVersion
         ensures same { delivery_of result ≡ delivered self }
         ensures value { IsValue (delivery_of result) };
 }
@@ -34,9 +34,9 @@ impl Carry for MeshSilence {
 
     ghost delivered = { OfSilence };
 
-    fn carried(self) -> Carried {
+    fn carried(self) -> AnyVersion {
         let _content = self.canonical();
-        Carried::Silence(self)
+        AnyVersion::Silence(self)
     }
 }
 
@@ -45,8 +45,8 @@ impl Carry for MeshEntry {
 
     ghost delivered = { OfEntry };
 
-    fn carried(self) -> Carried {
+    fn carried(self) -> AnyVersion {
         let _content = self.canonical();
-        Carried::Entry(self)
+        AnyVersion::Entry(self)
     }
 }

@@ -1,4 +1,4 @@
-use Rattle.am_http.proofs.OneWay.{one_request, is_whole, is_sound}
+use Rattle.am_http.proofs.Unique.{one_request, is_whole, is_sound}
 use Rattle.am_http.proofs.laws.a_request_is_read_in_one_way.Goals as goal
 
 pub returns : goal.returns

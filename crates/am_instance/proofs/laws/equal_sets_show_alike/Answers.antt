@@ -1,5 +1,5 @@
 use Rattle.am_instance.specs.Deliveries.{to_silences, to_log}
-use Rattle.am_instance.specs.Stands.{kept_silences, kept_log}
+use Rattle.am_instance.specs.InstanceStates.{kept_silences, kept_log}
 use Rattle.am_instance.specs.Laws.{run_events}
 use Rattle.am_instance.proofs.Histories.{silences_run, log_run}
 use Rattle.am_instance.proofs.laws.equal_sets_show_alike.Goals as goal

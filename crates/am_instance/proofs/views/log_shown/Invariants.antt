@@ -1,5 +1,5 @@
 use Rattle.std.proofs.Common.{◌≡◌, ◌++◌}
-use Rattle.am_instance.specs.Stands.{log_in_view}
+use Rattle.am_instance.specs.InstanceStates.{log_in_view}
 use Rattle.am_instance.proofs.views.log_shown.Given as goal
 
 abbrev pub invariant-loop-version : goal.invariant-loop-version

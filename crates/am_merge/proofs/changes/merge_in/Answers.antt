@@ -1,5 +1,5 @@
 use Rattle.std.proofs.Common.{◌≡◌, ◌≤◌, ◌+◌, suc, length, Bool, true, false, cond, refl, ap, ◌∙◌, arith}
-use Rattle.am_merge.specs.Shelves.{versions}
+use Rattle.am_merge.specs.Stores.{versions}
 use Rattle.am_merge.proofs.Keys.{key_order}
 use Rattle.am_merge.proofs.Merges.{merge_more, count_more, at_rest}
 use Rattle.am_merge.proofs.Steps.{count_is}
@@ -25,12 +25,12 @@ loop-version-preserved g c =
     let long = ap length c.in-Some.ensures.steps in
     let next : c.loop-version.taken + 1 ≡ suc c.loop-version.taken = omega arith in
     record {
-      shelf = c.put_copy.ensures.shelf;
+      store = c.put_copy.ensures.store;
       rest = rw next place.1.1;
       within = let within = so_far.within in omega arith;
-      joined = merge_more g.V.Version.seen g.V.Key.Ord.cmp keys (versions c.args.shelf.now) (versions c.loop-version.shelf) others c.loop-version.taken v c.requires.other.keys.order place.0 place.1.0 so_far.joined (versions c.put_copy.new.shelf) put.joined;
+      joined = merge_more g.V.Version.seen g.V.Key.Ord.cmp keys (versions c.args.store.now) (versions c.loop-version.store) others c.loop-version.taken v c.requires.other.keys.order place.0 place.1.0 so_far.joined (versions c.put_copy.new.store) put.joined;
       count =
-          let more = count_more g.V.Version.seen g.V.Key.Ord.cmp keys (versions c.args.shelf.now) (versions c.loop-version.shelf) others c.loop-version.taken v c.requires.other.keys.order place.0 place.1.0 so_far.joined in
+          let more = count_more g.V.Version.seen g.V.Key.Ord.cmp keys (versions c.args.store.now) (versions c.loop-version.store) others c.loop-version.taken v c.requires.other.keys.order place.0 place.1.0 so_far.joined in
           let one = c.from-changed.ensures ∙ byte_is c.in-Ok.more ∙ ap (λ b. cond b 1 0) c.in-Ok.ensures.answer in
           let before = so_far.count in
           omega arith;

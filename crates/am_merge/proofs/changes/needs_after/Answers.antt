@@ -5,7 +5,7 @@ use Rattle.std.specs.declared.cmp.Ordering.TheVariants.{Less, Equal, Greater}
 use Rattle.std.specs.Ordering.{is_lt, is_ne}
 use Rattle.am_version_order.specs.Versions.{Version, is_below, rank_cmp}
 use Rattle.am_merge.specs.Maps.{replaces}
-use Rattle.am_merge.specs.Shelves.{versions}
+use Rattle.am_merge.specs.Stores.{versions}
 use Rattle.am_merge.proofs.Keys.{key_order}
 use Rattle.am_merge.proofs.Steps.{versions_over}
 use Rattle.am_merge.proofs.changes.needs_after.Goals as goal
@@ -33,7 +33,7 @@ pub returns-clause-versions : goal.returns-clause-versions
 returns-clause-versions g c map put =
     let tie = is_equal c.cmp.result (sym c.is_ne.ensures ∙ c.if-is_ne.false) in
     let key = sym c.key.ensures ∙ g.met.V.Version.exact_keys c.key.result.now c.key-2.result.now (sym c.cmp.ensures ∙ tie) ∙ c.key-2.ensures in
-    let came = comes (replaces g.V.Version.seen g.V.Key.Ord.cmp (versions c.args.shelf.now) c.args.before.now) c.needs-came.result.1 c.needs-came.ensures.versions c.if-came-eq0.false in
+    let came = comes (replaces g.V.Version.seen g.V.Key.Ord.cmp (versions c.args.store.now) c.args.before.now) c.needs-came.result.1 c.needs-came.ensures.versions c.if-came-eq0.false in
     let lesser = below_is (g.V.Version.seen c.args.before.now) (g.V.Version.seen c.args.version.now) c.is_lt.result (c.is_lt.ensures ∙ ap is_lt c.compare.ensures) in
     c.from.ensures ∙ byte_is c.is_lt.result ∙ ap (λ b. cond b 1 0) lesser
-    ∙ versions_over g.V.Version.seen g.V.Key.Ord.cmp (key_order g.met.V.Key.Ord.total g.met.V.Version.exact_keys) (versions c.args.shelf.now) map c.args.before.now c.args.version.now put key came
+    ∙ versions_over g.V.Version.seen g.V.Key.Ord.cmp (key_order g.met.V.Key.Ord.total g.met.V.Version.exact_keys) (versions c.args.store.now) map c.args.before.now c.args.version.now put key came

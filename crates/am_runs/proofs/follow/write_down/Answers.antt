@@ -3,7 +3,7 @@ use Rattle.std.proofs.lemmas.List.{map-append}
 use Rattle.am_runs.specs.Records.{step_of}
 use Rattle.am_runs.specs.Standings.{AreStandings}
 use Rattle.am_runs.specs.Steps.{delivered_by}
-use Rattle.am_runs.specs.Peaks.{HasRowRoom}
+use Rattle.am_runs.specs.Maxima.{HasRowRoom}
 use Rattle.am_runs.proofs.Takes.{last_cut, last_same}
 use Rattle.am_runs.proofs.follow.write_down.Goals as goal
 
@@ -21,4 +21,4 @@ pub returns-clause-room : goal.returns-clause-room
 returns-clause-room g c n step is had =
     let cut = last_cut c.args.steps.now c.args.number c.index-steps-number.result c.requires.long c.index-steps-number.is in
     let same = last_same (take c.args.number c.args.steps.now) step c.index-steps-number.result (sym is ∙ cut) in
-    c.follow-stays.ensures.room n (subst (λ s. HasRowRoom c.args.peaks.now (n + length (delivered_by (step_of s)))) same had)
+    c.follow-stays.ensures.room n (subst (λ s. HasRowRoom c.args.maxima.now (n + length (delivered_by (step_of s)))) same had)

@@ -3,7 +3,7 @@ use Rattle.std.specs.Prelude.{All}
 use Rattle.std.proofs.lemmas.Bool.{false≢true}
 use Rattle.std.proofs.lemmas.List.{length-map}
 use Rattle.am_runs.specs.Records.{step_of}
-use Rattle.am_runs.specs.Spells.{Comes}
+use Rattle.am_runs.specs.Uptimes.{Comes}
 use Rattle.am_runs.proofs.Brings.{end_held}
 use Rattle.am_runs.proofs.Loops.{delivered_more, delivered_one, delivered_done}
 use Rattle.am_runs.proofs.spread.all_come_soon.Goals as goal
@@ -13,7 +13,7 @@ loop-step-init g c =
     let steps = c.args.steps.now in
     let long = length-map steps step_of in
     record {
-      spell = record {
+      uptime = record {
         rises = omega arith;
         holds = λ kept spread v n low high. end_held g.V.Version.seen g.V.Key.Ord.cmp spread c.args.member v (map step_of steps) n (omega (arith, long, low));
       };
@@ -33,7 +33,7 @@ pub loop-step-preserved : goal.loop-step-preserved
 loop-step-preserved g c =
     let P = Comes g.V.Version.seen g.V.Key.Ord.cmp c.args.spread c.args.member (map step_of c.args.steps.now) in
     record {
-      spell = c.come_soon.ensures.spell;
+      uptime = c.come_soon.ensures.uptime;
       come = delivered_more step_of P c.args.steps.now c.loop-step.step c.index-steps-step.result c.loop-step-test.true c.index-steps-step.is c.loop-step.invariant.come
           (subst (All P) c.versions-versions.ensures (c.come_soon.ensures.come.0 c.if-not-come_soon.false));
     }

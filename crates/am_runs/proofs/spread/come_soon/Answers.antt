@@ -1,6 +1,6 @@
 use Rattle.std.proofs.Common.{◌+◌, ◌∙◌, ℕ, None, true, false, map, sym, ap, subst, refl}
 use Rattle.am_runs.specs.Records.{step_of}
-use Rattle.am_runs.specs.Spells.{Comes, IsSpell}
+use Rattle.am_runs.specs.Uptimes.{Comes, IsUptime}
 use Rattle.am_runs.specs.Tests.{is_due}
 use Rattle.am_runs.proofs.Brings.{comes_unseen}
 use Rattle.am_runs.proofs.Loops.{all_more, all_done}
@@ -12,13 +12,13 @@ loop-number-preserved g c =
     let asked = c.args.asked.now in
     let steps = map step_of asked.steps.now in
     let version = c.index-versions-number.result in
-    let Is = IsSpell g.V.Version.seen g.V.Key.Ord.cmp asked.member steps in
+    let Is = IsUptime g.V.Version.seen g.V.Key.Ord.cmp asked.member steps in
     let due : ℕ = (g.V.Version.seen version).updated + asked.spread in
     record {
-      spell = elim c.else-is_due.branch [
-        | else-is_due-via-then-is_due+then-not-is_found+else-not-comes w ↦ subst Is (sym w.spell-is) w.is_found.ensures.spell
-        | else-is_due-via-then-is_due+else-not-is_found w ↦ subst Is (sym w.spell-is) w.is_found.ensures.spell
-        | else-is_due-via-else-is_due w ↦ subst Is (sym w.spell-is) c.loop-number.invariant.spell
+      uptime = elim c.else-is_due.branch [
+        | else-is_due-via-then-is_due+then-not-is_found+else-not-comes w ↦ subst Is (sym w.uptime-is) w.is_found.ensures.uptime
+        | else-is_due-via-then-is_due+else-not-is_found w ↦ subst Is (sym w.uptime-is) w.is_found.ensures.uptime
+        | else-is_due-via-else-is_due w ↦ subst Is (sym w.uptime-is) c.loop-number.invariant.uptime
       ];
       come = all_more (Comes g.V.Version.seen g.V.Key.Ord.cmp asked.spread asked.member steps) c.args.versions.now c.loop-number.number version
           c.loop-number-test.true c.index-versions-number.is c.loop-number.invariant.come (elim c.else-is_due.branch [

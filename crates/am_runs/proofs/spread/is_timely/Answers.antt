@@ -7,9 +7,9 @@ use Rattle.am_runs.proofs.Brings.{ComeTo, to_members, to_member}
 use Rattle.am_runs.proofs.Spreads.{from_onward, from_swift, from_spread, timely_from}
 use Rattle.am_runs.proofs.spread.is_timely.Goals as goal
 
-pub returns-then-not-are_onward : goal.returns-then-not-are_onward
-returns-then-not-are_onward g c =
-    (λ t. absurd (false≢true t), λ timely. absurd (false≢true (sym c.if-not-are_onward.true ∙ c.are_onward.ensures ∙ from_onward 0 (map step_of c.args.steps.now) timely.onward)))
+pub returns-then-not-are_monotone : goal.returns-then-not-are_monotone
+returns-then-not-are_monotone g c =
+    (λ t. absurd (false≢true t), λ timely. absurd (false≢true (sym c.if-not-are_monotone.true ∙ c.are_monotone.ensures ∙ from_onward 0 (map step_of c.args.steps.now) timely.onward)))
 
 pub returns-then-not-are_swift : goal.returns-then-not-are_swift
 returns-then-not-are_swift g c = (
@@ -43,7 +43,7 @@ returns g c =
     let all = to_members g.V.Version.seen g.V.Key.Ord.cmp c.args.spread c.args.members steps (delivered_in steps)
     (λ q within. (let end = c.loop-member.auto.member-end in c.loop-member.invariant q (omega (arith, within, end, c.loop-member-test.false)))) in (
       λ t. timely_from g.V.Version.seen g.V.Key.Ord.cmp keys c.args.spread c.args.flight c.args.members steps c.requires.run
-          (sym c.are_onward.ensures ∙ c.if-not-are_onward.false) (c.all_lasting.ensures.0 c.if-not-all_lasting.false)
+          (sym c.are_monotone.ensures ∙ c.if-not-are_monotone.false) (c.all_lasting.ensures.0 c.if-not-all_lasting.false)
           (sym c.are_swift.ensures ∙ c.if-not-are_swift.false) all,
       λ timely. refl,
     )

@@ -1,4 +1,4 @@
-use Rattle.am_schedule.proofs.WrittenLines.{line_read, version_read, one_way}
+use Rattle.am_schedule.proofs.WrittenLines.{line_read, version_read, unique}
 use Rattle.am_schedule.proofs.WrittenTexts.{text_read}
 use Rattle.am_schedule.proofs.laws.written_lines_are_read.Goals as goal
 
@@ -11,5 +11,5 @@ returns-clause-text c = text_read
 pub returns-clause-version : goal.returns-clause-version
 returns-clause-version c = version_read
 
-pub returns-clause-one_way : goal.returns-clause-one_way
-returns-clause-one_way c = one_way
+pub returns-clause-unique : goal.returns-clause-unique
+returns-clause-unique c = unique

@@ -3,7 +3,7 @@ use Rattle.std.specs.Prelude.{IsSomeAnd}
 use Rattle.am_silence.specs.declared.matcher.Matcher.{Matcher}
 use Rattle.am_silence.specs.Matchers.{writes_matcher}
 use Rattle.am_silence.specs.MatcherTexts.{writes_matchers}
-use Rattle.am_silence.specs.Places.{Follows}
+use Rattle.am_silence.specs.Offsets.{Follows}
 use Rattle.am_silence.proofs.Buckets.{goes_on, matcher_follows, goes_further, found_here, found_later}
 use Rattle.am_silence.proofs.bucket.first_wanting.Goals as goal
 

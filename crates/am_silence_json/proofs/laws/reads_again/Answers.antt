@@ -10,8 +10,8 @@ use Rattle.am_silence_json.proofs.ListAgain.{text_of_list, written_list}
 use Rattle.am_silence_json.proofs.Refused.{of_each_error, why_refused}
 use Rattle.am_silence_json.proofs.laws.reads_again.Goals as goal
 
-pub returns-clause-again : goal.returns-clause-again
-returns-clause-again c =
+pub returns-clause-round_trip : goal.returns-clause-round_trip
+returns-clause-round_trip c =
     let rows = c.args.rows.now in
     let written = c.in_ok-body.ensures in
     let text = compact_text (array (items_of written.0)) in

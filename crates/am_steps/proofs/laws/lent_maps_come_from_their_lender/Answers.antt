@@ -4,9 +4,9 @@ use Rattle.std.specs.Cmp.Lexicographic.{slice_cmp}
 use Rattle.am_silence.specs.Mesh.{mesh_version}
 use Rattle.am_nflog.specs.Mesh.{mesh_version as entry_version}
 use Rattle.am_nflog.specs.Keys.{key_cmp}
-use Rattle.am_instance.specs.Stands.{kept_log, kept_silences}
+use Rattle.am_instance.specs.InstanceStates.{kept_log, kept_silences}
 use Rattle.am_steps.specs.Contents.{entries_in, silences_in}
-use Rattle.am_steps.proofs.Again.{entries_parted, silences_parted}
+use Rattle.am_steps.proofs.RoundTrip.{entries_parted, silences_parted}
 use Rattle.am_steps.proofs.Lending.{lent_from, lent_sound, lent_whole}
 use Rattle.am_steps.proofs.laws.lent_maps_come_from_their_lender.Goals as goal
 

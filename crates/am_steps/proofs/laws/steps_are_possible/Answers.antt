@@ -5,7 +5,7 @@ use Rattle.am_silence.specs.Mesh.{mesh_version}
 use Rattle.am_nflog.specs.Mesh.{mesh_version as entry_version}
 use Rattle.am_nflog.specs.Keys.{key_cmp}
 use Rattle.am_instance.specs.Deliveries.{to_silences, to_log}
-use Rattle.am_instance.specs.Stands.{kept_log, kept_silences}
+use Rattle.am_instance.specs.InstanceStates.{kept_log, kept_silences}
 use Rattle.am_steps.specs.Contents.{entries_in, silences_in}
 use Rattle.am_steps.proofs.BothStates.{of_log, of_silences}
 use Rattle.am_steps.proofs.Happening.{possible}

@@ -14,8 +14,8 @@ returns-clause-found c = fields_until_found
 pub returns-clause-read : goal.returns-clause-read
 returns-clause-read c = fields_until_read
 
-pub returns-clause-one_way : goal.returns-clause-one_way
-returns-clause-one_way c = fields_until_one_way
+pub returns-clause-unique : goal.returns-clause-unique
+returns-clause-unique c = fields_until_one_way
 
 pub returns-clause-apart : goal.returns-clause-apart
 returns-clause-apart c = fields_whole_or_until

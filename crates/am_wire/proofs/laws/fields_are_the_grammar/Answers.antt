@@ -10,5 +10,5 @@ returns-clause-read c = fields_read
 pub returns-clause-any_read : goal.returns-clause-any_read
 returns-clause-any_read c = any_fields_read
 
-pub returns-clause-one_way : goal.returns-clause-one_way
-returns-clause-one_way c = fields_one_way
+pub returns-clause-unique : goal.returns-clause-unique
+returns-clause-unique c = fields_one_way

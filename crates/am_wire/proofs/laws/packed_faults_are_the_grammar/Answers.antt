@@ -7,8 +7,8 @@ returns-clause-found c = numbers_until_found
 pub returns-clause-read : goal.returns-clause-read
 returns-clause-read c = numbers_until_read
 
-pub returns-clause-one_way : goal.returns-clause-one_way
-returns-clause-one_way c = numbers_until_one_way
+pub returns-clause-unique : goal.returns-clause-unique
+returns-clause-unique c = numbers_until_one_way
 
 pub returns-clause-always : goal.returns-clause-always
 returns-clause-always c = numbers_always

@@ -7,8 +7,8 @@ returns-clause-found c = numbers_found
 pub returns-clause-read : goal.returns-clause-read
 returns-clause-read c = numbers_read
 
-pub returns-clause-one_way : goal.returns-clause-one_way
-returns-clause-one_way c = numbers_one_way
+pub returns-clause-unique : goal.returns-clause-unique
+returns-clause-unique c = numbers_one_way
 
 pub returns-clause-written : goal.returns-clause-written
 returns-clause-written c = λ numbers. numbers_written numbers 0

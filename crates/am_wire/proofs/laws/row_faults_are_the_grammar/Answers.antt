@@ -14,8 +14,8 @@ returns-clause-found c = rows_until_found
 pub returns-clause-read : goal.returns-clause-read
 returns-clause-read c = rows_until_read
 
-pub returns-clause-one_way : goal.returns-clause-one_way
-returns-clause-one_way c = rows_until_one_way
+pub returns-clause-unique : goal.returns-clause-unique
+returns-clause-unique c = rows_until_one_way
 
 pub returns-clause-apart : goal.returns-clause-apart
 returns-clause-apart c = rows_whole_or_until

@@ -7,8 +7,8 @@ returns-clause-found c = rows_found
 pub returns-clause-read : goal.returns-clause-read
 returns-clause-read c = rows_read
 
-pub returns-clause-one_way : goal.returns-clause-one_way
-returns-clause-one_way c = rows_one_way
+pub returns-clause-unique : goal.returns-clause-unique
+returns-clause-unique c = rows_one_way
 
 pub returns-clause-written : goal.returns-clause-written
 returns-clause-written c = λ messages. rows_written messages 0

@@ -1,5 +1,5 @@
 use Rattle.std.proofs.Common.{arith}
-use Rattle.am_wire.specs.Again.Varints.{varint_read, shortest_spells}
+use Rattle.am_wire.specs.RoundTrip.Varints.{varint_read, shortest_spells}
 use Rattle.am_wire.proofs.Spelled.{read_spells, varint_found}
 use Rattle.am_wire.proofs.Faults.{cut_fails, long_fails, cut_found, long_found}
 use Rattle.am_wire.proofs.Exact.{shortest_least, varints_one_way}
@@ -29,5 +29,5 @@ returns-clause-written c = shortest_spells
 pub returns-clause-shortest : goal.returns-clause-shortest
 returns-clause-shortest c = shortest_least
 
-pub returns-clause-one_way : goal.returns-clause-one_way
-returns-clause-one_way c = varints_one_way
+pub returns-clause-unique : goal.returns-clause-unique
+returns-clause-unique c = varints_one_way

@@ -1,8 +1,8 @@
 use Rattle.std.proofs.Common.{rules, ◌≡◌, ◌+◌, ◌-◌, ◌<◌, ◌∙◌, sym, ap, length, get_or, arith}
 use Rattle.std.specs.declared.cmp.Ordering.TheVariants.{Greater}
-use Rattle.am_blocks.specs.declared.spot.Spot.{Spot}
+use Rattle.am_blocks.specs.declared.cursor.Cursor.{Cursor}
 use Rattle.am_blocks.specs.Rows.{entries}
-use Rattle.am_blocks.specs.Spots.{place}
+use Rattle.am_blocks.specs.Cursors.{place}
 use Rattle.am_blocks.proofs.Joins.{block_inside}
 use Rattle.am_blocks.proofs.Gaps.{between, starts, no_more}
 use Rattle.am_blocks.proofs.blocks.Blocks.gap_behind.Goals as goal
@@ -12,12 +12,12 @@ pub returns-then-is_gap : goal.returns-then-is_gap
 returns-then-is_gap g c =
     let order = g.P.Probe.order c.args.probe.now in
     let rows = c.args.self.now in
-    let spot = c.args.spot in
-    let inside : spot.block < length rows.blocks = block_inside rows.blocks spot.block spot.offset c.requires.item.offset in
+    let cursor = c.args.cursor in
+    let inside : cursor.block < length rows.blocks = block_inside rows.blocks cursor.block cursor.offset c.requires.item.offset in
     let inside_block = c.requires.item.offset in
-    let next : Spot = record { block = spot.block; offset = spot.offset + 1 } in
+    let next : Cursor = record { block = cursor.block; offset = cursor.offset + 1 } in
     between order rows next c.requires.rising (record { block = omega arith; offset = omega arith })
-    (λ d some. let at : place rows next - 1 ≡ place rows spot = omega arith in ap (λ i. order (get_or (entries rows) i d)) at ∙ c.requires.less d)
+    (λ d some. let at : place rows next - 1 ≡ place rows cursor = omega arith in ap (λ i. order (get_or (entries rows) i d)) at ∙ c.requires.less d)
     (elim c.match-next.branch [
       | in-Some w ↦ λ d some.
           let greater : order w.in-Some.item ≡ Greater = search rules in

@@ -1,7 +1,7 @@
 use Rattle.std.proofs.Common.{[], ◌∷◌, ◌-◌, Err, sym, subst, length, map, arith}
 use Rattle.std.specs.List.{range_with_len}
 use Rattle.std.proofs.lemmas.Result.{err_from_is_err_and}
-use Rattle.am_cluster.specs.Settling.{AreMade, AreTurns, gatherings}
+use Rattle.am_cluster.specs.Settling.{AreTurnsMade, AreTurns, gatherings}
 use Rattle.am_cluster.specs.Settling.Turn.{Takes}
 use Rattle.am_cluster.proofs.Turned.{one_fails, one_more, still_can}
 use Rattle.am_cluster.proofs.cluster.Cluster.gather.Goals as goal
@@ -32,4 +32,4 @@ pub loop-place-preserved : goal.loop-place-preserved
 loop-place-preserved c =
     let first = c.loop-place.invariant.0 in
     let next = one_more (λ place. Takes 0 place) c.args.self.now c.loop-place.self c.take_from.new.self c.args.now c.args.line 1 (c.loop-place.place - 1) c.loop-place.place (omega (arith, first)) c.loop-place.invariant.1 c.in_ok-take_from.ensures in
-    (omega arith, subst (λ n. AreMade c.args.self.now (map (λ place. Takes 0 place) (range_with_len 1 n)) c.args.now c.args.line c.take_from.new.self) (omega (arith, first)) next)
+    (omega arith, subst (λ n. AreTurnsMade c.args.self.now (map (λ place. Takes 0 place) (range_with_len 1 n)) c.args.now c.args.line c.take_from.new.self) (omega (arith, first)) next)

@@ -1,6 +1,6 @@
 use Rattle.std.proofs.Common.{◌++◌, Err, sym, ◌∙◌, subst, length}
 use Rattle.std.proofs.lemmas.Result.{err_from_is_err_and}
-use Rattle.am_cluster.specs.Settling.{AreMade, AreTurns, all_turns, collections, gatherings, spreadings}
+use Rattle.am_cluster.specs.Settling.{AreTurnsMade, AreTurns, all_turns, collections, gatherings, spreadings}
 use Rattle.am_cluster.proofs.Turned.{still_can, turns_fail, turns_then}
 use Rattle.am_cluster.proofs.cluster.Cluster.make_turns.Goals as goal
 
@@ -30,5 +30,5 @@ returns c =
     let second = still_can c.collect_all.new.self (gatherings (length c.collect_all.new.self.replicas)) c.args.now c.args.line c.gather.new.self first.ready c.in_ok-gather.ensures in
     turns_then c.args.self.now c.collect_all.new.self c.spread.new.self (collections count) (gatherings count ++ spreadings count) c.args.now c.args.line c.spread.result c.in_ok-collect_all.ensures
     (turns_then c.collect_all.new.self c.gather.new.self c.spread.new.self (gatherings count) (spreadings count) c.args.now c.args.line c.spread.result
-    (subst (λ n. AreMade c.collect_all.new.self (gatherings n) c.args.now c.args.line c.gather.new.self) first.members c.in_ok-gather.ensures)
+    (subst (λ n. AreTurnsMade c.collect_all.new.self (gatherings n) c.args.now c.args.line c.gather.new.self) first.members c.in_ok-gather.ensures)
     (subst (λ n. AreTurns c.gather.new.self (spreadings n) c.args.now c.args.line c.spread.result c.spread.new.self) (second.members ∙ first.members) c.spread.ensures))

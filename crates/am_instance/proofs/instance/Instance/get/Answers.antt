@@ -5,7 +5,7 @@ use Rattle.am_silence.specs.States.{state_of}
 use Rattle.am_silence.specs.Mesh.{Mesh}
 use Rattle.am_silence.specs.declared.state.State.{State}
 use Rattle.am_instance.specs.declared.reply.Reply.TheVariants as replies
-use Rattle.am_instance.specs.Stands.{Stand}
+use Rattle.am_instance.specs.InstanceStates.{InstanceState}
 use Rattle.am_instance.specs.Replies.{found_reply, not_found, silence_in_view}
 use Rattle.am_instance.proofs.Works.{quiet_work, stopped_work}
 use Rattle.am_instance.proofs.instance.Instance.get.Goals as goal
@@ -19,7 +19,7 @@ returns-in_default c =
 pub returns-in_err-copy : goal.returns-in_err-copy
 returns-in_err-copy c =
     let p = err_from_is_err_and c.from_residual.result c.from_residual.ensures.1 in
-    let found = sym (ap option_copied c.in-Some.is) ∙ c.silence_in_view.ensures ∙ ap (λ (s : Stand). silence_in_view c.args.now s.silences c.args.id.now) c.self.view_is in
+    let found = sym (ap option_copied c.in-Some.is) ∙ c.silence_in_view.ensures ∙ ap (λ (s : InstanceState). silence_in_view c.args.now s.silences c.args.id.now) c.self.view_is in
     rw p.1 (stopped_work c.args.self.now c.args.self.now _ c.args.now _ p.2 refl (ap not_found (sym found)))
 
 pub returns : goal.returns

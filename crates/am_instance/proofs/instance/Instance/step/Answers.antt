@@ -1,6 +1,6 @@
 use Rattle.std.proofs.Common.{sym, subst, ◌∙◌}
 use Rattle.std.proofs.lemmas.Result.{err_from_is_err_and}
-use Rattle.am_instance.specs.Stands.{Stand}
+use Rattle.am_instance.specs.InstanceStates.{InstanceState}
 use Rattle.am_instance.specs.OneStep.{IsStep}
 use Rattle.am_instance.proofs.Stepping.{unadmitted_step, refused_step, counted_step}
 use Rattle.am_instance.proofs.instance.Instance.step.Goals as goal
@@ -12,7 +12,7 @@ returns-in_err-admit c =
 
 pub returns-then-counts : goal.returns-then-counts
 returns-then-counts c =
-    subst (λ (s : Stand). IsStep c.args.self.now c.args.event c.args.now c.work-answer.result (record s { last = c.args.now })) (sym c.self.view_is)
+    subst (λ (s : InstanceState). IsStep c.args.self.now c.args.event c.args.now c.work-answer.result (record s { last = c.args.now })) (sym c.self.view_is)
     (counted_step c.args.self.now c.work-answer.new.self c.args.event c.args.now c.work-answer.result c.in_ok-admit.ensures.admitted c.work-answer.ensures
     (sym c.counts.ensures ∙ c.if-counts.true))
 

@@ -1,5 +1,5 @@
 use Rattle.std.proofs.Common.{refl, sym, ◌∙◌}
-use Rattle.am_instance.specs.Stands.{Stand}
+use Rattle.am_instance.specs.InstanceStates.{InstanceState}
 use Rattle.am_instance.proofs.Lifts.{silence_fault, log_fault}
 use Rattle.am_instance.proofs.PartTakings.{on_ok, on_err, silences_delivered, silences_counted, silences_sent, silences_stopped, entries_delivered, entries_counted, entries_sent, entries_stopped}
 use Rattle.am_instance.proofs.instance.Instance.take_part.Goals as goal
@@ -18,7 +18,7 @@ returns-in-Sil-clause-count c = on_ok c.take_row.result (λ count. silences_coun
 
 pub returns-in-Sil-clause-sent : goal.returns-in-Sil-clause-sent
 returns-in-Sil-clause-sent c =
-    let stand : Stand = record { config = c.self.inside.config; silences = c.self.inside.silences; log = c.self.inside.log; last = c.self.inside.last } in
+    let stand : InstanceState = record { config = c.self.inside.config; silences = c.self.inside.silences; log = c.self.inside.log; last = c.self.inside.last } in
     let route = rw (← c.self.view_is) at c.route.ensures.places in
     rw (← c.self.view_is) (on_ok c.take_row.result (λ sent. silences_sent c.args.part.now c.args.now stand stand refl refl c.in-Sil.is refl c.as_slice-row.result.now c.as_slice-row.ensures _ _ _ _ route sent) c.take_row.ensures.sent)
 
@@ -33,7 +33,7 @@ returns-in-Nfl-clause-count c = on_ok c.take_row-in-Nfl.result (λ count. entrie
 
 pub returns-in-Nfl-clause-sent : goal.returns-in-Nfl-clause-sent
 returns-in-Nfl-clause-sent c =
-    let stand : Stand = record { config = c.self.inside.config; silences = c.self.inside.silences; log = c.self.inside.log; last = c.self.inside.last } in
+    let stand : InstanceState = record { config = c.self.inside.config; silences = c.self.inside.silences; log = c.self.inside.log; last = c.self.inside.last } in
     let route = rw (← c.self.view_is) at c.route.ensures.places in
     rw (← c.self.view_is) (on_ok c.take_row-in-Nfl.result (λ sent. entries_sent c.args.part.now c.args.now stand stand refl refl c.in-Nfl.is refl c.as_slice-row.result.now c.as_slice-row.ensures _ _ _ _ route sent) c.take_row-in-Nfl.ensures.sent)
 

@@ -1,8 +1,8 @@
 use Rattle.std.proofs.Common.{◌≡◌, true, false, sym, ap, subst}
 use Rattle.std.specs.Prelude.{is_none}
-use Rattle.am_blocks.specs.Spots.{place}
+use Rattle.am_blocks.specs.Cursors.{place}
 use Rattle.am_merge.specs.Maps.{at}
-use Rattle.am_merge.specs.Shelves.{versions}
+use Rattle.am_merge.specs.Stores.{versions}
 use Rattle.am_merge.proofs.Keys.{key_order}
 use Rattle.am_merge.proofs.Puts.{at_found, at_absent}
 use Rattle.am_merge.proofs.Steps.{element}
@@ -10,8 +10,8 @@ use Rattle.am_merge.proofs.held.Held.insert_new.Goals as goal
 
 pub returns-in-Ok-clause-answer : goal.returns-in-Ok-clause-answer
 returns-in-Ok-clause-answer g c =
-    let map = versions c.self.inside.shelf in
-    let i = place c.self.inside.shelf.keys c.in-Ok.field-0 in
+    let map = versions c.self.inside.store in
+    let i = place c.self.inside.store.keys c.in-Ok.field-0 in
     let found = c.in-Ok.ensures.found.place in
     let w = element map i found.in_range in
     subst (λ m. false ≡ is_none (at g.V.Version.seen g.V.Key.Ord.cmp m (g.V.Version.seen c.args.version).key)) c.self.view_is
@@ -20,7 +20,7 @@ returns-in-Ok-clause-answer g c =
 
 pub returns-in_ok-put_new-in-Err-clause-answer : goal.returns-in_ok-put_new-in-Err-clause-answer
 returns-in_ok-put_new-in-Err-clause-answer g c =
-    let map = versions c.self.inside.shelf in
+    let map = versions c.self.inside.store in
     subst (λ m. true ≡ is_none (at g.V.Version.seen g.V.Key.Ord.cmp m (g.V.Version.seen c.args.version).key)) c.self.view_is
     (subst (λ k. true ≡ is_none (at g.V.Version.seen g.V.Key.Ord.cmp map k)) c.key.ensures
-    (sym (ap is_none (at_absent g.V.Version.seen g.V.Key.Ord.cmp (key_order g.met.V.Key.Ord.total g.met.V.Version.exact_keys) map c.key.result.now (place c.self.inside.shelf.keys c.in-Err.spot) c.in-Err.ensures.absent.gap))))
+    (sym (ap is_none (at_absent g.V.Version.seen g.V.Key.Ord.cmp (key_order g.met.V.Key.Ord.total g.met.V.Version.exact_keys) map c.key.result.now (place c.self.inside.store.keys c.in-Err.cursor) c.in-Err.ensures.absent.gap))))

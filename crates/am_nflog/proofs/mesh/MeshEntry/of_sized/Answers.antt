@@ -1,7 +1,7 @@
 use Rattle.std.proofs.Common.{◌≡◌, ℕ, ◌≤◌, ◌^◌, List, ◌++◌, length, sym, ap, subst, ◌∙◌, arith}
 use Rattle.am_nflog.specs.Fields.{entry_in}
 use Rattle.am_nflog.specs.Mesh.{Mesh, IsMesh, writes_mesh_entry}
-use Rattle.am_nflog.specs.Places.{StandAt}
+use Rattle.am_nflog.specs.Offsets.{StandAt}
 use Rattle.am_nflog.specs.Spelled.{spelled}
 use Rattle.am_nflog.proofs.Spelling.{spelled_is}
 use Rattle.am_nflog.proofs.mesh.MeshEntry.of_sized.Goals as goal

@@ -1,6 +1,6 @@
 use Rattle.std.proofs.Common.{◌∙◌}
 use Rattle.am_silence.specs.MatcherTexts.{writes_matchers}
-use Rattle.am_silence.specs.Places.{StandsBetween}
+use Rattle.am_silence.specs.Offsets.{StandsBetween}
 use Rattle.am_silence.specs.Spelled.{version_in}
 use Rattle.am_silence.proofs.Ranges.{range_is_text, range_spells}
 use Rattle.am_silence.proofs.mesh.MeshSilence.matchers.Goals as goal

@@ -3,7 +3,7 @@ use Rattle.am_wire.specs.Timestamps.{writes_moment}
 use Rattle.am_wire.specs.Writing.{writes_delimited}
 use Rattle.am_silence.specs.Fields.{silence_in}
 use Rattle.am_silence.specs.Mesh.{Mesh, IsMesh, writes_mesh_silence}
-use Rattle.am_silence.specs.Places.{StandIn}
+use Rattle.am_silence.specs.Offsets.{StandIn}
 use Rattle.am_silence.specs.Spelled.{version_in, version_spelled}
 use Rattle.am_silence.proofs.Spelling.{written_version}
 use Rattle.am_silence.proofs.Standing.{stand_before}

@@ -1,4 +1,4 @@
-use Rattle.am_silence_json.proofs.Again.{texts_read}
+use Rattle.am_silence_json.proofs.RoundTrip.{texts_read}
 use Rattle.am_silence_json.proofs.moments.laws.texts_are_read.Goals as goal
 
 pub returns : goal.returns

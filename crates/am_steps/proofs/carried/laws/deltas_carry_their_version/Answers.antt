@@ -1,4 +1,4 @@
-use Rattle.am_steps.proofs.Again.{delta_carries, delta_rows}
+use Rattle.am_steps.proofs.RoundTrip.{delta_carries, delta_rows}
 use Rattle.am_steps.proofs.carried.laws.deltas_carry_their_version.Goals as goal
 
 pub returns-clause-rows : goal.returns-clause-rows

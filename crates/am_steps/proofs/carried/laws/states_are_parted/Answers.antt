@@ -1,4 +1,4 @@
-use Rattle.am_steps.proofs.Again.{entries_parted, silences_parted}
+use Rattle.am_steps.proofs.RoundTrip.{entries_parted, silences_parted}
 use Rattle.am_steps.proofs.Parting.{entries_append, silences_append}
 use Rattle.am_steps.proofs.carried.laws.states_are_parted.Goals as goal
 

@@ -1,4 +1,4 @@
-use Rattle.am_steps.proofs.Again.{delta_readable, entries_readable, silences_readable, whole_readable}
+use Rattle.am_steps.proofs.RoundTrip.{delta_readable, entries_readable, silences_readable, whole_readable}
 use Rattle.am_steps.proofs.carried.laws.what_keeps_its_limit_is_readable.Goals as goal
 
 pub returns-clause-delta : goal.returns-clause-delta

@@ -1,4 +1,4 @@
-use Rattle.am_steps.proofs.Again.{whole_carries, whole_sound}
+use Rattle.am_steps.proofs.RoundTrip.{whole_carries, whole_sound}
 use Rattle.am_steps.proofs.carried.laws.whole_states_carry_both_maps.Goals as goal
 
 pub returns-clause-sound : goal.returns-clause-sound

@@ -1,6 +1,6 @@
 use Rattle.std.proofs.Common.{sym, ◌∙◌}
 use Rattle.am_wire.specs.Fields.{field_of, field_at}
-use Rattle.am_wire.specs.Again.Pieces.{pieces-first}
+use Rattle.am_wire.specs.RoundTrip.Pieces.{pieces-first}
 use Rattle.am_wire.proofs.Items.{pieces-fault, pieces-nil, rest_is, shorter}
 use Rattle.am_wire.proofs.fields.ScanIterator.next.Goals as goal
 

@@ -1,7 +1,7 @@
 use Rattle.std.proofs.Common.{refl, sym, ◌∙◌}
 use Rattle.am_wire.specs.Fields.{pieces}
 use Rattle.am_wire.specs.Inputs.{message_at}
-use Rattle.am_wire.specs.Again.Pieces.{pieces-first}
+use Rattle.am_wire.specs.RoundTrip.Pieces.{pieces-first}
 use Rattle.am_wire.proofs.Items.{pieces-fault, pieces-nil, pieces-filled, rest_is, shorter}
 use Rattle.am_wire.proofs.messages.MessagesIterator.next.Goals as goal
 

@@ -1,4 +1,4 @@
-use Rattle.am_wire.specs.Again.Written.{text_is_clean}
+use Rattle.am_wire.specs.RoundTrip.Written.{text_is_clean}
 use Rattle.am_wire.proofs.Picked.{text_is_at_fault}
 use Rattle.am_wire.proofs.parts.LastText.take.Goals as goal
 

@@ -1,6 +1,6 @@
 use Rattle.std.proofs.Common.{sym, ◌∙◌}
 use Rattle.am_wire.specs.Fields.{row_at}
-use Rattle.am_wire.specs.Again.Pieces.{pieces-first}
+use Rattle.am_wire.specs.RoundTrip.Pieces.{pieces-first}
 use Rattle.am_wire.proofs.Items.{pieces-fault, pieces-nil, rest_is, shorter}
 use Rattle.am_wire.proofs.rows.RowsIterator.next.Goals as goal
 

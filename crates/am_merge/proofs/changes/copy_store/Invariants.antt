@@ -1,0 +1,10 @@
+use Rattle.std.proofs.Common.{◌≡◌, ◌++◌}
+use Rattle.am_merge.specs.Stores.{versions, IsStore}
+use Rattle.am_merge.proofs.changes.copy_store.Given as goal
+
+abbrev pub invariant-loop-version : goal.invariant-loop-version
+invariant-loop-version g l =
+    record {
+      store : IsStore g.V.Version.seen g.V.Version.head_of g.V.Key.Ord.cmp g.V.Version.bucket_of l.store;
+      all : versions l.store ++ l.version-iterator ≡ versions l.held;
+    }

@@ -1,7 +1,0 @@
-use Rattle.std.proofs.Common.{sym, ◌∙◌}
-use Rattle.am_merge.proofs.Steps.{put_in}
-use Rattle.am_merge.proofs.shelf.put_in.Goals as goal
-
-pub returns-clause-index : goal.returns-clause-index
-returns-clause-index g c =
-    put_in g.V.Version.seen c.args.shelf.now.table c.insert_reserved.new.self c.args.shelf.now.expiries c.insert.new.self c.vacant_key-slot.result c.insert_reserved.result c.expires-expires.result c.args.version c.expiry_gap-spot.result c.vacant_key-slot.ensures.vacant c.insert_reserved.ensures.updates (c.insert_reserved.ensures.key ∙ sym c.vacant_key-slot.ensures.value) c.expires-expires.ensures c.requires.index c.expiry_gap-spot.ensures.gap c.insert.ensures.items

@@ -1,7 +1,0 @@
-use Rattle.std.proofs.Common.{◌≡◌, map, drop}
-use Rattle.am_runs.specs.Records.{step_of}
-use Rattle.am_runs.specs.Tests.{are_onward}
-use Rattle.am_runs.proofs.timely.are_onward.Given as goal
-
-abbrev pub invariant-loop-step : goal.invariant-loop-step
-invariant-loop-step g l = are_onward l.clock (map step_of (drop l.step-index l.steps)) ≡ are_onward 0 (map step_of l.steps)

@@ -1,0 +1,16 @@
+use Rattle.am_silence.proofs.Standing.{between_grown, at_grown}
+use Rattle.am_silence.proofs.offsets.write_silence.Goals as goal
+
+pub returns-clause-places : goal.returns-clause-places
+returns-clause-places c =
+    let starts = c.in_ok-write_message.ensures.written in
+    let ends = c.in_ok-write_message-2.ensures.written in
+    let updated = c.in_ok-write_message-3.ensures.written in
+    let author = c.in_ok-created_by.ensures.written in
+    let comment = c.in_ok-comment.ensures.written in
+    record {
+      matchers = between_grown (between_grown (between_grown (between_grown (between_grown c.in_ok-matchers.ensures.between _ starts) _ ends) _ updated) _ author) _ comment;
+      created_by = at_grown c.in_ok-created_by.ensures.place _ comment;
+      comment = c.in_ok-comment.ensures.place;
+      bucket = at_grown (at_grown (at_grown (at_grown (at_grown c.in_ok-matchers.ensures.bucket _ starts) _ ends) _ updated) _ author) _ comment;
+    }

@@ -1,0 +1,115 @@
+//! Silences written into a text, and where their parts then stand.
+
+ghost use Rattle.std.specs.Prelude.{◌≡◌, ℕ, List, ◌<◌, ◌^◌, ◌++◌, length, All, OnOk, IfOk};
+ghost use Rattle.am_wire.specs.Writing.{writes_text};
+ghost use Rattle.am_silence.specs.Fields.{silence_in};
+ghost use Rattle.am_silence.specs.MatcherTexts.{writes_matchers};
+ghost use Rattle.am_silence.specs.Matchers.{IsMatcher};
+ghost use Rattle.am_silence.specs.Mesh.{bucket_of};
+ghost use Rattle.am_silence.specs.Offsets.{StandsAt, StandsBetween, StandIn};
+ghost use Rattle.am_silence.specs.Silences.{writes_silence, IsSilence};
+
+use crate::bucket::bucket_offset;
+use crate::iter::MatcherIter;
+use crate::offset::Offset;
+use crate::sizes::SilenceFields;
+use am_wire::write_varint;
+use am_wire::writing::{write_message, write_text};
+use std::alloc::AllocError;
+
+/// Where the parts of a silence stand in a text: its matchers from one place up to another, and its texts and the
+/// bucket where their lengths are.
+#[derive(Clone, Copy)]
+pub struct Offsets {
+    pub matchers: u32,
+    pub matchers_end: u32,
+    pub created_by: Offset,
+    pub comment: Offset,
+    pub bucket: Offset,
+}
+
+/// Writes a silence at the end of a text, and says where its parts stand there.
+///
+/// # Errors
+///
+/// [`AllocError`] where memory runs out, or 2^32 bytes or more stand before a part. Some of the text may be left.
+#[tactic(auto, unfolding(crate::specs::Silences::writes_silence))]
+pub fn write_silence(out: &mut Vec<u8>, fields: &SilenceFields<'_>) -> Result<Offsets, AllocError>
+    ensures written { OnOk result (out.new.items ≡ out.old.items ++ writes_silence (silence_in fields.now)) }
+    ensures value { OnOk result (IsSilence (silence_in fields.now)) }
+    ensures places { IfOk result (λ places. StandIn (silence_in fields.now) places out.new.items) }
+{
+    write_text(out, 1, fields.id)?;
+    let (matchers, matchers_end, bucket) = write_matchers(out, &fields.matchers)?;
+    write_message(out, 3, &fields.starts_at)?;
+    write_message(out, 4, &fields.ends_at)?;
+    write_message(out, 5, &fields.updated_at)?;
+    let created_by = write_part(out, 8, fields.created_by)?;
+    let comment = write_part(out, 9, fields.comment)?;
+    Ok(Offsets {
+        matchers,
+        matchers_end,
+        created_by,
+        comment,
+        bucket,
+    })
+}
+
+// Writes matchers, and says between which places they stand, and where their bucket.
+fn write_matchers(
+    out: &mut Vec<u8>,
+    matchers: &MatcherIter<'_>,
+) -> Result<(u32, u32, Offset), AllocError>
+    ensures written { OnOk result (out.new.items ≡ out.old.items ++ writes_matchers matchers.now) }
+    ensures values { OnOk result (All IsMatcher matchers.now) }
+    ensures between { IfOk result (λ places. StandsBetween places.0 places.1 (writes_matchers matchers.now) out.new.items) }
+    ensures bucket { IfOk result (λ places. StandsAt (bucket_of matchers.now) places.2 out.new.items) }
+{
+    let start = place_behind(out)?;
+    out.extend_from_slice(matchers.as_text())?;
+    let end = place_behind(out)?;
+    let bucket = bucket_place(start, matchers)?;
+    Ok((start, end, bucket))
+}
+
+// Where the bucket of matchers stands, whose text begins at a place.
+fn bucket_place(start: u32, matchers: &MatcherIter<'_>) -> Result<Offset, AllocError>
+    ensures { IfOk result (λ place. (front : List ℕ) → length front ≡ start →
+        StandsAt (bucket_of matchers.now) place (front ++ writes_matchers matchers.now)) }
+{
+    let Some(offset) = bucket_offset(matchers.again()) else {
+        return Ok(Offset { start: 0 });
+    };
+    match u32::try_from(offset.saturating_add(start as usize)) {
+        Ok(start) => Ok(Offset { start }),
+        Err(_) => Err(AllocError),
+    }
+}
+
+// Writes a text as a field, where it is not empty, and says where it stands.
+fn write_part(out: &mut Vec<u8>, number: u32, text: &str) -> Result<Offset, AllocError>
+    requires { number < 2 ^ 29 }
+    ensures written { OnOk result (out.new.items ≡ out.old.items ++ writes_text number text.now) }
+    ensures place { IfOk result (λ place. StandsAt text.now place out.new.items) }
+{
+    if text.is_empty() {
+        return Ok(Offset { start: 0 });
+    }
+    let tag = write_varint(u64::from(number) * 8 + 2);
+    let len = write_varint(text.len() as u64);
+    out.extend_from_slice(tag.as_slice())?;
+    let start = place_behind(out)?;
+    out.extend_from_slice(len.as_slice())?;
+    out.extend_from_slice(text.as_bytes())?;
+    Ok(Offset { start })
+}
+
+// The end of a text as a place in it.
+fn place_behind(text: &Vec<u8>) -> Result<u32, AllocError>
+    ensures { IfOk result (λ place. place ≡ length text.now.items) }
+{
+    match u32::try_from(text.len()) {
+        Ok(place) => Ok(place),
+        Err(_) => Err(AllocError),
+    }
+}
