@@ -9,7 +9,6 @@ ghost use Rattle.am_member.specs.Hearing.{HasHeard, Hears, HearsPeer, TakesPiece
 
 use crate::ended::Ended;
 use crate::fault::Fault;
-use crate::gathered::Gathered;
 use crate::greeting::greet;
 use crate::reading::read_piece;
 use crate::steps::make_steps;
@@ -28,7 +27,8 @@ pub struct Incoming {
     pub sender: Place,
     /// The reader of the stream behind the greeting.
     pub feeder: Feeder,
-    pub gathered: Gathered,
+    /// What came of it so far.
+    pub ended: Ended,
 }
 
 /// Takes the next piece of a stream: makes the step of each frame that ends in it.
@@ -40,13 +40,13 @@ fn take_piece(
 ) -> Result<(), Fault>
     ensures taken { (rest : List ℕ) → incoming.old.feeder ≡ Some rest →
         TakesPiece incoming.old.sender now (stream_of
-        (rest ++ piece.now)) incoming.new.feeder instance.old incoming.old.gathered instance.new incoming.new.gathered result }
+        (rest ++ piece.now)) incoming.new.feeder instance.old (effects_of incoming.old.ended) instance.new (effects_of incoming.new.ended) result }
     ensures same { incoming.new.sender ≡ incoming.old.sender }
 {
     let fed = incoming.feeder.feed(piece)?;
     make_steps(
         instance,
-        &mut incoming.gathered,
+        &mut incoming.ended,
         incoming.sender,
         fed.frames,
         now,
@@ -71,9 +71,9 @@ fn listen<R: io::Read>(
 ) -> Result<(), Fault>
     requires { first ≤ most_bytes }
     ensures { (fed : List ℕ) (start : InstanceState) (nothing : Effects) →
-        HasHeard incoming.old.sender now fed incoming.old.feeder start nothing instance.old incoming.old.gathered →
+        HasHeard incoming.old.sender now fed incoming.old.feeder start nothing instance.old (effects_of incoming.old.ended) →
         Hears incoming.old.sender now first fed (R.remaining reader.old)
-        (R.remaining reader.new) start nothing instance.new incoming.new.gathered result }
+        (R.remaining reader.new) start nothing instance.new (effects_of incoming.new.ended) result }
 {
     let mut piece = [0u8; PIECE];
     let mut count = first;
@@ -98,10 +98,10 @@ fn converse<R: io::Read>(
 ) -> Result<(), Fault>
     requires within { first ≤ most_bytes }
     requires fresh { incoming.old.feeder ≡ Some [] }
-    requires nothing { incoming.old.gathered ≡ no_effects }
+    requires nothing { effects_of incoming.old.ended ≡ no_effects }
     ensures { (len : ℕ) → first ≡ len + length piece.now →
         HearsPeer incoming.old.sender now len piece.now (R.remaining reader.old)
-        (R.remaining reader.new) instance.old instance.new incoming.new.gathered (fault_in result) }
+        (R.remaining reader.new) instance.old instance.new (effects_of incoming.new.ended) (fault_in result) }
 {
     take_piece(instance, incoming, piece, now)?;
     listen(instance, incoming, reader, first, now)
@@ -135,12 +135,13 @@ fn hear_peer<R: io::Read>(
     let mut incoming = Incoming {
         sender,
         feeder: Feeder::new(alloc),
-        gathered: Gathered::none(alloc),
+        ended: Ended::idle(alloc, None),
     };
     let (_, behind) = bytes.split_at(len);
     let first = bytes.len() as u64;
-    let fault = fault_in(converse(instance, &mut incoming, behind, first, reader, now));
-    Ended::of(incoming.gathered, fault)
+    let end = converse(instance, &mut incoming, behind, first, reader, now);
+    incoming.ended.fault = fault_in(end);
+    incoming.ended
 }
 
 /// Hears a peer, of whose bytes these came already: reads its greeting, and makes the step of each frame behind it, until

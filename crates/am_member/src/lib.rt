@@ -10,7 +10,6 @@ mod error;
 mod fault;
 mod fetching;
 mod files;
-mod gathered;
 mod greeting;
 mod hearing;
 pub mod laws;

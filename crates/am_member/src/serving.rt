@@ -1,12 +1,11 @@
 //! A connection, of a person, a tool or a peer.
 
-ghost use Rattle.std.specs.Prelude.{◌≡◌, List, [], ◌∷◌};
+ghost use Rattle.std.specs.Prelude.{◌≡◌, List, [], ◌∷◌, option_map};
 ghost use Rattle.am_http.specs.Receiving.{behind};
 ghost use Rattle.am_member.specs.Serving.{EndsAs, IsBegun, IsServed, fault_told};
 
 use crate::ended::Ended;
 use crate::fault::Fault;
-use crate::gathered::Gathered;
 use crate::hearing::hear;
 use am_api_silences::{Served, serve_behind};
 use am_instance::Instance;
@@ -27,18 +26,25 @@ fn fault_told(fault: am_api_silences::Fault) -> Fault
     }
 }
 
+/// A fault of a request or none, as one of its connection.
+fn any_told(fault: Option<am_api_silences::Fault>) -> Option<Fault>
+    ensures { result ≡ option_map fault_told fault }
+{
+    match fault {
+        Some(fault) => Some(fault_told(fault)),
+        None => None,
+    }
+}
+
 /// What came of a request, as what came of its connection.
 fn ended_as(served: Served) -> Ended
     ensures { EndsAs served result }
 {
-    let gathered = Gathered {
+    Ended {
         frames: served.frames,
         unsent: served.unsent,
         ticked: false,
-    };
-    match served.fault {
-        Some(fault) => Ended::of(gathered, Some(fault_told(fault))),
-        None => Ended::of(gathered, None),
+        fault: any_told(served.fault),
     }
 }
 
