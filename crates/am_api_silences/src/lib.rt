@@ -10,7 +10,7 @@ mod serving;
 mod table;
 
 pub use am_http::{Read, Refusal, Request, read_request};
-pub use answering::{Answered, answer};
+pub use answering::{Answered, answer, turn_away};
 pub use events::to_event;
 pub use replies::{ReplyBytes, to_bytes};
 pub use serving::{Fault, Served, serve, serve_behind};

@@ -3,6 +3,10 @@ pub mod Making
 pub mod Listening
 pub mod Greeted
 pub mod Names
+mod Lives
+mod Connections
+mod Replied
+mod Exchanging
 mod Cuts
 mod Decimals
 mod Queued

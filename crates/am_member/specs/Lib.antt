@@ -5,6 +5,8 @@ pub mod Outgoing
 pub mod Incoming
 pub mod Hearing
 pub mod Serving
+pub mod Exchanging
+pub mod Lives
 pub mod Faults
 pub mod Moments
 pub mod Peers

@@ -32,7 +32,7 @@ fn is_peer_of(config: &Config, place: usize, name: &str) -> bool
 }
 
 /// The place of the peer of this name.
-fn peer_named(config: &Config, name: &str) -> Option<Place>
+pub fn peer_named(config: &Config, name: &str) -> Option<Place>
     ensures found { IfSome result (IsOnlyPeerOf config.now name.now) }
     ensures none { result ≡ None → (place : ℕ) → ¬ IsPeerOf config.now name.now place }
 {

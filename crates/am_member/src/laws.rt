@@ -1,10 +1,61 @@
 //! Laws over the definitions that the contracts cite.
 
-ghost use Rattle.std.specs.Prelude.{◌≡◌, ℕ, List, true, Contains};
+ghost use Rattle.std.specs.Prelude.{◌≡◌, ℕ, List, true, Some, Contains};
+ghost use Rattle.std.specs.List.{AllByRecursion};
+ghost use Rattle.am_http.specs.declared.request.Read.TheVariants.{Whole};
+ghost use Rattle.am_http.specs.declared.request.Request.{Request};
 ghost use Rattle.am_instance.specs.Configs.{AreMembers};
+ghost use Rattle.am_instance.specs.InstanceStates.{InstanceState};
+ghost use Rattle.am_instance.specs.Laws.{AreMade, Happened, HasMaps, all_entries, all_silences};
+ghost use Rattle.am_session.specs.Sessions.{Says, Standing, fresh};
+ghost use Rattle.am_member.specs.Lives.{AreCalm, AreStepsOfAll, AreTurns, IsBareAnswer, IsHeardOut, IsTurn, ShowsBareSets, Turn};
+ghost use Rattle.am_member.specs.Lives.{bytes_in, said_in, standings_in, turns_of};
 ghost use Rattle.am_member.specs.Outgoing.{is_name};
+
+use am_instance::laws::{calm_steps_reply_as_the_bare_sets, steps_show_the_bare_sets};
+use am_session::laws::pieces_are_their_bytes;
 
 /// A member's name is one that a greeting may have: what a member sends is never refused for its own name.
 pub fn names_of_members_are_sent()
     ensures { (names : List (List ℕ)) (own : ℕ) (name : List ℕ) → AreMembers names own → Contains names name → is_name name ≡ true }
 {}
+
+/// What a connection said is what all its bytes say, whatever came of other connections between them.
+pub fn connections_say_what_their_bytes_say()
+    ensures { (standings : ℕ → Standing) (start new : InstanceState) (turns : List Turn) (connection : ℕ) →
+        AreTurns standings start turns new → standings connection ≡ fresh → AllByRecursion IsHeardOut (turns_of connection turns) →
+        Says fresh (bytes_in (turns_of connection turns)) (said_in (turns_of connection turns)) (standings_in standings turns connection) }
+{
+    pieces_are_their_bytes();
+}
+
+/// The turns of a member, of any connections in any interleaving, are steps of its instance, one after the other: their events
+/// are those of what was said, in the order of the turns, each at the moment of its turn.
+pub fn lives_are_steps()
+    ensures { (standings : ℕ → Standing) (start new : InstanceState) (turns : List Turn) → AreTurns standings start turns new →
+        (steps : List Happened) × AreStepsOfAll start turns steps × AreMade start steps new }
+{}
+
+/// So what a member shows, from the last of its steps on, is what the bare sets show of all versions that it began with or that
+/// were delivered to it by requests and peers, for each map that the steps were calm for.
+pub fn lives_show_the_bare_sets()
+    ensures { (standings : ℕ → Standing) (start new : InstanceState) (turns : List Turn) → HasMaps start →
+        AreTurns standings start turns new →
+        (steps : List Happened) × AreStepsOfAll start turns steps × ShowsBareSets start steps new }
+{
+    lives_are_steps();
+    steps_show_the_bare_sets();
+}
+
+/// And the bytes that a request for a list or a silence is replied are, after calm steps, those that the bare sets give of all
+/// that came before it.
+pub fn lives_reply_as_the_bare_sets()
+    ensures { (standings : ℕ → Standing) (start stand : InstanceState) (turns : List Turn) (turn : Turn) (request : Request) →
+        HasMaps start → HasMaps stand → AreTurns standings start turns stand →
+        IsTurn (standings_in standings turns turn.connection) stand turn → turn.said.request ≡ Some (Whole request) →
+        (steps : List Happened) × AreStepsOfAll start turns steps × (AreCalm start steps →
+        IsBareAnswer (all_silences start steps) (all_entries start steps) request turn.bits turn.now turn.answer) }
+{
+    lives_are_steps();
+    calm_steps_reply_as_the_bare_sets();
+}

@@ -1,0 +1,73 @@
+-- What one of several connections said.
+use Rattle.std.proofs.Common.{◌≡◌, ℕ, ◌++◌, Bool, true, false, cond, List, [], ◌∷◌, map, Option, None, Some, refl, sym, subst, ap, ◌∙◌}
+use Rattle.std.proofs.lemmas.Bool.{eqb-true}
+use Rattle.std.specs.Prelude.{◌==◌, if◌then◌else◌}
+use Rattle.std.specs.List.{AllByRecursion, flat_map}
+use Rattle.am_instance.specs.InstanceStates.{InstanceState}
+use Rattle.am_session.specs.Sessions.{Says, SaysAll, Spoken, Standing, fresh}
+use Rattle.am_member.specs.declared.fault.Fault.{Fault}
+use Rattle.am_member.specs.declared.fault.Fault.TheVariants.{Read, Write, TooLarge, Frame as InFrame, UnknownName, Step}
+use Rattle.am_member.specs.Exchanging.{is_stopped, left_at}
+use Rattle.am_member.specs.Lives.{AreTurns, Came, IsHeardOut, IsTurn, Tells, Turn, bytes_in, bytes_of, said_in, standings_after, standings_in, turns_of}
+use Rattle.am_member.specs.Lives.Came.{Heard, Fed, AtEnd}
+
+-- the bytes of each turn
+abbrev pub pieces_of : List Turn → List (List ℕ)
+pieces_of turns = map (λ turn. bytes_of turn.came) turns
+
+joined : (turns : List Turn) → flat_map (λ piece. piece) (pieces_of turns) ≡ bytes_in turns
+joined [] = refl
+joined (turn ∷ turns) = ap (λ (bytes : List ℕ). bytes_of turn.came ++ bytes) (joined turns)
+
+-- there was memory for what came
+told_heard : (came : Came) (piece : List ℕ) (old : Standing) (said : Spoken) (new : Standing) → came ≡ Heard piece → Tells old came said new →
+    Says old (bytes_of came) said new
+told_heard (Heard bytes) piece old said new is tells = tells
+told_heard (Fed bytes) piece old said new is tells = absurd cc
+told_heard AtEnd piece old said new is tells = absurd cc
+
+-- the connection is heard on
+heard_on : (fault : Option Fault) (standing : Standing) → is_stopped fault ≡ false → left_at fault standing ≡ standing
+heard_on None standing on = refl
+heard_on (Some (Read at)) standing on = refl
+heard_on (Some (Write written)) standing on = refl
+heard_on (Some TooLarge) standing on = refl
+heard_on (Some (InFrame error)) standing on = refl
+heard_on (Some UnknownName) standing on = absurd cc
+heard_on (Some (Step error)) standing on = absurd cc
+
+-- one turn more before others, of this connection or of another
+one_before : (mine : Bool) (standing own final : Standing) (old : InstanceState) (turn : Turn) (rest : List Turn) → (mine ≡ true → standing ≡ own) → IsTurn own old turn →
+    (AllByRecursion IsHeardOut rest → SaysAll (if mine then left_at turn.answer.ended.fault turn.heard else standing) (pieces_of rest) (said_in rest) final) →
+    AllByRecursion IsHeardOut (cond mine (turn ∷ rest) rest) →
+    SaysAll standing (pieces_of (cond mine (turn ∷ rest) rest)) (said_in (cond mine (turn ∷ rest) rest)) final
+one_before true standing own final old turn rest same done on all = (
+  turn.said,
+  turn.heard,
+  said_in rest,
+  subst (λ (s : Standing). Says s (bytes_of turn.came) turn.said turn.heard) (sym (same refl)) (told_heard turn.came all.0.piece own turn.said turn.heard all.0.came done.tells),
+  subst (λ (s : Standing). SaysAll s (pieces_of rest) (said_in rest) final) (heard_on turn.answer.ended.fault turn.heard all.0.goes_on) (on all.1),
+  refl,
+)
+one_before false standing own final old turn rest same done on all = on all
+
+-- what a connection said in all its turns
+heard_all : (standings : ℕ → Standing) (start new : InstanceState) (turns : List Turn) (connection : ℕ) → AreTurns standings start turns new →
+    AllByRecursion IsHeardOut (turns_of connection turns) →
+    SaysAll (standings connection) (pieces_of (turns_of connection turns)) (said_in (turns_of connection turns)) (standings_in standings turns connection)
+heard_all standings start new [] connection life all = (refl, refl)
+heard_all standings start new (turn ∷ turns) connection life all =
+    one_before (connection == turn.connection) (standings connection) (standings turn.connection) (standings_in standings (turn ∷ turns) connection)
+    start turn (turns_of connection turns) (λ is. ap standings (eqb-true connection turn.connection is)) life.0
+    (λ others. heard_all (standings_after standings turn) turn.left new turns connection life.1 others) all
+
+-- from the first byte on
+pub heard_from_fresh : (standings : ℕ → Standing) (start new : InstanceState) (turns : List Turn) (connection : ℕ) → AreTurns standings start turns new →
+    standings connection ≡ fresh → AllByRecursion IsHeardOut (turns_of connection turns) →
+    SaysAll fresh (pieces_of (turns_of connection turns)) (said_in (turns_of connection turns)) (standings_in standings turns connection)
+heard_from_fresh standings start new turns connection life first all =
+    subst (λ (s : Standing). SaysAll s (pieces_of (turns_of connection turns)) (said_in (turns_of connection turns)) (standings_in standings turns connection)) first
+    (heard_all standings start new turns connection life all)
+
+pub as_bytes : (turns : List Turn) (said : Spoken) (new : Standing) → Says fresh (flat_map (λ piece. piece) (pieces_of turns)) said new → Says fresh (bytes_in turns) said new
+as_bytes turns said new says = subst (λ (bytes : List ℕ). Says fresh bytes said new) (joined turns) says

@@ -1,0 +1,47 @@
+-- What comes of what a connection said.
+use Rattle.std.proofs.Common.{◌≡◌, inl, inr, ℕ, List, [], Option, None, Some, Result, Ok, Err, refl, sym, subst, ap, ◌∙◌}
+use Rattle.std.specs.Prelude.{option_map}
+use Rattle.am_api_silences.specs.Answers.{IsAnswered, IsTurnedAway}
+use Rattle.am_api_silences.specs.declared.answering.Answered.{Answered}
+use Rattle.am_gossip.specs.declared.frame.Frame.{Frame}
+use Rattle.am_http.specs.declared.refusal.Refusal.{Refusal}
+use Rattle.am_http.specs.declared.request.Read.{Read}
+use Rattle.am_http.specs.declared.request.Read.TheVariants.{More, Whole, Refused}
+use Rattle.am_http.specs.declared.request.Request.{Request}
+use Rattle.am_instance.specs.InstanceStates.{InstanceState}
+use Rattle.am_session.specs.declared.fault.SessionFault.{SessionFault}
+use Rattle.am_session.specs.declared.fault.SessionFault.TheVariants as session_faults
+use Rattle.am_session.specs.Sessions.{Standing, name_of, over}
+use Rattle.am_member.specs.declared.exchange.Exchanged.{Exchanged}
+use Rattle.am_member.specs.declared.fault.Fault.{Fault}
+use Rattle.am_member.specs.declared.fault.Fault.TheVariants.{Read as InRead, Write, TooLarge, Frame as InFrame, UnknownName, Step}
+use Rattle.am_member.specs.Incoming.{Effects}
+use Rattle.am_member.specs.Exchanging.{AreStepped, IsAnsweredTo, IsReplied, IsUntouched, fault_heard, left_at}
+
+module _ (read : Read) (bits now : ℕ) (old new : InstanceState) (exchanged : Exchanged) where
+  pub whole_answered : (request : Request) (answered : Answered) → read ≡ Whole request → IsAnswered old request bits now answered new → IsReplied answered exchanged →
+      IsAnsweredTo read bits now old new exchanged
+  whole_answered request answered is done replied = subst (λ (r : Read). IsAnsweredTo r bits now old new exchanged) (sym is) (answered, done, replied)
+
+  pub refused_answered : (refusal : Refusal) (answered : Answered) → read ≡ Refused refusal → IsTurnedAway refusal old answered new → IsReplied answered exchanged →
+      IsAnsweredTo read bits now old new exchanged
+  refused_answered refusal answered is done replied = subst (λ (r : Read). IsAnsweredTo r bits now old new exchanged) (sym is) (answered, done, replied)
+
+  pub none_answered : read ≡ More → IsUntouched old new exchanged → IsAnsweredTo read bits now old new exchanged
+  none_answered is untouched = subst (λ (r : Read). IsAnsweredTo r bits now old new exchanged) (sym is) untouched
+
+-- a fault of the session itself is none at which the member stops it
+pub heard_fault : (fault : Option SessionFault) (standing : Standing) → left_at (option_map fault_heard fault) standing ≡ standing
+heard_fault None standing = refl
+heard_fault (Some session_faults.TooLarge) standing = refl
+heard_fault (Some (session_faults.Frame error)) standing = refl
+
+-- a step that isn't made stops it
+pub stopped : (name : Option (List ℕ)) (now : ℕ) (frames : List Frame) (old : InstanceState) (before : Effects) (new : InstanceState) (after : Effects) (stop : Fault) (standing : Standing) →
+    AreStepped name now frames old before new after (Err stop) → left_at (Some stop) standing ≡ over (name_of standing)
+stopped name now frames old before new after UnknownName standing stepped = refl
+stopped name now frames old before new after (Step error) standing stepped = refl
+stopped name now frames old before new after (InRead at) standing stepped = absurd stepped
+stopped name now frames old before new after (Write written) standing stepped = absurd stepped
+stopped name now frames old before new after TooLarge standing stepped = absurd stepped
+stopped name now frames old before new after (InFrame error) standing stepped = absurd stepped

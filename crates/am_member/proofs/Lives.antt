@@ -1,0 +1,249 @@
+-- What comes of the turns of a member.
+use Rattle.std.proofs.Common.{◌≡◌, ◌⊎◌, inl, inr, ℕ, ◌++◌, Bool, true, false, List, [], ◌∷◌, map, Option, None, Some, Result, Ok, Err, refl, sym, subst, ap, ◌∙◌, append_assoc, append-nil}
+use Rattle.std.proofs.lemmas.List.{map-append}
+use Rattle.std.proofs.lemmas.Option.{none-some}
+use Rattle.std.specs.List.{AllByRecursion}
+use Rattle.am_gossip.specs.declared.frame.Frame.{Frame}
+use Rattle.am_http.specs.declared.refusal.Refusal.{Refusal}
+use Rattle.am_http.specs.declared.request.Read.{Read}
+use Rattle.am_http.specs.declared.request.Read.TheVariants.{More, Whole, Refused}
+use Rattle.am_instance.specs.InstanceStates.{InstanceState}
+use Rattle.am_instance.specs.Laws.{AreMade, Happened}
+use Rattle.am_instance.specs.OneStep.{IsStep}
+use Rattle.am_instance.specs.declared.error.StepError.{StepError}
+use Rattle.am_instance.specs.declared.event.Event.{Event}
+use Rattle.am_instance.specs.declared.event.Event.TheVariants as events
+use Rattle.am_instance.specs.declared.reply.Outcome.{Outcome}
+use Rattle.am_api_silences.specs.Answers.{ComesOf}
+use Rattle.am_api_silences.specs.declared.answering.Answered.{Answered}
+use Rattle.am_session.specs.declared.fault.SessionFault.{SessionFault}
+use Rattle.am_session.specs.Sessions.{Standing, name_of}
+use Rattle.am_member.specs.declared.exchange.Exchanged.{Exchanged}
+use Rattle.am_member.specs.declared.fault.Fault.{Fault}
+use Rattle.am_member.specs.declared.fault.Fault.TheVariants.{Read as InRead, Write, TooLarge, Frame as InFrame, UnknownName, Step}
+use Rattle.am_member.specs.Incoming.{Effects, MakesAll, StopsAt, effects_of, no_effects}
+use Rattle.am_member.specs.Exchanging.{AreHeard, AreStepped, IsAnsweredTo, IsFromNobody, MakesNamed, is_stopped}
+use Rattle.am_member.specs.Lives.{AreEventsOf, AreEventsOfFrames, AreEventsOfRead, AreStepsOf, AreStepsOfAll, AreTurns, IsTurn, Turn, listed, standings_after}
+
+-- steps behind others
+pub made_append : (old mid new : InstanceState) (steps others : List Happened) → AreMade old steps mid → AreMade mid others new → AreMade old (steps ++ others) new
+made_append old mid new [] others same more = subst (λ (s : InstanceState). AreMade s others new) same more
+made_append old mid new (h ∷ hs) others made more = (made.0, made.1, made_append h.left mid new hs others made.2 more)
+
+-- one step that was made
+one_made : (old new : InstanceState) (event : Event) (now : ℕ) (answer : Result Outcome StepError) → IsStep old event now answer new →
+    AreMade old (record { event = event; now = now; answer = answer; left = new } ∷ []) new
+one_made old new event now answer step = (step.silences, step.log, refl)
+
+-- the frames of a peer, as events
+abbrev pub sent_from : ℕ → List Frame → List Event
+sent_from sender frames = map (λ frame. events.Frame sender frame) frames
+
+-- steps with these events, all at one moment
+pub record AreStepsAt (now : ℕ) (asked : List Event) (old : InstanceState) (steps : List Happened) (new : InstanceState) : Type 0 where
+  pub asks : map (λ step. step.event) steps ≡ asked
+  pub moments : AllByRecursion (λ step. step.now ≡ now) steps
+  pub made : AreMade old steps new
+
+-- one more before them
+step_before : (now : ℕ) (event : Event) (asked : List Event) (answer : Result Outcome StepError) (old mid new : InstanceState) →
+    IsStep old event now answer mid → ((steps : List Happened) × AreStepsAt now asked mid steps new) →
+    (steps : List Happened) × AreStepsAt now (event ∷ asked) old steps new
+step_before now event asked answer old mid new step more = (
+  record { event = event; now = now; answer = answer; left = mid } ∷ more.0,
+  record {
+    asks = ap (λ (es : List Event). event ∷ es) more.1.asks;
+    moments = (refl, more.1.moments);
+    made = (step.silences, step.log, more.1.made);
+  },
+)
+
+-- no step
+none_at : (now : ℕ) (old new : InstanceState) → new ≡ old → (steps : List Happened) × AreStepsAt now [] old steps new
+none_at now old new same = ([], record { asks = refl; moments = tt; made = same })
+
+-- the steps of frames
+pub all_steps : (sender now : ℕ) (frames : List Frame) (old : InstanceState) (before : Effects) (new : InstanceState) (after : Effects) →
+    MakesAll sender now frames old before new after → (steps : List Happened) × AreStepsAt now (sent_from sender frames) old steps new
+all_steps sender now [] old before new after made = none_at now old new made.0
+all_steps sender now (frame ∷ frames) old before new after made =
+    step_before now (events.Frame sender frame) (sent_from sender frames) (Ok made.2.outcome) old made.0 new made.2.step
+    (all_steps sender now frames made.0 made.1 new after made.3)
+
+-- all at the same moment, also with others behind them
+moments_append : (now : ℕ) (steps others : List Happened) → AllByRecursion (λ step. step.now ≡ now) steps → AllByRecursion (λ step. step.now ≡ now) others →
+    AllByRecursion (λ step. step.now ≡ now) (steps ++ others)
+moments_append now [] others none more = more
+moments_append now (h ∷ hs) others all more = (all.0, moments_append now hs others all.1 more)
+
+-- the event of a step
+abbrev event_of : Happened → Event
+event_of step = step.event
+
+-- steps behind others, at the same moment
+at_append : (now : ℕ) (asked more : List Event) (steps others : List Happened) (old mid new : InstanceState) → AreStepsAt now asked old steps mid → AreStepsAt now more mid others new →
+    AreStepsAt now (asked ++ more) old (steps ++ others) new
+at_append now asked more steps others old mid new first second = record {
+  asks = map-append event_of steps others ∙ (ap (λ (es : List Event). es ++ map event_of others) first.asks ∙ ap (λ (es : List Event). asked ++ es) second.asks);
+  moments = moments_append now steps others first.moments second.moments;
+  made = made_append old mid new steps others first.made second.made;
+}
+
+-- what the steps of a turn are of events that were asked for: all of them at its moment, or up to one that was refused
+pub record AreStepsUpTo (now : ℕ) (asked : List Event) (stopped : Bool) (old : InstanceState) (steps : List Happened) (new : InstanceState) : Type 0 where
+  pub others : List Event
+  pub parts : asked ≡ map (λ step. step.event) steps ++ others
+  pub whole : (others ≡ []) ⊎ (stopped ≡ true)
+  pub moments : AllByRecursion (λ step. step.now ≡ now) steps
+  pub made : AreMade old steps new
+
+-- all of them
+whole_steps : (now : ℕ) (asked : List Event) (stopped : Bool) (old new : InstanceState) → ((steps : List Happened) × AreStepsAt now asked old steps new) →
+    (steps : List Happened) × AreStepsUpTo now asked stopped old steps new
+whole_steps now asked stopped old new all = (
+  all.0,
+  record { others = []; parts = sym (append-nil (map event_of all.0) ∙ all.1.asks); whole = inl refl; moments = all.1.moments; made = all.1.made },
+)
+
+-- the steps up to the first one that is refused
+stop_steps : (sender now : ℕ) (frames : List Frame) (old : InstanceState) (before : Effects) (new : InstanceState) (after : Effects) (error : StepError) →
+    StopsAt sender now frames old before new after error → (steps : List Happened) × AreStepsUpTo now (sent_from sender frames) true old steps new
+stop_steps sender now frames old before new after error stop =
+    let event : Event = events.Frame sender stop.frame in
+    let made = all_steps sender now stop.made old before stop.mid after stop.made_all in
+    let last = step_before now event [] (Err error) stop.mid new new stop.refused (none_at now new new refl) in
+    let both = at_append now (sent_from sender stop.made) (event ∷ []) made.0 last.0 old stop.mid new made.1 last.1 in (
+      made.0 ++ last.0,
+      record {
+        others = sent_from sender stop.others;
+        parts = ap (sent_from sender) stop.frames_are ∙ (map-append (λ (frame : Frame). events.Frame sender frame) stop.made (stop.frame ∷ stop.others)
+            ∙ (sym (append_assoc (sent_from sender stop.made) (event ∷ []) (sent_from sender stop.others))
+            ∙ ap (λ (es : List Event). es ++ sent_from sender stop.others) (sym both.asks)));
+        whole = inr refl;
+        moments = both.moments;
+        made = both.made;
+      },
+    )
+
+-- ---- the steps of frames
+
+-- steps of the events of frames
+abbrev FrameSteps : Option (List ℕ) → ℕ → List Frame → Bool → InstanceState → InstanceState → Type 0
+FrameSteps name now frames stopped old new =
+    (asked : List Event) × AreEventsOfFrames old.config name frames asked × (steps : List Happened) × AreStepsUpTo now asked stopped old steps new
+
+-- no frame, no step
+no_frame : (name : Option (List ℕ)) (now : ℕ) (frames : List Frame) (stopped : Bool) (old new : InstanceState) →
+    ((frames ≡ []) ⊎ IsFromNobody old.config name) → new ≡ old → FrameSteps name now frames stopped old new
+no_frame name now frames stopped old new why same = ([], inl (refl, why), whole_steps now [] stopped old new (none_at now old new same))
+
+-- all steps were made
+named_steps : (name : Option (List ℕ)) (now : ℕ) (frames : List Frame) (stopped : Bool) (old : InstanceState) (before : Effects) (new : InstanceState) (after : Effects) →
+    MakesNamed name now frames old before new after → FrameSteps name now frames stopped old new
+named_steps name now [] stopped old before new after made = no_frame name now [] stopped old new (inl refl) made.0
+named_steps name now (frame ∷ frames) stopped old before new after made = (
+  sent_from made.0 (frame ∷ frames),
+  inr (made.0, made.1, refl),
+  whole_steps now (sent_from made.0 (frame ∷ frames)) stopped old new (all_steps made.0 now (frame ∷ frames) old before new after made.2),
+)
+
+-- the steps stopped
+stepped_steps : (name : Option (List ℕ)) (now : ℕ) (frames : List Frame) (old : InstanceState) (before : Effects) (new : InstanceState) (after : Effects) (stop : Fault) →
+    AreStepped name now frames old before new after (Err stop) → FrameSteps name now frames (is_stopped (Some stop)) old new
+stepped_steps name now frames old before new after UnknownName stepped = no_frame name now frames true old new (inr stepped.1) stepped.2.0
+stepped_steps name now frames old before new after (Step error) stepped =
+    (sent_from stepped.0 frames, inr (stepped.0, stepped.1, refl), stop_steps stepped.0 now frames old before new after error stepped.2)
+stepped_steps name now frames old before new after (InRead at) stepped = absurd stepped
+stepped_steps name now frames old before new after (Write written) stepped = absurd stepped
+stepped_steps name now frames old before new after TooLarge stepped = absurd stepped
+stepped_steps name now frames old before new after (InFrame error) stepped = absurd stepped
+
+-- whatever came of them
+heard_steps : (name : Option (List ℕ)) (now : ℕ) (frames : List Frame) (fault : Option SessionFault) (old new : InstanceState) (effects : Effects) (told : Option Fault) →
+    AreHeard name now frames fault old new effects told → FrameSteps name now frames (is_stopped told) old new
+heard_steps name now frames fault old new effects told (inl all) = named_steps name now frames (is_stopped told) old no_effects new effects all.0
+heard_steps name now frames fault old new effects told (inr stops) =
+    subst (λ (f : Option Fault). FrameSteps name now frames (is_stopped f) old new) (sym stops.2)
+    (stepped_steps name now frames old no_effects new effects stops.0 stops.1)
+
+-- ---- the step of a request
+
+-- steps of the events of what was read
+abbrev ReadSteps : Read → ℕ → ℕ → Bool → InstanceState → InstanceState → Type 0
+ReadSteps read bits now stopped old new =
+    (asked : List Event) × AreEventsOfRead read bits asked × (steps : List Happened) × AreStepsUpTo now asked stopped old steps new
+
+-- what it means is one step or none
+meant_steps : (meant : Result Event Refusal) (now : ℕ) (stopped : Bool) (old : InstanceState) (answered : Answered) (new : InstanceState) → ComesOf meant old now answered new →
+    (steps : List Happened) × AreStepsUpTo now (listed meant) stopped old steps new
+meant_steps (Ok event) now stopped old answered new comes =
+    whole_steps now (event ∷ []) stopped old new (step_before now event [] comes.0 old new new comes.1 (none_at now new new refl))
+meant_steps (Err refusal) now stopped old answered new comes = whole_steps now [] stopped old new (none_at now old new comes.same)
+
+read_steps : (read : Read) (bits now : ℕ) (stopped : Bool) (old new : InstanceState) (exchanged : Exchanged) → IsAnsweredTo read bits now old new exchanged →
+    ReadSteps read bits now stopped old new
+read_steps (Whole request) bits now stopped old new exchanged answer =
+    let answered = answer.1.0 in
+    (listed answered.0, (answered.0, answered.1, refl), meant_steps answered.0 now stopped old answer.0 new answered.2)
+read_steps (Refused refusal) bits now stopped old new exchanged answer = ([], refl, whole_steps now [] stopped old new (none_at now old new answer.1.0.same))
+read_steps More bits now stopped old new exchanged answer = ([], refl, whole_steps now [] stopped old new (none_at now old new answer.same))
+
+-- ---- a turn
+
+-- the steps of the events that were asked for, of a turn
+steps_of_turn : (old : InstanceState) (turn : Turn) (asked : List Event) → AreEventsOf old.config (name_of turn.heard) turn.bits turn.said asked →
+    ((steps : List Happened) × AreStepsUpTo turn.now asked (is_stopped turn.answer.ended.fault) old steps turn.left) →
+    (steps : List Happened) × AreStepsOf old turn steps
+steps_of_turn old turn asked said up_to = (
+  up_to.0,
+  record {
+    asked = asked;
+    said = said;
+    others = up_to.1.others;
+    parts = up_to.1.parts;
+    whole = up_to.1.whole;
+    moments = up_to.1.moments;
+    made = up_to.1.made;
+  },
+)
+
+abbrev or_given : {A : Type 0} → A → Option A → A
+or_given other None = other
+or_given other (Some x) = x
+
+some_is : {A : Type 0} (x y : A) (o : Option A) → o ≡ Some x → o ≡ Some y → x ≡ y
+some_is x y o is also = ap (or_given x) (sym is ∙ also)
+
+turn_by : (standing : Standing) (old : InstanceState) (turn : Turn) (request : Option Read) → turn.said.request ≡ request → IsTurn standing old turn →
+    (steps : List Happened) × AreStepsOf old turn steps
+turn_by standing old turn (Some read) is done =
+    let found = read_steps read turn.bits turn.now (is_stopped turn.answer.ended.fault) old turn.left turn.answer (done.answered.asked read is) in
+    steps_of_turn old turn found.0
+    (record {
+      of_request = λ other also. subst (λ (r : Read). AreEventsOfRead r turn.bits found.0) (some_is read other turn.said.request is also) found.1;
+      of_frames = λ none. absurd (none-some read (sym none ∙ is));
+    })
+    found.2
+turn_by standing old turn None is done =
+    let found = heard_steps (name_of turn.heard) turn.now turn.said.frames turn.said.fault old turn.left (effects_of turn.answer.ended) turn.answer.ended.fault (done.answered.heard is).1 in
+    steps_of_turn old turn found.0
+    (record {
+      of_request = λ read some. absurd (none-some read (sym is ∙ some));
+      of_frames = λ none. found.1;
+    })
+    found.2
+
+pub turn_steps : (standing : Standing) (old : InstanceState) (turn : Turn) → IsTurn standing old turn → (steps : List Happened) × AreStepsOf old turn steps
+turn_steps standing old turn done = turn_by standing old turn turn.said.request refl done
+
+-- all turns
+pub life_steps : (standings : ℕ → Standing) (start new : InstanceState) (turns : List Turn) → AreTurns standings start turns new →
+    (steps : List Happened) × AreStepsOfAll start turns steps × AreMade start steps new
+life_steps standings start new [] same = ([], refl, same)
+life_steps standings start new (turn ∷ turns) life =
+    let own = turn_steps (standings turn.connection) start turn life.0 in
+    let others = life_steps (standings_after standings turn) turn.left new turns life.1 in (
+      own.0 ++ others.0,
+      (own.0, others.0, own.1, others.1, refl),
+      made_append start turn.left new own.0 others.0 own.1.made others.2,
+    )

@@ -1,0 +1,68 @@
+-- What is replied in a turn, by what is shown.
+use Rattle.std.proofs.Common.{◌≡◌, ◌≤◌, inl, inr, ℕ, true, List, Option, Some, Result, Ok, Err, refl, sym, subst, ap, ◌∙◌, arith}
+use Rattle.am_silence.specs.Mesh.{Mesh}
+use Rattle.am_nflog.specs.Mesh.{Mesh as LogMesh}
+use Rattle.am_http.specs.declared.refusal.Refusal.{Refusal}
+use Rattle.am_http.specs.declared.request.Request.{Request}
+use Rattle.am_instance.specs.Bare.{IsBareReply, asks_shown}
+use Rattle.am_instance.specs.InstanceStates.{InstanceState}
+use Rattle.am_instance.specs.OneStep.{IsStep}
+use Rattle.am_instance.specs.Replies.{IsReply}
+use Rattle.am_instance.specs.declared.error.StepError.{StepError}
+use Rattle.am_instance.specs.declared.error.StepError.TheVariants.{MomentBack, UnknownPeer, Frame, Memory}
+use Rattle.am_instance.specs.declared.event.Event.{Event}
+use Rattle.am_instance.specs.declared.reply.Made.{Made}
+use Rattle.am_instance.specs.declared.reply.Outcome.{Outcome}
+use Rattle.am_instance.specs.declared.reply.Reply.{Reply}
+use Rattle.am_api_silences.specs.Answers.{ComesOf, IsErrorBytes, TellsStep}
+use Rattle.am_api_silences.specs.Replies.{IsReplyBytes, Says}
+use Rattle.am_api_silences.specs.declared.answering.Answered.{Answered}
+use Rattle.am_api_silences.specs.declared.replies.ReplyBytes.{ReplyBytes}
+use Rattle.am_api_silences.specs.declared.replies.ReplyBytes.TheVariants.{Own, Fixed}
+use Rattle.am_member.specs.declared.exchange.Exchanged.{Exchanged}
+use Rattle.am_member.specs.Exchanging.{IsAnsweredTo, IsReplied}
+use Rattle.am_http.specs.declared.request.Read.TheVariants.{Whole}
+use Rattle.am_member.specs.Lives.{IsBareAnswer, IsBareBytes, RepliesBare}
+
+weaker : (IsMeant Other : List ℕ → Type 0) → ((bytes : List ℕ) → IsMeant bytes → Other bytes) → (reply : ReplyBytes) → Says IsMeant reply → Says Other reply
+weaker IsMeant Other less (Own bytes) says = less bytes.items says
+weaker IsMeant Other less (Fixed bytes) says = says
+
+-- what is told of a step that was refused
+error_bare : (silences : List Mesh) (log : List LogMesh) (event : Event) (now : ℕ) (error : StepError) (bytes : List ℕ) → IsErrorBytes error bytes → IsBareBytes silences log event now bytes
+error_bare silences log event now (MomentBack last) bytes is = inr (inl is)
+error_bare silences log event now UnknownPeer bytes is = inr (inr is)
+error_bare silences log event now (Frame fault) bytes is = inr (inr is)
+error_bare silences log event now (Memory taken) bytes is = inr (inr is)
+
+-- the bare sets reply so at each moment from the last one on
+abbrev pub RepliesAsSets : List Mesh → List LogMesh → InstanceState → Type 0
+RepliesAsSets silences log stand = (event : Event) (now : ℕ) (reply : Reply) (made : Made) → stand.last ≤ now → asks_shown event ≡ true → IsReply stand event now reply made →
+    IsBareReply silences log event now reply
+
+-- a step tells what they reply
+step_bare : (silences : List Mesh) (log : List LogMesh) (stand new : InstanceState) (event : Event) (now : ℕ) (step : Result Outcome StepError) (answered : Answered) →
+    RepliesAsSets silences log stand → IsStep stand event now step new → TellsStep step answered → asks_shown event ≡ true →
+    Says (IsBareBytes silences log event now) answered.reply
+step_bare silences log stand new event now (Ok outcome) answered sets made tells asks =
+    weaker (IsReplyBytes outcome.reply) (IsBareBytes silences log event now)
+    (λ bytes is. inl (outcome.reply, sets event now outcome.reply outcome.made made.accepted.forward asks made.reply, is))
+    answered.reply tells.0
+step_bare silences log stand new event now (Err error) answered sets made tells asks =
+    weaker (IsErrorBytes error) (IsBareBytes silences log event now) (error_bare silences log event now error) answered.reply tells.0
+
+comes_bare : (silences : List Mesh) (log : List LogMesh) (stand new : InstanceState) (meant : Result Event Refusal) (now : ℕ) (answered : Answered) →
+    RepliesAsSets silences log stand → ComesOf meant stand now answered new → RepliesBare silences log meant now answered.reply
+comes_bare silences log stand new (Ok event) now answered sets comes = λ asks. step_bare silences log stand new event now comes.0 answered sets comes.1 comes.2 asks
+comes_bare silences log stand new (Err refusal) now answered sets comes = comes.says
+
+-- the answer to a request
+pub answer_bare : (silences : List Mesh) (log : List LogMesh) (stand new : InstanceState) (request : Request) (bits now : ℕ) (exchanged : Exchanged) →
+    RepliesAsSets silences log stand → IsAnsweredTo (Whole request) bits now stand new exchanged → IsBareAnswer silences log request bits now exchanged
+answer_bare silences log stand new request bits now exchanged sets answer = record {
+  reply = answer.0.reply;
+  is = answer.2.reply;
+  meant = answer.1.0;
+  means = answer.1.1;
+  replied = comes_bare silences log stand new answer.1.0 now answer.0 sets answer.1.2;
+}

@@ -1,0 +1,115 @@
+-- What comes of what a connection said: the answer to its request, or the steps of its frames.
+use Rattle.std.specs.Prelude.{◌≡◌, ◌≢◌, ◌⊎◌, ℕ, Bool, true, false, List, [], ◌∷◌, Option, None, Some, option_map, Result, Ok, Err, ⊤}
+use Rattle.am_api_silences.specs.declared.answering.Answered.{Answered}
+use Rattle.am_api_silences.specs.Answers.{sent_with}
+use Rattle.am_api_silences.specs.Events.{IsCall}
+use Rattle.am_api_silences.specs.Serving.{IsAnswerTo}
+use Rattle.am_gossip.specs.declared.frame.Frame.{Frame}
+use Rattle.am_http.specs.declared.cause.Cause.{Cause}
+use Rattle.am_http.specs.declared.request.Read.{Read}
+use Rattle.am_http.specs.declared.request.Read.TheVariants.{More, Whole, Refused}
+use Rattle.am_http.specs.declared.routes.Call.{Call}
+use Rattle.am_http.specs.declared.routes.Call.TheVariants.{List as ListCall}
+use Rattle.am_instance.specs.Configs.{Settings}
+use Rattle.am_instance.specs.InstanceStates.{InstanceState}
+use Rattle.am_session.specs.declared.fault.SessionFault.{SessionFault}
+use Rattle.am_session.specs.declared.fault.SessionFault.TheVariants as session_faults
+use Rattle.am_session.specs.Sessions.{Spoken, Standing, name_of, over}
+use Rattle.am_member.specs.declared.exchange.Exchanged.{Exchanged}
+use Rattle.am_member.specs.declared.fault.Fault.{Fault}
+use Rattle.am_member.specs.declared.fault.Fault.TheVariants.{TooLarge, Frame as InFrame, UnknownName, Step}
+use Rattle.am_member.specs.Incoming.{Effects, IsOnlyPeerOf, IsPeerOf, MakesAll, StopsAt, effects_of, no_effects}
+
+-- ---- a request
+
+-- nothing was answered, and no step was made
+pub record IsUntouched (old new : InstanceState) (exchanged : Exchanged) : Type 0 where
+  pub same : new ≡ old
+  pub reply : exchanged.reply ≡ None
+  pub nothing : effects_of exchanged.ended ≡ no_effects
+  pub no_fault : exchanged.ended.fault ≡ None
+
+-- an answer is handed on as it is, its reply and its frames; no Tick was among its steps
+pub record IsReplied (answered : Answered) (exchanged : Exchanged) : Type 0 where
+  pub reply : exchanged.reply ≡ Some answered.reply
+  pub effects : effects_of exchanged.ended ≡ record { sent = sent_with answered; ticked = false }
+  pub no_fault : exchanged.ended.fault ≡ None
+
+-- what was read is answered; nothing is where it decides nothing yet
+abbrev pub IsAnsweredTo : Read → ℕ → ℕ → InstanceState → InstanceState → Exchanged → Type 0
+IsAnsweredTo More bits now old new exchanged = IsUntouched old new exchanged
+IsAnsweredTo read bits now old new exchanged =
+    (answered : Answered) × IsAnswerTo read old bits now answered new × IsReplied answered exchanged
+
+-- ---- frames
+
+-- the peer that a connection is from: the one that its greeting names
+abbrev pub IsSender : Settings → Option (List ℕ) → ℕ → Type 0
+IsSender config None place = ⊥
+IsSender config (Some name) place = IsOnlyPeerOf config name place
+
+-- a connection is from no peer: its greeting names none, or none came
+abbrev pub IsFromNobody : Settings → Option (List ℕ) → Type 0
+IsFromNobody config None = ⊤
+IsFromNobody config (Some name) = (place : ℕ) → ¬ IsPeerOf config name place
+
+-- the steps of frames of the peer of this name; where there is no frame, no name is needed
+abbrev pub MakesNamed : Option (List ℕ) → ℕ → List Frame → InstanceState → Effects → InstanceState → Effects → Type 0
+MakesNamed name now [] old before new after = (new ≡ old) × (after ≡ before)
+MakesNamed name now (frame ∷ frames) old before new after =
+    (sender : ℕ) × IsSender old.config name sender × MakesAll sender now (frame ∷ frames) old before new after
+
+-- What the frames of a connection with this name did: each step was made; or there are frames and no peer has the name, or a step
+-- is refused, and the connection is not heard on.
+abbrev pub AreStepped : Option (List ℕ) → ℕ → List Frame → InstanceState → Effects → InstanceState → Effects → Result Unit Fault → Type 0
+AreStepped name now frames old before new after (Ok _) = MakesNamed name now frames old before new after
+AreStepped name now frames old before new after (Err UnknownName) =
+    (frames ≢ []) × IsFromNobody old.config name × (new ≡ old) × (after ≡ before)
+AreStepped name now frames old before new after (Err (Step error)) =
+    (sender : ℕ) × IsSender old.config name sender × StopsAt sender now frames old before new after error
+AreStepped name now frames old before new after (Err _) = ⊥
+
+-- a fault of a session, as one of its connection
+abbrev pub fault_heard : SessionFault → Fault
+fault_heard session_faults.TooLarge = TooLarge
+fault_heard (session_faults.Frame error) = InFrame error
+
+-- What comes of frames, behind which the session is at fault or goes on: all their steps, and the session's own fault is told;
+-- or the first of them that can't be made is told.
+abbrev pub AreHeard : Option (List ℕ) → ℕ → List Frame → Option SessionFault → InstanceState → InstanceState → Effects → Option Fault → Type 0
+AreHeard name now frames fault old new effects told =
+    (AreStepped name now frames old no_effects new effects (Ok tt) × (told ≡ option_map fault_heard fault))
+    ⊎ ((stop : Fault) × AreStepped name now frames old no_effects new effects (Err stop) × (told ≡ Some stop))
+
+-- ---- all that is said
+
+-- What comes of what a connection with this name said: of a request its answer, else the steps of the frames. (A session never
+-- says both.)
+pub record IsExchanged (name : Option (List ℕ)) (bits now : ℕ) (said : Spoken) (old new : InstanceState) (exchanged : Exchanged) : Type 0 where
+  pub asked : (read : Read) → said.request ≡ Some read → IsAnsweredTo read bits now old new exchanged
+  pub heard : said.request ≡ None →
+      (exchanged.reply ≡ None) × AreHeard name now said.frames said.fault old new (effects_of exchanged.ended) exchanged.ended.fault
+
+-- a connection is not heard on whose peer is unknown, or of which a step was refused
+abbrev pub is_stopped : Option Fault → Bool
+is_stopped (Some UnknownName) = true
+is_stopped (Some (Step error)) = true
+is_stopped _ = false
+
+-- how far a connection has come then
+abbrev pub left_at : Option Fault → Standing → Standing
+left_at (Some UnknownName) standing = over (name_of standing)
+left_at (Some (Step error)) standing = over (name_of standing)
+left_at _ standing = standing
+
+-- ---- what is dear
+
+-- a call is for a list
+abbrev pub is_list : Result Call Cause → Bool
+is_list (Ok (ListCall query)) = true
+is_list _ = false
+
+-- whether what was read is a whole request for a list
+abbrev pub IsDear : Read → Bool → Type 0
+IsDear (Whole request) dear = (call : Result Call Cause) × IsCall request call × (dear ≡ is_list call)
+IsDear _ dear = dear ≡ false

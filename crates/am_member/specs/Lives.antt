@@ -1,0 +1,175 @@
+-- A member's life: what came of its connections, in any interleaving, and what it answered.
+use Rattle.std.specs.Prelude.{◌≡◌, ◌⊎◌, ◌==◌, ◌≤◌, ℕ, Bool, true, false, List, [], ◌∷◌, ◌++◌, map, filter, ⊤, Option, None, Some, Result, Ok, Err, if◌then◌else◌}
+use Rattle.std.specs.List.{AllByRecursion, flat_map}
+use Rattle.am_silence.specs.Mesh.{Mesh, mesh_version}
+use Rattle.am_nflog.specs.Mesh.{Mesh as LogMesh, mesh_version as entry_version}
+use Rattle.am_nflog.specs.LogKeys.{LogKey}
+use Rattle.am_gossip.specs.declared.frame.Frame.{Frame}
+use Rattle.am_http.specs.Lines.{line_seen}
+use Rattle.am_http.specs.declared.refusal.Refusal.{Refusal}
+use Rattle.am_http.specs.declared.request.Read.{Read}
+use Rattle.am_http.specs.declared.request.Read.TheVariants.{Whole}
+use Rattle.am_http.specs.declared.request.Request.{Request}
+use Rattle.am_merge.specs.Views.{IsViewAt}
+use Rattle.am_collect.specs.Calm.{IsCalm}
+use Rattle.am_instance.specs.Bare.{IsBareReply, asks_shown}
+use Rattle.am_instance.specs.Configs.{Settings}
+use Rattle.am_instance.specs.Deliveries.{to_silences, to_log}
+use Rattle.am_instance.specs.InstanceStates.{InstanceState}
+use Rattle.am_instance.specs.Laws.{AreMade, Happened, all_entries, all_silences, run_events}
+use Rattle.am_instance.specs.Replies.{silence_in_view, entry_in_view}
+use Rattle.am_instance.specs.declared.event.Event.{Event}
+use Rattle.am_instance.specs.declared.event.Event.TheVariants as events
+use Rattle.am_instance.specs.declared.reply.Reply.{Reply}
+use Rattle.am_api_silences.specs.Events.{IsEventOf}
+use Rattle.am_api_silences.specs.Replies.{IsReplyBytes, Says, line_bytes, memory_bytes}
+use Rattle.am_api_silences.specs.Table.{clock_line}
+use Rattle.am_api_silences.specs.declared.replies.ReplyBytes.{ReplyBytes}
+use Rattle.am_session.specs.Sessions.{Feeds, Says as SaysPiece, SaysEnd, Spoken, Standing, and_then, name_of, nothing, over}
+use Rattle.am_member.specs.declared.exchange.Exchanged.{Exchanged}
+use Rattle.am_member.specs.Exchanging.{IsExchanged, IsFromNobody, IsSender, is_stopped, left_at}
+
+-- what came of a connection: a piece that there was memory for, any piece, or the end of its input
+pub data Came : Type 0 where
+  Heard : List ℕ → Came
+  Fed : List ℕ → Came
+  AtEnd : Came
+
+-- the bytes of what came
+abbrev pub bytes_of : Came → List ℕ
+bytes_of (Heard piece) = piece
+bytes_of (Fed piece) = piece
+bytes_of AtEnd = []
+
+-- what it says, and how far the connection has come then
+abbrev pub Tells : Standing → Came → Spoken → Standing → Type 0
+Tells old (Heard piece) said new = SaysPiece old piece said new
+Tells old (Fed piece) said new = Feeds old piece said new
+Tells old AtEnd said new = SaysEnd old said × (new ≡ over (name_of old))
+
+-- A turn of a member: something came of a connection, at a moment and with random bits; what it said and how far the connection
+-- had come with it, what the member answered, and the instance as it left it.
+pub record Turn : Type 0 where
+  pub connection : ℕ
+  pub came : Came
+  pub now : ℕ
+  pub bits : ℕ
+  pub said : Spoken
+  pub heard : Standing
+  pub answer : Exchanged
+  pub left : InstanceState
+
+-- what came is told by the connection's own session, and answered as the contract of `exchange` says
+pub record IsTurn (standing : Standing) (old : InstanceState) (turn : Turn) : Type 0 where
+  pub tells : Tells standing turn.came turn.said turn.heard
+  pub answered : IsExchanged (name_of turn.heard) turn.bits turn.now turn.said old turn.left turn.answer
+
+-- how far its connection has come after a turn, and each other one as before
+abbrev pub standings_after : (ℕ → Standing) → Turn → ℕ → Standing
+standings_after standings turn = λ connection.
+    if connection == turn.connection then left_at turn.answer.ended.fault turn.heard else standings connection
+
+-- Turns one after the other, of any connections: each goes on from where its own connection and the instance stand.
+abbrev pub AreTurns : (ℕ → Standing) → InstanceState → List Turn → InstanceState → Type 0
+AreTurns standings old [] new = new ≡ old
+AreTurns standings old (turn ∷ turns) new =
+    IsTurn (standings turn.connection) old turn × AreTurns (standings_after standings turn) turn.left turns new
+
+-- ---- each connection by itself
+
+-- the turns of one connection
+abbrev pub turns_of : ℕ → List Turn → List Turn
+turns_of connection turns = filter (λ turn. connection == turn.connection) turns
+
+-- the bytes that came in turns
+abbrev pub bytes_in : List Turn → List ℕ
+bytes_in turns = flat_map (λ turn. bytes_of turn.came) turns
+
+-- all that was said in turns
+abbrev pub said_in : List Turn → Spoken
+said_in [] = nothing
+said_in (turn ∷ turns) = and_then turn.said (said_in turns)
+
+-- where turns leave the connections
+abbrev pub standings_in : (ℕ → Standing) → List Turn → ℕ → Standing
+standings_in standings [] = standings
+standings_in standings (turn ∷ turns) = standings_in (standings_after standings turn) turns
+
+-- a piece came that there was memory for, and the member heard on: its peer is known, and no step was refused
+pub record IsHeardOut (turn : Turn) : Type 0 where
+  pub piece : List ℕ
+  pub came : turn.came ≡ Heard piece
+  pub goes_on : is_stopped turn.answer.ended.fault ≡ false
+
+-- ---- the steps of the instance
+
+-- what a request means, as a list: one event, or none where it is refused before
+abbrev pub listed : Result Event Refusal → List Event
+listed (Ok event) = event ∷ []
+listed (Err refusal) = []
+
+-- the events of what was read
+abbrev pub AreEventsOfRead : Read → ℕ → List Event → Type 0
+AreEventsOfRead (Whole request) bits asked = (meant : Result Event Refusal) × IsEventOf request bits meant × (asked ≡ listed meant)
+AreEventsOfRead _ bits asked = asked ≡ []
+
+-- the events of frames: each comes from the one peer that the connection is from; there is none where no frame or no peer is
+abbrev pub AreEventsOfFrames : Settings → Option (List ℕ) → List Frame → List Event → Type 0
+AreEventsOfFrames config name frames sent =
+    ((sent ≡ []) × ((frames ≡ []) ⊎ IsFromNobody config name))
+    ⊎ ((sender : ℕ) × IsSender config name sender × (sent ≡ map (λ frame. events.Frame sender frame) frames))
+
+-- the events of what was said
+pub record AreEventsOf (config : Settings) (name : Option (List ℕ)) (bits : ℕ) (said : Spoken) (asked : List Event) : Type 0 where
+  pub of_request : (read : Read) → said.request ≡ Some read → AreEventsOfRead read bits asked
+  pub of_frames : said.request ≡ None → AreEventsOfFrames config name said.frames asked
+
+-- The steps of a turn, all at its moment: their events are those of what was said, in order, up to the first that was refused.
+pub record AreStepsOf (old : InstanceState) (turn : Turn) (steps : List Happened) : Type 0 where
+  pub asked : List Event
+  pub said : AreEventsOf old.config (name_of turn.heard) turn.bits turn.said asked
+  pub others : List Event
+  pub parts : asked ≡ map (λ step. step.event) steps ++ others
+  pub whole : (others ≡ []) ⊎ (is_stopped turn.answer.ended.fault ≡ true)
+  pub moments : AllByRecursion (λ step. step.now ≡ turn.now) steps
+  pub made : AreMade old steps turn.left
+
+-- the steps of turns, in the order of the turns
+abbrev pub AreStepsOfAll : InstanceState → List Turn → List Happened → Type 0
+AreStepsOfAll old [] steps = steps ≡ []
+AreStepsOfAll old (turn ∷ turns) steps =
+    (own : List Happened) × (others : List Happened) × AreStepsOf old turn own × AreStepsOfAll turn.left turns others × (steps ≡ own ++ others)
+
+-- ---- what is shown and replied
+
+-- the steps were calm for both maps
+pub record AreCalm (start : InstanceState) (steps : List Happened) : Type 0 where
+  pub silences : IsCalm mesh_version start.silences start.last (run_events to_silences steps)
+  pub log : IsCalm entry_version start.log start.last (run_events to_log steps)
+
+-- From the last step on the bare sets are shown of all versions that the instance began with or that were delivered.
+pub record ShowsBareSets (start : InstanceState) (steps : List Happened) (new : InstanceState) : Type 0 where
+  pub silences : IsCalm mesh_version start.silences start.last (run_events to_silences steps) → (now : ℕ) (id : List ℕ) → new.last ≤ now →
+      IsViewAt mesh_version (all_silences start steps) now id (silence_in_view now new.silences id)
+  pub log : IsCalm entry_version start.log start.last (run_events to_log steps) → (now : ℕ) (key : LogKey) → new.last ≤ now →
+      IsViewAt entry_version (all_entries start steps) now key (entry_in_view now new.log key)
+
+-- The bytes tell what bare sets give; or that the clock ran back, or that memory ran out.
+abbrev pub IsBareBytes : List Mesh → List LogMesh → Event → ℕ → List ℕ → Type 0
+IsBareBytes silences log event now bytes =
+    ((reply : Reply) × IsBareReply silences log event now reply × IsReplyBytes reply bytes)
+    ⊎ ((bytes ≡ line_bytes clock_line) ⊎ (bytes ≡ memory_bytes))
+
+-- What is replied to a request for a list or a silence: the bytes that the bare sets give. One that is refused before its step
+-- has its line of the table.
+abbrev pub RepliesBare : List Mesh → List LogMesh → Result Event Refusal → ℕ → ReplyBytes → Type 0
+RepliesBare silences log (Ok event) now reply = asks_shown event ≡ true → Says (IsBareBytes silences log event now) reply
+RepliesBare silences log (Err refusal) now reply = Says (λ bytes. bytes ≡ line_bytes (line_seen refusal)) reply
+
+-- the reply to a request, whatever it means
+pub record IsBareAnswer (silences : List Mesh) (log : List LogMesh) (request : Request) (bits now : ℕ) (answer : Exchanged) : Type 0 where
+  pub reply : ReplyBytes
+  pub is : answer.reply ≡ Some reply
+  pub meant : Result Event Refusal
+  pub means : IsEventOf request bits meant
+  pub replied : RepliesBare silences log meant now reply

@@ -1,0 +1,179 @@
+//! What comes of what a connection said, piece by piece.
+
+ghost use Rattle.std.specs.Prelude.{◌≡◌, true, None, OnTrue, option_map};
+ghost use Rattle.std.specs.Option.{option_copied};
+ghost use Rattle.am_session.specs.Sessions.{name_of, spoken};
+ghost use Rattle.am_member.specs.Exchanging.{AreHeard, AreStepped, IsAnsweredTo, IsDear, IsExchanged, IsReplied, fault_heard, is_list, left_at};
+ghost use Rattle.am_member.specs.Incoming.{effects_of};
+
+use crate::ended::Ended;
+use crate::fault::Fault;
+use crate::greeting::peer_named;
+use crate::steps::make_steps;
+use am_api_silences::{Answered, ReplyBytes, answer, turn_away};
+use am_gossip::Frame;
+use am_http::{Call, Cause, Read, call_of};
+use am_instance::Instance;
+use am_session::{Said, Session, SessionFault};
+use am_version_order::Moment;
+use std::alloc::Global;
+
+/// What came of what a connection said.
+#[derive(Drop)]
+pub struct Exchanged {
+    /// The whole reply, where a request was answered.
+    pub reply: Option<ReplyBytes>,
+    /// What the steps send, whether a Tick was among them, and why no more is heard of the connection.
+    pub ended: Ended,
+}
+
+/// Hands on an answer.
+fn replied(answered: Answered) -> Exchanged
+    ensures { IsReplied answered result }
+{
+    let Answered {
+        reply,
+        frames,
+        unsent,
+    } = answered;
+    Exchanged {
+        reply: Some(reply),
+        ended: Ended {
+            frames,
+            unsent,
+            ticked: false,
+            fault: None,
+        },
+    }
+}
+
+/// Answers what was read.
+fn reply_to(
+    alloc: Global,
+    instance: &mut Instance,
+    read: Read,
+    bits: u128,
+    now: Moment,
+) -> Exchanged
+    ensures { IsAnsweredTo read bits now instance.old instance.new result }
+{
+    match read {
+        Read::Whole(request) => replied(answer(alloc, instance, &request, bits, now)),
+        Read::Refused(refusal) => {
+            let (_, answered) = turn_away(alloc, &refusal);
+            replied(answered)
+        }
+        Read::More => Exchanged {
+            reply: None,
+            ended: Ended::idle(alloc, None),
+        },
+    }
+}
+
+/// Makes the steps of frames that the peer of this name sent.
+///
+/// # Errors
+///
+/// [`Fault::UnknownName`] where there are frames and no peer has the name, and the [`Fault::Step`] of the first frame that
+/// is refused. The steps before it stand.
+fn step_named(
+    instance: &mut Instance,
+    ended: &mut Ended,
+    name: Option<&str>,
+    frames: Vec<Frame>,
+    now: Moment,
+) -> Result<(), Fault>
+    ensures { AreStepped (option_copied name.entry) now frames.items instance.old (effects_of ended.old) instance.new (effects_of ended.new) result }
+{
+    if frames.is_empty() {
+        return Ok(());
+    }
+    let Some(name) = name else {
+        return Err(Fault::UnknownName);
+    };
+    let Some(sender) = peer_named(instance.config(), name) else {
+        return Err(Fault::UnknownName);
+    };
+    make_steps(instance, ended, sender, frames, now)?;
+    Ok(())
+}
+
+/// A fault of a session or none, as one of its connection.
+fn fault_heard(fault: Option<SessionFault>) -> Option<Fault>
+    ensures { result ≡ option_map fault_heard fault }
+{
+    match fault {
+        Some(SessionFault::TooLarge) => Some(Fault::TooLarge),
+        Some(SessionFault::Frame(error)) => Some(Fault::Frame(error)),
+        None => None,
+    }
+}
+
+/// Makes the steps of frames that a session said, behind which it is at fault or goes on.
+fn hear(
+    alloc: Global,
+    instance: &mut Instance,
+    session: &mut Session,
+    frames: Vec<Frame>,
+    fault: Option<SessionFault>,
+    now: Moment,
+) -> Ended
+    ensures heard { AreHeard (name_of session.old) now frames.items fault instance.old instance.new (effects_of result) result.fault }
+    ensures session { session.new ≡ left_at result.fault session.old }
+{
+    let mut ended = Ended::idle(alloc, fault_heard(fault));
+    match step_named(instance, &mut ended, session.name(), frames, now) {
+        Ok(()) => ended,
+        Err(stop) => {
+            session.stop();
+            ended.fault = Some(stop);
+            ended
+        }
+    }
+}
+
+/// Answers what a connection said: a request by a step at `now` and a reply, frames by a step each at `now`. `bits` are
+/// random. `session` is the connection's own, by whose greeting the frames have their sender.
+///
+/// No more is heard of the connection where no peer has that name or a step is refused; the steps before it stand. Where
+/// nothing was said, nothing changes.
+pub fn exchange(
+    alloc: Global,
+    instance: &mut Instance,
+    session: &mut Session,
+    said: Said,
+    bits: u128,
+    now: Moment,
+) -> Exchanged
+    ensures exchanged { IsExchanged (name_of session.old) bits now (spoken said) instance.old instance.new result }
+    ensures session { session.new ≡ left_at result.ended.fault session.old }
+{
+    let Said {
+        frames,
+        request,
+        fault,
+    } = said;
+    match request {
+        Some(read) => reply_to(alloc, instance, read, bits, now),
+        None => Exchanged {
+            reply: None,
+            ended: hear(alloc, instance, session, frames, fault, now),
+        },
+    }
+}
+
+fn is_list(call: Result<Call<'_>, Cause>) -> bool
+    ensures { result ≡ is_list call.entry }
+{
+    matches!(call, Ok(Call::List { .. }))
+}
+
+/// Whether a request asks for a list, whose reply may take long to make.
+pub fn is_dear(read: &Read) -> bool
+    ensures { IsDear read.now result }
+{
+    match read {
+        Read::Whole(request) => is_list(call_of(&request.method, &request.target)),
+        _ => false,
+    }
+}
