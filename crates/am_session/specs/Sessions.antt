@@ -6,7 +6,6 @@ use Rattle.am_gossip.specs.declared.error.FrameError.TheVariants as frame_errors
 use Rattle.am_gossip.specs.declared.frame.Frame.{Frame}
 use Rattle.am_gossip.specs.Hellos.{hello_of}
 use Rattle.am_gossip.specs.Streams.{stream_of}
-use Rattle.am_http.specs.declared.cause.Cause.{Cause}
 use Rattle.am_http.specs.declared.cause.Cause.TheVariants.{EndedEarly, Memory}
 use Rattle.am_http.specs.declared.refusal.Refusal.{Refusal}
 use Rattle.am_http.specs.declared.request.Read.{Read}

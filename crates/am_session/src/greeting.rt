@@ -16,10 +16,7 @@ fn unheard(alloc: Global) -> (Said, State)
     ensures says { LacksToGreet (spoken result.0) (standing_in result.1) }
     ensures sound { IsSound result.1 }
 {
-    (
-        Said::failed(alloc, FrameError::Memory),
-        State::Over(None),
-    )
+    (Said::failed(alloc, FrameError::Memory), State::Over(None))
 }
 
 /// What the bytes say behind a greeting of this name and length.
@@ -59,7 +56,10 @@ fn greet(alloc: Global, bytes: &[u8]) -> (Said, State)
     ensures sound { IsSound result.1 }
 {
     match read_hello(bytes) {
-        Ok(Some((name, len))) => greeted(alloc, name, len, &bytes[len..]),
+        Ok(Some((name, len))) => {
+            let (_, behind) = bytes.split_at(len);
+            greeted(alloc, name, len, behind)
+        }
         Ok(None) => wait(alloc, bytes),
         Err(e) => (Said::failed(alloc, e), State::Over(None)),
     }
