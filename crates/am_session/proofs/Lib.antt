@@ -1,0 +1,4 @@
+pub mod Seen
+pub mod Decided
+pub mod Cuts
+pub mod Asked
