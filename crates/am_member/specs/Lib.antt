@@ -9,3 +9,4 @@ pub mod Faults
 pub mod Moments
 pub mod Peers
 pub mod Queues
+pub mod Times
