@@ -62,7 +62,7 @@ fn is_of_client(kind: ErrorKind) -> bool {
 
 /// Prints a fault.
 fn tell(member: &Member<'_>, fault: Fault) {
-    let _ = fault::report(member.rt, fault);
+    fault::print(member.rt, fault);
 }
 
 /// Takes one connection: makes its steps, saves both states where a Tick was among them, and sends what is to be sent.
