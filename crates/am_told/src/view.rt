@@ -41,7 +41,7 @@ fn append_silences(
 {
     for silence in silences.iter() {
         if now < silence.expires() {
-            append_silence(out, owner, silence, now)?;
+            append_silence(out, owner, silence, silence.state_at(now))?;
         }
     }
     Ok(())
