@@ -2,7 +2,7 @@
 
 ghost use Rattle.std.specs.Prelude.{◌<◌, length, take, OnOk, IfErr};
 ghost use Rattle.std.specs.Io.KnownBytes.{Appends};
-ghost use Rattle.am_http.specs.Receiving.{WritesPart};
+ghost use Rattle.am_streams.specs.Writing.{WritesPart};
 
 use std::io::Write;
 

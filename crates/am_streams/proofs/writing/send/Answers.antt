@@ -1,5 +1,5 @@
-use Rattle.am_http.proofs.Writes.{write_more}
-use Rattle.am_http.proofs.sending.send.Goals as goal
+use Rattle.am_streams.proofs.Writes.{write_more}
+use Rattle.am_streams.proofs.writing.send.Goals as goal
 
 pub loop-written-preserved : goal.loop-written-preserved
 loop-written-preserved g c =
