@@ -1,6 +1,6 @@
 //! What comes of what a connection said, piece by piece.
 
-ghost use Rattle.std.specs.Prelude.{◌≡◌, true, None, OnTrue, option_map};
+ghost use Rattle.std.specs.Prelude.{◌≡◌, ◌≢◌, [], true, None, IfErr, OnOk, OnTrue, option_map};
 ghost use Rattle.std.specs.Option.{option_copied};
 ghost use Rattle.am_session.specs.Sessions.{name_of, spoken};
 ghost use Rattle.am_member.specs.Exchanging.{AreHeard, AreStepped, IsAnsweredTo, IsDear, IsExchanged, IsReplied, fault_heard, is_list, left_at};
@@ -70,12 +70,23 @@ fn reply_to(
     }
 }
 
+/// Without a name there is no frame.
+fn no_name(frames: &[Frame]) -> Result<(), Fault>
+    ensures none { OnOk result (frames.now ≡ []) }
+    ensures some { IfErr result (λ e. (e ≡ Fault.UnknownName) × (frames.now ≢ [])) }
+{
+    if frames.is_empty() {
+        return Ok(());
+    }
+    Err(Fault::UnknownName)
+}
+
 /// Makes the steps of frames that the peer of this name sent.
 ///
 /// # Errors
 ///
-/// [`Fault::UnknownName`] where there are frames and no peer has the name, and the [`Fault::Step`] of the first frame that
-/// is refused. The steps before it stand.
+/// [`Fault::UnknownName`] where no peer has the name, and the [`Fault::Step`] of the first frame that is refused. The steps
+/// before it stand.
 fn step_named(
     instance: &mut Instance,
     ended: &mut Ended,
@@ -85,11 +96,8 @@ fn step_named(
 ) -> Result<(), Fault>
     ensures { AreStepped (option_copied name.entry) now frames.items instance.old (effects_of ended.old) instance.new (effects_of ended.new) result }
 {
-    if frames.is_empty() {
-        return Ok(());
-    }
     let Some(name) = name else {
-        return Err(Fault::UnknownName);
+        return no_name(&frames);
     };
     let Some(sender) = peer_named(instance.config(), name) else {
         return Err(Fault::UnknownName);
@@ -135,8 +143,8 @@ fn hear(
 /// Answers what a connection said: a request by a step at `now` and a reply, frames by a step each at `now`. `bits` are
 /// random. `session` is the connection's own, by whose greeting the frames have their sender.
 ///
-/// No more is heard of the connection where no peer has that name or a step is refused; the steps before it stand. Where
-/// nothing was said, nothing changes.
+/// No more is heard of the connection where no peer has that name, which is told once the name came, or a step is refused;
+/// the steps before it stand. Where nothing was said, nothing else changes.
 pub fn exchange(
     alloc: Global,
     instance: &mut Instance,

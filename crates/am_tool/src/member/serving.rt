@@ -47,7 +47,7 @@ impl Member<'_> {
 
     /// Answers what was said.
     fn answer(&mut self, dialogue: &mut Dialogue, said: Said) {
-        if is_nothing(&said) {
+        if is_nothing(&said) && dialogue.session.name().is_none() {
             return;
         }
         let pulled = has_pull(&said);
