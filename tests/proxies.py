@@ -57,8 +57,8 @@ class Proxy:
             (fate,) = self.draw.choices(list(chances), chances.values())
             self.fates[fate] += 1
             thread = threading.Thread(target=self.meet, args=(stream, fate, self.draw.random()), daemon=True)
-            self.threads = [*filter(threading.Thread.is_alive, self.threads), thread]
             thread.start()
+            self.threads = [*filter(threading.Thread.is_alive, self.threads), thread]
 
     def meet(self, stream, fate, chance):
         """Gives a connection its fate; a chance of 0 to 1 says how much of it."""
