@@ -45,8 +45,9 @@ STATES = {"sil": "silences", "nfl": "entries of the log"}
 
 # How long a connection may last, how often members do each thing, and how long they wait for a first Pull: in seconds.
 TIME_LIMIT, EVERY, FIRST = 2, 1, 3
-OPTIONS = ["--time-limit", str(TIME_LIMIT), "--pull-first", "--pull-first-limit", str(FIRST)]
+OPTIONS = ["--time-limit", str(TIME_LIMIT)]
 OPTIONS += [word for what in ("tick", "pull", "save") for word in (f"--{what}-every", str(EVERY))]
+AGAIN = ["--pull-first", "--pull-first-limit", str(FIRST)]
 
 # Signals that stop a member are blocked, as docs/OPERATING.md has it, and too large files are a fault of the write.
 STARTED_BY = ["env", "--block-signal=TERM", "--block-signal=INT", "--ignore-signal=XFSZ"]
@@ -54,8 +55,8 @@ STARTED_BY = ["env", "--block-signal=TERM", "--block-signal=INT", "--ignore-sign
 # How long a client waits for a reply; how late a save may be; and how long members may take to agree: in seconds.
 REPLY, LATE_SAVE, AGREEMENT = 4, 3, 60
 
-# The most that a round lasts, in seconds, and how much a disk holds, in bytes.
-ROUND, DISK = 30, 16 << 20
+# The most that a round lasts, in seconds; how many clients post; and how much a disk holds, in bytes.
+ROUND, CLIENTS, DISK = 30, 10, 16 << 20
 
 # What clients leave behind who mean no good.
 OPENINGS = [
@@ -190,11 +191,14 @@ class Client:
 
     def work(self):
         while not self.round.is_over.wait(self.draw.uniform(0.005, 0.06)):
-            member = self.draw.choice(self.round.members)
+            # mostly one that answers, since the others keep them waiting
+            is_any = self.draw.random() < 0.1
+            found = [it for it in self.round.members if is_any or it.is_let_alone(time.monotonic())]
             (act,) = self.draw.choices([self.post, self.update, self.end, self.look], [45, 30, 15, 10])
             if act in (self.update, self.end) and not self.keys:
                 act = self.post
-            act(member)
+            if found:
+                act(self.draw.choice(found))
 
     def ask(self, member, method, path, value=None):
         """A reply of a member, which has to come where it is let alone."""
@@ -292,7 +296,7 @@ class Meddler:
 
     def work(self):
         acts = [self.freeze, self.kill, self.kill_behind_a_post, self.stop, self.fill]
-        while not self.round.is_over.wait(self.draw.uniform(0.2, 2)):
+        while not self.round.is_over.wait(self.draw.uniform(0.3, 4)):
             (act,) = self.draw.choices(acts, [3, 3, 2, 2, 3])
             self.round.acts[act.__name__] += 1
             act()
@@ -408,7 +412,9 @@ class Round:
             it.words += OPTIONS
             if not it.begin():
                 raise ValueError(f"{it.name} does not start: {it.lines}")
-        clients = [Client(self, f"client {number}") for number in range(6)]
+            # all begin with nothing; later starts pull before they answer
+            it.words += AGAIN
+        clients = [Client(self, f"client {number}") for number in range(CLIENTS)]
         work = [it.work for it in [*clients, *self.meddlers]] + [self.change_weather, self.loiter, self.notify]
         threads = [threading.Thread(target=self.guarded, args=(it,), daemon=True) for it in work]
         for it in threads:
@@ -493,6 +499,8 @@ class Round:
         while True:
             lists = self.listed()
             missing = self.missing(lists)
+            if os.environ.get("TRACE"):
+                print(f"{time.monotonic() - begun:.2f} {[it and len(it) for it in lists]} {len(missing)} {[it.lines[-2:] for it in self.members]}")
             if (lists[0] is not None and lists[1:] == lists[:1] * 2 and not missing) or time.monotonic() - begun > AGREEMENT:
                 break
             time.sleep(0.1)

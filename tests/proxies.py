@@ -16,7 +16,7 @@ LONGEST = 8
 # What becomes of a connection in each weather, and how often among the others.
 WEATHERS = {
     "fair": {"pass_on": 1},
-    "storm": {"pass_on": 10, "lose": 4, "swallow": 2, "delay": 5, "repeat": 3, "cut": 4, "drip": 2, "hold": 2},
+    "storm": {"pass_on": 16, "lose": 4, "swallow": 2, "delay": 5, "repeat": 3, "cut": 4, "drip": 2, "hold": 2},
     "apart": {"lose": 4, "hold": 1},
 }
 
