@@ -9,8 +9,8 @@ returns-clause-places c =
     let updated = c.in_ok-write_message-3.ensures.written in
     let author = c.in_ok-created_by.ensures.written in
     let comment = c.in_ok-comment.ensures.written in
-    let author_stands = rw c.as_bytes.ensures at c.in_ok-created_by.ensures.offset in
-    let comment_stands = rw c.as_bytes-2.ensures at c.in_ok-comment.ensures.offset in
+    let author_stands = rw c.as_bytes.ensures.value at c.in_ok-created_by.ensures.offset in
+    let comment_stands = rw c.as_bytes-2.ensures.value at c.in_ok-comment.ensures.offset in
     record {
       matchers = between_grown (between_grown (between_grown (between_grown (between_grown c.in_ok-matchers.ensures.between _ starts) _ ends) _ updated) _ author) _ comment;
       created_by = stands_grown author_stands _ comment;
