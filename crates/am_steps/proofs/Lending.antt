@@ -1,8 +1,8 @@
 -- Maps that a member lends, versions that are delivered, and frames that fly.
 use Rattle.std.proofs.Common.{◌≡◌, ⊎_elim, ℕ, List, [], ◌∷◌, ◌++◌, Bool, true, false, ap, refl, sym, subst, ◌∙◌}
 use Rattle.std.specs.Prelude.{All, Option, Some, None, IfSome, option_map, map, Result, Ok, Err, if◌then◌else◌, Contains, IsSomeAnd}
-use Rattle.std.proofs.lemmas.List.Elements.{All-nil, All-cons, All-head, All-tail, All-append, All-contains_itself}
-use Rattle.am_silence.specs.Mesh.{Mesh, IsMesh}
+use Rattle.std.proofs.lemmas.List.Elements.{All-nil, All-cons, All-map, All-append, All-contains_itself}
+use Rattle.am_silence.specs.Mesh.{IsMesh}
 use Rattle.am_nflog.specs.Mesh.{Mesh as LogMesh, IsMesh as IsLogMesh}
 use Rattle.am_gossip.specs.Answers.{frame_fault}
 use Rattle.am_gossip.specs.declared.frame.Frame.{Frame}
@@ -35,10 +35,6 @@ use Rattle.am_steps.proofs.Outgoing.{collecting_sends}
 use Rattle.am_steps.proofs.States.{IsStateOf, held_at}
 
 -- ---- what is delivered
-all_silences : (vs : List Mesh) → All IsMesh vs → All IsValue (map OfSilence vs)
-all_silences [] are = All-nil IsValue
-all_silences (v ∷ vs) are = All-cons IsValue (OfSilence v) (map OfSilence vs) (All-head IsMesh v vs are) (all_silences vs (All-tail IsMesh v vs are))
-
 one_entry : (entry : Option LogMesh) → IfSome entry IsLogMesh → All IsValue (map OfEntry (listed entry))
 one_entry None is = All-nil IsValue
 one_entry (Some e) is = All-cons IsValue (OfEntry e) [] is (All-nil IsValue)
@@ -46,7 +42,7 @@ one_entry (Some e) is = All-cons IsValue (OfEntry e) [] is (All-nil IsValue)
 pub values_delivered : (event : Event) (made : Made) → All IsValue (brought event) → All IsMesh made.silences.items → IfSome made.log IsLogMesh → All IsValue (delivers event made)
 values_delivered event made came silences log =
     All-append IsValue (brought event) (made_here made) came
-    (All-append IsValue (map OfSilence made.silences.items) (map OfEntry (listed made.log)) (all_silences made.silences.items silences) (one_entry made.log log))
+    (All-append IsValue (map OfSilence made.silences.items) (map OfEntry (listed made.log)) (All-map IsValue OfSilence made.silences.items silences) (one_entry made.log log))
 
 -- ---- what is lent
 module _ (lent : InstanceState) (is : All IsReadable (map OfSilence lent.silences)) (are : All IsReadable (map OfEntry lent.log)) where
