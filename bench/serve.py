@@ -21,7 +21,8 @@ how many lists they read a second.
 `spread`: three members are started, and the time is told from a post to one until both others show it.
 
 Alertmanager is Debian's `prometheus-alertmanager`, where it is there; without it only the figures of am_tool are told. It
-is not started as several members, since it gossips by other means. `--before` adds a column of an earlier am_tool to what
+is not started as several members, since it gossips by other means. It refuses some of the lists and single silences that
+are asked for at once: only good replies count. `--before` adds a column of an earlier am_tool to what
 many clients ask at once; a row that it can't answer in 20 seconds has what it answered until then, or nothing.
 """
 
@@ -201,13 +202,12 @@ def running(start, silences):
 
 
 def quantiles(count, work):
-    """The median and the 99th part of the milliseconds that a number of calls take, as far as they come in time."""
+    """The median and the 99th part of the milliseconds that a number of good calls take, as far as they come in time."""
     times, deadline = [], time.perf_counter() + BUDGET
     while len(times) < count and time.perf_counter() < deadline:
         begun = time.perf_counter()
-        if work(deadline - begun) is None:
-            break
-        times.append(1000 * (time.perf_counter() - begun))
+        if work(deadline - begun) is not None:
+            times.append(1000 * (time.perf_counter() - begun))
     times.sort()
     return (times[len(times) // 2], times[len(times) * 99 // 100]) if times else None
 
@@ -253,9 +253,10 @@ def read_lists(port, counter):
     while True:
         with contextlib.suppress(OSError), socket.create_connection(("127.0.0.1", port), timeout=PATIENCE) as stream:
             stream.sendall(request)
+            is_good = stream.recv_into(buffer) and buffer.startswith(b"HTTP/1.1 200")
             while stream.recv_into(buffer):
                 pass
-            counter.value += 1
+            counter.value += bool(is_good)
 
 
 def readers(start):
@@ -316,12 +317,12 @@ def load(start):
 
 
 def wrk(clients, port, path, words=()):
-    """Requests a second of so many clients within three seconds; none where not all were answered well."""
+    """How many requests of so many clients are answered well a second, within three seconds."""
     command = ["wrk", f"-c{clients}", f"-t{min(clients, 2)}", "-d3s", "--timeout", "3s", "-H", "Connection: close"]
     ran = subprocess.run([*command, *words, f"http://127.0.0.1:{port}{path}"], capture_output=True, text=True, check=True)
-    if "Non-2xx" in ran.stdout or "Socket errors" in ran.stdout:
-        print(" ".join(it.strip() for it in ran.stdout.splitlines() if "Non-2xx" in it or "Socket errors" in it), file=sys.stderr)
-    return (float(re.search(r"Requests/sec: +([0-9.]+)", ran.stdout)[1]),)
+    (whole,) = re.findall(r"(\d+) requests in ", ran.stdout)
+    refused = sum(map(int, re.findall(r"Non-2xx or 3xx responses: (\d+)", ran.stdout)))
+    return ((int(whole) - refused) / 3,)
 
 
 def beside(part, before, has_other=True):
