@@ -11,6 +11,7 @@ mod mutes;
 mod replies;
 mod requests;
 mod rows;
+mod sessions;
 mod snapshots;
 mod versions;
 mod views;
@@ -46,6 +47,7 @@ fn of_frames(rt: &HostRuntime, verb: &str, rest: &str) -> Result<(), Fault> {
         "hello" => frames::hello(rt, rest),
         "kind" => frames::kind(rt, rest),
         "key" => frames::key(rt, rest),
+        "session" => sessions::session(rt, rest),
         "frame" => frames_written::frame(rt, rest),
         "full-state" => frames_written::full_state(rt, rest),
         "timestamps" => rows::timestamps(rt, rest),

@@ -65,7 +65,8 @@ fn print_fed(rt: &HostRuntime, fed: &Fed) -> Result<(), Fault> {
     Ok(())
 }
 
-fn print_frame(rt: &HostRuntime, frame: &Frame) -> Result<(), Fault> {
+/// Prints a frame, with its parts.
+pub fn print_frame(rt: &HostRuntime, frame: &Frame) -> Result<(), Fault> {
     print_debug(rt, frame.kind())?;
     match frame {
         Frame::Tick => Ok(()),

@@ -38,12 +38,17 @@ fn print_seen(rt: &HostRuntime, seen: Seen) -> Result<(), Fault> {
     print(rt, seen.text)
 }
 
+/// Prints what a read comes to, with the parts of a request.
+pub fn print_read(rt: &HostRuntime, read: &Read) -> Result<(), Fault> {
+    match read {
+        Read::Whole(request) => print_request(rt, request),
+        _ => print_seen(rt, seen_of(read)?),
+    }
+}
+
 /// Says what a read comes to, with the parts of a request.
 fn say_read(rt: &HostRuntime, read: &Read) -> Result<(), Fault> {
-    match read {
-        Read::Whole(request) => print_request(rt, request)?,
-        _ => print_seen(rt, seen_of(read)?)?,
-    }
+    print_read(rt, read)?;
     print_line(rt, "")
 }
 
