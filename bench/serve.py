@@ -8,7 +8,7 @@ a list of all, a list with a filter that one passes, one silence, and a post, ea
 the rounds in milliseconds, and the ratio.
 
 `crowd`: 2,000 requests for one silence and 500 posts of an idle server that holds 1,000 silences, and the same beside 200
-clients that say nothing, of which 60 have sent half a request: median and 99th part in milliseconds.
+clients that say nothing, of which 60 have sent half a request: median, 99th part and most, in milliseconds.
 
 `readers`: 500 posts of a server that holds 10,000 silences, beside 4 and 16 clients who read the list of all in a loop, and
 how many lists they read a second.
@@ -23,7 +23,7 @@ how many lists they read a second.
 Alertmanager is Debian's `prometheus-alertmanager`, where it is there; without it only the figures of am_tool are told. It
 is not started as several members, since it gossips by other means. It refuses some of the lists and single silences that
 are asked for at once: only good replies count. `--before` adds a column of an earlier am_tool to what
-many clients ask at once; a row that it can't answer in 20 seconds has what it answered until then, or nothing.
+many clients ask at once. The requests of a row end after 20 seconds: one that isn't answered then has the time until then.
 """
 
 import argparse
@@ -202,14 +202,15 @@ def running(start, silences):
 
 
 def quantiles(count, work):
-    """The median and the 99th part of the milliseconds that a number of good calls take, as far as they come in time."""
+    """The median, the 99th part and the most of the milliseconds that a number of good calls take, as far as they come in
+    time. One that doesn't has the time until then."""
     times, deadline = [], time.perf_counter() + BUDGET
     while len(times) < count and time.perf_counter() < deadline:
         begun = time.perf_counter()
-        if work(deadline - begun) is not None:
+        if work(deadline - begun) is not None or time.perf_counter() >= deadline:
             times.append(1000 * (time.perf_counter() - begun))
     times.sort()
-    return (times[len(times) // 2], times[len(times) * 99 // 100]) if times else None
+    return (times[len(times) // 2], times[len(times) * 99 // 100], times[-1]) if times else None
 
 
 def get_one(port, limit):
@@ -333,10 +334,10 @@ def beside(part, before, has_other=True):
     if ALERTMANAGER and has_other:
         starts["Alertmanager"] = theirs
     columns = {name: part(start) for name, start in starts.items()}
-    print("%-40s " % part.__name__ + " ".join("%20s" % name for name in columns), flush=True)
+    print("%-40s " % part.__name__ + " ".join("%24s" % name for name in columns), flush=True)
     figure = lambda found: "-" if found is None else " / ".join("%.2f" % it for it in found)
     for row in columns["am_tool"]:
-        print("%-40s " % row + " ".join("%20s" % figure(column[row]) for column in columns.values()), flush=True)
+        print("%-40s " % row + " ".join("%24s" % figure(column[row]) for column in columns.values()), flush=True)
 
 
 def spread(rounds):

@@ -81,10 +81,13 @@ class Operation:
 
 
 class Ledger:
-    """The operations of a round by their keys, where these are known, and by their comments."""
+    """The operations of a round by their keys, where these are known, and by their comments.
 
-    def __init__(self):
-        self.lock = threading.RLock()
+    A silence is kept for `retention` milliseconds after its end.
+    """
+
+    def __init__(self, retention):
+        self.lock, self.retention = threading.RLock(), retention
         self.operations, self.by_key, self.by_comment = [], collections.defaultdict(list), {}
         self.entries = collections.defaultdict(set)
         self.counts = collections.Counter()
@@ -134,6 +137,10 @@ class Ledger:
             if generation is not None and generation == member.generation:
                 member.holds = greatest([*member.holds.values(), *found.values()])
                 self.counts["connections taken"] += 1
+
+    def is_forgotten(self, ends, at=None):
+        """Whether a silence with that end is no longer kept, now or at some moment."""
+        return ends is not None and ends + self.retention <= (now() if at is None else at)
 
     def has_begun(self, version):
         """Whether somebody asked for a silence of this identifier with this comment."""
