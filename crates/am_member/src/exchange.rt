@@ -1,6 +1,6 @@
 //! What comes of what a connection said, piece by piece.
 
-ghost use Rattle.std.specs.Prelude.{◌≡◌, true, None, OnTrue, option_map};
+ghost use Rattle.std.specs.Prelude.{◌≡◌, option_map};
 ghost use Rattle.std.specs.Option.{option_copied};
 ghost use Rattle.am_session.specs.Sessions.{name_of, spoken};
 ghost use Rattle.am_member.specs.Exchanging.{AreHeard, AreStepped, IsAnsweredTo, IsDear, IsExchanged, IsReplied, fault_heard, is_list, left_at};
