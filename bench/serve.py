@@ -1,21 +1,40 @@
 """What a running member takes, beside a real Alertmanager in the same run.
 
-    python3 bench/serve.py [--rounds N] [--silences N]
+    python3 bench/serve.py [--rounds N] [--silences N] [--before PROGRAM] [--only PART ..]
 
-Both load the same files of N silences and N entries of the log (100,000 by default), and then files of 1,000 and of
-10,000 silences. Told are: the time from the start until the first request is answered, the resident memory then; a list
-of all, a list with a filter that one passes, one silence, and a post, each on a new connection: the least time of the
-rounds in milliseconds, and the ratio. Then three members are started, and the time is told from a post to one until both
-others show it.
+`alone`: both load the same files of N silences and N entries of the log (100,000 by default), and then files of 1,000
+and of 10,000 silences. Told are: the time from the start until the first request is answered, the resident memory then;
+a list of all, a list with a filter that one passes, one silence, and a post, each on a new connection: the least time of
+the rounds in milliseconds, and the ratio.
+
+`crowd`: 2,000 requests for one silence and 500 posts of an idle server that holds 1,000 silences, and the same beside 200
+clients that say nothing, of which 60 have sent half a request: median and 99th part in milliseconds.
+
+`readers`: 500 posts of a server that holds 10,000 silences, beside 4 and 16 clients who read the list of all in a loop, and
+how many lists they read a second.
+
+`frozen`: 300 posts of a member, a peer of which runs, and then is frozen.
+
+`load`: requests a second for one silence and of posts by `wrk` with 1, 16 and 200 clients, each on a new connection, where
+`wrk` is there.
+
+`spread`: three members are started, and the time is told from a post to one until both others show it.
 
 Alertmanager is Debian's `prometheus-alertmanager`, where it is there; without it only the figures of am_tool are told. It
-is not started as three members, since it gossips by other means.
+is not started as several members, since it gossips by other means. It refuses some of the lists and single silences that
+are asked for at once: only good replies count. `--before` adds a column of an earlier am_tool to what
+many clients ask at once; a row that it can't answer in 20 seconds has what it answered until then, or nothing.
 """
 
 import argparse
+import contextlib
+import functools
 import json
+import multiprocessing
 import os
+import re
 import shutil
+import signal
 import socket
 import subprocess
 import sys
@@ -29,12 +48,22 @@ PROGRAM = f"{TOP}/crates/am_tool/out/am_tool"
 ALERTMANAGER = shutil.which("prometheus-alertmanager")
 CONFIG = "route:\n  receiver: none\nreceivers:\n- name: none\n"
 
-# How long anything is waited for, in seconds.
-PATIENCE = 120
+# How long anything is waited for, in seconds; and how long the requests of a row may take beside many clients.
+PATIENCE, BUDGET = 120, 20
+
+# How many clients say nothing, and how many of them have sent half a request.
+SILENT, HALF = 200, 60
+
+HALF_A_REQUEST = b"POST /api/v2/silences HTTP/1.1\r\nHost: localhost\r\nContent-Length: 500\r\n\r\n{"
 
 
 def identifier(number):
     return f"{number:08x}-0000-4000-8000-000000000000"
+
+
+ONE = f"/api/v2/silence/{identifier(7)}"
+
+PARTS = ["alone", "crowd", "readers", "frozen", "load", "spread"]
 
 
 def silence(number, now):
@@ -72,8 +101,8 @@ def write_state(folder, silences, entries):
         file.write(b"".join(entry(number, now) for number in range(entries)))
 
 
-def ours(folder, port, peers=(), name="a"):
-    words = [PROGRAM, "instance", "--name", name, "--listen", str(port), "--time-limit", "60"]
+def ours(folder, port, peers=(), name="a", program=PROGRAM):
+    words = [program, "instance", "--name", name, "--listen", str(port), "--time-limit", "60"]
     for peer, at in peers:
         words += ["--peer", f"{peer}={at}"]
     words += ["--sil", f"{folder}/silences", "--nfl", f"{folder}/nflog"]
@@ -88,12 +117,12 @@ def theirs(folder, port):
     return subprocess.Popen(words, stdout=subprocess.DEVNULL, stderr=subprocess.DEVNULL)
 
 
-def ask(port, method, path, body=b""):
+def ask(port, method, path, body=b"", limit=PATIENCE):
     """The body of the reply to a request on a new connection, and None where there is no good reply."""
     head = f"{method} {path} HTTP/1.1\r\nHost: localhost\r\nContent-Type: application/json\r\n"
     head += f"Content-Length: {len(body)}\r\nConnection: close\r\n\r\n"
     try:
-        with socket.create_connection(("127.0.0.1", port), timeout=PATIENCE) as stream:
+        with socket.create_connection(("127.0.0.1", port), timeout=limit) as stream:
             stream.sendall(head.encode() + body)
             pieces = []
             while piece := stream.recv(1 << 18):
@@ -144,18 +173,170 @@ def figures(start, silences, entries, rounds):
         write_state(folder, silences, entries)
         port = free_port()
         process = start(folder, port)
-        one = f"/api/v2/silence/{identifier(7)}"
-        told = {"load, ms": 1000 * wait_for(lambda: ask(port, "GET", one))}
+        told = {"load, ms": 1000 * wait_for(lambda: ask(port, "GET", ONE))}
         told["memory after it, MiB"] = memory(process)
         filtered = "/api/v2/silences?filter=job%3D%22job-7%22"
         told["list of all, ms"] = least(min(rounds, 5), lambda: ask(port, "GET", "/api/v2/silences"))
         told["filter that one passes, ms"] = least(rounds, lambda: ask(port, "GET", filtered))
-        told["one silence, ms"] = least(rounds, lambda: ask(port, "GET", one))
+        told["one silence, ms"] = least(rounds, lambda: ask(port, "GET", ONE))
         numbers = iter(range(rounds))
         told["post, ms"] = least(rounds, lambda: ask(port, "POST", "/api/v2/silences", posted(next(numbers))))
         process.kill()
         process.wait()
         return told
+
+
+@contextlib.contextmanager
+def running(start, silences):
+    """A program over so many silences and entries: its port, once it has answered, and its process."""
+    with tempfile.TemporaryDirectory() as folder:
+        write_state(folder, silences, silences)
+        port = free_port()
+        process = start(folder, port)
+        try:
+            wait_for(lambda: ask(port, "GET", ONE))
+            yield port
+        finally:
+            process.kill()
+            process.wait()
+
+
+def quantiles(count, work):
+    """The median and the 99th part of the milliseconds that a number of good calls take, as far as they come in time."""
+    times, deadline = [], time.perf_counter() + BUDGET
+    while len(times) < count and time.perf_counter() < deadline:
+        begun = time.perf_counter()
+        if work(deadline - begun) is not None:
+            times.append(1000 * (time.perf_counter() - begun))
+    times.sort()
+    return (times[len(times) // 2], times[len(times) * 99 // 100]) if times else None
+
+
+def get_one(port, limit):
+    return ask(port, "GET", ONE, limit=limit)
+
+
+def post_one(port, limit):
+    return ask(port, "POST", "/api/v2/silences", posted(0), limit)
+
+
+@contextlib.contextmanager
+def silent_clients(port):
+    """Clients that say nothing, or half of what they have to say."""
+    with contextlib.ExitStack() as streams:
+        for number in range(SILENT):
+            with contextlib.suppress(TimeoutError, socket.timeout):
+                stream = streams.enter_context(socket.create_connection(("127.0.0.1", port), timeout=0.1))
+                stream.sendall(HALF_A_REQUEST if number < HALF else b"")
+        time.sleep(0.2)
+        yield
+
+
+def crowd(start):
+    """Requests of a server without other clients, and beside many that say nothing."""
+    told = {}
+    with running(start, 1_000) as port:
+        ask_one = lambda title: {
+            f"{title}: one silence, ms": quantiles(2_000, functools.partial(get_one, port)),
+            f"{title}: post, ms": quantiles(500, functools.partial(post_one, port)),
+        }
+        told.update(ask_one("idle"))
+        with silent_clients(port):
+            told.update(ask_one(f"{SILENT} silent clients"))
+    return told
+
+
+def read_lists(port, counter):
+    """Reads the list of all until it is ended."""
+    request = b"GET /api/v2/silences HTTP/1.1\r\nHost: localhost\r\nConnection: close\r\n\r\n"
+    buffer = bytearray(1 << 20)
+    while True:
+        with contextlib.suppress(OSError), socket.create_connection(("127.0.0.1", port), timeout=PATIENCE) as stream:
+            stream.sendall(request)
+            is_good = stream.recv_into(buffer) and buffer.startswith(b"HTTP/1.1 200")
+            while stream.recv_into(buffer):
+                pass
+            counter.value += bool(is_good)
+
+
+def readers(start):
+    """Posts beside clients who read long lists."""
+    told = {}
+    for count in (4, 16):
+        with running(start, 10_000) as port:
+            counters = [multiprocessing.Value("q", 0) for _ in range(count)]
+            processes = [multiprocessing.Process(target=read_lists, args=(port, it), daemon=True) for it in counters]
+            for it in processes:
+                it.start()
+            time.sleep(1)
+            before, begun = sum(it.value for it in counters), time.perf_counter()
+            told[f"{count} readers of 10000: post, ms"] = quantiles(500, functools.partial(post_one, port))
+            time.sleep(max(0, 5 - (time.perf_counter() - begun)))
+            lists = sum(it.value for it in counters) - before
+            told[f"{count} readers of 10000: lists a second"] = (lists / (time.perf_counter() - begun),)
+            for it in processes:
+                it.terminate()
+                it.join()
+    return told
+
+
+def frozen(start):
+    """Posts of a member whose peer runs, and then is frozen."""
+    told = {}
+    with tempfile.TemporaryDirectory() as folder:
+        os.mkdir(f"{folder}/peer")
+        ports = free_port(), free_port()
+        peer = start(f"{folder}/peer", ports[1], [("a", ports[0])], "b")
+        member = start(folder, ports[0], [("b", ports[1])], "a")
+        try:
+            for port in ports:
+                wait_for(lambda: ask(port, "GET", "/api/v2/silences"))
+            told["a peer runs: post, ms"] = quantiles(300, functools.partial(post_one, ports[0]))
+            peer.send_signal(signal.SIGSTOP)
+            told["the peer is frozen: post, ms"] = quantiles(300, functools.partial(post_one, ports[0]))
+        finally:
+            for it in (peer, member):
+                it.kill()
+                it.wait()
+    return told
+
+
+def load(start):
+    """Requests a second by wrk; of posts the first are made to a server that holds 1,000 silences."""
+    told = {}
+    with tempfile.TemporaryDirectory() as folder:
+        with open(f"{folder}/post.lua", "w", encoding="utf-8") as file:
+            file.write('wrk.method = "POST"\nwrk.headers["Content-Type"] = "application/json"\n')
+            file.write(f"wrk.body = [==[{posted(0).decode()}]==]\n")
+        for clients in (1, 16, 200):
+            with running(start, 1_000) as port:
+                told[f"wrk -c{clients}: one silence, a second"] = wrk(clients, port, ONE)
+                words = ["-s", file.name]
+                told[f"wrk -c{clients}: posts a second"] = wrk(clients, port, "/api/v2/silences", words)
+    return told
+
+
+def wrk(clients, port, path, words=()):
+    """How many requests of so many clients are answered well a second, within three seconds."""
+    command = ["wrk", f"-c{clients}", f"-t{min(clients, 2)}", "-d3s", "--timeout", "3s", "-H", "Connection: close"]
+    ran = subprocess.run([*command, *words, f"http://127.0.0.1:{port}{path}"], capture_output=True, text=True, check=True)
+    (whole,) = re.findall(r"(\d+) requests in ", ran.stdout)
+    refused = sum(map(int, re.findall(r"Non-2xx or 3xx responses: (\d+)", ran.stdout)))
+    return ((int(whole) - refused) / 3,)
+
+
+def beside(part, before, has_other=True):
+    """Tells what a part measures of am_tool, of an earlier one and of Alertmanager."""
+    starts = {"am_tool": ours}
+    if before:
+        starts["before"] = functools.partial(ours, program=before)
+    if ALERTMANAGER and has_other:
+        starts["Alertmanager"] = theirs
+    columns = {name: part(start) for name, start in starts.items()}
+    print("%-40s " % part.__name__ + " ".join("%20s" % name for name in columns), flush=True)
+    figure = lambda found: "-" if found is None else " / ".join("%.2f" % it for it in found)
+    for row in columns["am_tool"]:
+        print("%-40s " % row + " ".join("%20s" % figure(column[row]) for column in columns.values()), flush=True)
 
 
 def spread(rounds):
@@ -184,20 +365,36 @@ def spread(rounds):
         return times[len(times) // 2], times[-1]
 
 
+def alone(silences, rounds):
+    """Tells what one client at a time waits for."""
+    print("%-34s %12s %14s %8s" % ("", "am_tool", "Alertmanager", "ratio"))
+    for count in (silences, 1_000, 10_000):
+        mine = figures(ours, count, count, rounds)
+        other = figures(theirs, count, count, rounds) if ALERTMANAGER else {}
+        for name, value in mine.items():
+            found = other.get(name)
+            ratio = ("%14.2f %8.2f" % (found, value / found)) if found else ""
+            print("%-34s %12.2f %s" % (f"{count}: {name}", value, ratio), flush=True)
+
+
 def main():
     words = argparse.ArgumentParser(description=__doc__, formatter_class=argparse.RawDescriptionHelpFormatter)
     words.add_argument("--rounds", type=int, default=50)
     words.add_argument("--silences", type=int, default=100_000)
+    words.add_argument("--before")
+    words.add_argument("--only", nargs="+", choices=PARTS, default=PARTS)
     words = words.parse_args()
-    print("%-34s %12s %14s %8s" % ("", "am_tool", "Alertmanager", "ratio"))
-    for count in (words.silences, 1_000, 10_000):
-        mine = figures(ours, count, count, words.rounds)
-        other = figures(theirs, count, count, words.rounds) if ALERTMANAGER else {}
-        for name, value in mine.items():
-            found = other.get(name)
-            beside = ("%14.2f %8.2f" % (found, value / found)) if found else ""
-            print("%-34s %12.2f %s" % (f"{count}: {name}", value, beside), flush=True)
-    print("from a post until both others show it, ms: %.2f in the middle, %.2f at most" % spread(words.rounds))
+    if "alone" in words.only:
+        alone(words.silences, words.rounds)
+    for part in (crowd, readers):
+        if part.__name__ in words.only:
+            beside(part, words.before)
+    if "frozen" in words.only:
+        beside(frozen, words.before, has_other=False)
+    if "load" in words.only and shutil.which("wrk"):
+        beside(load, words.before)
+    if "spread" in words.only:
+        print("from a post until both others show it, ms: %.2f in the middle, %.2f at most" % spread(words.rounds))
 
 
 if __name__ == "__main__":

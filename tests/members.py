@@ -115,11 +115,14 @@ class Member:
             self.words += ["--peer", f"{peer}={at}"]
         self.words += ["--sil", self.sil, "--nfl", self.nfl, *options]
 
+    def command(self):
+        return [program, *self.words]
+
     def start(self):
         """Starts it, and waits until it has printed a line or has ended; whether it listens."""
         self.lines, self.has_begun = [], threading.Event()
         streams = {"stdin": subprocess.DEVNULL, "stdout": subprocess.PIPE, "stderr": subprocess.PIPE}
-        self.process = subprocess.Popen([program, *self.words], **streams, **self.how)
+        self.process = subprocess.Popen(self.command(), **streams, **self.how)
         self.reader = threading.Thread(target=self.read, daemon=True)
         self.reader.start()
         self.has_begun.wait(PATIENCE)

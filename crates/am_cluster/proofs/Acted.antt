@@ -22,12 +22,17 @@ use Rattle.am_instance.specs.InstanceStates.{InstanceState}
 use Rattle.am_instance.specs.Steps.{brought, delivers, fault_of}
 use Rattle.am_instance.specs.OneStep.{IsStep}
 use Rattle.am_runs.specs.declared.step.Source.{Source}
+use Rattle.am_runs.specs.Steps.{Step}
+use Rattle.am_steps.specs.BothStates.{StateOf}
 use Rattle.am_steps.specs.Contents.{IsValue}
 use Rattle.am_steps.specs.Recorded.{AreInFlight, AreValues}
+use Rattle.am_steps.specs.StepLaws.{StepsArePossible}
+use Rattle.am_cluster.specs.Acting.{CanHappenIn}
 use Rattle.am_cluster.specs.declared.error.ClusterError.{ClusterError}
 use Rattle.am_cluster.specs.declared.recording.Kind.TheVariants as kinds
 use Rattle.am_cluster.specs.Events.{IsTold, drops}
-use Rattle.am_cluster.specs.Recording.{IsNoFault, brings_or_makes}
+use Rattle.am_cluster.specs.declared.writing.Entry.{Entry}
+use Rattle.am_cluster.specs.Recording.{CanBeNext, IsNoFault, brings_or_makes}
 use Rattle.am_cluster.specs.Ties.{CanFly}
 
 -- an event that has no fault isn't refused for one
@@ -136,3 +141,9 @@ all_fly_from settings members place frames own all sound peers =
     (λ frame within. peer_flies settings members place frame own all
     (All-contains (λ f. first_fault (rows_in (parts_of f.1)) ≡ None) frames frame sound within) (All-contains (λ f. is_peer settings f.0 ≡ true) frames frame peers within))
     frames (All-contains_itself frames)
+
+-- the step of an instance, to which an event can come, can come next in a run
+pub can_be_next : {K X : Type 0} (state : StateOf K X) → StepsArePossible state → (members : ℕ) (steps : List (Step X)) (entry : Entry) (event : Event) (old new : InstanceState) (answer : Result Outcome StepError) →
+    CanHappenIn state members steps entry event old → IsStep old event entry.moment answer new → IfOk answer (λ outcome. AreValues event outcome new) → CanBeNext state members steps entry event answer
+can_be_next state law members steps entry event old new answer can step values = λ frames flying.
+    law members entry.place entry.moment steps entry.source old new event answer frames (λ counts. can.runs) can.gone step can.from flying values

@@ -1,22 +1,18 @@
 -- A cluster in which nothing happened yet.
 use Rattle.std.proofs.Common.{◌≡◌, inl, inr, ℕ, ◌+◌, ◌<◌, Bool, true, List, [], ◌∷◌, ◌++◌, map, get_or, length, Result, Ok, Err, Some, None, slice_get, ltb, refl, sym, ap, ◌∙◌, subst, arith}
 use Rattle.std.specs.Prelude.{◌↔◌, Any, Contains, IsPermutation}
-use Rattle.std.specs.Ordering.{nat_cmp}
-use Rattle.std.specs.Cmp.Lexicographic.{slice_cmp}
-use Rattle.std.specs.declared.cmp.Ordering.{Ordering}
 use Rattle.std.proofs.lemmas.Bool.Decides.{nat_tests}
 use Rattle.std.specs.List.{range_with_len}
 use Rattle.std.proofs.lemmas.List.FromFn.{get_or-map-range_with_len, length-map-range_with_len, map-range_with_len_more}
 use Rattle.std.proofs.lemmas.List.Sorted.{Contains-permutation, IsPermutation-sym, IsPermutation-to_front, IsPermutation-trans, length_permutation}
 use Rattle.std.proofs.lemmas.Option.{get_or_from_slice_get, slice_get_cases}
-use Rattle.am_version_order.specs.Versions.{Version}
-use Rattle.am_silence.specs.Mesh.{Mesh, mesh_version}
-use Rattle.am_nflog.specs.Mesh.{Mesh as LogMesh, mesh_version as entry_version}
-use Rattle.am_nflog.specs.Keys.{key_cmp}
+use Rattle.am_silence.specs.Mesh.{Mesh}
+use Rattle.am_nflog.specs.Mesh.{Mesh as LogMesh}
 use Rattle.am_instance.specs.Configs.{HasTwice, IsEmptyName, IsLongName, Settings}
 use Rattle.am_instance.specs.InstanceStates.{InstanceState}
 use Rattle.am_runs.specs.Steps.{Step}
 use Rattle.am_runs.specs.Members.{member_of}
+use Rattle.am_steps.specs.BothStates.{StateOf, log_state, silence_state}
 use Rattle.am_cluster.specs.declared.flight.Flight.{Flight}
 use Rattle.am_cluster.specs.Worlds.{Replica}
 use Rattle.am_cluster.specs.Beginnings.{AreUnborn, newborn, newborns}
@@ -29,8 +25,8 @@ got_within xs n x e = elim ((slice_get_cases xs n).1) [ inl is ↦ let less = is
   no none = cc
 
 -- one state of a member that was just born
-born_tied : {K X : Type 0} (seen : X → Version K) (cmp : K → K → Ordering) (members q : ℕ) → ltb q members ≡ true → IsTied seen cmp (member_of {X = X} members q []) true (record { held = []; last = 0 }) []
-born_tied seen cmp members q inside = record {
+born_tied : {K X : Type 0} (state : StateOf K X) (members q : ℕ) → ltb q members ≡ true → IsTied state (member_of {X = X} members q []) true (record { held = []; last = 0 }) []
+born_tied state members q inside = record {
   runs = inside;
   held = record { map = λ key. refl; last = refl };
   saved = λ key. refl;
@@ -39,8 +35,8 @@ born_tied seen cmp members q inside = record {
 born_member : (replicas : List Replica) (q : ℕ) (settings : Settings) → ltb q (length replicas) ≡ true → length settings.members ≡ length replicas →
     IsMember (record { replicas = replicas; silences = []; log = []; lines = []; flights = [] }) q (newborn settings q)
 born_member replicas q settings inside members = record {
-  silences = born_tied mesh_version (slice_cmp nat_cmp) (length replicas) q inside;
-  log = born_tied entry_version key_cmp (length replicas) q inside;
+  silences = born_tied silence_state (length replicas) q inside;
+  log = born_tied log_state (length replicas) q inside;
   place = refl;
   members = members;
 }

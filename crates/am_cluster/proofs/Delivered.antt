@@ -8,7 +8,8 @@ use Rattle.am_instance.specs.declared.event.Event.TheVariants as events
 use Rattle.am_instance.specs.declared.reply.Reply.{Reply}
 use Rattle.am_runs.specs.declared.step.Source.TheVariants.{Arrived}
 use Rattle.am_runs.specs.Steps.{flights_of}
-use Rattle.am_steps.specs.Contents.{carries, silences_in, entries_in}
+use Rattle.am_steps.specs.Contents.{carries}
+use Rattle.am_cluster.specs.BothRuns.{RunOf}
 use Rattle.am_cluster.specs.declared.delivering.Arrival.{Arrival}
 use Rattle.am_cluster.specs.declared.error.ClusterError.{ClusterError}
 use Rattle.am_cluster.specs.declared.flight.Flight.{Flight}
@@ -16,7 +17,7 @@ use Rattle.am_cluster.specs.Delivering.{IsArrival, IsDelivered}
 use Rattle.am_cluster.specs.Events.{IsEvent}
 use Rattle.am_cluster.specs.Lives.{OfMember}
 use Rattle.am_cluster.specs.Losing.{IsNumberedAt}
-use Rattle.am_cluster.specs.Ties.{IsFlying, IsWorld, silences_of, entries_of}
+use Rattle.am_cluster.specs.Ties.{IsFlying, IsSentIn, IsWorld}
 use Rattle.am_cluster.specs.Worlds.{World}
 use Rattle.am_cluster.proofs.Lost.{place_within}
 use Rattle.am_cluster.proofs.Places.{some_is}
@@ -51,17 +52,13 @@ some_and : {A : Type 0} (o : Option A) (x : A) (P : A → Type 0) → o ≡ Some
 some_and o x P e p = subst (λ y. IsSomeAnd y P) (sym e) p
 
 module _ (w : World) (number : ℕ) (a : Arrival) (is : IsArrival w number a) where
-  pub silences_arrive : IsSomeAnd (slice_get (flights_of w.silences) a.index) (λ f. All (Contains f.versions) (silences_in (carries a.frame)))
-  silences_arrive =
-      some_and (slice_get (flights_of w.silences) a.index) _ (λ f. All (Contains f.versions) (silences_in (carries a.frame)))
-      (ap (slice_get (flights_of w.silences)) is.index_is ∙ is.flying.silences)
-      (subst (λ x. All (Contains (silences_of is.flight)) (silences_in (carries x))) (sym is.frame_is) (All-contains_itself (silences_of is.flight)))
-
-  pub entries_arrive : IsSomeAnd (slice_get (flights_of w.log) a.index) (λ f. All (Contains f.versions) (entries_in (carries a.frame)))
-  entries_arrive =
-      some_and (slice_get (flights_of w.log) a.index) _ (λ f. All (Contains f.versions) (entries_in (carries a.frame)))
-      (ap (slice_get (flights_of w.log)) is.index_is ∙ is.flying.log)
-      (subst (λ x. All (Contains (entries_of is.flight)) (entries_in (carries x))) (sym is.frame_is) (All-contains_itself (entries_of is.flight)))
+  pub arrives : {K X : Type 0} (run : RunOf K X) → ((flying : IsFlying w is.flight) → IsSentIn run w flying.index is.flight) →
+      IsSomeAnd (slice_get (flights_of (run.steps w)) a.index) (λ f. All (Contains f.versions) (run.state.versions_in (carries a.frame)))
+  arrives run sent_in =
+      let versions = run.state.versions_in (carries is.flight.frame) in
+      some_and (slice_get (flights_of (run.steps w)) a.index) _ (λ f. All (Contains f.versions) (run.state.versions_in (carries a.frame)))
+      (ap (slice_get (flights_of (run.steps w))) is.index_is ∙ sent_in is.flying)
+      (subst (λ x. All (Contains versions) (run.state.versions_in (carries x))) (sym is.frame_is) (All-contains_itself versions))
 
   pub delivered : (now line : ℕ) (result : Result Reply ClusterError) (new : World) →
       OfMember w a.place (λ replica. IsEvent w a.place replica (events.Frame a.sender a.frame) (Arrived a.index) now line result new) → IsDelivered w number now line result new

@@ -1,15 +1,13 @@
 -- A cluster hangs together as steps go on.
 use Rattle.std.proofs.Common.{◌≡◌, ◌≢◌, ◌⊎◌, inl, inr, ℕ, ◌<◌, true, false, eqb, List, [], ◌∷◌, ◌++◌, Some, refl, sym, ap, ◌∙◌, subst, slice_get, length, set}
-use Rattle.std.specs.Ordering.{nat_cmp}
-use Rattle.std.specs.Cmp.Lexicographic.{slice_cmp}
 use Rattle.std.proofs.lemmas.Bool.Decides.{eqb_tells}
-use Rattle.am_silence.specs.Mesh.{Mesh, mesh_version}
-use Rattle.am_nflog.specs.Mesh.{Mesh as LogMesh, mesh_version as entry_version}
-use Rattle.am_nflog.specs.Keys.{key_cmp}
+use Rattle.am_silence.specs.Mesh.{Mesh}
+use Rattle.am_nflog.specs.Mesh.{Mesh as LogMesh}
 use Rattle.am_instance.specs.InstanceStates.{kept_silences, kept_log}
 use Rattle.am_runs.specs.Steps.{Step, Flight as Sending, is_at, flights_by, flights_of}
 use Rattle.am_runs.specs.Members.{Member, stepped, member_of}
 use Rattle.am_runs.proofs.Pasts.{flights_of-push}
+use Rattle.am_steps.specs.BothStates.{log_state, silence_state}
 use Rattle.am_cluster.specs.declared.flight.Flight.{Flight}
 use Rattle.am_cluster.specs.Worlds.{Replica, World, replica_at, with_replica, written}
 use Rattle.am_cluster.specs.Ties.{IsTied, IsMember, IsFlying, IsWorld}
@@ -44,18 +42,18 @@ module _ (old : World) (place : ℕ) (was will : Replica) (s : Step Mesh) (l : S
 
   elsewhere : (q : ℕ) (replica : Replica) → is_at q s ≡ false → is_at q l ≡ false → IsMember old q replica → IsMember changed_at q replica
   elsewhere q replica not_s not_l is = record {
-    silences = subst (λ n. IsTied mesh_version (slice_cmp nat_cmp) (member_of n q (old.silences ++ s ∷ [])) replica.runs (kept_silences replica.stand) replica.saved_silences) (sym same_length)
-        (tied_elsewhere mesh_version (slice_cmp nat_cmp) (length old.replicas) q old.silences s replica.runs (kept_silences replica.stand) replica.saved_silences not_s is.silences);
-    log = subst (λ n. IsTied entry_version key_cmp (member_of n q (old.log ++ l ∷ [])) replica.runs (kept_log replica.stand) replica.saved_log) (sym same_length)
-        (tied_elsewhere entry_version key_cmp (length old.replicas) q old.log l replica.runs (kept_log replica.stand) replica.saved_log not_l is.log);
+    silences = subst (λ n. IsTied silence_state (member_of n q (old.silences ++ s ∷ [])) replica.runs (kept_silences replica.stand) replica.saved_silences) (sym same_length)
+        (tied_elsewhere silence_state (length old.replicas) q old.silences s replica.runs (kept_silences replica.stand) replica.saved_silences not_s is.silences);
+    log = subst (λ n. IsTied log_state (member_of n q (old.log ++ l ∷ [])) replica.runs (kept_log replica.stand) replica.saved_log) (sym same_length)
+        (tied_elsewhere log_state (length old.replicas) q old.log l replica.runs (kept_log replica.stand) replica.saved_log not_l is.log);
     place = is.place;
     members = is.members ∙ sym same_length;
   }
 
   pub goes_on_at : IsWorld old → replica_at old place ≡ Some was →
       ((q : ℕ) → place ≢ q → is_at q s ≡ false) → ((q : ℕ) → place ≢ q → is_at q l ≡ false) →
-      IsTied mesh_version (slice_cmp nat_cmp) (member_of (length old.replicas) place (old.silences ++ s ∷ [])) will.runs (kept_silences will.stand) will.saved_silences →
-      IsTied entry_version key_cmp (member_of (length old.replicas) place (old.log ++ l ∷ [])) will.runs (kept_log will.stand) will.saved_log →
+      IsTied silence_state (member_of (length old.replicas) place (old.silences ++ s ∷ [])) will.runs (kept_silences will.stand) will.saved_silences →
+      IsTied log_state (member_of (length old.replicas) place (old.log ++ l ∷ [])) will.runs (kept_log will.stand) will.saved_log →
       will.stand.config ≡ was.stand.config → IsWorld changed_at
   goes_on_at is found not_s not_l silences log config = record {
     members = λ q replica there. member q replica there (eqb_tells place q);
@@ -64,8 +62,8 @@ module _ (old : World) (place : ℕ) (was will : Replica) (s : Step Mesh) (l : S
   } where
     here : IsMember changed_at place will
     here = record {
-      silences = subst (λ n. IsTied mesh_version (slice_cmp nat_cmp) (member_of n place (old.silences ++ s ∷ [])) will.runs (kept_silences will.stand) will.saved_silences) (sym same_length) silences;
-      log = subst (λ n. IsTied entry_version key_cmp (member_of n place (old.log ++ l ∷ [])) will.runs (kept_log will.stand) will.saved_log) (sym same_length) log;
+      silences = subst (λ n. IsTied silence_state (member_of n place (old.silences ++ s ∷ [])) will.runs (kept_silences will.stand) will.saved_silences) (sym same_length) silences;
+      log = subst (λ n. IsTied log_state (member_of n place (old.log ++ l ∷ [])) will.runs (kept_log will.stand) will.saved_log) (sym same_length) log;
       place = ap (λ c. c.place) config ∙ (is.members place was found).place;
       members = ap (λ c. length c.members) config ∙ ((is.members place was found).members ∙ sym same_length);
     }
@@ -83,8 +81,8 @@ module _ (old : World) (s : Step Mesh) (l : Step LogMesh) (line : ℕ) where
   pub goes_on_idle : ((m : Member Mesh) → stepped m s ≡ m) → ((m : Member LogMesh) → stepped m l ≡ m) → IsWorld old → IsWorld (written old s l line)
   goes_on_idle idle_s idle_l is = record {
     members = λ q replica there. let m = is.members q replica there in record {
-      silences = tied_idle mesh_version (slice_cmp nat_cmp) (length old.replicas) q old.silences s replica.runs (kept_silences replica.stand) replica.saved_silences (idle_s _) m.silences;
-      log = tied_idle entry_version key_cmp (length old.replicas) q old.log l replica.runs (kept_log replica.stand) replica.saved_log (idle_l _) m.log;
+      silences = tied_idle silence_state (length old.replicas) q old.silences s replica.runs (kept_silences replica.stand) replica.saved_silences (idle_s _) m.silences;
+      log = tied_idle log_state (length old.replicas) q old.log l replica.runs (kept_log replica.stand) replica.saved_log (idle_l _) m.log;
       place = m.place;
       members = m.members;
     };

@@ -2,41 +2,34 @@
 use Rattle.std.proofs.Common.{◌≡◌, ◌⊎◌, inl, inr, ℕ, suc, ◌+◌, ◌<◌, ◌≤◌, Bool, true, false, cond, eqb, List, [], ◌∷◌, ◌++◌, Some, Result, Ok, Err, refl, sym, ap, ◌∙◌, subst, slice_get, length, option_map, arith}
 use Rattle.std.specs.Prelude.{Contains, All}
 use Rattle.std.specs.List.{AllByRecursion}
-use Rattle.std.specs.Ordering.{nat_cmp}
-use Rattle.std.specs.Cmp.Lexicographic.{slice_cmp}
 use Rattle.std.proofs.lemmas.List.Elements.{All-contains, Contains-append_left, Contains-append_right, Contains-append_cases, Contains-push}
 use Rattle.am_runs.proofs.Views.{empty}
 use Rattle.std.proofs.lemmas.Option.{get_or_from_slice_get, slice_get-map, slice_get_within}
 use Rattle.am_merge.proofs.Indexes.{Contains-cases}
-use Rattle.std.specs.declared.cmp.Ordering.{Ordering}
-use Rattle.am_version_order.specs.Versions.{Version}
 use Rattle.am_collect.specs.Kept.{Kept}
-use Rattle.am_silence.specs.Mesh.{mesh_version}
-use Rattle.am_nflog.specs.Mesh.{mesh_version as entry_version}
-use Rattle.am_nflog.specs.Keys.{key_cmp}
 use Rattle.am_gossip.specs.declared.frame.Frame.{Frame}
 use Rattle.am_instance.specs.declared.event.Event.{Event}
 use Rattle.am_instance.specs.declared.error.StepError.{StepError}
 use Rattle.am_instance.specs.declared.error.StepError.TheVariants.{Memory, MomentBack, UnknownPeer, Frame as FrameFault}
 use Rattle.am_instance.specs.declared.reply.Outcome.{Outcome}
-use Rattle.am_instance.specs.Deliveries.{Delivery, to_silences, to_log}
-use Rattle.am_instance.specs.InstanceStates.{InstanceState, kept_silences, kept_log}
+use Rattle.am_instance.specs.InstanceStates.{InstanceState}
 use Rattle.am_instance.specs.Steps.{collects, delivers}
 use Rattle.am_instance.specs.OneStep.{IsStep}
 use Rattle.am_runs.specs.declared.step.Source.{Source}
 use Rattle.am_runs.specs.Steps.{Step, flights_of, is_at}
 use Rattle.am_runs.specs.Steps.Step.{Took, Ticked}
 use Rattle.am_runs.specs.Members.{Member, stepped, member_of, map_of}
-use Rattle.am_runs.proofs.Pasts.{member_of-push}
-use Rattle.am_steps.specs.Contents.{carries, silences_in, entries_in}
+use Rattle.am_steps.specs.BothStates.{StateOf, log_state, silence_state}
+use Rattle.am_steps.specs.Contents.{carries}
 use Rattle.am_steps.specs.Recorded.{AreInFlight, HasGoneThrough, event_step, flights_in, sent_in}
-use Rattle.am_steps.proofs.Going.{member_goes_on, own_member}
-use Rattle.am_steps.proofs.Lending.{all_fly}
-use Rattle.am_steps.proofs.States.{log_state, silences_state}
+use Rattle.am_steps.proofs.Going.{members_go_on, own_member_changes}
+use Rattle.am_steps.proofs.Lending.{frames_are_flights}
+use Rattle.am_steps.proofs.States.{IsStateOf, of_log, of_silences}
 use Rattle.am_cluster.specs.declared.flight.Flight.{Flight}
 use Rattle.am_cluster.specs.Worlds.{Replica, World, replica_at, sent_on, with_replica, written}
+use Rattle.am_cluster.specs.BothRuns.{RunOf, log_run, silence_run}
 use Rattle.am_cluster.specs.Events.{with_stand}
-use Rattle.am_cluster.specs.Ties.{CanFly, IsTied, IsFlying, IsWorld, AreAscending}
+use Rattle.am_cluster.specs.Ties.{CanFly, IsTied, IsTiedIn, IsFlying, IsWorld, AreAscending, member_in}
 use Rattle.am_cluster.proofs.Goes.{goes_on_at}
 use Rattle.am_cluster.proofs.Lived.{elsewhere}
 use Rattle.am_cluster.proofs.Places.{set_length}
@@ -73,9 +66,19 @@ sent_as count place now (f ∷ frames) flight within =
 got_of_all : {A : Type 0} (P : A → Type 0) (xs : List A) (n : ℕ) (x : A) → All P xs → slice_get xs n ≡ Some x → P x
 got_of_all P xs n x all there = All-contains P xs x all (n, slice_get_within xs n x there, get_or_from_slice_get xs n x x there)
 
+-- in one of the runs, what is sent now is sent behind what was sent before
+sent_behind : {K X : Type 0} (run : RunOf K X) (w new : World) (now count nth : ℕ) (frames : List (ℕ × Frame)) (frame : ℕ × Frame) → count ≡ length (flights_of (run.steps w)) →
+    flights_of (run.steps new) ≡ flights_of (run.steps w) ++ flights_in run.state now frames → slice_get frames nth ≡ Some frame →
+    slice_get (flights_of (run.steps new)) (count + nth) ≡ Some (record { sent = now; versions = run.state.versions_in (carries frame.1) })
+sent_behind run w new now count nth frames frame same added there =
+    ap (λ fs. slice_get fs (count + nth)) added
+    ∙ (ap (λ n. slice_get (flights_of (run.steps w) ++ flights_in run.state now frames) (n + nth)) same
+    ∙ got_behind (flights_of (run.steps w)) (flights_in run.state now frames) nth _
+    (slice_get-map (λ f. record { sent = now; versions = run.state.versions_in (carries f.1) }) frames nth ∙ ap (option_map (λ f. record { sent = now; versions = run.state.versions_in (carries f.1) })) there))
+
 module _ (w new : World) (place now : ℕ) (frames : List (ℕ × Frame)) where
   -- what is sent now flies behind what was sent before
-  pub flies : flights_of new.silences ≡ flights_of w.silences ++ flights_in silences_in now frames → flights_of new.log ≡ flights_of w.log ++ flights_in entries_in now frames →
+  flies : flights_of new.silences ≡ flights_of w.silences ++ flights_in silence_state now frames → flights_of new.log ≡ flights_of w.log ++ flights_in log_state now frames →
       length (flights_of w.silences) ≡ length (flights_of w.log) → length new.replicas ≡ length w.replicas → place < length w.replicas → All (CanFly (length w.replicas) place) frames →
       (flight : Flight) → FliesAs (length (flights_of w.silences)) place now frames flight → IsFlying new flight
   flies silences log same members inside can flight fl =
@@ -83,11 +86,8 @@ module _ (w new : World) (place now : ℕ) (frames : List (ℕ × Frame)) where
       subst (IsFlying new) (sym fl.is) (record {
         index = length (flights_of w.silences) + fl.nth;
         number = refl;
-        silences = ap (λ fs. slice_get fs (length (flights_of w.silences) + fl.nth)) silences
-            ∙ got_behind (flights_of w.silences) (flights_in silences_in now frames) fl.nth _ (slice_get-map (λ frame. record { sent = now; versions = silences_in (carries frame.1) }) frames fl.nth ∙ ap (option_map (λ frame. record { sent = now; versions = silences_in (carries frame.1) })) fl.there);
-        log = ap (λ fs. slice_get fs (length (flights_of w.silences) + fl.nth)) log
-            ∙ (ap (λ n. slice_get (flights_of w.log ++ flights_in entries_in now frames) (n + fl.nth)) same
-            ∙ got_behind (flights_of w.log) (flights_in entries_in now frames) fl.nth _ (slice_get-map (λ frame. record { sent = now; versions = entries_in (carries frame.1) }) frames fl.nth ∙ ap (option_map (λ frame. record { sent = now; versions = entries_in (carries frame.1) })) fl.there));
+        silences = sent_behind silence_run w new now (length (flights_of w.silences)) fl.nth frames fl.frame refl silences fl.there;
+        log = sent_behind log_run w new now (length (flights_of w.silences)) fl.nth frames fl.frame same log fl.there;
         sound = good.no_fault;
         addressee = subst (λ n. fl.frame.0 < n) (sym members) good.addressee;
         sender = subst (λ n. place < n) (sym members) inside;
@@ -132,7 +132,7 @@ numbered_below w flight is = let inside : is.index < length (flights_of w.silenc
 
 -- a cluster whose members hang together, and frames that are sent on
 pub sent_world : (w new : World) (place now : ℕ) (frames : List (ℕ × Frame)) → IsWorld w → IsWorld new → new.flights ≡ w.flights →
-    flights_of new.silences ≡ flights_of w.silences ++ flights_in silences_in now frames → flights_of new.log ≡ flights_of w.log ++ flights_in entries_in now frames →
+    flights_of new.silences ≡ flights_of w.silences ++ flights_in silence_state now frames → flights_of new.log ≡ flights_of w.log ++ flights_in log_state now frames →
     length (flights_of w.silences) ≡ length (flights_of w.log) → length new.replicas ≡ length w.replicas → place < length w.replicas → All (CanFly (length w.replicas) place) frames →
     IsWorld (record new { flights = w.flights ++ sent_on (length (flights_of w.silences)) place now frames })
 sent_world w new place now frames was is kept silences log same members inside can = record {
@@ -152,66 +152,71 @@ sent_world w new place now frames was is kept silences log same members inside c
 
 -- ---- a member's own event
 
-module _ {X : Type 0} (pick : List Delivery → List X) (place now : ℕ) (source : Source) (event : Event) (frames : List (ℕ × Frame)) where
-  runs_kept_by : (m : Member X) (collecting : Bool) (vs : List X) → (stepped m (cond collecting (Ticked place now) (Took place now source vs (sent_in pick frames)))).runs ≡ m.runs
+module _ {K X : Type 0} (state : StateOf K X) (place now : ℕ) (source : Source) (event : Event) (frames : List (ℕ × Frame)) where
+  runs_kept_by : (m : Member X) (collecting : Bool) (vs : List X) → (stepped m (cond collecting (Ticked place now) (Took place now source vs (sent_in state frames)))).runs ≡ m.runs
   runs_kept_by m true vs = refl
   runs_kept_by m false vs = refl
 
-  saved_kept_by : (m : Member X) (collecting : Bool) (vs : List X) → (stepped m (cond collecting (Ticked place now) (Took place now source vs (sent_in pick frames)))).saved ≡ m.saved
+  saved_kept_by : (m : Member X) (collecting : Bool) (vs : List X) → (stepped m (cond collecting (Ticked place now) (Took place now source vs (sent_in state frames)))).saved ≡ m.saved
   saved_kept_by m true vs = refl
   saved_kept_by m false vs = refl
 
-  pub runs_kept : (m : Member X) (answer : Result Outcome StepError) → (stepped m (event_step pick place now source event answer frames)).runs ≡ m.runs
-  runs_kept m (Ok outcome) = runs_kept_by m (collects event) (pick (delivers event outcome.made))
+  pub runs_kept : (m : Member X) (answer : Result Outcome StepError) → (stepped m (event_step state place now source event answer frames)).runs ≡ m.runs
+  runs_kept m (Ok outcome) = runs_kept_by m (collects event) (state.versions_in (delivers event outcome.made))
   runs_kept m (Err (Memory taken)) = refl
   runs_kept m (Err (MomentBack last)) = refl
   runs_kept m (Err UnknownPeer) = refl
   runs_kept m (Err (FrameFault fault)) = refl
 
-  pub saved_kept : (m : Member X) (answer : Result Outcome StepError) → (stepped m (event_step pick place now source event answer frames)).saved ≡ m.saved
-  saved_kept m (Ok outcome) = saved_kept_by m (collects event) (pick (delivers event outcome.made))
+  pub saved_kept : (m : Member X) (answer : Result Outcome StepError) → (stepped m (event_step state place now source event answer frames)).saved ≡ m.saved
+  saved_kept m (Ok outcome) = saved_kept_by m (collects event) (state.versions_in (delivers event outcome.made))
   saved_kept m (Err (Memory taken)) = refl
   saved_kept m (Err (MomentBack last)) = refl
   saved_kept m (Err UnknownPeer) = refl
   saved_kept m (Err (FrameFault fault)) = refl
 
-  not_at_by : (q : ℕ) → eqb place q ≡ false → (collecting : Bool) (vs : List X) → is_at q (cond collecting (Ticked place now) (Took place now source vs (sent_in pick frames))) ≡ false
+  not_at_by : (q : ℕ) → eqb place q ≡ false → (collecting : Bool) (vs : List X) → is_at q (cond collecting (Ticked place now) (Took place now source vs (sent_in state frames))) ≡ false
   not_at_by q apart true vs = apart
   not_at_by q apart false vs = apart
 
-  pub not_at : (q : ℕ) → eqb place q ≡ false → (answer : Result Outcome StepError) → is_at q (event_step pick place now source event answer frames) ≡ false
-  not_at q apart (Ok outcome) = not_at_by q apart (collects event) (pick (delivers event outcome.made))
+  pub not_at : (q : ℕ) → eqb place q ≡ false → (answer : Result Outcome StepError) → is_at q (event_step state place now source event answer frames) ≡ false
+  not_at q apart (Ok outcome) = not_at_by q apart (collects event) (state.versions_in (delivers event outcome.made))
   not_at q apart (Err (Memory taken)) = apart
   not_at q apart (Err (MomentBack last)) = apart
   not_at q apart (Err UnknownPeer) = refl
   not_at q apart (Err (FrameFault fault)) = refl
 
   -- the state of the member after it, where the map has gone on
-  pub tied_after : {K : Type 0} (seen : X → Version K) (cmp : K → K → Ordering) (members : ℕ) (before : List (Step X)) (runs : Bool) (old new : Kept X) (saved : List X) (answer : Result Outcome StepError) →
-      IsTied seen cmp (member_of members place before) runs old saved →
-      HasGoneThrough seen cmp (stepped (member_of members place before) (event_step pick place now source event answer frames)).past new →
-      IsTied seen cmp (member_of members place (before ++ event_step pick place now source event answer frames ∷ [])) runs new saved
-  tied_after seen cmp members before runs old new saved answer tied gone =
-      subst (λ m. IsTied seen cmp m runs new saved) (sym (member_of-push members place before (event_step pick place now source event answer frames) ∙ own_member pick place now source event frames (member_of members place before) answer)) (record {
+  tied_after : (members : ℕ) (before : List (Step X)) (runs : Bool) (old new : Kept X) (saved : List X) (answer : Result Outcome StepError) →
+      IsTied state (member_of members place before) runs old saved →
+      HasGoneThrough state (stepped (member_of members place before) (event_step state place now source event answer frames)).past new →
+      IsTied state (member_of members place (before ++ event_step state place now source event answer frames ∷ [])) runs new saved
+  tied_after members before runs old new saved answer tied gone =
+      subst (λ m. IsTied state m runs new saved) (sym (own_member_changes state members place now source before event answer frames)) (record {
         runs = runs_kept (member_of members place before) answer ∙ tied.runs;
         held = gone;
-        saved = λ key. tied.saved key ∙ ap (λ m. map_of seen cmp m key) (sym (saved_kept (member_of members place before) answer));
+        saved = λ key. tied.saved key ∙ ap (λ m. map_of state.seen state.cmp m key) (sym (saved_kept (member_of members place before) answer));
       })
 
 module _ (w : World) (place : ℕ) (r : Replica) (stand : InstanceState) (event : Event) (source : Source) (now line : ℕ) (answer : Result Outcome StepError) (frames : List (ℕ × Frame)) where
   abbrev pub after_event : World
-  after_event = written (with_replica w place (with_stand r stand)) (event_step silences_in place now source event answer frames) (event_step entries_in place now source event answer frames) line
+  after_event = written (with_replica w place (with_stand r stand)) (event_step silence_state place now source event answer frames) (event_step log_state place now source event answer frames) line
+
+  -- the member in one of the runs
+  tied_next : {K X : Type 0} (run : RunOf K X) → IsStateOf run.state → IsTiedIn run w place r → IsStep r.stand event now answer stand →
+      IsTied run.state (member_of (length w.replicas) place (run.steps w ++ event_step run.state place now source event answer frames ∷ [])) r.runs (run.state.kept stand) (run.saved r)
+  tied_next run facts tied step =
+      tied_after run.state place now source event frames (length w.replicas) (run.steps w) r.runs (run.state.kept r.stand) (run.state.kept stand) (run.saved r) answer tied
+      (members_go_on facts (member_in run w place) place now source r.stand stand event answer frames tied.held step)
 
   -- the cluster after it, but for the frames that fly now
-  pub world_stepped : IsWorld w → replica_at w place ≡ Some r → IsStep r.stand event now answer stand → IsWorld after_event
+  world_stepped : IsWorld w → replica_at w place ≡ Some r → IsStep r.stand event now answer stand → IsWorld after_event
   world_stepped is found step =
-      goes_on_at w place r (with_stand r stand) (event_step silences_in place now source event answer frames) (event_step entries_in place now source event answer frames) line is found
-      (λ q apart. not_at silences_in place now source event frames q (elsewhere place q apart) answer)
-      (λ q apart. not_at entries_in place now source event frames q (elsewhere place q apart) answer)
-      (tied_after silences_in place now source event frames mesh_version (slice_cmp nat_cmp) (length w.replicas) w.silences r.runs (kept_silences r.stand) (kept_silences stand) r.saved_silences answer (is.members place r found).silences
-      (member_goes_on mesh_version (slice_cmp nat_cmp) to_silences silences_in silences_state (member_of (length w.replicas) place w.silences) place now source event frames (kept_silences stand) answer (kept_silences r.stand) (is.members place r found).silences.held step.silences))
-      (tied_after entries_in place now source event frames entry_version key_cmp (length w.replicas) w.log r.runs (kept_log r.stand) (kept_log stand) r.saved_log answer (is.members place r found).log
-      (member_goes_on entry_version key_cmp to_log entries_in log_state (member_of (length w.replicas) place w.log) place now source event frames (kept_log stand) answer (kept_log r.stand) (is.members place r found).log.held step.log))
+      goes_on_at w place r (with_stand r stand) (event_step silence_state place now source event answer frames) (event_step log_state place now source event answer frames) line is found
+      (λ q apart. not_at silence_state place now source event frames q (elsewhere place q apart) answer)
+      (λ q apart. not_at log_state place now source event frames q (elsewhere place q apart) answer)
+      (tied_next silence_run of_silences (is.members place r found).silences step)
+      (tied_next log_run of_log (is.members place r found).log step)
       step.config
 
   -- and with them
@@ -220,6 +225,6 @@ module _ (w : World) (place : ℕ) (r : Replica) (stand : InstanceState) (event 
       IsWorld (record after_event { flights = w.flights ++ sent_on (length (flights_of w.silences)) place now frames })
   world_happened is found step flying same can =
       sent_world w after_event place now frames is (world_stepped is found step) refl
-      (all_fly silences_in place now source w.silences r.stand stand event answer frames step flying)
-      (all_fly entries_in place now source w.log r.stand stand event answer frames step flying)
+      (frames_are_flights silence_state place now w.silences source r.stand stand event answer frames step flying)
+      (frames_are_flights log_state place now w.log source r.stand stand event answer frames step flying)
       same (set_length w.replicas place (with_stand r stand)) (slice_get_within w.replicas place r found) can

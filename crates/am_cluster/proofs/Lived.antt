@@ -1,20 +1,20 @@
 -- A cluster after a member was saved, stopped or started.
 use Rattle.std.proofs.Common.{◌≡◌, ◌≢◌, inl, inr, ℕ, ◌<◌, ◌≤◌, arith, Bool, true, false, eqb, List, Some, refl, sym, ap, ◌∙◌, subst, slice_get, slice_index_or, length}
 use Rattle.std.specs.Ordering.{is_lt, nat_cmp}
-use Rattle.std.specs.Cmp.Lexicographic.{slice_cmp}
 use Rattle.std.proofs.lemmas.Bool.Decides.{eqb_tells, nat_tests}
 use Rattle.std.proofs.lemmas.Option.{slice_get-get_or}
-use Rattle.am_silence.specs.Mesh.{Mesh, mesh_version}
-use Rattle.am_nflog.specs.Mesh.{Mesh as LogMesh, mesh_version as entry_version}
-use Rattle.am_nflog.specs.Keys.{key_cmp}
+use Rattle.am_silence.specs.Mesh.{Mesh}
+use Rattle.am_nflog.specs.Mesh.{Mesh as LogMesh}
 use Rattle.am_instance.specs.InstanceStates.{kept_silences, kept_log}
 use Rattle.am_runs.specs.Steps.{Step}
 use Rattle.am_runs.specs.Steps.Step.{Back, Saved, Stopped, Started}
 use Rattle.am_runs.specs.Members.{last_of, member_of}
+use Rattle.am_steps.specs.BothStates.{log_state, silence_state}
 use Rattle.am_cluster.specs.Worlds.{Replica, World, replica_at, with_replica, written}
 use Rattle.am_cluster.specs.declared.flight.Flight.{Flight}
 use Rattle.am_cluster.specs.Lives.{saved, stopped, started, OfMember}
-use Rattle.am_cluster.specs.Ties.{IsTied, IsWorld}
+use Rattle.am_cluster.specs.BothRuns.{log_run, silence_run}
+use Rattle.am_cluster.specs.Ties.{IsTiedIn, IsWorld}
 use Rattle.am_cluster.proofs.Places.{own_place, some_is}
 use Rattle.am_cluster.proofs.Tied.{tied_here, tied_saved, tied_stopped, tied_started}
 use Rattle.am_cluster.proofs.Goes.{goes_on_at}
@@ -31,28 +31,28 @@ pub elsewhere : (place q : ℕ) → place ≢ q → eqb place q ≡ false
 elsewhere place q other = elim (eqb_tells place q) [ inl same ↦ absurd (other same.1) | inr apart ↦ apart.0 ]
 
 module _ (w : World) (place : ℕ) (r : Replica) (line : ℕ) (is : IsWorld w) (found : replica_at w place ≡ Some r) where
-  silences_tied : IsTied mesh_version (slice_cmp nat_cmp) (member_of (length w.replicas) place w.silences) r.runs (kept_silences r.stand) r.saved_silences
+  silences_tied : IsTiedIn silence_run w place r
   silences_tied = (is.members place r found).silences
 
-  log_tied : IsTied entry_version key_cmp (member_of (length w.replicas) place w.log) r.runs (kept_log r.stand) r.saved_log
+  log_tied : IsTiedIn log_run w place r
   log_tied = (is.members place r found).log
 
   pub world_saved : IsWorld (written (with_replica w place (saved r)) (Saved place) (Saved place) line)
   world_saved = goes_on_at w place r (saved r) (Saved place) (Saved place) line is found (elsewhere place) (elsewhere place)
-      (tied_here mesh_version (slice_cmp nat_cmp) (length w.replicas) place w.silences (Saved place) r.runs (kept_silences r.stand) r.stand.silences (own_place place) (tied_saved mesh_version (slice_cmp nat_cmp) _ place 0 r.runs (kept_silences r.stand) r.saved_silences silences_tied))
-      (tied_here entry_version key_cmp (length w.replicas) place w.log (Saved place) r.runs (kept_log r.stand) r.stand.log (own_place place) (tied_saved entry_version key_cmp _ place 0 r.runs (kept_log r.stand) r.saved_log log_tied))
+      (tied_here silence_state (length w.replicas) place w.silences (Saved place) r.runs (kept_silences r.stand) r.stand.silences (own_place place) (tied_saved silence_state _ place 0 r.runs (kept_silences r.stand) r.saved_silences silences_tied))
+      (tied_here log_state (length w.replicas) place w.log (Saved place) r.runs (kept_log r.stand) r.stand.log (own_place place) (tied_saved log_state _ place 0 r.runs (kept_log r.stand) r.saved_log log_tied))
       refl
 
   pub world_stopped : IsWorld (written (with_replica w place (stopped r)) (Stopped place) (Stopped place) line)
   world_stopped = goes_on_at w place r (stopped r) (Stopped place) (Stopped place) line is found (elsewhere place) (elsewhere place)
-      (tied_here mesh_version (slice_cmp nat_cmp) (length w.replicas) place w.silences (Stopped place) false (kept_silences r.stand) r.saved_silences (own_place place) (tied_stopped mesh_version (slice_cmp nat_cmp) _ place 0 r.runs (kept_silences r.stand) r.saved_silences silences_tied))
-      (tied_here entry_version key_cmp (length w.replicas) place w.log (Stopped place) false (kept_log r.stand) r.saved_log (own_place place) (tied_stopped entry_version key_cmp _ place 0 r.runs (kept_log r.stand) r.saved_log log_tied))
+      (tied_here silence_state (length w.replicas) place w.silences (Stopped place) false (kept_silences r.stand) r.saved_silences (own_place place) (tied_stopped silence_state _ place 0 r.runs (kept_silences r.stand) r.saved_silences silences_tied))
+      (tied_here log_state (length w.replicas) place w.log (Stopped place) false (kept_log r.stand) r.saved_log (own_place place) (tied_stopped log_state _ place 0 r.runs (kept_log r.stand) r.saved_log log_tied))
       refl
 
   pub world_started : (now : ℕ) → IsWorld (written (with_replica w place (started r now)) (Started place now) (Started place now) line)
   world_started now = goes_on_at w place r (started r now) (Started place now) (Started place now) line is found (elsewhere place) (elsewhere place)
-      (tied_here mesh_version (slice_cmp nat_cmp) (length w.replicas) place w.silences (Started place now) true _ r.saved_silences (own_place place) (tied_started mesh_version (slice_cmp nat_cmp) _ place now r.runs (kept_silences r.stand) r.saved_silences silences_tied))
-      (tied_here entry_version key_cmp (length w.replicas) place w.log (Started place now) true _ r.saved_log (own_place place) (tied_started entry_version key_cmp _ place now r.runs (kept_log r.stand) r.saved_log log_tied))
+      (tied_here silence_state (length w.replicas) place w.silences (Started place now) true _ r.saved_silences (own_place place) (tied_started silence_state _ place now r.runs (kept_silences r.stand) r.saved_silences silences_tied))
+      (tied_here log_state (length w.replicas) place w.log (Started place now) true _ r.saved_log (own_place place) (tied_started log_state _ place now r.runs (kept_log r.stand) r.saved_log log_tied))
       refl
 
 pub same_world : (rs others : List Replica) (ss ss2 : List (Step Mesh)) (ls ls2 : List (Step LogMesh)) (ns ns2 : List ℕ) (fs : List Flight) →

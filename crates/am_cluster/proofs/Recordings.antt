@@ -13,6 +13,7 @@ use Rattle.am_instance.specs.Deliveries.Delivery.{OfSilence, OfEntry}
 use Rattle.am_instance.specs.Replies.{IsNothing, listed}
 use Rattle.am_instance.specs.Steps.{brought, collects, delivers, made_here}
 use Rattle.am_runs.specs.Steps.Step.{Took, Ticked}
+use Rattle.am_steps.specs.BothStates.{log_state, silence_state}
 use Rattle.am_steps.specs.Contents.{delivery_of, silences_in, entries_in}
 use Rattle.am_steps.specs.declared.carried.version.AnyVersion.{AnyVersion}
 use Rattle.am_steps.specs.Recorded.{AreInFlight, sent_in}
@@ -118,12 +119,12 @@ module _ (account : Account) (entry : Entry) (event : Event) (versions : List An
     room_for_it = can.room_for_it;
     spare_for_it = spare_for delivered (delivers event outcome.made) are.silences are.log (few_where outcome can came (brings_or_makes_cases event));
     silences =
-        subst (λ vs. IsPossibleForSilences account.members account.silences (Took entry.place entry.moment entry.source vs (sent_in silences_in frames))) (sym are.silences)
-        (subst (λ b. IsPossibleForSilences account.members account.silences (cond b (Ticked entry.place entry.moment) (Took entry.place entry.moment entry.source (silences_in (delivers event outcome.made)) (sent_in silences_in frames))))
+        subst (λ vs. IsPossibleForSilences account.members account.silences (Took entry.place entry.moment entry.source vs (sent_in silence_state frames))) (sym are.silences)
+        (subst (λ b. IsPossibleForSilences account.members account.silences (cond b (Ticked entry.place entry.moment) (Took entry.place entry.moment entry.source (silences_in (delivers event outcome.made)) (sent_in silence_state frames))))
         kind (can.silences frames flying));
     log =
-        subst (λ vs. IsPossibleForLog account.members account.log (Took entry.place entry.moment entry.source vs (sent_in entries_in frames))) (sym are.log)
-        (subst (λ b. IsPossibleForLog account.members account.log (cond b (Ticked entry.place entry.moment) (Took entry.place entry.moment entry.source (entries_in (delivers event outcome.made)) (sent_in entries_in frames))))
+        subst (λ vs. IsPossibleForLog account.members account.log (Took entry.place entry.moment entry.source vs (sent_in log_state frames))) (sym are.log)
+        (subst (λ b. IsPossibleForLog account.members account.log (cond b (Ticked entry.place entry.moment) (Took entry.place entry.moment entry.source (entries_in (delivers event outcome.made)) (sent_in log_state frames))))
         kind (can.log frames flying));
   }
 

@@ -2,25 +2,20 @@
 use Rattle.std.proofs.Common.{◌≡◌, ◌≢◌, ◌⊎◌, inl, inr, ℕ, zero, suc, ◌+◌, ◌-◌, ◌<◌, ◌≤◌, Bool, true, false, cond, eqb, List, [], ◌∷◌, ◌++◌, Option, Some, None, Result, Ok, Err, refl, sym, ap, ◌∙◌, subst, slice_get, length, map, set, arith, append-nil}
 use Rattle.std.specs.Prelude.{All, OnOk}
 use Rattle.std.specs.List.{range_with_len}
-use Rattle.std.specs.Ordering.{eq_by_cmp, nat_cmp}
+use Rattle.std.specs.Ordering.{eq_by_cmp}
 use Rattle.std.specs.declared.cmp.Ordering.{Ordering}
-use Rattle.std.specs.Cmp.Lexicographic.{slice_cmp}
 use Rattle.std.proofs.lemmas.Bool.{cases_lt}
 use Rattle.std.proofs.lemmas.Bool.Decides.{eqb_tells}
-use Rattle.std.proofs.lemmas.Cmp.{nat_cmp_total, nat_list_cmp_total, on_total, then_total}
-use Rattle.std.proofs.lemmas.List.Elements.{All-nil, All-cons, All-head, All-tail, All-contains}
-use Rattle.std.proofs.lemmas.Map.Lookups.{exact_bytes}
+use Rattle.std.proofs.lemmas.List.Elements.{All-contains}
 use Rattle.std.proofs.lemmas.Option.{slice_get_within}
 use Rattle.am_version_order.specs.Versions.{Version, is_below}
 use Rattle.am_version_order.proofs.Ranks.{below_itself, below_trans, tied}
-use Rattle.am_silence.specs.Mesh.{Mesh, IsMesh, mesh_version}
+use Rattle.am_silence.specs.Mesh.{IsMesh}
 use Rattle.am_silence.specs.RoundTrip.{mesh_exact as silences_exact}
-use Rattle.am_nflog.specs.Mesh.{Mesh as LogMesh, IsMesh as IsLogMesh, mesh_version as entry_version}
+use Rattle.am_nflog.specs.Mesh.{IsMesh as IsLogMesh}
 use Rattle.am_nflog.specs.RoundTrip.{mesh_exact as entries_exact}
-use Rattle.am_nflog.specs.Keys.{exact_keys, key_cmp}
-use Rattle.am_nflog.specs.LogKeys.{LogKey}
 use Rattle.am_merge.specs.Maps.{IsMap, at, greater_of, swept}
-use Rattle.am_merge.proofs.Keys.{IsKeyOrder, at-Contains, at-above, key_order, same_key}
+use Rattle.am_merge.proofs.Keys.{IsKeyOrder, at-Contains, at-above, same_key}
 use Rattle.am_merge.proofs.Joins.{greater_of-assoc, greater_of-comm, greater_of-same}
 use Rattle.am_merge.proofs.Puts.{greater_of-none}
 use Rattle.am_collect.proofs.Greatest.{first_kept}
@@ -32,21 +27,21 @@ use Rattle.am_instance.specs.declared.error.StepError.{StepError}
 use Rattle.am_instance.specs.declared.error.StepError.TheVariants.{Memory, MomentBack, UnknownPeer, Frame as FrameFault}
 use Rattle.am_instance.specs.declared.reply.Outcome.{Outcome}
 use Rattle.am_instance.specs.declared.reply.Reply.{Reply}
-use Rattle.am_instance.specs.Deliveries.{Delivery}
 use Rattle.am_instance.specs.Deliveries.Delivery.{OfEntry, OfSilence}
 use Rattle.am_instance.specs.OneStep.{IsStep}
 use Rattle.am_instance.specs.InstanceStates.{InstanceState}
 use Rattle.am_instance.specs.Steps.{AreSwept, brought, delivers}
-use Rattle.am_steps.specs.Contents.{IsReadable, entries_in, held_in, silences_in}
-use Rattle.am_steps.proofs.RoundTrip.{entries_parted, silences_parted, whole_carries}
+use Rattle.am_steps.specs.BothStates.{StateOf, log_state, silence_state}
+use Rattle.am_steps.specs.Contents.{IsReadable, held_in}
+use Rattle.am_steps.proofs.RoundTrip.{All-unmap, whole_carries}
 use Rattle.am_steps.proofs.Making.{frame_makes_nothing}
-use Rattle.am_steps.proofs.States.{log_state, silences_state, takings}
+use Rattle.am_steps.proofs.States.{IsStateOf, of_log, of_silences, takings}
 use Rattle.am_runs.specs.declared.step.Source.{Source}
 use Rattle.am_runs.specs.declared.step.Source.TheVariants.{Lent, Made}
 use Rattle.am_runs.specs.Settles.{join_of}
 use Rattle.am_cluster.specs.declared.error.SettleError.{SettleError}
 use Rattle.am_cluster.specs.Events.{IsTold, with_stand}
-use Rattle.am_cluster.specs.Settling.{AreTurnsMade, CanLend, CanSettle, HasSettled, IsMade, IsSettle, Turn, all_turns, begun, collections, gatherings, held_log, held_silences, loan, spreadings}
+use Rattle.am_cluster.specs.Settling.{AreTurnsMade, CanLend, CanSettle, HasSettled, HoldTheJoin, IsMade, IsSettle, Turn, all_turns, begun, collections, gatherings, held_of, loan, spreadings}
 use Rattle.am_cluster.specs.Settling.Turn.{Collects, Takes}
 use Rattle.am_cluster.specs.Worlds.{Replica, World, replica_at}
 use Rattle.am_cluster.proofs.Admitted.{begun_members, can_begun}
@@ -247,22 +242,6 @@ module _ {K X : Type 0} (seen : X → Version K) (cmp : K → K → Ordering) (k
 
 -- ---- both states
 
--- the orders of their keys
-silence_keys : IsKeyOrder (slice_cmp nat_cmp)
-silence_keys = key_order nat_list_cmp_total exact_bytes
-
-entry_keys : IsKeyOrder key_cmp
-entry_keys = key_order
-    (then_total (on_total (λ (k : LogKey). k.group_key) nat_list_cmp_total)
-    (then_total (on_total (λ (k : LogKey). k.receiver.group_name) nat_list_cmp_total)
-    (then_total (on_total (λ (k : LogKey). k.receiver.integration) nat_list_cmp_total) (on_total (λ (k : LogKey). k.receiver.idx) nat_cmp_total))))
-    exact_keys
-
-values_of : {X : Type 0} (f : X → Delivery) (is_value : X → Type 0) → ((v : X) → IsReadable (f v) → is_value v) → (vs : List X) → All IsReadable (map f vs) → All is_value vs
-values_of f is_value readable [] are = All-nil is_value
-values_of f is_value readable (v ∷ vs) are =
-    All-cons is_value v vs (readable v (All-head IsReadable (f v) (map f vs) are)) (values_of f is_value readable vs (All-tail IsReadable (f v) (map f vs) are))
-
 swept_told : (source : Source) (before after : InstanceState) (now : ℕ) (answer : Result Outcome StepError) (frames : List (ℕ × Frame)) (reply : Reply) →
     IsStep before events.Tick now answer after → IsTold source answer frames (Ok reply) → AreSwept now before after
 swept_told source before after now (Ok outcome) frames reply step told = step.swept refl
@@ -277,85 +256,80 @@ lent_whole lender now before lent outcome after can step =
     ap (λ ds. brought (loan lender lent) ++ ds) (frame_makes_nothing outcome.made step.reply.1)
     ∙ (append-nil (brought (loan lender lent)) ∙ whole_carries lent.silences lent.log can.silences can.log)
 
-module _ (source : Source) (lender now : ℕ) (before lent after : InstanceState) (can : CanLend lent) where
-  silences_joined : (answer : Result Outcome StepError) (frames : List (ℕ × Frame)) (reply : Reply) → IsStep before (loan lender lent) now answer after → IsTold source answer frames (Ok reply) → (id : List ℕ) →
-      at mesh_version (slice_cmp nat_cmp) after.silences id ≡ greater_of mesh_version (at mesh_version (slice_cmp nat_cmp) before.silences id) (at mesh_version (slice_cmp nat_cmp) lent.silences id)
-  silences_joined (Ok outcome) frames reply step told id =
-      let held : List ℕ → Option Mesh = at mesh_version (slice_cmp nat_cmp) before.silences in
-      let came = ap silences_in (lent_whole lender now before lent outcome after can step) ∙ silences_parted lent.silences lent.log in
-      step.silences.map id ∙ (ap (λ f. f id) (silences_state.lift now held (delivers (loan lender lent) outcome.made))
-      ∙ (ap (λ vs. after_all mesh_version (slice_cmp nat_cmp) held (takings now vs) id) came ∙ taken_all mesh_version (slice_cmp nat_cmp) silence_keys held now lent.silences id can.maps.silences))
-  silences_joined (Err (MomentBack last)) frames reply step told id = absurd told
-  silences_joined (Err UnknownPeer) frames reply step told id = absurd told
-  silences_joined (Err (Memory taken)) frames reply step told id = absurd told
-  silences_joined (Err (FrameFault fault)) frames reply step told id = absurd told
+-- what a settle has to know of a state: what a sweep leaves of it, and that what is lent of it are values, told apart by what is seen
+record CanBeSettled {K X : Type 0} (state : StateOf K X) (is_value : X → Type 0) : Type 0 where
+  facts : IsStateOf state
+  exact : (v w : X) → is_value v → is_value w → state.seen v ≡ state.seen w → v ≡ w
+  sweep : (now : ℕ) (before after : InstanceState) → AreSwept now before after → (state.kept after).held ≡ swept state.seen now (state.kept before).held
+  values : (lent : InstanceState) → CanLend lent → All is_value (state.kept lent).held
 
-  log_joined : (answer : Result Outcome StepError) (frames : List (ℕ × Frame)) (reply : Reply) → IsStep before (loan lender lent) now answer after → IsTold source answer frames (Ok reply) → (key : LogKey) →
-      at entry_version key_cmp after.log key ≡ greater_of entry_version (at entry_version key_cmp before.log key) (at entry_version key_cmp lent.log key)
-  log_joined (Ok outcome) frames reply step told key =
-      let held : LogKey → Option LogMesh = at entry_version key_cmp before.log in
-      let came = ap entries_in (lent_whole lender now before lent outcome after can step) ∙ entries_parted lent.silences lent.log in
-      step.log.map key ∙ (ap (λ f. f key) (log_state.lift now held (delivers (loan lender lent) outcome.made))
-      ∙ (ap (λ vs. after_all entry_version key_cmp held (takings now vs) key) came ∙ taken_all entry_version key_cmp entry_keys held now lent.log key can.maps.log))
-  log_joined (Err (MomentBack last)) frames reply step told key = absurd told
-  log_joined (Err UnknownPeer) frames reply step told key = absurd told
-  log_joined (Err (Memory taken)) frames reply step told key = absurd told
-  log_joined (Err (FrameFault fault)) frames reply step told key = absurd told
+silences_settle : CanBeSettled silence_state IsMesh
+silences_settle = record {
+  facts = of_silences;
+  exact = silences_exact;
+  sweep = λ now before after swept. swept.silences;
+  values = λ lent can k v within. (All-unmap IsReadable OfSilence lent.silences can.silences k v within).value;
+}
 
-module _ (now line : ℕ) (old new : World) where
-  silences_sweep : (place : ℕ) → IsMade old (Collects place) now line new → IsSweeping mesh_version (slice_cmp nat_cmp) held_silences old place now new
-  silences_sweep place made =
-      let was = made.1.0 in let h = made.1.2 in let are = ap (λ w. w.replicas) h.world in
-      record {
-        here = changed_here held_silences old place was (with_stand was h.stand) new made.1.1 are
-            ∙ ((swept_told Made was.stand h.stand now h.answer h.frames made.0 h.step h.told).silences ∙ ap (λ o. swept mesh_version now (held_silences o)) (sym made.1.1));
-        others = same_elsewhere held_silences old place was (with_stand was h.stand) new made.1.1 are;
-      }
+log_settle : CanBeSettled log_state IsLogMesh
+log_settle = record {
+  facts = of_log;
+  exact = entries_exact;
+  sweep = λ now before after swept. swept.log;
+  values = λ lent can k e within. (All-unmap IsReadable OfEntry lent.log can.log k e within).value;
+}
 
-  log_sweep : (place : ℕ) → IsMade old (Collects place) now line new → IsSweeping entry_version key_cmp held_log old place now new
-  log_sweep place made =
-      let was = made.1.0 in let h = made.1.2 in let are = ap (λ w. w.replicas) h.world in
-      record {
-        here = changed_here held_log old place was (with_stand was h.stand) new made.1.1 are
-            ∙ ((swept_told Made was.stand h.stand now h.answer h.frames made.0 h.step h.told).log ∙ ap (λ o. swept entry_version now (held_log o)) (sym made.1.1));
-        others = same_elsewhere held_log old place was (with_stand was h.stand) new made.1.1 are;
-      }
+module _ {K X : Type 0} {state : StateOf K X} {is_value : X → Type 0} (can_be : CanBeSettled state is_value) where
+  joined : (source : Source) (lender now : ℕ) (before lent after : InstanceState) → CanLend lent → (answer : Result Outcome StepError) (frames : List (ℕ × Frame)) (reply : Reply) →
+      IsStep before (loan lender lent) now answer after → IsTold source answer frames (Ok reply) → (key : K) →
+      at state.seen state.cmp (state.kept after).held key
+      ≡ greater_of state.seen (at state.seen state.cmp (state.kept before).held key) (at state.seen state.cmp (state.kept lent).held key)
+  joined source lender now before lent after can (Ok outcome) frames reply step told key =
+      let held : K → Option X = at state.seen state.cmp (state.kept before).held in
+      let came = ap state.versions_in (lent_whole lender now before lent outcome after can step) ∙ can_be.facts.parted lent in
+      (can_be.facts.left before after (loan lender lent) now (Ok outcome) step).map key
+      ∙ (ap (λ f. f key) (can_be.facts.lift now held (delivers (loan lender lent) outcome.made))
+      ∙ (ap (λ vs. after_all state.seen state.cmp held (takings now vs) key) came
+      ∙ taken_all state.seen state.cmp can_be.facts.keys held now (state.kept lent).held key (can_be.facts.maps lent can.maps)))
+  joined source lender now before lent after can (Err (MomentBack last)) frames reply step told key = absurd told
+  joined source lender now before lent after can (Err UnknownPeer) frames reply step told key = absurd told
+  joined source lender now before lent after can (Err (Memory taken)) frames reply step told key = absurd told
+  joined source lender now before lent after can (Err (FrameFault fault)) frames reply step told key = absurd told
 
-  silences_join : (borrower lender : ℕ) → IsMade old (Takes borrower lender) now line new → IsJoining mesh_version (slice_cmp nat_cmp) held_silences IsMesh old borrower lender new
-  silences_join borrower lender made =
-      let was = made.1.0 in let lent = made.1.1 in let found = made.1.2 in let there = made.1.3 in let can = made.1.4 in let h = made.1.5 in let are = ap (λ w. w.replicas) h.world in
-      record {
-        here = λ id. ap (λ vs. at mesh_version (slice_cmp nat_cmp) vs id) (changed_here held_silences old borrower was (with_stand was h.stand) new found are)
-            ∙ (silences_joined (Lent lender) lender now was.stand lent.stand h.stand can h.answer h.frames made.0 h.step h.told id
-            ∙ (ap (λ o. greater_of mesh_version (at mesh_version (slice_cmp nat_cmp) (held_silences o) id) (at mesh_version (slice_cmp nat_cmp) lent.stand.silences id)) (sym found)
-            ∙ ap (λ o. greater_of mesh_version (at mesh_version (slice_cmp nat_cmp) (held_silences (replica_at old borrower)) id) (at mesh_version (slice_cmp nat_cmp) (held_silences o) id)) (sym there)));
-        others = same_elsewhere held_silences old borrower was (with_stand was h.stand) new found are;
-        values = subst (λ o. All IsMesh (held_silences o)) (sym there) (values_of OfSilence IsMesh (λ v r. r.value) lent.stand.silences can.silences);
-      }
+  module _ (now line : ℕ) where
+    sweeps : (old new : World) (place : ℕ) → IsMade old (Collects place) now line new → IsSweeping state.seen state.cmp (held_of state) old place now new
+    sweeps old new place made =
+        let was = made.1.0 in let h = made.1.2 in let are = ap (λ w. w.replicas) h.world in
+        record {
+          here = changed_here (held_of state) old place was (with_stand was h.stand) new made.1.1 are
+              ∙ (can_be.sweep now was.stand h.stand (swept_told Made was.stand h.stand now h.answer h.frames made.0 h.step h.told) ∙ ap (λ o. swept state.seen now (held_of state o)) (sym made.1.1));
+          others = same_elsewhere (held_of state) old place was (with_stand was h.stand) new made.1.1 are;
+        }
 
-  log_join : (borrower lender : ℕ) → IsMade old (Takes borrower lender) now line new → IsJoining entry_version key_cmp held_log IsLogMesh old borrower lender new
-  log_join borrower lender made =
-      let was = made.1.0 in let lent = made.1.1 in let found = made.1.2 in let there = made.1.3 in let can = made.1.4 in let h = made.1.5 in let are = ap (λ w. w.replicas) h.world in
-      record {
-        here = λ key. ap (λ es. at entry_version key_cmp es key) (changed_here held_log old borrower was (with_stand was h.stand) new found are)
-            ∙ (log_joined (Lent lender) lender now was.stand lent.stand h.stand can h.answer h.frames made.0 h.step h.told key
-            ∙ (ap (λ o. greater_of entry_version (at entry_version key_cmp (held_log o) key) (at entry_version key_cmp lent.stand.log key)) (sym found)
-            ∙ ap (λ o. greater_of entry_version (at entry_version key_cmp (held_log (replica_at old borrower)) key) (at entry_version key_cmp (held_log o) key)) (sym there)));
-        others = same_elsewhere held_log old borrower was (with_stand was h.stand) new found are;
-        values = subst (λ o. All IsLogMesh (held_log o)) (sym there) (values_of OfEntry IsLogMesh (λ e r. r.value) lent.stand.log can.log);
-      }
+    joins : (old new : World) (borrower lender : ℕ) → IsMade old (Takes borrower lender) now line new → IsJoining state.seen state.cmp (held_of state) is_value old borrower lender new
+    joins old new borrower lender made =
+        let was = made.1.0 in let lent = made.1.1 in let found = made.1.2 in let there = made.1.3 in let can = made.1.4 in let h = made.1.5 in let are = ap (λ w. w.replicas) h.world in
+        record {
+          here = λ key. ap (λ vs. at state.seen state.cmp vs key) (changed_here (held_of state) old borrower was (with_stand was h.stand) new found are)
+              ∙ (joined (Lent lender) lender now was.stand lent.stand h.stand can h.answer h.frames made.0 h.step h.told key
+              ∙ (ap (λ o. greater_of state.seen (at state.seen state.cmp (held_of state o) key) (at state.seen state.cmp (state.kept lent.stand).held key)) (sym found)
+              ∙ ap (λ o. greater_of state.seen (at state.seen state.cmp (held_of state (replica_at old borrower)) key) (at state.seen state.cmp (held_of state o) key)) (sym there)));
+          others = same_elsewhere (held_of state) old borrower was (with_stand was h.stand) new found are;
+          values = subst (λ o. All is_value (held_of state o)) (sym there) (can_be.values lent.stand can);
+        }
+
+    -- all members hold the join of what was live
+    settles : (old new : World) → AreTurnsMade old (all_turns (length old.replicas)) now line new → ((place : ℕ) (replica : Replica) → replica_at new place ≡ Some replica → place < length old.replicas) →
+        HoldTheJoin state old now new
+    settles old new made within = λ place replica there key.
+        ap (λ o. at state.seen state.cmp (held_of state o) key) (sym there)
+        ∙ all_joined state.seen state.cmp can_be.facts.keys is_value can_be.exact (held_of state) now line sweeps joins old (length old.replicas) new made place (within place replica there) key
 
 settled_by : (old new : World) (now line : ℕ) → CanSettle old now → AreTurnsMade old (all_turns (length old.replicas)) now line new → HasSettled old now new
 settled_by old new now line ready made = record {
   members = members;
-  silences = λ place replica there id.
-      ap (λ o. at mesh_version (slice_cmp nat_cmp) (held_silences o) id) (sym there)
-      ∙ all_joined mesh_version (slice_cmp nat_cmp) silence_keys IsMesh silences_exact held_silences now line (λ o n p made. silences_sweep now line o n p made) (λ o n b l made. silences_join now line o n b l made)
-      old (length old.replicas) new made place (within place replica there) id;
-  log = λ place replica there key.
-      ap (λ o. at entry_version key_cmp (held_log o) key) (sym there)
-      ∙ all_joined entry_version key_cmp entry_keys IsLogMesh entries_exact held_log now line (λ o n p made. log_sweep now line o n p made) (λ o n b l made. log_join now line o n b l made)
-      old (length old.replicas) new made place (within place replica there) key;
+  silences = settles silences_settle now line old new made within;
+  log = settles log_settle now line old new made within;
 } where
   members : length new.replicas ≡ length old.replicas
   members = (still_can old (all_turns (length old.replicas)) now line new ready made).members

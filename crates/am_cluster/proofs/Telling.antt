@@ -1,11 +1,8 @@
 -- What came of an event at a member, for the cluster.
 use Rattle.std.proofs.Common.{◌≡◌, inl, inr, ℕ, true, false, List, [], ◌∷◌, ◌++◌, Some, Result, Err, refl, sym, ap, ◌∙◌, subst, length, set}
 use Rattle.std.specs.Prelude.{All, None}
-use Rattle.std.specs.Ordering.{nat_cmp}
-use Rattle.std.specs.Cmp.Lexicographic.{slice_cmp}
-use Rattle.am_silence.specs.Mesh.{Mesh, mesh_version}
-use Rattle.am_nflog.specs.Mesh.{Mesh as LogMesh, mesh_version as entry_version}
-use Rattle.am_nflog.specs.Keys.{key_cmp}
+use Rattle.am_silence.specs.Mesh.{Mesh}
+use Rattle.am_nflog.specs.Mesh.{Mesh as LogMesh}
 use Rattle.am_instance.specs.declared.event.Event.{Event}
 use Rattle.am_instance.specs.declared.reply.Reply.{Reply}
 use Rattle.am_instance.specs.Configs.{Settings}
@@ -14,7 +11,7 @@ use Rattle.am_instance.specs.Steps.{fault_of}
 use Rattle.am_runs.specs.declared.step.Source.{Source}
 use Rattle.am_runs.specs.Steps.{Step, flights_of}
 use Rattle.am_runs.specs.Steps.Step.{Refused}
-use Rattle.am_steps.specs.Contents.{silences_in, entries_in}
+use Rattle.am_steps.specs.BothStates.{log_state, silence_state}
 use Rattle.am_steps.specs.Recorded.{HasSource, event_step}
 use Rattle.am_cluster.specs.Accounts.{Account}
 use Rattle.am_cluster.specs.Twins.{AreTwins}
@@ -61,17 +58,13 @@ module _ (w : World) (a : Account) (tells : Tells a w) (place now line : ℕ) (r
   abbrev Ready : ℕ → List (Step Mesh) → List (Step LogMesh) → Type 0
   Ready members silences log = CanHappen (record a { members = members; silences = silences; log = log }) entry event r.stand
 
-  pub can_act : r.runs ≡ true → HasSource silences_in mesh_version (slice_cmp nat_cmp) (length w.replicas) w.silences now event source →
-      HasSource entries_in entry_version key_cmp (length w.replicas) w.log now event source → ((settings : Settings) → fault_of settings now event ≡ None) → CanHappen a entry event r.stand
+  pub can_act : r.runs ≡ true → HasSource silence_state (length w.replicas) w.silences now event source →
+      HasSource log_state (length w.replicas) w.log now event source → ((settings : Settings) → fault_of settings now event ≡ None) → CanHappen a entry event r.stand
   can_act runs from_silences from_log sound =
       let m = is.members place r found in
       subst (λ n. Ready n a.silences a.log) (sym tells.members) (subst (λ ss. Ready (length w.replicas) ss a.log) (sym tells.silences) (subst (λ ls. Ready (length w.replicas) w.silences ls) (sym tells.log) (record {
-        runs = m.silences.runs ∙ runs;
-        runs_too = m.log.runs ∙ runs;
-        silences = m.silences.held;
-        log = m.log.held;
-        from_silences = from_silences;
-        from_log = from_log;
+        silences = record { runs = m.silences.runs ∙ runs; gone = m.silences.held; from = from_silences };
+        log = record { runs = m.log.runs ∙ runs; gone = m.log.held; from = from_log };
         sound = sound;
         own_place = m.place;
         all_members = m.members;
@@ -81,13 +74,13 @@ module _ (w : World) (a : Account) (tells : Tells a w) (place now line : ℕ) (r
     abbrev pub event_world : World
     event_world =
         written (with_flights (with_replica w place (with_stand r stand)) place now acted.recorded.frames)
-        (event_step silences_in place now source event acted.answer acted.recorded.frames) (event_step entries_in place now source event acted.answer acted.recorded.frames) line
+        (event_step silence_state place now source event acted.answer acted.recorded.frames) (event_step log_state place now source event acted.answer acted.recorded.frames) line
 
     -- what the journal, the frames in flight and the members are after it
     pub world_is : ◌≡◌ {A = World} (record { replicas = set w.replicas place (with_stand r stand); silences = new.silences; log = new.log; lines = new.lines; flights = after }) event_world
     world_is =
-        let one = acted.recorded.silences ∙ ap (λ ss. ss ++ event_step silences_in place now source event acted.answer acted.recorded.frames ∷ []) tells.silences in
-        let other = acted.recorded.log ∙ ap (λ ls. ls ++ event_step entries_in place now source event acted.answer acted.recorded.frames ∷ []) tells.log in
+        let one = acted.recorded.silences ∙ ap (λ ss. ss ++ event_step silence_state place now source event acted.answer acted.recorded.frames ∷ []) tells.silences in
+        let other = acted.recorded.log ∙ ap (λ ls. ls ++ event_step log_state place now source event acted.answer acted.recorded.frames ∷ []) tells.log in
         let third = acted.recorded.lines ∙ ap (λ ns. ns ++ line ∷ []) tells.lines in
         let fourth = acted.recorded.flights_are ∙ ap (λ ss. w.flights ++ sent_on (length (flights_of ss)) place now acted.recorded.frames) tells.silences in
         five (set w.replicas place (with_stand r stand)) _ _ _ _ _ _ _ _ one other third fourth

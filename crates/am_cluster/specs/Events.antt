@@ -11,7 +11,7 @@ use Rattle.am_instance.specs.OneStep.{IsStep}
 use Rattle.am_runs.specs.declared.step.Source.{Source}
 use Rattle.am_runs.specs.declared.step.Source.TheVariants.{Lent}
 use Rattle.am_runs.specs.Steps.Step.{Refused}
-use Rattle.am_steps.specs.Contents.{silences_in, entries_in}
+use Rattle.am_steps.specs.BothStates.{log_state, silence_state}
 use Rattle.am_steps.specs.Recorded.{event_step}
 use Rattle.am_cluster.specs.declared.error.ClusterError.{ClusterError}
 use Rattle.am_cluster.specs.declared.error.ClusterError.TheVariants as errors
@@ -52,7 +52,7 @@ pub record HasHappened (old : World) (place : ℕ) (replica : Replica) (event : 
   pub told : IsTold source answer frames result
   pub world : new ≡
       written (with_flights (with_replica old place (with_stand replica stand)) place now frames)
-      (event_step silences_in place now source event answer frames) (event_step entries_in place now source event answer frames) line
+      (event_step silence_state place now source event answer frames) (event_step log_state place now source event answer frames) line
 
 -- a stopped member does nothing, and the moment is written down
 pub record IsHalted (old : World) (replica : Replica) (now line : ℕ) (result : Result Reply ClusterError) (new : World) : Type 0 where

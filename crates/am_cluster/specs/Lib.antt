@@ -4,6 +4,7 @@ pub mod Accounts
 pub mod Reports
 pub mod Firsts
 pub mod Worlds
+pub mod BothRuns
 pub mod Ties
 pub mod Beginnings
 pub mod Lives

@@ -10,13 +10,14 @@ use Rattle.am_instance.specs.declared.reply.Outcome.{Outcome}
 use Rattle.am_instance.specs.declared.reply.Reply.{Reply}
 use Rattle.am_instance.specs.Replies.{IsNothing}
 use Rattle.am_instance.specs.Steps.{brought, collects, delivers}
-use Rattle.am_runs.specs.Steps.{flights_of}
+use Rattle.am_runs.specs.Runs.{IsPossible}
+use Rattle.am_runs.specs.Steps.{Step, flights_of}
+use Rattle.am_steps.specs.BothStates.{StateOf, log_state, silence_state}
 use Rattle.am_steps.specs.Contents.{delivery_of, silences_in, entries_in}
 use Rattle.am_steps.specs.declared.carried.version.AnyVersion.{AnyVersion}
 use Rattle.am_steps.specs.States.{Sorted}
 use Rattle.am_steps.specs.Recorded.{AreInFlight, event_step}
 use Rattle.am_cluster.specs.Accounts.{Account}
-use Rattle.am_cluster.specs.Reports.{IsPossibleForSilences, IsPossibleForLog}
 use Rattle.am_cluster.specs.declared.error.ClusterError.{ClusterError}
 use Rattle.am_cluster.specs.declared.flight.Flight.{Flight}
 use Rattle.am_cluster.specs.declared.recording.Kind.{Kind}
@@ -58,17 +59,19 @@ pub record AreDelivered (event : Event) (made : Made) (versions : Delivered) : T
   pub silences : versions.silences.items ≡ silences_in (delivers event made)
   pub log : versions.log.items ≡ entries_in (delivers event made)
 
+-- in one of the runs the step can come next, whichever of its frames fly
+abbrev pub CanBeNext : {K X : Type 0} → StateOf K X → ℕ → List (Step X) → Entry → Event → Result Outcome StepError → Type 0
+CanBeNext state members steps entry event answer = (frames : List (ℕ × Frame)) → AreInFlight answer frames
+    → IsPossible state.seen state.cmp members steps (event_step state entry.place entry.moment entry.source event answer frames)
+
 -- What an instance answered to an event, and what is known of it.
 pub record CanRecord (account : Account) (entry : Entry) (event : Event) (versions : List AnyVersion)
     (answer : Result Outcome StepError) : Type 0 where
   pub room_for_it : 0 < account.room
   pub spare_for_it : length versions ≤ account.spare
   pub spare_for_made : 3 ≤ account.spare
-  pub silences : (frames : List (ℕ × Frame)) → AreInFlight answer frames
-      → IsPossibleForSilences account.members account.silences
-      (event_step silences_in entry.place entry.moment entry.source event answer frames)
-  pub log : (frames : List (ℕ × Frame)) → AreInFlight answer frames
-      → IsPossibleForLog account.members account.log (event_step entries_in entry.place entry.moment entry.source event answer frames)
+  pub silences : CanBeNext silence_state account.members account.silences entry event answer
+  pub log : CanBeNext log_state account.members account.log entry event answer
   pub sound : IsNoFault answer
   pub few : IfOk answer (λ outcome. length outcome.made.silences.items ≤ 2)
   pub idle : IfOk answer (λ outcome. collects event ≡ true → (outcome.frames.items ≡ []) × (outcome.unsent.memory ≡ 0))
@@ -80,7 +83,7 @@ pub record IsRecorded (old : Account) (flights : List Flight) (entry : Entry) (e
   pub frames : List (ℕ × Frame)
   pub told : IsTold entry.source answer frames result
   pub members : new.members ≡ old.members
-  pub silences : new.silences ≡ old.silences ++ event_step silences_in entry.place entry.moment entry.source event answer frames ∷ []
-  pub log : new.log ≡ old.log ++ event_step entries_in entry.place entry.moment entry.source event answer frames ∷ []
+  pub silences : new.silences ≡ old.silences ++ event_step silence_state entry.place entry.moment entry.source event answer frames ∷ []
+  pub log : new.log ≡ old.log ++ event_step log_state entry.place entry.moment entry.source event answer frames ∷ []
   pub lines : new.lines ≡ old.lines ++ entry.line ∷ []
   pub flights_are : after ≡ flights ++ sent_on (length (flights_of old.silences)) entry.place entry.moment frames

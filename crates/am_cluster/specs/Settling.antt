@@ -9,13 +9,14 @@ use Rattle.am_instance.specs.declared.reply.Reply.{Reply}
 use Rattle.am_instance.specs.Sendings.{whole_state}
 use Rattle.am_instance.specs.Deliveries.Delivery.{OfEntry, OfSilence}
 use Rattle.am_instance.specs.Laws.{HasMaps}
-use Rattle.am_instance.specs.InstanceStates.{InstanceState, entry_at, log_in_view, silence_at, silences_in_view}
+use Rattle.am_instance.specs.InstanceStates.{InstanceState}
 use Rattle.am_snapshot.specs.Texts.{row_text}
 use Rattle.am_wire.specs.Limits.{most}
+use Rattle.am_merge.specs.Maps.{at, swept}
+use Rattle.am_steps.specs.BothStates.{StateOf, log_state, silence_state}
 use Rattle.am_steps.specs.Contents.{IsReadable}
-use Rattle.am_silence.specs.Mesh.{Mesh, mesh_version}
-use Rattle.am_nflog.specs.Mesh.{Mesh as LogMesh, mesh_version as entry_version}
-use Rattle.am_nflog.specs.LogKeys.{LogKey}
+use Rattle.am_silence.specs.Mesh.{mesh_version}
+use Rattle.am_nflog.specs.Mesh.{mesh_version as entry_version}
 use Rattle.am_runs.specs.Settles.{join_of}
 use Rattle.am_runs.specs.declared.step.Source.TheVariants.{Made, Lent}
 use Rattle.am_runs.specs.Steps.Step.{Back, Refused}
@@ -182,22 +183,20 @@ IsSettle old now line (Err errors.Memory) new =
 
 -- ---- what a settle leaves
 
--- what the member at a place holds, if there is one
-abbrev pub held_silences : Option Replica → List Mesh
-held_silences None = []
-held_silences (Some replica) = replica.stand.silences
+module _ {K X : Type 0} (state : StateOf K X) where
+  -- what a member holds, if there is one
+  abbrev pub held_of : Option Replica → List X
+  held_of None = []
+  held_of (Some replica) = (state.kept replica.stand).held
 
--- and the entries
-abbrev pub held_log : Option Replica → List LogMesh
-held_log None = []
-held_log (Some replica) = replica.stand.log
+  -- all members hold one map: at each key the greatest of what any member held of it that was live
+  abbrev pub HoldTheJoin : World → ℕ → World → Type 0
+  HoldTheJoin old now new = (place : ℕ) (replica : Replica) → replica_at new place ≡ Some replica → (key : K) →
+      at state.seen state.cmp (state.kept replica.stand).held key ≡ join_of state.seen (length old.replicas)
+      (λ other. at state.seen state.cmp (swept state.seen now (held_of (replica_at old other)))) key
 
--- All members hold one pair of maps: at each key the greatest of what any member held of it that was live.
+-- they do of both states
 pub record HasSettled (old : World) (now : ℕ) (new : World) : Type 0 where
   pub members : length new.replicas ≡ length old.replicas
-  pub silences : (place : ℕ) (replica : Replica) → replica_at new place ≡ Some replica → (id : List ℕ) →
-      silence_at replica.stand.silences id ≡ join_of mesh_version (length old.replicas)
-      (λ other. silence_at (silences_in_view now (held_silences (replica_at old other)))) id
-  pub log : (place : ℕ) (replica : Replica) → replica_at new place ≡ Some replica → (key : LogKey) →
-      entry_at replica.stand.log key ≡ join_of entry_version (length old.replicas)
-      (λ other. entry_at (log_in_view now (held_log (replica_at old other)))) key
+  pub silences : HoldTheJoin silence_state old now new
+  pub log : HoldTheJoin log_state old now new

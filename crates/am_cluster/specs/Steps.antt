@@ -1,12 +1,9 @@
 -- What a step of a schedule does to the cluster.
 use Rattle.std.specs.Prelude.{◌≡◌, ◌⊎◌, ℕ, List, Option, Some, None, Result, Ok, Err, length}
-use Rattle.std.specs.Ordering.{nat_cmp}
-use Rattle.std.specs.Cmp.Lexicographic.{slice_cmp}
-use Rattle.am_silence.specs.Mesh.{Mesh, mesh_version}
-use Rattle.am_nflog.specs.Mesh.{Mesh as LogMesh, mesh_version as entry_version}
-use Rattle.am_nflog.specs.Keys.{key_cmp}
+use Rattle.am_silence.specs.Mesh.{Mesh}
+use Rattle.am_nflog.specs.Mesh.{Mesh as LogMesh}
 use Rattle.am_runs.specs.Steps.{Step}
-use Rattle.am_steps.specs.Contents.{silences_in, entries_in}
+use Rattle.am_steps.specs.BothStates.{log_state, silence_state}
 use Rattle.am_steps.specs.Recorded.{HasSource}
 use Rattle.am_schedule.specs.declared.step.Action.{Action}
 use Rattle.am_schedule.specs.declared.step.Action.TheVariants as actions
@@ -48,8 +45,8 @@ Quietly P result = (done : Result Unit ClusterError) × (result ≡ quiet done) 
 -- the versions that an event brings come from where it says, in whatever run
 abbrev pub Fits : Asked → Type 0
 Fits (asked.Event event source) = (members now : ℕ) →
-    ((before : List (Step Mesh)) → HasSource silences_in mesh_version (slice_cmp nat_cmp) members before now event source)
-    × ((before : List (Step LogMesh)) → HasSource entries_in entry_version key_cmp members before now event source)
+    ((before : List (Step Mesh)) → HasSource silence_state members before now event source)
+    × ((before : List (Step LogMesh)) → HasSource log_state members before now event source)
 Fits _ = Unit {0}
 
 -- What a line asks of a member: an event; or a start; or an event with a peer that no member is, which comes as one of a place

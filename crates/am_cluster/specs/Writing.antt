@@ -5,7 +5,7 @@ use Rattle.am_nflog.specs.Mesh.{Mesh as LogMesh}
 use Rattle.am_gossip.specs.declared.frame.Frame.{Frame}
 use Rattle.am_runs.specs.Steps.{Step, flights_of}
 use Rattle.am_runs.specs.Steps.Step.{Took}
-use Rattle.am_steps.specs.Contents.{silences_in, entries_in}
+use Rattle.am_steps.specs.BothStates.{log_state, silence_state}
 use Rattle.am_steps.specs.Recorded.{sent_in}
 use Rattle.am_cluster.specs.Accounts.{Account}
 use Rattle.am_cluster.specs.Reports.{IsPossibleForSilences, IsPossibleForLog}
@@ -15,16 +15,16 @@ use Rattle.am_cluster.specs.declared.writing.Delivered.{Delivered}
 
 -- what an event was to each state, by the versions that it delivered and the frames that it left in flight
 abbrev pub took_silences : Entry → Delivered → List (ℕ × Frame) → Step Mesh
-took_silences entry versions frames = Took entry.place entry.moment entry.source versions.silences.items (sent_in silences_in frames)
+took_silences entry versions frames = Took entry.place entry.moment entry.source versions.silences.items (sent_in silence_state frames)
 
 -- the same of the log
 abbrev pub took_entries : Entry → Delivered → List (ℕ × Frame) → Step LogMesh
-took_entries entry versions frames = Took entry.place entry.moment entry.source versions.log.items (sent_in entries_in frames)
+took_entries entry versions frames = Took entry.place entry.moment entry.source versions.log.items (sent_in log_state frames)
 
 -- what was copied of frames is what they carry
 pub record AreSent (sent : Sent) (frames : List (ℕ × Frame)) : Type 0 where
-  pub silences : map (λ frame. frame.items) sent.silences.items ≡ sent_in silences_in frames
-  pub log : map (λ frame. frame.items) sent.log.items ≡ sent_in entries_in frames
+  pub silences : map (λ frame. frame.items) sent.silences.items ≡ sent_in silence_state frames
+  pub log : map (λ frame. frame.items) sent.log.items ≡ sent_in log_state frames
 
 -- there is room for it, and it can have happened
 pub record CanWrite (account : Account) (entry : Entry) (versions : Delivered) (frames : List (ℕ × Frame)) : Type 0 where

@@ -1,16 +1,14 @@
 //! What an event does at a member, and to the cluster.
 
 ghost use Rattle.std.specs.Prelude.{◌≡◌, ◌<◌, ◌≤◌, None, All, IfOk, IfSome, length, map};
-ghost use Rattle.std.specs.Ordering.{nat_cmp};
-ghost use Rattle.std.specs.Cmp.Lexicographic.{slice_cmp};
-ghost use Rattle.am_silence.specs.Mesh.{IsMesh, mesh_version};
-ghost use Rattle.am_nflog.specs.Mesh.{IsMesh as IsLogMesh, mesh_version as entry_version};
-ghost use Rattle.am_nflog.specs.Keys.{key_cmp};
+ghost use Rattle.am_silence.specs.Mesh.{IsMesh};
+ghost use Rattle.am_nflog.specs.Mesh.{IsMesh as IsLogMesh};
 ghost use Rattle.am_instance.specs.Configs.{Settings};
 ghost use Rattle.am_instance.specs.Laws.{HasMaps};
 ghost use Rattle.am_instance.specs.OneStep.{IsStep};
 ghost use Rattle.am_instance.specs.Steps.{brought, fault_of};
-ghost use Rattle.am_steps.specs.Contents.{IsValue, delivery_of, entries_in, silences_in};
+ghost use Rattle.am_steps.specs.BothStates.{log_state, silence_state};
+ghost use Rattle.am_steps.specs.Contents.{IsValue, delivery_of};
 ghost use Rattle.am_steps.specs.Recorded.{HasSource};
 ghost use Rattle.am_cluster.specs.Acting.{CanHappen, HasActed};
 ghost use Rattle.am_cluster.specs.Events.{IsEvent};
@@ -128,9 +126,8 @@ impl Cluster {
     ) -> Result<Reply, ClusterError>
         requires within { place < length self.old.replicas }
         requires sound { (settings : Settings) → fault_of settings now event ≡ None }
-        requires silences { HasSource silences_in mesh_version (slice_cmp nat_cmp)
-            (length self.old.replicas) self.old.silences now event source }
-        requires log { HasSource entries_in entry_version key_cmp (length self.old.replicas) self.old.log now event source }
+        requires silences { HasSource silence_state (length self.old.replicas) self.old.silences now event source }
+        requires log { HasSource log_state (length self.old.replicas) self.old.log now event source }
         ensures { OfMember self.old place (λ replica. IsEvent self.old place replica event source now line result self.new) }
     {
         self.journal.is_told_of_both();

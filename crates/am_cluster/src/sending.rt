@@ -1,6 +1,7 @@
 //! Frames that a step sends, as they are written down and as they fly.
 
 ghost use Rattle.std.specs.Prelude.{◌≡◌, ◌+◌, ◌-◌, ◌++◌, ◌≤◌, map, length, vec_capacity, vec_len, IfOk};
+ghost use Rattle.am_steps.specs.BothStates.{log_state, silence_state};
 ghost use Rattle.am_steps.specs.Contents.{carries, entries_in, silences_in};
 ghost use Rattle.am_steps.specs.Recorded.{sent_in};
 ghost use Rattle.am_cluster.specs.Worlds.{sent_on};
@@ -42,8 +43,8 @@ fn versions_in(
 ///
 /// [`AllocError`] where memory runs out.
 pub(crate) fn sent_in(alloc: Global, frames: &[(Place, Frame)]) -> Result<Sent, AllocError>
-    ensures silences { IfOk result (λ sent. map (λ frame. frame.items) sent.silences.items ≡ sent_in silences_in frames.now) }
-    ensures log { IfOk result (λ sent. map (λ frame. frame.items) sent.log.items ≡ sent_in entries_in frames.now) }
+    ensures silences { IfOk result (λ sent. map (λ frame. frame.items) sent.silences.items ≡ sent_in silence_state frames.now) }
+    ensures log { IfOk result (λ sent. map (λ frame. frame.items) sent.log.items ≡ sent_in log_state frames.now) }
 {
     let mut sent = Sent {
         silences: Vec::with_capacity(alloc, frames.len())?,

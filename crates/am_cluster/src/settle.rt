@@ -1,11 +1,8 @@
 //! How the members of a cluster settle.
 
 ghost use Rattle.std.specs.Prelude.{◌≡◌, ◌≢◌, [], ◌∷◌, ◌<◌, ◌≤◌, ◌↔◌, ℕ, None, Some, All, IsTrue, IfOk, OnOk, length, map, slice_get, true};
-ghost use Rattle.std.specs.Ordering.{nat_cmp};
-ghost use Rattle.std.specs.Cmp.Lexicographic.{slice_cmp};
 ghost use Rattle.am_silence.specs.Mesh.{mesh_version};
 ghost use Rattle.am_nflog.specs.Mesh.{mesh_version as entry_version};
-ghost use Rattle.am_nflog.specs.Keys.{key_cmp};
 ghost use Rattle.am_gossip.specs.declared.frame.Frame.TheVariants as frames;
 ghost use Rattle.am_wire.specs.Limits.{most};
 ghost use Rattle.am_snapshot.specs.Texts.{row_text};
@@ -14,7 +11,8 @@ ghost use Rattle.am_instance.specs.Deliveries.Delivery.{OfEntry, OfSilence};
 ghost use Rattle.am_instance.specs.Laws.{HasMaps};
 ghost use Rattle.am_instance.specs.Sendings.{whole_state};
 ghost use Rattle.am_instance.specs.Steps.{fault_of};
-ghost use Rattle.am_steps.specs.Contents.{IsReadable, entries_in, silences_in};
+ghost use Rattle.am_steps.specs.BothStates.{log_state, silence_state};
+ghost use Rattle.am_steps.specs.Contents.{IsReadable};
 ghost use Rattle.am_runs.specs.declared.step.Source.TheVariants.{Lent};
 ghost use Rattle.am_runs.specs.Members.{last_of, member_of};
 ghost use Rattle.am_steps.specs.Recorded.{HasSource};
@@ -86,9 +84,9 @@ impl Cluster {
         ensures lendable { OnOk result (OfMember self.now lender (λ lent. CanLend lent.stand)) }
         ensures sound { IfOk result (λ event. (settings : Settings) (now : ℕ) → fault_of settings now event ≡ None) }
         ensures silences { IfOk result (λ event. (now : ℕ) →
-            HasSource silences_in mesh_version (slice_cmp nat_cmp) (length self.now.replicas) self.now.silences now event (Lent lender)) }
+            HasSource silence_state (length self.now.replicas) self.now.silences now event (Lent lender)) }
         ensures log { IfOk result (λ event. (now : ℕ) →
-            HasSource entries_in entry_version key_cmp (length self.now.replicas) self.now.log now event (Lent lender)) }
+            HasSource log_state (length self.now.replicas) self.now.log now event (Lent lender)) }
     {
         lent_maps_come_from_their_lender();
         let frame = frame_of(self.alloc, &self.members[lender].instance)?;

@@ -1,2 +1,2 @@
-pub mod Held
+pub mod OneOfBoth
 pub mod Asking

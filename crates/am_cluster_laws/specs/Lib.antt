@@ -1,2 +1,3 @@
 pub mod Replicas
+pub mod Shown
 pub mod Firsts

@@ -10,6 +10,7 @@ ghost use Rattle.am_runs.specs.Steps.{Step, delivered_in, moment};
 ghost use Rattle.am_runs.specs.Members.{member_of, set_of};
 ghost use Rattle.am_runs.specs.Runs.{IsRun};
 ghost use Rattle.am_runs.specs.Timely.{IsTimely};
+ghost use Rattle.am_steps.specs.BothStates.{log_state};
 ghost use Rattle.am_steps.specs.Recorded.{HasGoneThrough};
 ghost use Rattle.am_instance.specs.InstanceStates.{InstanceState, kept_log};
 ghost use Rattle.am_instance.specs.declared.event.Event.{Event};
@@ -47,7 +48,7 @@ pub fn first_is_told_after_a_spread()
         IsRun entry_version key_cmp members steps → IsTimely entry_version spread flight members steps → moment step ≡ Some now →
         Contains (delivered_in steps) entry → (entry_version entry).updated + spread ≤ now →
         (place : ℕ) → let member = member_of members place before in member.runs ≡ true →
-        (stand : InstanceState) (asked : Question) (made : Made) → HasGoneThrough entry_version key_cmp member.past (kept_log stand) →
+        (stand : InstanceState) (asked : Question) (made : Made) → HasGoneThrough log_state member.past (kept_log stand) →
         (entry_version entry).key ≡ key_of asked → IsReply stand (asks asked) now is_first made →
         (greatest : LogMesh) × IsBest entry_version (set_of member) greatest × ((entry_version greatest).key ≡ key_of asked)
         × (is_below (entry_version greatest) (entry_version entry) ≡ false) × ((entry_version greatest).expires ≤ now) }

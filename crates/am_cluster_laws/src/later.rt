@@ -1,18 +1,18 @@
 //! What holds when a step of a timely cluster begins: of the cluster as it stood before that step, and as it stands later.
 
-ghost use Rattle.std.specs.Prelude.{◌≡◌, ◌+◌, ◌<◌, ◌≤◌, ℕ, List, All, Contains, true, false, length};
-ghost use Rattle.am_silence.specs.Mesh.{mesh_version};
+ghost use Rattle.std.specs.Prelude.{◌≡◌, ◌+◌, ◌<◌, ◌≤◌, ℕ, Contains, true, false, length};
 ghost use Rattle.am_nflog.specs.Mesh.{Mesh as LogMesh, mesh_version as entry_version};
-ghost use Rattle.am_nflog.specs.LogKeys.{LogKey};
 ghost use Rattle.am_version_order.specs.Versions.{is_below};
 ghost use Rattle.am_merge.specs.Views.{IsBest};
 ghost use Rattle.am_runs.specs.Steps.{delivered_in};
 ghost use Rattle.am_cluster.specs.Reports.{AreTimely};
 ghost use Rattle.am_instance.specs.declared.reply.Made.{Made};
-ghost use Rattle.am_instance.specs.Replies.{IsReply, entry_in_view, silence_in_view};
+ghost use Rattle.am_instance.specs.Replies.{IsReply};
+ghost use Rattle.am_cluster.specs.BothRuns.{log_run, silence_run};
 ghost use Rattle.am_cluster.specs.Lives.{OfMember};
 ghost use Rattle.am_cluster_laws.specs.Replicas.{GoesOnAt, entries_taken};
 ghost use Rattle.am_cluster_laws.specs.Firsts.{Question, asks, is_first, key_of};
+ghost use Rattle.am_cluster_laws.specs.Shown.{AgreeOnWhatIsOld};
 
 use crate::first::first_is_told_after_a_spread;
 use am_cluster::Cluster;
@@ -23,16 +23,8 @@ use am_silence::MeshSilence;
 /// When a step begins in a timely run of a cluster, any two members that run show the same of each identifier, and of each
 /// key of the log, of which every version that was delivered anywhere in the run was updated a spread before or earlier.
 pub fn members_agree_on_what_is_old(earlier: &Cluster, later: &Cluster)
-    ensures silences { (spread flight now : ℕ) (id : List ℕ) → 0 < spread → GoesOnAt earlier.now later.now now →
-        AreTimely spread flight (length later.now.replicas) later.now.silences later.now.log →
-        All (λ v. (mesh_version v).key ≡ id → (mesh_version v).updated + spread ≤ now) (delivered_in later.now.silences) →
-        (place other : ℕ) → OfMember earlier.now place (λ one. OfMember earlier.now other (λ two. one.runs ≡ true → two.runs ≡ true →
-        silence_in_view now one.stand.silences id ≡ silence_in_view now two.stand.silences id)) }
-    ensures log { (spread flight now : ℕ) (key : LogKey) → 0 < spread → GoesOnAt earlier.now later.now now →
-        AreTimely spread flight (length later.now.replicas) later.now.silences later.now.log →
-        All (λ v. (entry_version v).key ≡ key → (entry_version v).updated + spread ≤ now) (delivered_in later.now.log) →
-        (place other : ℕ) → OfMember earlier.now place (λ one. OfMember earlier.now other (λ two. one.runs ≡ true → two.runs ≡ true →
-        entry_in_view now one.stand.log key ≡ entry_in_view now two.stand.log key)) }
+    ensures silences { AgreeOnWhatIsOld silence_run earlier.now later.now }
+    ensures log { AgreeOnWhatIsOld log_run earlier.now later.now }
 {
     earlier.consistency();
     later.consistency();

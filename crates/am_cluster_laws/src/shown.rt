@@ -3,9 +3,8 @@
 ghost use Rattle.std.specs.Prelude.{◌≡◌, ℕ, List, Option, All, Contains, true};
 ghost use Rattle.am_matcher.specs.declared.labels.Label.{Label};
 ghost use Rattle.am_matcher.specs.Mutes.{AreMuted};
-ghost use Rattle.am_silence.specs.Mesh.{IsMesh, mesh_version};
-ghost use Rattle.am_nflog.specs.Mesh.{IsMesh as IsLogMesh, mesh_version as entry_version};
-ghost use Rattle.am_nflog.specs.LogKeys.{LogKey};
+ghost use Rattle.am_silence.specs.Mesh.{IsMesh};
+ghost use Rattle.am_nflog.specs.Mesh.{IsMesh as IsLogMesh};
 ghost use Rattle.am_merge.specs.Views.{IsViewAt};
 ghost use Rattle.am_collect.specs.Events.{HaveSame};
 ghost use Rattle.am_instance.specs.declared.event.Event.{Event};
@@ -13,9 +12,11 @@ ghost use Rattle.am_instance.specs.declared.reply.Made.{Made};
 ghost use Rattle.am_instance.specs.declared.reply.Reply.{Reply};
 ghost use Rattle.am_instance.specs.Bare.{IsBareReply, asks_shown};
 ghost use Rattle.am_instance.specs.Laws.{HasMaps, asks_views};
-ghost use Rattle.am_instance.specs.Replies.{IsReply, entry_in_view, silence_in_view};
+ghost use Rattle.am_instance.specs.Replies.{IsReply};
+ghost use Rattle.am_cluster.specs.BothRuns.{log_run, silence_run};
 ghost use Rattle.am_cluster.specs.Lives.{OfMember};
 ghost use Rattle.am_cluster_laws.specs.Replicas.{IsCalmBy, entries_taken, silences_taken};
+ghost use Rattle.am_cluster_laws.specs.Shown.{ShowTheBareSet};
 
 use am_cluster::Cluster;
 use am_instance::laws::{equal_views_mute_alike, equal_views_reply_alike, what_is_shown_replies};
@@ -28,10 +29,8 @@ use am_version_order::Version;
 /// After any steps of a cluster, a member that was calm shows, at every moment from its last one on, of each identifier
 /// and of each key of the log what the bare set of all versions shows that were delivered to it.
 pub fn members_show_the_bare_sets(cluster: &Cluster)
-    ensures silences { (place now : ℕ) (id : List ℕ) → OfMember cluster.now place (λ replica. IsCalmBy cluster.now place replica now →
-        IsViewAt mesh_version (silences_taken cluster.now place) now id (silence_in_view now replica.stand.silences id)) }
-    ensures log { (place now : ℕ) (key : LogKey) → OfMember cluster.now place (λ replica. IsCalmBy cluster.now place replica now →
-        IsViewAt entry_version (entries_taken cluster.now place) now key (entry_in_view now replica.stand.log key)) }
+    ensures silences { ShowTheBareSet silence_run cluster.now }
+    ensures log { ShowTheBareSet log_run cluster.now }
 {
     cluster.consistency();
     calm_members_show_the_bare_set::<MeshSilence>();

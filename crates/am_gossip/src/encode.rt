@@ -14,18 +14,11 @@ use crate::error::FrameError;
 use crate::frame::{Frame, Part, StateKey};
 use crate::kind::FrameKind;
 use am_wire::write_varint;
+use am_wire::writing::varint_size;
 use std::alloc::{AllocError, Global};
 
 /// The tag of a part in a full state: bytes under the number 1.
 const PART_TAG: u64 = 10;
-
-/// How many bytes the shortest spelling of a number has.
-fn varint_len(value: u64) -> u64
-    ensures exact { result ≡ length (shortest value) }
-    ensures short { result ≤ 10 }
-{
-    write_varint(value).as_slice().len() as u64
-}
 
 /// How many bytes a field has whose payload is so many bytes.
 fn delimited_len(number: u32, size: u64) -> u64
@@ -34,7 +27,7 @@ fn delimited_len(number: u32, size: u64) -> u64
     ensures exact { (bytes : List ℕ) → length bytes ≡ size → result ≡ length (writes_delimited number bytes) }
     ensures bounded { result ≤ size + 20 }
 {
-    varint_len(u64::from(number) * 8 + 2) + varint_len(size) + size
+    varint_size(u64::from(number) * 8 + 2) + varint_size(size) + size
 }
 
 /// How many bytes a field of so many bytes has; where there are none, it is left out.
@@ -192,7 +185,7 @@ pub fn encode_frame(alloc: Global, frame: &Frame) -> Result<Vec<u8>, FrameError>
     ensures refused { IfErr result (λ e. (e ≡ FrameError.Length) ⊎ (e ≡ FrameError.Memory)) }
 {
     let size = payload_size(frame)?;
-    let mut out = Vec::with_capacity(alloc, 1 + (varint_len(size) + size) as usize)?;
+    let mut out = Vec::with_capacity(alloc, 1 + (varint_size(size) + size) as usize)?;
     push_frame(&mut out, frame, size)?;
     Ok(out)
 }

@@ -4,6 +4,5 @@ pub mod HeadLemmas
 pub mod Standings
 pub mod Growing
 pub mod Unique
-pub mod Writes
 pub mod Ids
 pub mod Answering

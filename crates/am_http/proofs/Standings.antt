@@ -9,6 +9,7 @@ use Rattle.httparse.specs.declared.spans.HeaderSpan.{HeaderSpan}
 use Rattle.httparse.specs.declared.spans.RequestSpans.{RequestSpans}
 use Rattle.am_http.specs.Heads.{window, HasHead, fields_of}
 use Rattle.am_http.specs.Bodies.{IsBodyLength}
+use Rattle.am_http.specs.Receiving.{most_bytes}
 use Rattle.am_http.specs.Requests.{HasFault, IsOpenBody, IsRequestIn}
 use Rattle.am_http.specs.declared.cause.Cause.{Cause}
 use Rattle.am_http.specs.declared.cause.Cause.TheVariants.{TransferEncoding, BadContentLength, BodyTooLarge}
@@ -99,5 +100,5 @@ stays_open bytes after more end open_ grown less =
     }
 
 -- a request ends in the limits
-pub end_small : (bytes : List ℕ) (end : ℕ) → IsOpenBody bytes end → end ≤ 1064960
+pub end_small : (bytes : List ℕ) (end : ℕ) → IsOpenBody bytes end → end ≤ most_bytes
 end_small bytes end open_ = let head = head_small bytes open_.head open_.has_head in omega (arith, head, open_.end_is, open_.names.small)

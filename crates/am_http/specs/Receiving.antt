@@ -1,8 +1,9 @@
--- What is read of a reader, and what a writer takes.
-use Rattle.std.specs.Prelude.{◌≡◌, ℕ, ◌<◌, ◌≤◌, ◌⊎◌, Bool, List, [], ◌++◌, length, take, Option, None, Some, IsTrue}
-use Rattle.std.specs.Io.KnownBytes.{Appends, Consumes, IsAtEnd}
+-- What is read of a reader.
+use Rattle.std.specs.Prelude.{◌≡◌, ℕ, ◌<◌, ◌≤◌, ◌⊎◌, Bool, List, [], ◌++◌, length, Option, None, Some, IsTrue}
+use Rattle.std.specs.Io.KnownBytes.{Consumes, IsAtEnd}
 use Rattle.am_http.specs.Lines.{line_seen, line_of}
-use Rattle.am_http.specs.Requests.{IsReadOf, IsUnfinished}
+use Rattle.am_http.specs.Heads.{IsOpenHead}
+use Rattle.am_http.specs.Requests.{IsOpenBody, IsReadOf, IsUnfinished}
 use Rattle.am_http.specs.declared.cause.Cause.TheVariants.{Memory}
 use Rattle.am_http.specs.declared.request.Read.{Read}
 use Rattle.am_http.specs.declared.request.Read.TheVariants.{More, Refused}
@@ -50,6 +51,7 @@ pub record StopsReading (old new : Option (List ℕ)) (at : ℕ) : Type 0 where
   pub count : at ≡ length came
   pub undecided : IsUnfinished came
 
--- exactly so many of the first bytes went out, and not all
-abbrev pub WritesPart : Option (List ℕ) → Option (List ℕ) → List ℕ → ℕ → Type 0
-WritesPart old new bytes written = (written < length bytes) × Appends old new (take written bytes)
+-- bytes of the head are wanting, or those of the body up to its end
+abbrev pub IsUndecided : List ℕ → Option ℕ → Type 0
+IsUndecided bytes None = (length bytes < 16384) × IsOpenHead bytes
+IsUndecided bytes (Some end) = IsOpenBody bytes end

@@ -2,7 +2,7 @@
 
 ghost use Rattle.std.specs.Prelude.{◌≡◌};
 ghost use Rattle.http.specs.StatusCode.{IsStatusCode};
-ghost use Rattle.am_http.specs.Lines.{allowed_at, bad_key, line_of, line_seen};
+ghost use Rattle.am_http.specs.Lines.{allowed_at, bad_key, line, line_of, line_seen};
 
 use crate::refusal::Refusal;
 
@@ -55,15 +55,17 @@ pub enum Cause {
     Memory,
 }
 
-/// The line with this status and text.
-const fn plain(status: u16, text: &'static str) -> Refusal
-    requires { IsStatusCode status }
-    ensures { line_seen result ≡ record { status = status; text = text.now; allow = None } }
-{
-    Refusal {
-        status,
-        text,
-        allow: None,
+impl Refusal {
+    /// The line with this status and text.
+    pub const fn new(status: u16, text: &'static str) -> Refusal
+        requires { IsStatusCode status }
+        ensures { line_seen result ≡ line status text.now }
+    {
+        Refusal {
+            status,
+            text,
+            allow: None,
+        }
     }
 }
 
@@ -101,22 +103,22 @@ impl Cause {
         ensures { line_seen result ≡ line_of self }
     {
         match self {
-            Cause::HeadTooLarge => plain(431, "head too large"),
-            Cause::BadHead => plain(400, "bad request head"),
-            Cause::TransferEncoding => plain(501, "transfer-encoding not supported"),
-            Cause::BadContentLength => plain(400, "bad content-length"),
-            Cause::BodyTooLarge => plain(413, "body too large"),
-            Cause::EndedEarly => plain(400, "request ended early"),
-            Cause::NoSuchPath => plain(404, "no such path"),
+            Cause::HeadTooLarge => Refusal::new(431, "head too large"),
+            Cause::BadHead => Refusal::new(400, "bad request head"),
+            Cause::TransferEncoding => Refusal::new(501, "transfer-encoding not supported"),
+            Cause::BadContentLength => Refusal::new(400, "bad content-length"),
+            Cause::BodyTooLarge => Refusal::new(413, "body too large"),
+            Cause::EndedEarly => Refusal::new(400, "request ended early"),
+            Cause::NoSuchPath => Refusal::new(404, "no such path"),
             Cause::MethodNotAllowed(resource) => Refusal {
                 status: 405,
                 text: "method not allowed",
                 allow: Some(resource.allowed()),
             },
-            Cause::BadFilter => plain(400, "bad filter"),
-            Cause::BadJson => plain(400, "bad JSON"),
-            Cause::BadSilence(key) => plain(400, key.bad()),
-            Cause::Memory => plain(500, "out of memory"),
+            Cause::BadFilter => Refusal::new(400, "bad filter"),
+            Cause::BadJson => Refusal::new(400, "bad JSON"),
+            Cause::BadSilence(key) => Refusal::new(400, key.bad()),
+            Cause::Memory => Refusal::new(500, "out of memory"),
         }
     }
 }

@@ -1,5 +1,5 @@
 //! HTTP/1.1 for the calls on silences: requests in the bytes that came, the calls that they are, and the bytes of
-//! replies; read from any reader, written to any writer.
+//! replies; read from any reader.
 #![tactic(auto)]
 
 mod cause;
@@ -12,7 +12,6 @@ mod refusal;
 mod replies;
 mod request;
 mod routes;
-mod sending;
 mod standing;
 
 pub use cause::{Cause, PostedKey, Resource};
@@ -22,4 +21,3 @@ pub use refusal::Refusal;
 pub use replies::{out_of_memory, reply};
 pub use request::{Read, Request, read_request};
 pub use routes::{Call, call_of};
-pub use sending::{WriteFault, send};

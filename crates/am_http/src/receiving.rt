@@ -1,14 +1,15 @@
 //! Requests from any reader.
 
-ghost use Rattle.std.specs.Prelude.{◌≡◌, ◌<◌, ◌≤◌, [], Err, IfOk, IfErr, length, vec_len};
-ghost use Rattle.am_http.specs.Pieces.{GrowsTo, IsUndecided};
-ghost use Rattle.am_http.specs.Requests.{IsOpenBody, IsUnfinished};
-ghost use Rattle.am_http.specs.Receiving.{IsReceived, StopsReading, behind, most_bytes};
+ghost use Rattle.std.specs.Prelude.{◌≤◌, [], IfOk, IfErr, length};
+ghost use Rattle.am_streams.specs.Reading.{ReadsOn};
+ghost use Rattle.am_http.specs.Requests.{IsUnfinished};
+ghost use Rattle.am_http.specs.Receiving.{IsReceived, IsUndecided, StopsReading, behind, most_bytes};
 
 use crate::cause::Cause;
 use crate::head::MOST_HEAD_BYTES;
 use crate::request::{Read, read_request, taken};
 use crate::standing::{Standing, standing_of};
+use am_streams::{Stop, fill, read_some};
 use std::alloc::Global;
 use std::io;
 
@@ -16,47 +17,6 @@ use std::io;
 #[derive(Clone, Copy, Debug, PartialEq, Eq)]
 pub struct ReadFault {
     pub at: usize,
-}
-
-/// Why no bytes came, though the input has not ended.
-#[derive(Clone, Copy, Debug, PartialEq, Eq)]
-pub enum Stop {
-    Read,
-    Memory,
-}
-
-/// How many bytes are asked for at once.
-const PIECE: usize = 4_096;
-
-/// Reads once, so that there are at most `most` bytes then, and answers whether any came.
-fn read_some<R: io::Read>(reader: &mut R, bytes: &mut Vec<u8>, most: usize) -> Result<bool, Stop>
-    requires room { vec_len bytes.old < most }
-    requires open { IsUnfinished bytes.old.items }
-    ensures more { GrowsTo most (R.remaining reader.old) (R.remaining reader.new) bytes.old.items bytes.new.items result }
-    ensures failed { result ≡ Err Stop.Read → bytes.new.items ≡ bytes.old.items }
-{
-    let mut piece = [0u8; PIECE];
-    let room = PIECE.min(most - bytes.len());
-    let Ok(count) = reader.read(&mut piece[..room]) else {
-        return Err(Stop::Read);
-    };
-    if bytes.extend_from_slice(&piece[..count]).is_err() {
-        return Err(Stop::Memory);
-    }
-    Ok(count > 0)
-}
-
-/// Reads until there are `end` bytes, and answers whether they came.
-fn fill<R: io::Read>(reader: &mut R, bytes: &mut Vec<u8>, end: usize) -> Result<bool, Stop>
-    requires { IsOpenBody bytes.old.items end }
-    ensures { GrowsTo end (R.remaining reader.old) (R.remaining reader.new) bytes.old.items bytes.new.items result }
-{
-    while bytes.len() < end {
-        if !read_some(reader, bytes, end)? {
-            return Ok(false);
-        }
-    }
-    Ok(true)
 }
 
 /// Reads what is wanting of a request that isn't decided: some bytes where its head isn't whole, else up to its `end`.
@@ -67,8 +27,7 @@ fn read_more<R: io::Read>(
     end: Option<usize>,
 ) -> Result<bool, Stop>
     requires { IsUndecided bytes.old.items end }
-    ensures more { GrowsTo 1_064_960 (R.remaining reader.old) (R.remaining reader.new) bytes.old.items bytes.new.items result }
-    ensures failed { result ≡ Err Stop.Read → IsUnfinished bytes.new.items }
+    ensures { ReadsOn IsUnfinished most_bytes (R.remaining reader.old) (R.remaining reader.new) bytes.old.items bytes.new.items result }
 {
     match end {
         None => read_some(reader, bytes, MOST_HEAD_BYTES),

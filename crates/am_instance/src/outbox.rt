@@ -15,8 +15,9 @@ use am_gossip::{Frame, FullState, Part, StateKey, delta_fits, states_fit};
 use am_merge::Held;
 use am_nflog::MeshEntry;
 use am_silence::MeshSilence;
-use am_snapshot::{delimited_bytes, delimited_length, row_bytes, row_length};
+use am_snapshot::{row_bytes, row_length};
 use am_wire::Bytes;
+use am_wire::writing::{delimited_bytes, delimited_length};
 use std::alloc::{AllocError, AllocFailed, Global};
 use std::marker::Model;
 

@@ -135,24 +135,24 @@ record FrameSteps (name : Option (List ℕ)) (now : ℕ) (frames : List Frame) (
 
 -- no frame, no step
 no_frame : (name : Option (List ℕ)) (now : ℕ) (frames : List Frame) (stopped : Bool) (old new : InstanceState) →
-    ((frames ≡ []) ⊎ IsFromNobody old.config name) → new ≡ old → FrameSteps name now frames stopped old new
+    ((frames ≡ []) ⊎ IsFromNobody old.config name frames) → new ≡ old → FrameSteps name now frames stopped old new
 no_frame name now frames stopped old new why same =
     record { asked = []; are = inl (refl, why); steps = whole_steps now [] stopped old new (none_at now old new same) }
 
 -- all steps were made
 named_steps : (name : Option (List ℕ)) (now : ℕ) (frames : List Frame) (stopped : Bool) (old : InstanceState) (before : Effects) (new : InstanceState) (after : Effects) →
     MakesNamed name now frames old before new after → FrameSteps name now frames stopped old new
-named_steps name now [] stopped old before new after made = no_frame name now [] stopped old new (inl refl) made.0
-named_steps name now (frame ∷ frames) stopped old before new after made = record {
-  asked = sent_from made.0 (frame ∷ frames);
+named_steps None now frames stopped old before new after made = no_frame None now frames stopped old new (inl made.0) made.1
+named_steps (Some name) now frames stopped old before new after made = record {
+  asked = sent_from made.0 frames;
   are = inr (made.0, made.1, refl);
-  steps = whole_steps now (sent_from made.0 (frame ∷ frames)) stopped old new (all_steps made.0 now (frame ∷ frames) old before new after made.2);
+  steps = whole_steps now (sent_from made.0 frames) stopped old new (all_steps made.0 now frames old before new after made.2);
 }
 
 -- the steps stopped
 stepped_steps : (name : Option (List ℕ)) (now : ℕ) (frames : List Frame) (old : InstanceState) (before : Effects) (new : InstanceState) (after : Effects) (stop : Fault) →
     AreStepped name now frames old before new after (Err stop) → FrameSteps name now frames (is_stopped (Some stop)) old new
-stepped_steps name now frames old before new after UnknownName stepped = no_frame name now frames true old new (inr stepped.1) stepped.2
+stepped_steps name now frames old before new after UnknownName stepped = no_frame name now frames true old new (inr stepped.0) stepped.1
 stepped_steps name now frames old before new after (Step error) stepped = record {
   asked = sent_from stepped.0 frames;
   are = inr (stepped.0, stepped.1, refl);

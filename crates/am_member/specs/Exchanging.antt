@@ -48,23 +48,23 @@ abbrev pub IsSender : Settings → Option (List ℕ) → ℕ → Type 0
 IsSender config None place = ⊥
 IsSender config (Some name) place = IsOnlyPeerOf config name place
 
--- a connection is from no peer: its greeting names none, or none came
-abbrev pub IsFromNobody : Settings → Option (List ℕ) → Type 0
-IsFromNobody config None = ⊤
-IsFromNobody config (Some name) = (place : ℕ) → ¬ IsPeerOf config name place
+-- a connection is from no peer: its greeting names none; or frames came and no greeting, which no session says
+abbrev pub IsFromNobody : Settings → Option (List ℕ) → List Frame → Type 0
+IsFromNobody config None frames = frames ≢ []
+IsFromNobody config (Some name) frames = (place : ℕ) → ¬ IsPeerOf config name place
 
--- the steps of frames of the peer of this name; where there is no frame, no name is needed
+-- the steps of the frames of the peer of this name; where no name came, there is no frame
 abbrev pub MakesNamed : Option (List ℕ) → ℕ → List Frame → InstanceState → Effects → InstanceState → Effects → Type 0
-MakesNamed name now [] old before new after = (new ≡ old) × (after ≡ before)
-MakesNamed name now (frame ∷ frames) old before new after =
-    (sender : ℕ) × IsSender old.config name sender × MakesAll sender now (frame ∷ frames) old before new after
+MakesNamed None now frames old before new after = (frames ≡ []) × (new ≡ old) × (after ≡ before)
+MakesNamed (Some name) now frames old before new after =
+    (sender : ℕ) × IsOnlyPeerOf old.config name sender × MakesAll sender now frames old before new after
 
--- What the frames of a connection with this name did: each step was made; or there are frames and no peer has the name, or a step
--- is refused, and the connection is not heard on.
+-- What the frames of a connection with this name did: each step was made; or no peer has the name, or a step is refused, and the
+-- connection is not heard on.
 abbrev pub AreStepped : Option (List ℕ) → ℕ → List Frame → InstanceState → Effects → InstanceState → Effects → Result Unit Fault → Type 0
 AreStepped name now frames old before new after (Ok _) = MakesNamed name now frames old before new after
 AreStepped name now frames old before new after (Err UnknownName) =
-    (frames ≢ []) × IsFromNobody old.config name × (new ≡ old) × (after ≡ before)
+    IsFromNobody old.config name frames × (new ≡ old) × (after ≡ before)
 AreStepped name now frames old before new after (Err (Step error)) =
     (sender : ℕ) × IsSender old.config name sender × StopsAt sender now frames old before new after error
 AreStepped name now frames old before new after (Err _) = ⊥

@@ -11,3 +11,4 @@ pub mod Faults
 pub mod Moments
 pub mod Peers
 pub mod Queues
+pub mod Times

@@ -116,7 +116,7 @@ AreEventsOfRead _ bits asked = asked ≡ []
 -- the events of frames: each comes from the one peer that the connection is from; there is none where no frame or no peer is
 abbrev pub AreEventsOfFrames : Settings → Option (List ℕ) → List Frame → List Event → Type 0
 AreEventsOfFrames config name frames sent =
-    ((sent ≡ []) × ((frames ≡ []) ⊎ IsFromNobody config name))
+    ((sent ≡ []) × ((frames ≡ []) ⊎ IsFromNobody config name frames))
     ⊎ ((sender : ℕ) × IsSender config name sender × (sent ≡ map (λ frame. events.Frame sender frame) frames))
 
 -- the events of what was said

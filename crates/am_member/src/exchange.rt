@@ -74,8 +74,8 @@ fn reply_to(
 ///
 /// # Errors
 ///
-/// [`Fault::UnknownName`] where there are frames and no peer has the name, and the [`Fault::Step`] of the first frame that
-/// is refused. The steps before it stand.
+/// [`Fault::UnknownName`] where no peer has the name, and the [`Fault::Step`] of the first frame that is refused. The steps
+/// before it stand.
 fn step_named(
     instance: &mut Instance,
     ended: &mut Ended,
@@ -85,11 +85,12 @@ fn step_named(
 ) -> Result<(), Fault>
     ensures { AreStepped (option_copied name.entry) now frames.items instance.old (effects_of ended.old) instance.new (effects_of ended.new) result }
 {
-    if frames.is_empty() {
-        return Ok(());
-    }
     let Some(name) = name else {
-        return Err(Fault::UnknownName);
+        return if frames.is_empty() {
+            Ok(())
+        } else {
+            Err(Fault::UnknownName)
+        };
     };
     let Some(sender) = peer_named(instance.config(), name) else {
         return Err(Fault::UnknownName);
@@ -135,8 +136,8 @@ fn hear(
 /// Answers what a connection said: a request by a step at `now` and a reply, frames by a step each at `now`. `bits` are
 /// random. `session` is the connection's own, by whose greeting the frames have their sender.
 ///
-/// No more is heard of the connection where no peer has that name or a step is refused; the steps before it stand. Where
-/// nothing was said, nothing changes.
+/// No more is heard of the connection where no peer has that name, which is told once the name came, or a step is refused;
+/// the steps before it stand. Where nothing was said, nothing else changes.
 pub fn exchange(
     alloc: Global,
     instance: &mut Instance,

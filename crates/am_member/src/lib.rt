@@ -23,6 +23,7 @@ mod serving;
 mod shown;
 mod steps;
 mod timed;
+mod times;
 mod turns;
 mod writing;
 
@@ -39,5 +40,6 @@ pub use reply::{ReplyError, body_of};
 pub use sending::send_to;
 pub use serving::connection;
 pub use shown::{held_of, shown_of_row};
+pub use times::{Times, times_of};
 pub use turns::{attend, turn};
 pub use writing::send;

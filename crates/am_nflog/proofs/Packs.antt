@@ -1,16 +1,15 @@
 -- Numbers that are packed one behind the other, each in its shortest spelling, are read one by one.
-use Rattle.std.proofs.Common.{◌≡◌, ℕ, suc, ◌<◌, ◌≤◌, ◌^◌, ◌==◌, false, eqb, List, [], ◌∷◌, ◌++◌, length, drop, length-append, Result, Ok, Err, IfOk, refl, sym, ap, subst, ◌∙◌, arith}
+use Rattle.std.proofs.Common.{◌≡◌, ℕ, ◌<◌, ◌≤◌, ◌^◌, ◌==◌, List, [], ◌∷◌, ◌++◌, length, drop, length-append, Result, Ok, Err, IfOk, refl, sym, ap, subst, ◌∙◌, arith}
 use Rattle.std.specs.Prelude.{All}
 use Rattle.std.specs.List.{flat_map}
 use Rattle.std.proofs.Math.Seq.{drop-append_seam}
-use Rattle.std.proofs.lemmas.Bool.Decides.{nat_tests}
 use Rattle.std.proofs.lemmas.List.Elements.{All-head, All-tail}
 use Rattle.am_wire.specs.declared.error.WireError.{WireError}
 use Rattle.am_wire.specs.Varint.{varint_at, varint_within, shortest}
 use Rattle.am_wire.specs.Fields.{pieces}
 use Rattle.am_wire.specs.Reading.{until_fault}
 use Rattle.am_wire.specs.RoundTrip.Varints.{varint_again, shortest_filled}
-use Rattle.am_wire.proofs.Unpacking.{unpacked-first, packed_filled}
+use Rattle.am_wire.proofs.Unpacking.{unpacked-first, none_alike}
 use Rattle.am_nflog.specs.Packed.{packed_in, IsPacked}
 
 -- each of them has 64 bits
@@ -97,13 +96,6 @@ module _ (bytes : List ℕ) (packed : IsPacked bytes) where
     pub first_packed : packed_in bytes ≡ n ∷ packed_in (drop len bytes)
     first_packed = first.numbers ∙ ap (λ (ms : List ℕ). n ∷ ms) (sym (reads_packed (drop len bytes) first.others first.behind first.short))
 
-more_than_none : (n : ℕ) → eqb (suc n) 0 ≡ false
-more_than_none n = grind (arith, nat_tests)
-
 -- packed numbers have bytes
-pub none_alike : (ns : List ℕ) → (length (flat_map shortest ns) == 0) ≡ (length ns == 0)
-none_alike [] = refl
-none_alike (n ∷ ns) = packed_filled (n ∷ ns) (sym (more_than_none (length ns))) ∙ sym (more_than_none (length ns))
-
 pub filled_alike : (bytes : List ℕ) → IsPacked bytes → (length bytes == 0) ≡ (length (packed_in bytes) == 0)
 filled_alike bytes packed = ap (λ (l : List ℕ). length l == 0) packed.0 ∙ none_alike (packed_in bytes)

@@ -1,25 +1,23 @@
 //! The fields of an entry, wherever they lie: how many bytes they have, and how they are written.
 
-ghost use Rattle.std.specs.Prelude.{◌≡◌, ◌++◌, ◌<◌, ◌^◌, length, All, OnOk, IfOk};
-ghost use Rattle.std.specs.List.{flat_map};
+ghost use Rattle.std.specs.Prelude.{◌≡◌, ◌++◌, length, OnOk, IfOk};
 ghost use Rattle.am_wire.specs.Sizes.{counted};
-ghost use Rattle.am_wire.specs.Varint.{shortest};
-ghost use Rattle.am_wire.specs.Writing.{writes_text, writes_delimited, writes_numbers};
+ghost use Rattle.am_wire.specs.Writing.{writes_delimited};
 ghost use Rattle.am_nflog.specs.Entries.{writes_entry, IsEntry};
 ghost use Rattle.am_nflog.specs.Fields.{entry_in};
-ghost use Rattle.am_nflog.specs.Offsets.{StandsAt, StandAt};
+ghost use Rattle.am_nflog.specs.Offsets.{StandAt};
 ghost use Rattle.am_nflog.specs.Receivers.{writes_receiver, IsReceiver};
 
 use crate::entry::Entry;
 use crate::hashes::Hashes;
 use crate::key::LogKey;
-use crate::offsets::{Offset, Offsets};
+use crate::offsets::Offsets;
 use crate::receiver::ReceiverRef;
 use am_version_order::Moment;
 use am_wire::Bytes;
 use am_wire::writing::{
     bytes_size, delimited_size, message_size, number_size, numbers_size, write_bytes,
-    write_message, write_number, write_numbers, write_prefix,
+    write_message, write_number, write_packed_part, write_part, write_prefix,
 };
 use std::alloc::{AllocError, Global};
 
@@ -118,11 +116,11 @@ impl<'a> EntryFields<'a> {
     {
         write_bytes(out, 1, self.group_key)?;
         push_receiver(out, &self.receiver())?;
-        let group_hash = push_bytes(out, 3, self.group_hash)?;
+        let group_hash = write_part(out, 3, self.group_hash)?;
         write_number(out, 4, u64::from(self.resolved))?;
         write_message(out, 5, &self.timestamp)?;
-        let firing_alerts = push_numbers(out, 6, self.firing_alerts)?;
-        let resolved_alerts = push_numbers(out, 7, self.resolved_alerts)?;
+        let firing_alerts = write_packed_part(out, 6, self.firing_alerts)?;
+        let resolved_alerts = write_packed_part(out, 7, self.resolved_alerts)?;
         Ok(Offsets {
             group_hash,
             firing_alerts,
@@ -138,27 +136,4 @@ fn push_receiver(out: &mut Vec<u8>, receiver: &ReceiverRef<'_>) -> Result<(), Al
 {
     write_prefix(out, 2, receiver.size())?;
     receiver.write(out)
-}
-
-// Writes bytes as a field, where there are any, and tells where they stand.
-fn push_bytes(out: &mut Vec<u8>, number: u32, bytes: &[u8]) -> Result<Offset, AllocError>
-    requires { number < 16 }
-    ensures written { OnOk result (out.new.items ≡ out.old.items ++ writes_text number bytes.now) }
-    ensures place { IfOk result (λ place. StandsAt bytes.now place out.new.items) }
-{
-    let place = Offset::behind_tag(out.len(), bytes.is_empty())?;
-    write_bytes(out, number, bytes)?;
-    Ok(place)
-}
-
-// Writes numbers packed in one field, where there are any, and tells where they stand.
-fn push_numbers(out: &mut Vec<u8>, number: u32, numbers: &[u64]) -> Result<Offset, AllocError>
-    requires { number < 16 }
-    ensures written { OnOk result (out.new.items ≡ out.old.items ++ writes_numbers number numbers.now) }
-    ensures range { OnOk result (All (λ n. n < 2 ^ 64) numbers.now) }
-    ensures place { IfOk result (λ place. StandsAt (flat_map shortest numbers.now) place out.new.items) }
-{
-    let place = Offset::behind_tag(out.len(), numbers.is_empty())?;
-    write_numbers(out, number, numbers)?;
-    Ok(place)
 }

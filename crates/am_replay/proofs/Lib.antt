@@ -1,2 +1,3 @@
 mod Played
 mod Reported
+mod Viewed

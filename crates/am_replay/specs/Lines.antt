@@ -15,7 +15,7 @@ use Rattle.am_replay.specs.Texts.{flight_text, settle_text, step_text, timely_te
 -- A step and a settle are made, and memory didn't run out. What is asked of the run so far changes nothing.
 abbrev pub IsPlayed : World → Line → ℕ → List ℕ → World → Type 0
 IsPlayed old (kinds.Step action) number text new =
-    (result : Result Reply ClusterError) × IsStepped old action number result new × (step_text new action result ≡ Some text)
+    (result : Result Reply ClusterError) × IsStepped old action number result new × (step_text action result ≡ Some text)
 IsPlayed old (kinds.Settle now) number text new =
     (result : Result Unit SettleError) × IsSettle old now number result new × (settle_text result ≡ Some text)
 IsPlayed old (kinds.Timely spread flight) number text new =

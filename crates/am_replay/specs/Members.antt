@@ -1,7 +1,6 @@
--- The members of a cluster by their names and places.
+-- The names of a cluster's members.
 use Rattle.std.specs.Prelude.{ℕ, List, [], Option, Some, None, slice_get, option_map, unwrap_or}
 use Rattle.am_instance.specs.InstanceStates.{InstanceState}
-use Rattle.am_steps.specs.Places.{place_named}
 use Rattle.am_cluster.specs.Worlds.{World, replica_at}
 
 -- where the instance of the member at a place stands
@@ -25,17 +24,3 @@ name_by (Some stand) place = unwrap_or (slice_get stand.config.members place) []
 -- as the first member of a cluster has it
 abbrev pub name_at : World → ℕ → List ℕ
 name_at world place = name_by (stand_at world 0) place
-
--- the place of the member of a name
-abbrev pub place_by : Option InstanceState → List ℕ → Option ℕ
-place_by None name = None
-place_by (Some stand) name = place_named stand.config name
-
--- where the instance of the member of a name stands
-abbrev pub stand_by : World → Option ℕ → Option InstanceState
-stand_by world None = None
-stand_by world (Some place) = stand_at world place
-
--- how the member of a name stands
-abbrev pub stand_named : World → List ℕ → Option InstanceState
-stand_named world name = stand_by world (place_by (stand_at world 0) name)

@@ -3,7 +3,6 @@ use Rattle.std.specs.Prelude.{◌≡◌, ℕ, Bool, List, [], ◌++◌, Option, 
 use Rattle.std.specs.Borrow.{Bor}
 use Rattle.am_gossip.specs.Frames.{kind_of}
 use Rattle.am_matcher.specs.declared.muted.Mutes.{Mutes}
-use Rattle.am_instance.specs.InstanceStates.{InstanceState}
 use Rattle.am_instance.specs.declared.reply.Reply.{Reply}
 use Rattle.am_instance.specs.declared.reply.Reply.TheVariants as replies
 use Rattle.am_schedule.specs.declared.step.Action.{Action}
@@ -16,14 +15,14 @@ use Rattle.am_cluster.specs.declared.error.SettleError.{SettleError}
 use Rattle.am_cluster.specs.declared.error.SettleError.TheVariants as settle_errors
 use Rattle.am_cluster.specs.declared.flight.Flight.{Flight}
 use Rattle.am_cluster.specs.Worlds.{World}
-use Rattle.am_told.specs.Views.{view_text}
+use Rattle.am_told.specs.Views.{shown_text}
 use Rattle.am_replay.specs.declared.line.Line.{Line}
 use Rattle.am_replay.specs.declared.line.Line.TheVariants as lines
 use Rattle.am_replay.specs.declared.refusal.Refusal.{Refusal}
 use Rattle.am_replay.specs.declared.refusal.Refusal.TheVariants as refusals
 use Rattle.am_replay.specs.Printed.{line_text}
 use Rattle.am_replay.specs.Refusals.{kind_of as silence_refusal}
-use Rattle.am_replay.specs.Members.{stand_named, name_at}
+use Rattle.am_replay.specs.Members.{name_at}
 
 -- a value as a line holds it
 abbrev pub lent : {A : Type 0} → A → Bor A
@@ -35,11 +34,6 @@ told line = line_text line ++ codes "\n"
 
 -- ---- what a member answers
 
--- what it shows: the view of both its maps at the moment
-abbrev pub shown_text : Option InstanceState → List ℕ → ℕ → List ℕ
-shown_text None name now = []
-shown_text (Some stand) name now = view_text (Some name) now stand.silences stand.log
-
 -- a silence was ended
 abbrev pub ended_text : List ℕ → Event → List ℕ
 ended_text name (events.Expire id) = told (lines.Expired (lent name) (lent id))
@@ -49,26 +43,26 @@ ended_text name _ = []
 abbrev pub muted_text : List ℕ → Mutes → List ℕ
 muted_text name mutes = told (lines.Muted (lent name) (lent mutes.ids) (lent mutes.broken))
 
--- what is printed of the reply of the member of that name, in the world that the step leaves
-abbrev pub reply_text : World → ℕ → List ℕ → Event → Reply → List ℕ
-reply_text world now name event (replies.Posted id) = told (lines.Posted (lent name) (lent id))
-reply_text world now name event replies.Deleted = ended_text name event
-reply_text world now name event (replies.Refused error) = told (lines.Refused (Some (lent name)) (silence_refusal error))
-reply_text world now name event (replies.Logged changed) = told (lines.Logged (lent name) changed)
-reply_text world now name event (replies.Decided decision) = told (lines.Decided (lent name) decision)
-reply_text world now name event (replies.Muted mutes) = muted_text name mutes
-reply_text world now name event (replies.Shown silences log) = shown_text (stand_named world name) name now
-reply_text world now name event (replies.Silences shown) = []
-reply_text world now name event (replies.Silence silence state) = []
-reply_text world now name event replies.Nothing = []
+-- what is printed of the reply of the member of that name
+abbrev pub reply_text : List ℕ → Event → Reply → List ℕ
+reply_text name event (replies.Posted id) = told (lines.Posted (lent name) (lent id))
+reply_text name event replies.Deleted = ended_text name event
+reply_text name event (replies.Refused error) = told (lines.Refused (Some (lent name)) (silence_refusal error))
+reply_text name event (replies.Logged changed) = told (lines.Logged (lent name) changed)
+reply_text name event (replies.Decided decision) = told (lines.Decided (lent name) decision)
+reply_text name event (replies.Muted mutes) = muted_text name mutes
+reply_text name event (replies.Shown silences log) = shown_text (Some name) silences.items log.items
+reply_text name event (replies.Silences shown) = []
+reply_text name event (replies.Silence silence state) = []
+reply_text name event replies.Nothing = []
 
 -- of steps other than the events of a member nothing is printed but a refusal
-abbrev pub answer_text : World → Action → Reply → List ℕ
-answer_text world (actions.Event at name event) reply = reply_text world at name event reply
-answer_text world (actions.Stop name) reply = []
-answer_text world (actions.Save name) reply = []
-answer_text world (actions.Deliver at frame) reply = []
-answer_text world (actions.Lose frame) reply = []
+abbrev pub answer_text : Action → Reply → List ℕ
+answer_text (actions.Event at name event) reply = reply_text name event reply
+answer_text (actions.Stop name) reply = []
+answer_text (actions.Save name) reply = []
+answer_text (actions.Deliver at frame) reply = []
+answer_text (actions.Lose frame) reply = []
 
 -- ---- what is refused
 
@@ -102,10 +96,10 @@ refused_text owner (Some refusal) = Some (told (lines.Refused (option_map lent o
 
 -- ---- what a line prints
 
--- a step, in the world that it leaves; nothing where memory ran out
-abbrev pub step_text : World → Action → Result Reply ClusterError → Option (List ℕ)
-step_text world action (Ok reply) = Some (answer_text world action reply)
-step_text world action (Err error) = refused_text (owner_of action) (step_refusal error)
+-- a step; nothing where memory ran out
+abbrev pub step_text : Action → Result Reply ClusterError → Option (List ℕ)
+step_text action (Ok reply) = Some (answer_text action reply)
+step_text action (Err error) = refused_text (owner_of action) (step_refusal error)
 
 -- a settle, which is of no member
 abbrev pub settle_text : Result Unit SettleError → Option (List ℕ)

@@ -1,4 +1,15 @@
-//! What holds of all runs of a cluster, of clusters as they stand, and of all steps of an instance.
+//! What holds of all runs of a cluster, of clusters as they stand, and of all steps of an instance; and what a member
+//! prints that shows.
+
+ghost use Rattle.std.specs.Prelude.{◌≡◌, ℕ, List, Some};
+ghost use Rattle.am_instance.specs.InstanceStates.{InstanceState};
+ghost use Rattle.am_instance.specs.Replies.{IsReply};
+ghost use Rattle.am_instance.specs.declared.event.Event.TheVariants as events;
+ghost use Rattle.am_instance.specs.declared.reply.Made.{Made};
+ghost use Rattle.am_instance.specs.declared.reply.Reply.{Reply};
+ghost use Rattle.am_schedule.specs.declared.step.Event.{Event as LineEvent};
+ghost use Rattle.am_told.specs.Views.{view_text};
+ghost use Rattle.am_replay.specs.Texts.{reply_text};
 
 pub use am_cluster_laws::{
     first_is_told_after_a_spread, first_is_told_exactly, first_is_told_where_old_ones_ended,
@@ -14,3 +25,10 @@ pub use am_runs::laws::{
     calm_members_show_the_bare_set, nothing_shown_after_a_spread, nothing_shown_exactly,
     one_step_more, settled, taking_a_map_joins_it, timely_runs_are_calm, views_agree, worked_runs,
 };
+
+/// What is printed of the reply to a Show is the view of the maps that the member holds.
+pub fn a_show_prints_the_view()
+    ensures { (stand : InstanceState) (name : List ℕ) (event : LineEvent) (now : ℕ) (reply : Reply) (made : Made) →
+        IsReply stand events.Show now reply made →
+        reply_text name event reply ≡ view_text (Some name) now stand.silences stand.log }
+{}

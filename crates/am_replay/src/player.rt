@@ -33,7 +33,7 @@ fn play_step(
     ensures { OnOk result (Plays cluster.old (kinds.Step step.now) number cluster.new (string_bytes out.old) (string_bytes out.new)) }
 {
     match cluster.step(step, number) {
-        Ok(reply) => tell_answer(out, cluster, step.action(), &reply),
+        Ok(reply) => tell_answer(out, step.action(), &reply),
         Err(error) => tell_refused(out, step.action(), error),
     }
 }

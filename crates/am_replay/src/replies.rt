@@ -2,36 +2,18 @@
 
 ghost use Rattle.std.specs.Prelude.{◌≡◌, ◌++◌, OnOk, string_bytes};
 ghost use Rattle.std.specs.Option.{option_copied};
-ghost use Rattle.am_replay.specs.Members.{stand_named};
 ghost use Rattle.am_replay.specs.Texts.{Prints, answer_text, ended_text, muted_text, owner_of, refused_text};
-ghost use Rattle.am_replay.specs.Texts.{reply_text, shown_text, step_refusal};
+ghost use Rattle.am_replay.specs.Texts.{reply_text, step_refusal};
 
 use crate::line::Line;
-use crate::members::member_named;
 use crate::output::{tell, tell_refusal};
 use crate::refusal::Refusal;
-use am_cluster::{Cluster, ClusterError};
+use am_cluster::ClusterError;
 use am_instance::Reply;
 use am_matcher::Mutes;
 use am_schedule::{Action, Event};
-use am_told::append_view;
-use am_version_order::Moment;
+use am_told::append_shown;
 use std::alloc::AllocError;
-
-/// Appends what the member of a name shows.
-fn tell_shown(
-    out: &mut String,
-    cluster: &Cluster,
-    name: &str,
-    now: Moment,
-) -> Result<(), AllocError>
-    ensures { OnOk result (string_bytes out.new ≡ string_bytes out.old ++ shown_text (stand_named cluster.now name.now) name.now now) }
-{
-    match member_named(cluster, name) {
-        Some(instance) => append_view(out, instance.silences(), instance.log(), Some(name), now),
-        None => Ok(()),
-    }
-}
 
 /// Appends that the silence was ended whose end the event asks for.
 #[tactic(auto, unfolding(crate::specs::Printed::line_text))]
@@ -65,15 +47,8 @@ fn tell_mutes(out: &mut String, name: &str, mutes: &Mutes) -> Result<(), AllocEr
 
 /// Appends what is printed of the reply of the member of a name to an event.
 #[tactic(auto, unfolding(crate::specs::Printed::line_text))]
-fn tell_reply(
-    out: &mut String,
-    cluster: &Cluster,
-    now: Moment,
-    name: &str,
-    event: &Event,
-    reply: &Reply,
-) -> Result<(), AllocError>
-    ensures { OnOk result (string_bytes out.new ≡ string_bytes out.old ++ reply_text cluster.now now name.now event.now reply.now) }
+fn tell_reply(out: &mut String, name: &str, event: &Event, reply: &Reply) -> Result<(), AllocError>
+    ensures { OnOk result (string_bytes out.new ≡ string_bytes out.old ++ reply_text name.now event.now reply.now) }
 {
     match reply {
         Reply::Posted(id) => tell(
@@ -100,24 +75,17 @@ fn tell_reply(
             },
         ),
         Reply::Muted(mutes) => tell_mutes(out, name, mutes),
-        Reply::Shown { .. } => tell_shown(out, cluster, name, now),
+        Reply::Shown { silences, log } => append_shown(out, silences, log, Some(name)),
         Reply::Silences(_) | Reply::Silence(..) | Reply::Nothing => Ok(()),
     }
 }
 
 /// Appends what is printed of a step that was answered.
-pub fn tell_answer(
-    out: &mut String,
-    cluster: &Cluster,
-    action: &Action,
-    reply: &Reply,
-) -> Result<(), AllocError>
-    ensures { OnOk result (string_bytes out.new ≡ string_bytes out.old ++ answer_text cluster.now action.now reply.now) }
+pub fn tell_answer(out: &mut String, action: &Action, reply: &Reply) -> Result<(), AllocError>
+    ensures { OnOk result (string_bytes out.new ≡ string_bytes out.old ++ answer_text action.now reply.now) }
 {
     match action {
-        Action::Event { at, name, event } => {
-            tell_reply(out, cluster, *at, name.as_str(), event, reply)
-        }
+        Action::Event { name, event, .. } => tell_reply(out, name.as_str(), event, reply),
         Action::Stop { .. } | Action::Save { .. } | Action::Deliver { .. } | Action::Lose { .. } =>
             { Ok(()) }
     }

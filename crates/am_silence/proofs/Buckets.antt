@@ -5,14 +5,14 @@ use Rattle.std.specs.List.{list_any}
 use Rattle.std.specs.Option.{option_map_or}
 use Rattle.am_wire.specs.Varint.{shortest}
 use Rattle.am_wire.specs.Writing.{writes_delimited}
+use Rattle.am_wire.specs.Offsets.{Follows}
+use Rattle.am_wire.proofs.Offsets.{follows_past}
 use Rattle.am_silence.specs.declared.matcher.Matcher.{Matcher}
 use Rattle.am_silence.specs.Kinds.{is_regexp}
 use Rattle.am_silence.specs.Matchers.{writes_matcher, wants_label}
 use Rattle.am_silence.specs.MatcherTexts.{writes_matchers}
 use Rattle.am_silence.specs.Mesh.{bucket_of}
-use Rattle.am_silence.specs.Offsets.{Follows}
 use Rattle.am_silence.proofs.MatcherTexts.{tag_2}
-use Rattle.am_silence.proofs.Parts.{follows_past}
 
 -- behind some bytes the text goes on with so many matchers
 pub record GoesOn (whole rest : List Matcher) (at : ℕ) : Type 0 where

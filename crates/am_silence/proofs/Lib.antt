@@ -3,7 +3,6 @@ pub mod FirstComments
 pub mod Judging
 pub mod MatcherParts
 pub mod MatcherTexts
-pub mod Parts
 pub mod SameMatchers
 pub mod Spelling
 pub mod Standing

@@ -6,6 +6,7 @@ use Rattle.std.proofs.lemmas.Option.{none-some}
 use Rattle.std.proofs.lemmas.List.{take_rest}
 use Rattle.am_wire.specs.Varint.{shortest, groups}
 use Rattle.am_wire.specs.Writing.{delimited, writes_number, writes_text}
+use Rattle.am_wire.specs.Offsets.{Follows}
 use Rattle.am_silence.specs.declared.matcher.Matcher.{Matcher}
 use Rattle.am_silence.specs.declared.matcher.MatcherKind.{MatcherKind}
 use Rattle.am_silence.specs.declared.matcher.MatcherKind.TheVariants as kinds
@@ -13,7 +14,6 @@ use Rattle.am_silence.specs.Kinds.{kind_code, kind_of}
 use Rattle.am_silence.specs.RoundTrip.{kind_again}
 use Rattle.am_silence.specs.Matchers.{writes_matcher}
 use Rattle.am_silence.specs.MatcherTexts.{IsMatcherText, Leads}
-use Rattle.am_silence.specs.Offsets.{Follows}
 use Rattle.am_silence.proofs.MatcherTexts.{tag_2, tag_3}
 
 -- ---- the texts behind the kind

@@ -8,10 +8,10 @@ use Rattle.am_wire.specs.Varint.{shortest, groups}
 use Rattle.am_wire.specs.Reading.{Row, item_row, messages}
 use Rattle.am_wire.specs.Writing.{tag, writes_delimited}
 use Rattle.am_wire.specs.RoundTrip.Written.{EachReads, written_nothing, written_items, items_again, reads_whole}
+use Rattle.am_wire.specs.Offsets.{Follows}
 use Rattle.am_silence.specs.declared.matcher.Matcher.{Matcher}
 use Rattle.am_silence.specs.Matchers.{matcher, matcher_tests, matcher_value, writes_matcher, IsMatcher}
 use Rattle.am_silence.specs.MatcherTexts.{writes_matchers, matchers_in, IsMatchersText, IsMatcherText}
-use Rattle.am_silence.specs.Offsets.{Follows}
 use Rattle.am_silence.specs.RoundTrip.{matcher_reads}
 
 abbrev rows : List Row

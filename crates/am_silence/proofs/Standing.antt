@@ -1,42 +1,11 @@
 -- Parts of a text that keep their places where it grows at its end.
-use Rattle.std.proofs.Common.{◌≡◌, ℕ, ◌+◌, ◌-◌, ◌<◌, ◌≤◌, ◌^◌, List, [], ◌++◌, length, length-append, drop, slice_range, inl, inr, sym, ap, subst, ◌∙◌, arith}
-use Rattle.std.proofs.lemmas.List.{append-nil, append_assoc, drop-append-le}
-use Rattle.std.proofs.Math.Seq.{drop-append_seam, drop-append-add, take-append_seam}
-use Rattle.am_wire.specs.Varint.{shortest}
-use Rattle.am_silence.specs.declared.offset.Offset.{Offset}
+use Rattle.std.proofs.Common.{◌≡◌, ℕ, ◌+◌, ◌-◌, ◌≤◌, List, ◌++◌, length, length-append, drop, slice_range, sym, ap, subst, ◌∙◌, arith}
+use Rattle.std.proofs.lemmas.List.{append_assoc}
+use Rattle.std.proofs.Math.Seq.{drop-append_seam, take-append_seam}
+use Rattle.am_wire.proofs.Offsets.{stands_before}
 use Rattle.am_silence.specs.declared.offsets.Offsets.{Offsets}
 use Rattle.am_silence.specs.declared.silence.Silence.{Silence}
-use Rattle.am_silence.specs.Offsets.{Follows, StandsAt, StandsBetween, StandIn}
-
-module _ {start : ℕ} {part text : List ℕ} (h : Follows start part text) where
-  pub follows_before : (more : List ℕ) → Follows start part (text ++ more)
-  follows_before more = record {
-    rest = h.rest ++ more;
-    within = omega (arith, h.within, length-append text more);
-    short = h.short;
-    is = drop-append-le start text more h.within ∙ ap (λ (x : List ℕ). x ++ more) h.is
-        ∙ append_assoc (shortest (length part)) (part ++ h.rest) more
-        ∙ ap (λ (x : List ℕ). shortest (length part) ++ x) (append_assoc part h.rest more);
-  }
-
-pub at_before : {part : List ℕ} {place : Offset} {text : List ℕ} → StandsAt part place text → (more : List ℕ) → StandsAt part place (text ++ more)
-at_before h more = elim h [ inl e ↦ inl e | inr f ↦ inr (f.0, follows_before f.1 more) ]
-
--- a part behind its length, at the end of a text
-pub at_end : (front part : List ℕ) (place : Offset) → place.start ≡ length front → 0 < length front → length part < 2 ^ 64
-    → StandsAt part place ((front ++ shortest (length part)) ++ part)
-at_end front part place at some short =
-    let size = shortest (length part) in
-    let all : (front ++ size) ++ part ≡ front ++ (size ++ part) = append_assoc front size part in
-    inr (
-      omega (arith, at, some),
-      record {
-        rest = [];
-        within = omega (arith, at, ap length all, length-append front (size ++ part));
-        short = short;
-        is = rw (at, all) (drop-append_seam front (size ++ part)) ∙ ap (λ (x : List ℕ). size ++ x) (sym (append-nil part));
-      },
-    )
+use Rattle.am_silence.specs.Offsets.{StandsBetween, StandIn}
 
 module _ {start end : ℕ} {part text : List ℕ} (h : StandsBetween start end part text) where
   pub between_before : (more : List ℕ) → StandsBetween start end part (text ++ more)
@@ -61,14 +30,11 @@ module _ {start end : ℕ} {part text : List ℕ} (h : StandsBetween start end p
 pub stand_before : {s : Silence} {p : Offsets} {text : List ℕ} → StandIn s p text → (more : List ℕ) → StandIn s p (text ++ more)
 stand_before h more = record {
   matchers = between_before h.matchers more;
-  created_by = at_before h.created_by more;
-  comment = at_before h.comment more;
-  bucket = at_before h.bucket more;
+  created_by = stands_before h.created_by more;
+  comment = stands_before h.comment more;
+  bucket = stands_before h.bucket more;
 }
 
 -- the same where the longer text is written in another way
 pub between_grown : {start end : ℕ} {part text grown : List ℕ} → StandsBetween start end part text → (more : List ℕ) → grown ≡ text ++ more → StandsBetween start end part grown
 between_grown {start} {end} {part} h more is = subst (StandsBetween start end part) (sym is) (between_before h more)
-
-pub at_grown : {part : List ℕ} {place : Offset} {text grown : List ℕ} → StandsAt part place text → (more : List ℕ) → grown ≡ text ++ more → StandsAt part place grown
-at_grown {part} {place} h more is = subst (λ (x : List ℕ). StandsAt part place x) (sym is) (at_before h more)

@@ -2,11 +2,11 @@
 
 ghost use Rattle.std.specs.Prelude.{◌≡◌, ◌<◌, [], None, MatchOption, IsSomeAnd};
 ghost use Rattle.std.specs.List.{list_any, find};
+ghost use Rattle.am_wire.specs.Offsets.{Follows};
 ghost use Rattle.am_silence.specs.Kinds.{is_regexp};
 ghost use Rattle.am_silence.specs.MatcherTexts.{writes_matchers};
 ghost use Rattle.am_silence.specs.Matchers.{writes_matcher, wants_label};
 ghost use Rattle.am_silence.specs.Mesh.{bucket_of};
-ghost use Rattle.am_silence.specs.Offsets.{Follows};
 
 use crate::iter::MatcherIter;
 

@@ -8,7 +8,7 @@ ghost use Rattle.am_silence.specs.Matchers.{writes_matcher, IsMatcher};
 ghost use Rattle.am_silence.specs.MatcherTexts.{matchers_in, writes_matchers, IsMatchersText, IsMatcherText, Leads};
 
 use crate::matcher::{MatcherKind, MatcherRef};
-use crate::offset::split_part;
+use am_wire::reading::split_part;
 use std::marker::Model;
 
 /// The tags of a matcher's fields: its type, its name and its pattern.

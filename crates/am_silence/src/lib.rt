@@ -10,7 +10,6 @@ mod iter;
 mod matcher;
 mod matchers;
 mod mesh;
-mod offset;
 mod offsets;
 mod plan;
 mod record;

@@ -1,20 +1,19 @@
 //! Silences written into a text, and where their parts then stand.
 
-ghost use Rattle.std.specs.Prelude.{◌≡◌, ℕ, List, ◌<◌, ◌^◌, ◌++◌, length, All, OnOk, IfOk};
-ghost use Rattle.am_wire.specs.Writing.{writes_text};
+ghost use Rattle.std.specs.Prelude.{◌≡◌, ℕ, List, ◌++◌, length, All, OnOk, IfOk};
+ghost use Rattle.am_wire.specs.Offsets.{StandsAt};
 ghost use Rattle.am_silence.specs.Fields.{silence_in};
 ghost use Rattle.am_silence.specs.MatcherTexts.{writes_matchers};
 ghost use Rattle.am_silence.specs.Matchers.{IsMatcher};
 ghost use Rattle.am_silence.specs.Mesh.{bucket_of};
-ghost use Rattle.am_silence.specs.Offsets.{StandsAt, StandsBetween, StandIn};
+ghost use Rattle.am_silence.specs.Offsets.{StandsBetween, StandIn};
 ghost use Rattle.am_silence.specs.Silences.{writes_silence, IsSilence};
 
 use crate::bucket::bucket_offset;
 use crate::iter::MatcherIter;
-use crate::offset::Offset;
 use crate::sizes::SilenceFields;
-use am_wire::write_varint;
-use am_wire::writing::{write_message, write_text};
+use am_wire::reading::Offset;
+use am_wire::writing::{write_message, write_part, write_text};
 use std::alloc::AllocError;
 
 /// Where the parts of a silence stand in a text: its matchers from one place up to another, and its texts and the
@@ -44,8 +43,8 @@ pub fn write_silence(out: &mut Vec<u8>, fields: &SilenceFields<'_>) -> Result<Of
     write_message(out, 3, &fields.starts_at)?;
     write_message(out, 4, &fields.ends_at)?;
     write_message(out, 5, &fields.updated_at)?;
-    let created_by = write_part(out, 8, fields.created_by)?;
-    let comment = write_part(out, 9, fields.comment)?;
+    let created_by = write_part(out, 8, fields.created_by.as_bytes())?;
+    let comment = write_part(out, 9, fields.comment.as_bytes())?;
     Ok(Offsets {
         matchers,
         matchers_end,
@@ -84,24 +83,6 @@ fn bucket_place(start: u32, matchers: &MatcherIter<'_>) -> Result<Offset, AllocE
         Ok(start) => Ok(Offset { start }),
         Err(_) => Err(AllocError),
     }
-}
-
-// Writes a text as a field, where it is not empty, and says where it stands.
-fn write_part(out: &mut Vec<u8>, number: u32, text: &str) -> Result<Offset, AllocError>
-    requires { number < 2 ^ 29 }
-    ensures written { OnOk result (out.new.items ≡ out.old.items ++ writes_text number text.now) }
-    ensures place { IfOk result (λ place. StandsAt text.now place out.new.items) }
-{
-    if text.is_empty() {
-        return Ok(Offset { start: 0 });
-    }
-    let tag = write_varint(u64::from(number) * 8 + 2);
-    let len = write_varint(text.len() as u64);
-    out.extend_from_slice(tag.as_slice())?;
-    let start = place_behind(out)?;
-    out.extend_from_slice(len.as_slice())?;
-    out.extend_from_slice(text.as_bytes())?;
-    Ok(Offset { start })
 }
 
 // The end of a text as a place in it.

@@ -1,16 +1,15 @@
 //! The held versions of a map as a row: how long it is, and the row itself.
 
-ghost use Rattle.std.specs.Prelude.{◌≡◌, ◌++◌, ◌≤◌, All, length, OnOk, OnSome, IfOk};
+ghost use Rattle.std.specs.Prelude.{◌≡◌, ◌≤◌, All, length, OnSome, IfOk};
 ghost use Rattle.std.specs.Option.{SomeIff};
 ghost use Rattle.am_merge.specs.Maps.{IsMap};
 ghost use Rattle.am_wire.specs.Limits.{most};
-ghost use Rattle.am_wire.specs.Sizes.{counted};
-ghost use Rattle.am_wire.specs.Writing.{delimited};
 ghost use Rattle.am_snapshot.specs.Texts.{row_text};
 
 use am_merge::Held;
 use am_version_order::Version;
-use am_wire::{Bytes, MOST_MESSAGE_BYTES, write_varint};
+use am_wire::writing::{append_delimited, delimited_length};
+use am_wire::{Bytes, MOST_MESSAGE_BYTES};
 use std::alloc::{AllocError, Global};
 
 /// The most bytes of a row.
@@ -32,29 +31,6 @@ pub fn row_length<V: Version>(held: &Held<V>) -> Option<u64>
     Some(total)
 }
 
-/// How many bytes a text has behind its length, and [`u64::MAX`] for every number that is no less. It takes no
-/// memory.
-pub fn delimited_length(text: &[u8]) -> u64
-    ensures { result ≡ counted (length (delimited text.now)) }
-{
-    let length = text.len() as u64;
-    let prefix = write_varint(length).as_slice().len() as u64;
-    prefix.saturating_add(length)
-}
-
-/// A text behind its length. It takes memory once, for just these bytes.
-///
-/// # Errors
-///
-/// [`AllocError`] where memory runs out.
-pub fn delimited_bytes(alloc: Global, text: &[u8]) -> Result<Bytes, AllocError>
-    ensures { IfOk result (λ bytes. bytes ≡ delimited text.now) }
-{
-    let mut bytes = Vec::with_capacity(alloc, delimited_length(text) as usize)?;
-    append_delimited(&mut bytes, text)?;
-    Ok(Bytes::new(bytes))
-}
-
 /// The row of the held versions, which has so many bytes. It takes memory once.
 ///
 /// # Errors
@@ -72,12 +48,4 @@ pub fn row_bytes<V: Version>(
         append_delimited(&mut bytes, version.canonical())?;
     }
     Ok(Bytes::new(bytes))
-}
-
-/// Writes a text behind its length.
-fn append_delimited(out: &mut Vec<u8>, text: &[u8]) -> Result<(), AllocError>
-    ensures { OnOk result (out.new.items ≡ out.old.items ++ delimited text.now) }
-{
-    out.extend_from_slice(write_varint(text.len() as u64).as_slice())?;
-    out.extend_from_slice(text)
 }

@@ -13,7 +13,7 @@ mod saving;
 
 pub use error::SnapshotError;
 pub use folding::{FoldError, Folded, fold, fold_held};
-pub use in_memory::{delimited_bytes, delimited_length, row_bytes, row_length};
+pub use in_memory::{row_bytes, row_length};
 pub use loading::load;
 pub use reading::take_row;
 pub use saving::save;

@@ -2,75 +2,77 @@
 use Rattle.std.proofs.Common.{◌≡◌, ◌≢◌, ℕ, List, [], ◌∷◌, ◌++◌, Bool, true, false, ap, refl, sym, subst, ◌∙◌, append-nil}
 use Rattle.std.specs.Prelude.{take, Result, Ok, Err, if◌then◌else◌, ◌==◌}
 use Rattle.std.proofs.lemmas.Bool.{eq-eqb, ne_eqb}
-use Rattle.std.specs.declared.cmp.Ordering.{Ordering}
-use Rattle.am_version_order.specs.Versions.{Version}
 use Rattle.am_gossip.specs.declared.frame.Frame.{Frame}
 use Rattle.am_merge.specs.Maps.{at}
 use Rattle.am_collect.specs.Kept.{Kept}
-use Rattle.am_collect.specs.Events.{Event, Events, after_all, last_moment}
+use Rattle.am_collect.specs.Events.{Events, after_all, last_moment}
 use Rattle.am_collect.specs.Events.Event.{Collected}
 use Rattle.am_collect.specs.Keepers.{IsLeftBy}
 use Rattle.am_collect.proofs.Histories.{last_moment-append}
 use Rattle.am_runs.specs.declared.step.Source.{Source}
 use Rattle.am_runs.specs.Steps.Step.{Took, Ticked}
-use Rattle.am_runs.specs.Members.{Member, map_of, member_after, passes, stepped}
-use Rattle.am_runs.proofs.Pasts.{last-passes, map_of-append}
+use Rattle.am_runs.specs.Members.{Member, map_of, member_after, member_of, passes, stepped}
+use Rattle.am_runs.proofs.Pasts.{last-passes, map_of-append, member_of-push}
 use Rattle.am_instance.specs.declared.event.Event.{Event as Happening}
 use Rattle.am_instance.specs.declared.error.StepError.{StepError}
 use Rattle.am_instance.specs.declared.error.StepError.TheVariants.{MomentBack, UnknownPeer, Frame as FrameFault, Memory}
 use Rattle.am_instance.specs.declared.reply.Outcome.{Outcome}
 use Rattle.am_instance.specs.Deliveries.{Delivery, events_at}
 use Rattle.am_instance.specs.Steps.{brought, collects, delivers, step_events}
+use Rattle.am_steps.specs.BothStates.{StateOf}
 use Rattle.am_steps.specs.Recorded.{HasGoneThrough, event_step, sent_in}
-use Rattle.am_steps.proofs.States.{IsState, last_arrivals}
+use Rattle.am_steps.specs.StepLaws.{MembersGoOn, OthersStay, OwnMemberChanges}
+use Rattle.am_steps.proofs.States.{IsStateOf, last_arrivals}
 
-module _ {K X : Type 0} (seen : X → Version K) (cmp : K → K → Ordering) where
+module _ {K X : Type 0} {state : StateOf K X} (facts : IsStateOf state) where
   -- events after a past
-  pub goes_on : (past events : Events X) (old new : Kept X) → HasGoneThrough seen cmp past old → IsLeftBy seen cmp old events new → HasGoneThrough seen cmp (past ++ events) new
+  goes_on : (past events : Events X) (old new : Kept X) → HasGoneThrough state past old → IsLeftBy state.seen state.cmp old events new → HasGoneThrough state (past ++ events) new
   goes_on past events old new gone left =
-      let same : at seen cmp old.held ≡ map_of seen cmp past = (λ i key. gone.map key i) in
+      let same : at state.seen state.cmp old.held ≡ map_of state.seen state.cmp past = (λ i key. gone.map key i) in
       record {
         map = λ key.
-            left.map key ∙ ap (λ held. after_all seen cmp held events key) same
-            ∙ sym (ap (λ held. held key) (map_of-append seen cmp past events));
+            left.map key ∙ ap (λ held. after_all state.seen state.cmp held events key) same
+            ∙ sym (ap (λ held. held key) (map_of-append state.seen state.cmp past events));
         last = left.last ∙ ap (λ moment. last_moment moment events) gone.last ∙ sym (last_moment-append 0 past events);
       }
 
-  module _ (of_delivery : Delivery → Event X) (pick : List Delivery → List X) (state : IsState seen cmp of_delivery pick) where
-    -- the same versions, with those of the other state among them or without them
-    passes_alike : (past : Events X) (now : ℕ) (ds : List Delivery) (new : Kept X) → HasGoneThrough seen cmp (past ++ events_at of_delivery now ds) new → HasGoneThrough seen cmp (past ++ passes now (pick ds)) new
-    passes_alike past now ds new gone = record {
-      map = λ key.
-          gone.map key
-          ∙ ap (λ held. held key) (map_of-append seen cmp past (events_at of_delivery now ds) ∙ state.lift now (map_of seen cmp past) ds ∙ sym (map_of-append seen cmp past (passes now (pick ds))));
-      last = gone.last ∙ last_moment-append 0 past (events_at of_delivery now ds) ∙ last_arrivals of_delivery now ds ∙ sym (last-passes past now (pick ds));
-    }
+  -- the same versions, with those of the other state among them or without them
+  passes_alike : (past : Events X) (now : ℕ) (ds : List Delivery) (new : Kept X) → HasGoneThrough state (past ++ events_at state.event_of now ds) new →
+      HasGoneThrough state (past ++ passes now (state.versions_in ds)) new
+  passes_alike past now ds new gone = record {
+    map = λ key.
+        gone.map key
+        ∙ ap (λ held. held key) (map_of-append state.seen state.cmp past (events_at state.event_of now ds) ∙ facts.lift now (map_of state.seen state.cmp past) ds
+        ∙ sym (map_of-append state.seen state.cmp past (passes now (state.versions_in ds))));
+    last = gone.last ∙ last_moment-append 0 past (events_at state.event_of now ds) ∙ last_arrivals state.event_of now ds ∙ sym (last-passes past now (state.versions_in ds));
+  }
 
-    -- after nothing
-    stays : (past : Events X) (new : Kept X) → HasGoneThrough seen cmp (past ++ []) new → HasGoneThrough seen cmp past new
-    stays past new gone = subst (λ events. HasGoneThrough seen cmp events new) (append-nil past) gone
+  -- after nothing
+  stays : (past : Events X) (new : Kept X) → HasGoneThrough state (past ++ []) new → HasGoneThrough state past new
+  stays past new gone = subst (λ events. HasGoneThrough state events new) (append-nil past) gone
 
-    module _ (m : Member X) (place now : ℕ) (source : Source) (event : Happening) (frames : List (ℕ × Frame)) (new : Kept X) where
-      by_collecting : (collecting : Bool) (ds : List Delivery) →
-          HasGoneThrough seen cmp (m.past ++ (if collecting then (Collected, now) ∷ [] else events_at of_delivery now ds)) new →
-          HasGoneThrough seen cmp (stepped m (if collecting then Ticked place now else Took place now source (pick ds) (sent_in pick frames))).past new
-      by_collecting true ds gone = gone
-      by_collecting false ds gone = passes_alike m.past now ds new gone
+  module _ (m : Member X) (place now : ℕ) (source : Source) (event : Happening) (frames : List (ℕ × Frame)) (new : Kept X) where
+    by_collecting : (collecting : Bool) (ds : List Delivery) →
+        HasGoneThrough state (m.past ++ (if collecting then (Collected, now) ∷ [] else events_at state.event_of now ds)) new →
+        HasGoneThrough state (stepped m (if collecting then Ticked place now else Took place now source (state.versions_in ds) (sent_in state frames))).past new
+    by_collecting true ds gone = gone
+    by_collecting false ds gone = passes_alike m.past now ds new gone
 
-      by_answer : (answer : Result Outcome StepError) → HasGoneThrough seen cmp (m.past ++ step_events of_delivery event now answer) new →
-          HasGoneThrough seen cmp (stepped m (event_step pick place now source event answer frames)).past new
-      by_answer (Ok outcome) gone = by_collecting (collects event) (delivers event outcome.made) gone
-      by_answer (Err (Memory taken)) gone = passes_alike m.past now (take taken (brought event)) new gone
-      by_answer (Err (MomentBack last)) gone = stays m.past new gone
-      by_answer (Err UnknownPeer) gone = stays m.past new gone
-      by_answer (Err (FrameFault fault)) gone = stays m.past new gone
+    by_answer : (answer : Result Outcome StepError) → HasGoneThrough state (m.past ++ step_events state.event_of event now answer) new →
+        HasGoneThrough state (stepped m (event_step state place now source event answer frames)).past new
+    by_answer (Ok outcome) gone = by_collecting (collects event) (delivers event outcome.made) gone
+    by_answer (Err (Memory taken)) gone = passes_alike m.past now (take taken (brought event)) new gone
+    by_answer (Err (MomentBack last)) gone = stays m.past new gone
+    by_answer (Err UnknownPeer) gone = stays m.past new gone
+    by_answer (Err (FrameFault fault)) gone = stays m.past new gone
 
-      pub member_goes_on : (answer : Result Outcome StepError) (old : Kept X) → HasGoneThrough seen cmp m.past old → IsLeftBy seen cmp old (step_events of_delivery event now answer) new →
-          HasGoneThrough seen cmp (stepped m (event_step pick place now source event answer frames)).past new
-      member_goes_on answer old gone left = by_answer answer (goes_on m.past (step_events of_delivery event now answer) old new gone left)
+  pub members_go_on : MembersGoOn state
+  members_go_on = λ m place now source old new event answer frames gone step.
+      by_answer m place now source event frames (state.kept new) answer
+      (goes_on m.past (step_events state.event_of event now answer) (state.kept old) (state.kept new) gone (facts.left old new event now answer step))
 
 -- ---- the member of the step, and the others
-module _ {X : Type 0} (pick : List Delivery → List X) (place now : ℕ) (source : Source) (event : Happening) (frames : List (ℕ × Frame)) where
+module _ {K X : Type 0} (state : StateOf K X) (place now : ℕ) (source : Source) (event : Happening) (frames : List (ℕ × Frame)) where
   itself : (n : ℕ) → (n == n) ≡ true
   itself n = eq-eqb n n refl
 
@@ -84,24 +86,34 @@ module _ {X : Type 0} (pick : List Delivery → List X) (place now : ℕ) (sourc
   if_false test x y fails = ap (λ b. if b then x else y) fails
 
   own_by : (m : Member X) (collecting : Bool) (vs : List X) →
-      let step = if collecting then Ticked place now else Took place now source vs (sent_in pick frames) in member_after place m step ≡ stepped m step
+      let step = if collecting then Ticked place now else Took place now source vs (sent_in state frames) in member_after place m step ≡ stepped m step
   own_by m true vs = if_true (place == place) _ m (itself place)
   own_by m false vs = if_true (place == place) _ m (itself place)
 
-  pub own_member : (m : Member X) (answer : Result Outcome StepError) → member_after place m (event_step pick place now source event answer frames) ≡ stepped m (event_step pick place now source event answer frames)
-  own_member m (Ok outcome) = own_by m (collects event) (pick (delivers event outcome.made))
+  own_member : (m : Member X) (answer : Result Outcome StepError) → member_after place m (event_step state place now source event answer frames) ≡ stepped m (event_step state place now source event answer frames)
+  own_member m (Ok outcome) = own_by m (collects event) (state.versions_in (delivers event outcome.made))
   own_member m (Err (Memory taken)) = if_true (place == place) _ m (itself place)
   own_member m (Err (MomentBack last)) = if_true (place == place) _ m (itself place)
   own_member m (Err UnknownPeer) = refl
   own_member m (Err (FrameFault fault)) = refl
 
-  other_by : (q : ℕ) (m : Member X) → place ≢ q → (collecting : Bool) (vs : List X) → member_after q m (if collecting then Ticked place now else Took place now source vs (sent_in pick frames)) ≡ m
+  other_by : (q : ℕ) (m : Member X) → place ≢ q → (collecting : Bool) (vs : List X) → member_after q m (if collecting then Ticked place now else Took place now source vs (sent_in state frames)) ≡ m
   other_by q m other true vs = if_false (place == q) _ m (apart place q other)
   other_by q m other false vs = if_false (place == q) _ m (apart place q other)
 
-  pub other_member : (q : ℕ) (m : Member X) (answer : Result Outcome StepError) → place ≢ q → member_after q m (event_step pick place now source event answer frames) ≡ m
-  other_member q m (Ok outcome) other = other_by q m other (collects event) (pick (delivers event outcome.made))
+  other_member : (q : ℕ) (m : Member X) (answer : Result Outcome StepError) → place ≢ q → member_after q m (event_step state place now source event answer frames) ≡ m
+  other_member q m (Ok outcome) other = other_by q m other (collects event) (state.versions_in (delivers event outcome.made))
   other_member q m (Err (Memory taken)) other = if_false (place == q) _ m (apart place q other)
   other_member q m (Err (MomentBack last)) other = if_false (place == q) _ m (apart place q other)
   other_member q m (Err UnknownPeer) other = refl
   other_member q m (Err (FrameFault fault)) other = refl
+
+pub own_member_changes : {K X : Type 0} (state : StateOf K X) → OwnMemberChanges state
+own_member_changes state = λ members place now source before event answer frames.
+    member_of-push members place before (event_step state place now source event answer frames)
+    ∙ own_member state place now source event frames (member_of members place before) answer
+
+pub others_stay : {K X : Type 0} (state : StateOf K X) → OthersStay state
+others_stay state = λ members place other now source before event answer frames apart.
+    member_of-push members other before (event_step state place now source event answer frames)
+    ∙ other_member state place now source event frames other (member_of members other before) answer apart

@@ -1,16 +1,11 @@
 -- A recorded step can have happened.
 use Rattle.std.proofs.Common.{◌≡◌, ⊎_elim, ℕ, ◌≤◌, List, [], ◌++◌, Bool, true, false, take, drop, ap, refl, sym, subst, ◌∙◌, append-nil, arith}
 use Rattle.std.specs.Prelude.{All, Contains, Option, Some, None, Result, Ok, Err, IfOk, IsSomeAnd, if◌then◌else◌, slice_get}
-use Rattle.std.specs.declared.cmp.Ordering.{Ordering}
 use Rattle.std.proofs.Math.Seq.{take-nil}
 use Rattle.std.proofs.lemmas.List.{take-append-drop}
 use Rattle.std.proofs.lemmas.List.Elements.{All-nil}
-use Rattle.am_version_order.specs.Versions.{Version}
 use Rattle.am_gossip.specs.declared.frame.Frame.{Frame}
 use Rattle.am_merge.specs.Maps.{at}
-use Rattle.am_collect.specs.Events.{Event as MapEvent}
-use Rattle.am_collect.specs.Kept.{Kept}
-use Rattle.am_collect.specs.Keepers.{IsLeftBy}
 use Rattle.am_runs.specs.declared.step.Source.{Source}
 use Rattle.am_runs.specs.declared.step.Source.TheVariants.{Made, Written, Arrived, Lent}
 use Rattle.am_runs.specs.Steps.{SentFrame, Step, flights_of}
@@ -31,152 +26,143 @@ use Rattle.am_instance.specs.Deliveries.{Delivery}
 use Rattle.am_instance.specs.InstanceStates.{InstanceState, entry_at, silence_at}
 use Rattle.am_instance.specs.Sendings.{deltas_to, nothing_sent, sent_by}
 use Rattle.am_instance.specs.Replies.{IsReply}
-use Rattle.am_instance.specs.Steps.{brought, collects, counts, delivers, last_wanted, made_here, origin, step_events}
+use Rattle.am_instance.specs.Steps.{brought, collects, counts, delivers, last_wanted, origin}
 use Rattle.am_instance.specs.OneStep.{IsStep}
-use Rattle.am_instance.specs.Laws.{HasMaps}
 use Rattle.std.proofs.lemmas.List.Elements.{All-append}
-use Rattle.am_steps.specs.Contents.{carries, held_in}
+use Rattle.am_steps.specs.BothStates.{StateOf}
+use Rattle.am_steps.specs.Contents.{carries}
 use Rattle.am_steps.specs.Recorded.{AreInFlight, AreValues, HasGoneThrough, HasSource, event_step, sent_in}
-use Rattle.am_steps.proofs.States.{IsState}
-use Rattle.am_steps.proofs.Going.{member_goes_on}
-use Rattle.am_steps.proofs.Making.{MadeNow, frame_makes_nothing, reply_now}
+use Rattle.am_steps.specs.StepLaws.{StepsArePossible}
+use Rattle.am_steps.proofs.States.{IsStateOf, held_at}
+use Rattle.am_steps.proofs.Going.{members_go_on}
+use Rattle.am_steps.proofs.Making.{frame_makes_nothing, reply_now}
 use Rattle.am_steps.proofs.Sendings.{AreKnown, IfFits, all_deltas, all_picked, all_sent, changed_values, deltas_known, last_holds, pull_known, push_known}
 
--- what is told of a state of an instance
-pub record IsStateOf {K X : Type 0} (seen : X → Version K) (cmp : K → K → Ordering) (of_delivery : Delivery → MapEvent X) (pick : List Delivery → List X) (kept : InstanceState → Kept X) : Type 0 where
-  pub state : IsState seen cmp of_delivery pick
-  pub none : pick [] ≡ []
-  pub last : (stand : InstanceState) → (kept stand).last ≡ stand.last
-  pub parted : (stand : InstanceState) → pick (held_in stand.silences stand.log) ≡ (kept stand).held
-  pub changes : (now : ℕ) (stand : InstanceState) (ds : List Delivery) →
-      pick (changed_of now (silence_at stand.silences) (entry_at stand.log) ds) ≡ changed seen cmp now (at seen cmp (kept stand).held) (pick ds)
-  pub made : (now : ℕ) (made : MadeHere) → MadeNow now made → All (λ v. (seen v).updated ≡ now) (pick (made_here made))
-  pub left : (old new : InstanceState) (event : Event) (now : ℕ) (answer : Result Outcome StepError) → IsStep old event now answer new →
-      IsLeftBy seen cmp (kept old) (step_events of_delivery event now answer) (kept new)
-
-module _ {K X : Type 0} (seen : X → Version K) (cmp : K → K → Ordering) (members : ℕ) (before : List (Step X)) (now : ℕ) where
+module _ {K X : Type 0} {state : StateOf K X} (facts : IsStateOf state) (members : ℕ) (before : List (Step X)) (now : ℕ) where
   -- the first of versions come from where all of them do
   fewer_flown : (vs ws : List X) (flight : Option (SentFrame X)) → IsSomeAnd flight (λ f. All (Contains f.versions) (vs ++ ws)) → IsSomeAnd flight (λ f. All (Contains f.versions) vs)
   fewer_flown vs ws None all = all
   fewer_flown vs ws (Some f) all = all_left (Contains f.versions) vs ws all
 
-  fewer_from : (source : Source) (vs ws : List X) → AreFrom seen cmp members before now source (vs ++ ws) → AreFrom seen cmp members before now source vs
-  fewer_from Made vs ws from = all_left (λ v. (seen v).updated ≡ now) vs ws from
-  fewer_from (Written sent) vs ws from = all_left (λ v. sent ≤ (seen v).updated) vs ws from
+  fewer_from : (source : Source) (vs ws : List X) → AreFrom state.seen state.cmp members before now source (vs ++ ws) → AreFrom state.seen state.cmp members before now source vs
+  fewer_from Made vs ws from = all_left (λ v. (state.seen v).updated ≡ now) vs ws from
+  fewer_from (Written sent) vs ws from = all_left (λ v. sent ≤ (state.seen v).updated) vs ws from
   fewer_from (Arrived number) vs ws from = fewer_flown vs ws (slice_get (flights_of before) number) from
-  fewer_from (Lent place) vs ws from = (from.0, all_left (λ v. map_of seen cmp (member_of members place before).past (seen v).key ≡ Some v) vs ws from.1)
+  fewer_from (Lent place) vs ws from = (from.0, all_left (λ v. map_of state.seen state.cmp (member_of members place before).past (state.seen v).key ≡ Some v) vs ws from.1)
 
   -- what a step made
-  made_from : (source : Source) (vs : List X) → source ≡ Made → All (λ v. (seen v).updated ≡ now) vs → AreFrom seen cmp members before now source vs
-  made_from source vs is all = subst (λ s. AreFrom seen cmp members before now s vs) (sym is) all
+  made_from : (source : Source) (vs : List X) → source ≡ Made → All (λ v. (state.seen v).updated ≡ now) vs → AreFrom state.seen state.cmp members before now source vs
+  made_from source vs is all = subst (λ s. AreFrom state.seen state.cmp members before now s vs) (sym is) all
 
-  module _ (of_delivery : Delivery → MapEvent X) (pick : List Delivery → List X) (kept : InstanceState → Kept X) (facts : IsStateOf seen cmp of_delivery pick kept) where
-    delivered_from : (old : InstanceState) (event : Event) (source : Source) (reply : Reply) (made : MadeHere) → HasSource pick seen cmp members before now event source → IsReply old event now reply made →
-        AreFrom seen cmp members before now source (pick (delivers event made))
-    delivered_from old (events.Frame sender frame) source reply made from is =
-        subst (λ (ds : List Delivery). AreFrom seen cmp members before now source (pick ds)) (sym (ap (λ ds. carries frame ++ ds) (frame_makes_nothing made is.1) ∙ append-nil (carries frame))) from
-    delivered_from old (events.Request request) source reply made from is = made_from source _ from (facts.made now made (reply_now old (events.Request request) now reply made is))
-    delivered_from old (events.Notified group_key receiver firing resolved repeat) source reply made from is =
-        made_from source _ from (facts.made now made (reply_now old (events.Notified group_key receiver firing resolved repeat) now reply made is))
-    delivered_from old (events.Decide group_key receiver firing resolved repeat send_resolved) source reply made from is =
-        made_from source _ from (facts.made now made (reply_now old (events.Decide group_key receiver firing resolved repeat send_resolved) now reply made is))
-    delivered_from old (events.Mutes labels) source reply made from is = made_from source _ from (facts.made now made (reply_now old (events.Mutes labels) now reply made is))
-    delivered_from old events.Show source reply made from is = made_from source _ from (facts.made now made (reply_now old events.Show now reply made is))
-    delivered_from old events.Tick source reply made from is = made_from source _ from (facts.made now made (reply_now old events.Tick now reply made is))
-    delivered_from old (events.PullFrom place) source reply made from is = made_from source _ from (facts.made now made (reply_now old (events.PullFrom place) now reply made is))
+  delivered_from : (old : InstanceState) (event : Event) (source : Source) (reply : Reply) (made : MadeHere) → HasSource state members before now event source → IsReply old event now reply made →
+      AreFrom state.seen state.cmp members before now source (state.versions_in (delivers event made))
+  delivered_from old (events.Frame sender frame) source reply made from is =
+      subst (λ (ds : List Delivery). AreFrom state.seen state.cmp members before now source (state.versions_in ds)) (sym (ap (λ ds. carries frame ++ ds) (frame_makes_nothing made is.1) ∙ append-nil (carries frame))) from
+  delivered_from old (events.Request request) source reply made from is = made_from source _ from (facts.made now made (reply_now old (events.Request request) now reply made is))
+  delivered_from old (events.Notified group_key receiver firing resolved repeat) source reply made from is =
+      made_from source _ from (facts.made now made (reply_now old (events.Notified group_key receiver firing resolved repeat) now reply made is))
+  delivered_from old (events.Decide group_key receiver firing resolved repeat send_resolved) source reply made from is =
+      made_from source _ from (facts.made now made (reply_now old (events.Decide group_key receiver firing resolved repeat send_resolved) now reply made is))
+  delivered_from old (events.Mutes labels) source reply made from is = made_from source _ from (facts.made now made (reply_now old (events.Mutes labels) now reply made is))
+  delivered_from old events.Show source reply made from is = made_from source _ from (facts.made now made (reply_now old events.Show now reply made is))
+  delivered_from old events.Tick source reply made from is = made_from source _ from (facts.made now made (reply_now old events.Tick now reply made is))
+  delivered_from old (events.PullFrom place) source reply made from is = made_from source _ from (facts.made now made (reply_now old (events.PullFrom place) now reply made is))
 
-    -- of nothing that was brought
-    nothing_from : (source : Source) (taken : ℕ) → source ≡ Made → AreFrom seen cmp members before now source (pick (take taken []))
-    nothing_from source taken is =
-        made_from source _ is (subst (All (λ v. (seen v).updated ≡ now)) (sym (ap pick (take-nil taken) ∙ facts.none)) (All-nil (λ v. (seen v).updated ≡ now)))
+  -- of nothing that was brought
+  nothing_from : (source : Source) (taken : ℕ) → source ≡ Made → AreFrom state.seen state.cmp members before now source (state.versions_in (take taken []))
+  nothing_from source taken is =
+      made_from source _ is (subst (All (λ v. (state.seen v).updated ≡ now)) (sym (ap state.versions_in (take-nil taken) ∙ facts.none)) (All-nil (λ v. (state.seen v).updated ≡ now)))
 
-    stopped_from : (event : Event) (source : Source) (taken : ℕ) → HasSource pick seen cmp members before now event source → AreFrom seen cmp members before now source (pick (take taken (brought event)))
-    stopped_from (events.Frame sender frame) source taken from =
-        let ds = carries frame in
-        let parts : pick ds ≡ pick (take taken ds) ++ pick (drop taken ds) = ap pick (sym (take-append-drop taken ds)) ∙ facts.state.append (take taken ds) (drop taken ds) in
-        fewer_from source (pick (take taken ds)) (pick (drop taken ds)) (subst (λ vs. AreFrom seen cmp members before now source vs) parts from)
-    stopped_from (events.Request request) source taken from = nothing_from source taken from
-    stopped_from (events.Notified group_key receiver firing resolved repeat) source taken from = nothing_from source taken from
-    stopped_from (events.Decide group_key receiver firing resolved repeat send_resolved) source taken from = nothing_from source taken from
-    stopped_from (events.Mutes labels) source taken from = nothing_from source taken from
-    stopped_from events.Show source taken from = nothing_from source taken from
-    stopped_from events.Tick source taken from = nothing_from source taken from
-    stopped_from (events.PullFrom place) source taken from = nothing_from source taken from
+  stopped_from : (event : Event) (source : Source) (taken : ℕ) → HasSource state members before now event source → AreFrom state.seen state.cmp members before now source (state.versions_in (take taken (brought event)))
+  stopped_from (events.Frame sender frame) source taken from =
+      let ds = carries frame in
+      let parts : state.versions_in ds ≡ state.versions_in (take taken ds) ++ state.versions_in (drop taken ds) = ap state.versions_in (sym (take-append-drop taken ds)) ∙ facts.append (take taken ds) (drop taken ds) in
+      fewer_from source (state.versions_in (take taken ds)) (state.versions_in (drop taken ds)) (subst (λ vs. AreFrom state.seen state.cmp members before now source vs) parts from)
+  stopped_from (events.Request request) source taken from = nothing_from source taken from
+  stopped_from (events.Notified group_key receiver firing resolved repeat) source taken from = nothing_from source taken from
+  stopped_from (events.Decide group_key receiver firing resolved repeat send_resolved) source taken from = nothing_from source taken from
+  stopped_from (events.Mutes labels) source taken from = nothing_from source taken from
+  stopped_from events.Show source taken from = nothing_from source taken from
+  stopped_from events.Tick source taken from = nothing_from source taken from
+  stopped_from (events.PullFrom place) source taken from = nothing_from source taken from
 
-    module _ (hold : (stand : InstanceState) → HasMaps stand → All (λ v. at seen cmp (kept stand).held (seen v).key ≡ Some v) (kept stand).held)
-        (place : ℕ) (source : Source) (old new : InstanceState) (event : Event) (frames : List (ℕ × Frame))
-        (gone : HasGoneThrough seen cmp (member_of members place before).past (kept old)) (from : HasSource pick seen cmp members before now event source) where
-      abbrev member : Member X
-      member = member_of members place before
+  module _ (place : ℕ) (source : Source) (old new : InstanceState) (event : Event) (frames : List (ℕ × Frame))
+      (gone : HasGoneThrough state (member_of members place before).past (state.kept old)) (from : HasSource state members before now event source) where
+    abbrev member : Member X
+    member = member_of members place before
 
-      acts : member.runs ≡ true → old.last ≤ now → CanAct seen cmp members before place now
-      acts runs forward =
-          let last = sym gone.last ∙ facts.last old in
-          record { runs = runs; forward = omega (arith, last, forward) }
+    acts : member.runs ≡ true → old.last ≤ now → CanAct state.seen state.cmp members before place now
+    acts runs forward =
+        let last = sym gone.last ∙ facts.last old in
+        record { runs = runs; forward = omega (arith, last, forward) }
 
-      -- the frames of an event that took versions
-      module _ (outcome : Outcome) (step : IsStep old event now (Ok outcome) new) (flying : AreInFlight (Ok outcome) frames) (are : AreValues event outcome new) where
-        abbrev ds : List Delivery
-        ds = delivers event outcome.made
+    -- the frames of an event that took versions
+    module _ (outcome : Outcome) (step : IsStep old event now (Ok outcome) new) (flying : AreInFlight (Ok outcome) frames) (are : AreValues event outcome new) where
+      abbrev ds : List Delivery
+      ds = delivers event outcome.made
 
-        abbrev cs : List Delivery
-        cs = changed_of now (silence_at old.silences) (entry_at old.log) ds
+      abbrev cs : List Delivery
+      cs = changed_of now (silence_at old.silences) (entry_at old.log) ds
 
-        same : pick cs ≡ changed seen cmp now (map_of seen cmp member.past) (pick ds)
-        same =
-            let held : at seen cmp (kept old).held ≡ map_of seen cmp member.past = (λ i key. gone.map key i) in
-            facts.changes now old ds ∙ ap (λ held. changed seen cmp now held (pick ds)) held
+      same : state.versions_in cs ≡ changed state.seen state.cmp now (map_of state.seen state.cmp member.past) (state.versions_in ds)
+      same =
+          let held : at state.seen state.cmp (state.kept old).held ≡ map_of state.seen state.cmp member.past = (λ i key. gone.map key i) in
+          facts.changes now old ds ∙ ap (λ held. changed state.seen state.cmp now held (state.versions_in ds)) held
 
-        abbrev IsHeld : X → Type 0
-        IsHeld v = map_of seen cmp (member.past ++ passes now (pick ds)) (seen v).key ≡ Some v
+      abbrev IsHeld : X → Type 0
+      IsHeld v = map_of state.seen state.cmp (member.past ++ passes now (state.versions_in ds)) (state.seen v).key ≡ Some v
 
-        module _ (goes : HasGoneThrough seen cmp (member.past ++ passes now (pick ds)) (kept new)) where
-          all_held : All IsHeld (kept new).held
-          all_held k v within = sym (goes.map _) ∙ hold new are.maps k v within
+      module _ (goes : HasGoneThrough state (member.past ++ passes now (state.versions_in ds)) (state.kept new)) where
+        all_held : All IsHeld (state.kept new).held
+        all_held k v within = sym (goes.map _) ∙ held_at facts new are.maps k v within
 
-          abbrev IsFine : ℕ × Frame → Type 0
-          IsFine = AreKnown pick facts.state.append IsHeld cs (changed seen cmp now (map_of seen cmp member.past) (pick ds)) same
+        abbrev IsFine : ℕ × Frame → Type 0
+        IsFine = AreKnown facts IsHeld cs (changed state.seen state.cmp now (map_of state.seen state.cmp member.past) (state.versions_in ds)) same
 
-          fine_frames : All IsFine outcome.frames.items
-          fine_frames =
-              all_sent IsFine _ nothing_sent (sent_by outcome)
-              (All-append (IfFits IsFine) (deltas_to (peers_but old.config (origin old.config event)) cs) (last_wanted event new)
-              (all_deltas IsFine (peers_but old.config (origin old.config event)) cs
-              (deltas_known pick facts.state.append IsHeld cs _ same (changed_values now (silence_at old.silences) (entry_at old.log) ds are.delivered)))
-              (last_holds IsFine event new
-              (pull_known pick facts.state.append IsHeld cs _ same new (kept new).held (facts.parted new) all_held are.silences are.log)
-              (push_known pick facts.state.append IsHeld cs _ same new (kept new).held (facts.parted new) all_held are.silences are.log)))
-              (All-nil IsFine) step.sent
+        fine_frames : All IsFine outcome.frames.items
+        fine_frames =
+            all_sent IsFine _ nothing_sent (sent_by outcome)
+            (All-append (IfFits IsFine) (deltas_to (peers_but old.config (origin old.config event)) cs) (last_wanted event new)
+            (all_deltas IsFine (peers_but old.config (origin old.config event)) cs
+            (deltas_known facts IsHeld cs _ same (changed_values now (silence_at old.silences) (entry_at old.log) ds are.delivered)))
+            (last_holds IsFine event new
+            (pull_known facts IsHeld cs _ same new (state.kept new).held (facts.parted new) all_held are.silences are.log)
+            (push_known facts IsHeld cs _ same new (state.kept new).held (facts.parted new) all_held are.silences are.log)))
+            (All-nil IsFine) step.sent
 
-          in_flight : All IsFine frames
-          in_flight = ⊎_elim (λ is. subst (All IsFine) (sym is) fine_frames) (λ is. subst (All IsFine) (sym is) (All-nil IsFine)) flying
+        in_flight : All IsFine frames
+        in_flight = ⊎_elim (λ is. subst (All IsFine) (sym is) fine_frames) (λ is. subst (All IsFine) (sym is) (All-nil IsFine)) flying
 
-          all_are_sent : All (IsSent seen cmp members before place now (pick ds)) (sent_in pick frames)
-          all_are_sent = all_picked pick (IsSent seen cmp members before place now (pick ds)) frames in_flight
+        all_are_sent : All (IsSent state.seen state.cmp members before place now (state.versions_in ds)) (sent_in state frames)
+        all_are_sent = all_picked state (IsSent state.seen state.cmp members before place now (state.versions_in ds)) frames in_flight
 
-        answered : (collecting : Bool) → member.runs ≡ true →
-            HasGoneThrough seen cmp (stepped member (if collecting then Ticked place now else Took place now source (pick ds) (sent_in pick frames))).past (kept new) →
-            IsPossible seen cmp members before (if collecting then Ticked place now else Took place now source (pick ds) (sent_in pick frames))
-        answered true runs goes = acts runs step.accepted.forward
-        answered false runs goes = record {
-          acts = acts runs step.accepted.forward;
-          from = delivered_from old event source outcome.reply outcome.made from step.reply;
-          sent = all_are_sent goes;
-        }
-
-      pub possible : (answer : Result Outcome StepError) → (counts answer ≡ true → member.runs ≡ true) → IsStep old event now answer new → AreInFlight answer frames →
-          IfOk answer (λ outcome. AreValues event outcome new) → IsPossible seen cmp members before (event_step pick place now source event answer frames)
-      possible (Ok outcome) runs step flying are =
-          answered outcome step flying are (collects event) (runs refl)
-          (member_goes_on seen cmp of_delivery pick facts.state member place now source event frames (kept new) (Ok outcome) (kept old) gone (facts.left old new event now (Ok outcome) step))
-      possible (Err (Memory taken)) runs step flying are = record {
-        acts = acts (runs refl) step.refused.0;
-        from = stopped_from event source taken from;
-        sent = All-nil (IsSent seen cmp members before place now (pick (take taken (brought event))));
+      answered : (collecting : Bool) → member.runs ≡ true →
+          HasGoneThrough state (stepped member (if collecting then Ticked place now else Took place now source (state.versions_in ds) (sent_in state frames))).past (state.kept new) →
+          IsPossible state.seen state.cmp members before (if collecting then Ticked place now else Took place now source (state.versions_in ds) (sent_in state frames))
+      answered true runs goes = acts runs step.accepted.forward
+      answered false runs goes = record {
+        acts = acts runs step.accepted.forward;
+        from = delivered_from old event source outcome.reply outcome.made from step.reply;
+        sent = all_are_sent goes;
       }
-      possible (Err (MomentBack last)) runs step flying are =
-          let same = sym gone.last ∙ facts.last old in
-          let back = step.refused.1 in
-          omega (arith, same, back)
-      possible (Err UnknownPeer) runs step flying are = tt
-      possible (Err (FrameFault fault)) runs step flying are = tt
+
+    possible : (answer : Result Outcome StepError) → (counts answer ≡ true → member.runs ≡ true) → IsStep old event now answer new → AreInFlight answer frames →
+        IfOk answer (λ outcome. AreValues event outcome new) → IsPossible state.seen state.cmp members before (event_step state place now source event answer frames)
+    possible (Ok outcome) runs step flying are =
+        answered outcome step flying are (collects event) (runs refl)
+        (members_go_on facts member place now source old new event (Ok outcome) frames gone step)
+    possible (Err (Memory taken)) runs step flying are = record {
+      acts = acts (runs refl) step.refused.0;
+      from = stopped_from event source taken from;
+      sent = All-nil (IsSent state.seen state.cmp members before place now (state.versions_in (take taken (brought event))));
+    }
+    possible (Err (MomentBack last)) runs step flying are =
+        let same = sym gone.last ∙ facts.last old in
+        let back = step.refused.1 in
+        omega (arith, same, back)
+    possible (Err UnknownPeer) runs step flying are = tt
+    possible (Err (FrameFault fault)) runs step flying are = tt
+
+pub steps_are_possible : {K X : Type 0} {state : StateOf K X} → IsStateOf state → StepsArePossible state
+steps_are_possible facts = λ members place now before source old new event answer frames runs gone step from flying are.
+    possible facts members before now place source old new event frames gone from answer runs step flying are

@@ -7,7 +7,6 @@ pub mod Going
 pub mod Making
 pub mod Sendings
 pub mod Happening
-pub mod BothStates
 pub mod Lending
 pub mod Outgoing
 pub mod Counting

@@ -2,19 +2,13 @@
 use Rattle.std.proofs.Common.{◌≡◌, ℕ, ◌+◌, ◌-◌, ◌<◌, ◌≤◌, List, [], ◌∷◌, ◌++◌, length, map, take, get_or, None, Result, Ok, refl, sym, ap, subst, ◌∙◌, arith, append-nil}
 use Rattle.std.specs.List.{All}
 use Rattle.std.proofs.lemmas.List.{map-append, take_more, take_all}
-use Rattle.std.proofs.lemmas.List.Elements.{All-nil, All-cons, All-head, All-tail, All-append}
+use Rattle.std.proofs.lemmas.List.Elements.{All-nil, All-cons, All-append}
 use Rattle.std.proofs.lemmas.List.Concat.{flat_map-append}
 use Rattle.am_version_order.specs.Versions.{Version}
 use Rattle.am_wire.specs.declared.error.WireError.{WireError}
 use Rattle.am_wire.specs.Limits.{most}
-use Rattle.am_wire.specs.Varint.{shortest}
 use Rattle.am_wire.specs.Writing.{delimited}
-use Rattle.am_wire.specs.Fields.{pieces}
-use Rattle.am_wire.specs.Grammar.{IsRow}
-use Rattle.am_wire.specs.RoundTrip.Varints.{shortest_spells}
-use Rattle.am_wire.specs.RoundTrip.Pieces.{Reads, pieces-reads}
-use Rattle.am_wire.specs.Inputs.{sound, message_at, messages_from, AreMessages}
-use Rattle.am_wire.proofs.Exact.{row_read}
+use Rattle.am_wire.specs.Inputs.{sound, messages_from, AreMessages}
 use Rattle.am_silence.specs.Mesh.{Mesh, IsMesh, mesh_version, writes_mesh_silence}
 use Rattle.am_silence.specs.MeshTable.{reads_mesh_silence}
 use Rattle.am_silence.specs.RoundTrip.{mesh_again}
@@ -22,6 +16,7 @@ use Rattle.am_nflog.specs.Mesh.{Mesh as LogMesh, IsMesh as IsLogMesh, mesh_versi
 use Rattle.am_nflog.specs.MeshTable.{reads_mesh_entry}
 use Rattle.am_nflog.specs.RoundTrip.{mesh_again as log_again}
 use Rattle.am_snapshot.specs.Texts.{row_text}
+use Rattle.am_snapshot.proofs.ReadAgain.{versions_read}
 use Rattle.am_gossip.specs.declared.frame.Part.{Part}
 use Rattle.am_gossip.specs.declared.frame.StateKey.TheVariants.{Sil, Nfl}
 use Rattle.am_instance.specs.Deliveries.{Delivery, before_fault, first_fault, read_as, rows_of}
@@ -33,24 +28,8 @@ module _ {K X : Type 0} (seen : X → Version K) (reads : ℕ → List ℕ → R
     pub reads_as : (at : ℕ) → reads at (seen v).content ≡ Ok v
     pub within : length (seen v).content ≤ most
 
-  one_read : (v : X) (at : ℕ) → IsReadAgain v → Reads (message_at reads) v at (delimited (seen v).content)
-  one_read v at good =
-      let content = (seen v).content in
-      let small = good.within in
-      let row : IsRow content at (delimited content) = record { size = shortest (length content); size_is = shortest_spells (length content) (omega (arith, small)); text_is = refl; not_large = small } in
-      let read = row_read content at (delimited content) row in
-      record {
-        filled = read.filled;
-        reads = λ rest. rw (read.reads rest, good.reads_as (at + (length (delimited content) - length content))) refl;
-      }
-
-  pub rows_read : (versions : List X) (at : ℕ) → All IsReadAgain versions → messages_from reads at (row_text seen versions) ≡ map sound versions
-  unfolding pieces
-  rows_read [] at good = refl
-  rows_read (v ∷ versions) at good =
-      let text = delimited (seen v).content in
-      pieces-reads (message_at reads) at text (row_text seen versions) v (one_read v at (All-head IsReadAgain v versions good))
-      ∙ ap (λ (rest : List (Result X WireError)). sound v ∷ rest) (rows_read versions (at + length text) (All-tail IsReadAgain v versions good))
+  rows_read : (versions : List X) (at : ℕ) → All IsReadAgain versions → messages_from reads at (row_text seen versions) ≡ map sound versions
+  rows_read versions at good = versions_read seen reads versions at (λ k v inside place small. (good k v inside).reads_as place) (λ k v inside. (good k v inside).within)
 
   -- what was written of lines, and that it is read again
   pub record IsRowOf {L : Type 0} (version : L → X) (lines : List L) (row : List ℕ) : Type 0 where
@@ -82,16 +61,6 @@ module _ {K X : Type 0} (seen : X → Version K) (reads : ℕ → List ℕ → R
         ap (messages_from reads 0) (is ∙ so_far.text) ∙ rows_read (map version (take i lines)) 0 so_far.good
         ∙ ap (λ (ls : List L). map sound (map version ls)) whole
 
--- ---- rows without a fault
-module _ {A B : Type 0} (of_version : A → B) where
-  pub no_fault : (versions : List A) → first_fault (map (read_as of_version) (map sound versions) ++ []) ≡ None
-  no_fault [] = refl
-  no_fault (v ∷ versions) = no_fault versions
-
-  pub all_before : (versions : List A) → before_fault (map (read_as of_version) (map sound versions) ++ []) ≡ map of_version versions
-  all_before [] = refl
-  all_before (v ∷ versions) = ap (λ (vs : List B). of_version v ∷ vs) (all_before versions)
-
 -- ---- versions
 pub silence_again : (v : Mesh) → IsMesh v → length (writes_mesh_silence v) ≤ most → IsReadAgain mesh_version reads_mesh_silence v
 silence_again v is small = record { reads_as = λ at. mesh_again v at is (omega (arith, small)); within = small }
@@ -104,16 +73,25 @@ pub record IsPartOf (part : Part) (versions : List Delivery) : Type 0 where
   pub clean : first_fault (rows_of part ++ []) ≡ None
   pub read : before_fault (rows_of part ++ []) ≡ versions
 
+module _ {A : Type 0} (of_version : A → Delivery) where
+  no_fault : (versions : List A) → first_fault (map (read_as of_version) (map sound versions) ++ []) ≡ None
+  no_fault [] = refl
+  no_fault (v ∷ versions) = no_fault versions
+
+  all_before : (versions : List A) → before_fault (map (read_as of_version) (map sound versions) ++ []) ≡ map of_version versions
+  all_before [] = refl
+  all_before (v ∷ versions) = ap (λ (vs : List Delivery). of_version v ∷ vs) (all_before versions)
+
+  sound_part : (part : Part) (versions : List A) → rows_of part ≡ map (read_as of_version) (map sound versions) → IsPartOf part (map of_version versions)
+  sound_part part versions rows = record {
+    clean = ap (λ (items : List (Result Delivery WireError)). first_fault (items ++ [])) rows ∙ no_fault versions;
+    read = ap (λ (items : List (Result Delivery WireError)). before_fault (items ++ [])) rows ∙ all_before versions;
+  }
+
 pub silences_part : (bytes : List ℕ) (versions : List Mesh) → AreMessages reads_mesh_silence bytes versions → IsPartOf (record { key = Sil; bytes = bytes }) (map OfSilence versions)
 unfolding rows_of
-silences_part bytes versions are = record {
-  clean = ap (λ (ms : List (Result Mesh WireError)). first_fault (map (read_as OfSilence) ms ++ [])) are ∙ no_fault OfSilence versions;
-  read = ap (λ (ms : List (Result Mesh WireError)). before_fault (map (read_as OfSilence) ms ++ [])) are ∙ all_before OfSilence versions;
-}
+silences_part bytes versions are = sound_part OfSilence (record { key = Sil; bytes = bytes }) versions (ap (map (read_as OfSilence)) are)
 
 pub log_part : (bytes : List ℕ) (versions : List LogMesh) → AreMessages reads_mesh_entry bytes versions → IsPartOf (record { key = Nfl; bytes = bytes }) (map OfEntry versions)
 unfolding rows_of
-log_part bytes versions are = record {
-  clean = ap (λ (ms : List (Result LogMesh WireError)). first_fault (map (read_as OfEntry) ms ++ [])) are ∙ no_fault OfEntry versions;
-  read = ap (λ (ms : List (Result LogMesh WireError)). before_fault (map (read_as OfEntry) ms ++ [])) are ∙ all_before OfEntry versions;
-}
+log_part bytes versions are = sound_part OfEntry (record { key = Nfl; bytes = bytes }) versions (ap (map (read_as OfEntry)) are)

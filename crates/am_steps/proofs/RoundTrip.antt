@@ -3,7 +3,7 @@ use Rattle.std.proofs.Common.{◌≡◌, ℕ, ◌≤◌, true, List, [], ◌∷�
 use Rattle.std.specs.Prelude.{None, Result, Ok, nat_le}
 use Rattle.std.specs.List.{All}
 use Rattle.std.proofs.lemmas.Bool.{leb-true}
-use Rattle.std.proofs.lemmas.List.Elements.{All-nil, All-cons, All-head, All-tail}
+use Rattle.std.proofs.lemmas.List.Elements.{All-nil, All-cons, All-head, All-map, All-tail}
 use Rattle.am_wire.specs.declared.error.WireError.{WireError}
 use Rattle.am_wire.specs.Inputs.{sound}
 use Rattle.am_wire.specs.Limits.{most}
@@ -21,7 +21,7 @@ use Rattle.am_gossip.specs.Frames.{fits}
 use Rattle.am_gossip.specs.Parts.{writes_part, writes_parts}
 use Rattle.am_gossip.proofs.Limits.{part_holds, states_hold}
 use Rattle.am_snapshot.specs.Texts.{row_text}
-use Rattle.am_snapshot.proofs.ReadAgain.{IsReadBack, IsShort, shorts, versions_read}
+use Rattle.am_snapshot.proofs.ReadAgain.{IsReadBack, shorts, versions_read}
 use Rattle.am_instance.specs.Deliveries.{Delivery, read_as, before_fault, first_fault, rows_of, rows_in, parts_of}
 use Rattle.am_instance.specs.Deliveries.Delivery.{OfSilence, OfEntry}
 use Rattle.am_instance.specs.Sendings.{delta_of, whole_state}
@@ -50,23 +50,10 @@ silence_back v is at small = mesh_again v at is (omega (arith, small))
 entry_back : (e : LogMesh) → IsLogMesh e → IsReadBack entry_version reads_mesh_entry e
 entry_back e is at small = entry_again e at is (omega (arith, small))
 
-silences_back : (vs : List Mesh) → All IsReadable (map OfSilence vs) → All (IsReadBack mesh_version reads_mesh_silence) vs × All (IsShort mesh_version reads_mesh_silence) vs
-silences_back [] is = (All-nil (IsReadBack mesh_version reads_mesh_silence), All-nil (IsShort mesh_version reads_mesh_silence))
-silences_back (v ∷ vs) is =
-    let here = All-head IsReadable (OfSilence v) (map OfSilence vs) is in
-    let (back, short) = silences_back vs (All-tail IsReadable (OfSilence v) (map OfSilence vs) is) in (
-      All-cons (IsReadBack mesh_version reads_mesh_silence) v vs (silence_back v here.value) back,
-      All-cons (IsShort mesh_version reads_mesh_silence) v vs here.short short,
-    )
-
-entries_back : (es : List LogMesh) → All IsReadable (map OfEntry es) → All (IsReadBack entry_version reads_mesh_entry) es × All (IsShort entry_version reads_mesh_entry) es
-entries_back [] is = (All-nil (IsReadBack entry_version reads_mesh_entry), All-nil (IsShort entry_version reads_mesh_entry))
-entries_back (e ∷ es) is =
-    let here = All-head IsReadable (OfEntry e) (map OfEntry es) is in
-    let (back, short) = entries_back es (All-tail IsReadable (OfEntry e) (map OfEntry es) is) in (
-      All-cons (IsReadBack entry_version reads_mesh_entry) e es (entry_back e here.value) back,
-      All-cons (IsShort entry_version reads_mesh_entry) e es here.short short,
-    )
+-- what holds of all that is made of some holds of each that it is made of
+pub All-unmap : {A B : Type 0} (P : B → Type 0) (f : A → B) (xs : List A) → All P (map f xs) → All (λ x. P (f x)) xs
+All-unmap P f [] all = All-nil (λ x. P (f x))
+All-unmap P f (x ∷ xs) all = All-cons (λ y. P (f y)) x xs (All-head P (f x) (map f xs) all) (All-unmap P f xs (All-tail P (f x) (map f xs) all))
 
 abbrev silence_part : List Mesh → Part
 silence_part vs = record { key = Sil; bytes = row_text mesh_version vs }
@@ -77,14 +64,18 @@ entry_part es = record { key = Nfl; bytes = row_text entry_version es }
 silence_rows : (vs : List Mesh) → All IsReadable (map OfSilence vs) → rows_of (silence_part vs) ≡ map read (map OfSilence vs)
 unfolding rows_of
 silence_rows vs is =
-    let (back, short) = silences_back vs is in
-    ap (map (read_as OfSilence)) (versions_read mesh_version reads_mesh_silence vs 0 back short) ∙ read_each OfSilence vs
+    let each = All-unmap IsReadable OfSilence vs is in
+    ap (map (read_as OfSilence))
+    (versions_read mesh_version reads_mesh_silence vs 0 (λ k v within. silence_back _ (each k v within).value) (λ k v within. (each k v within).short))
+    ∙ read_each OfSilence vs
 
 entry_rows : (es : List LogMesh) → All IsReadable (map OfEntry es) → rows_of (entry_part es) ≡ map read (map OfEntry es)
 unfolding rows_of
 entry_rows es is =
-    let (back, short) = entries_back es is in
-    ap (map (read_as OfEntry)) (versions_read entry_version reads_mesh_entry es 0 back short) ∙ read_each OfEntry es
+    let each = All-unmap IsReadable OfEntry es is in
+    ap (map (read_as OfEntry))
+    (versions_read entry_version reads_mesh_entry es 0 (λ k e within. entry_back _ (each k e within).value) (λ k e within. (each k e within).short))
+    ∙ read_each OfEntry es
 
 -- ---- a Delta
 one_readable : (d : Delivery) → IsReadable d → All IsReadable (d ∷ [])
@@ -124,25 +115,11 @@ pub whole_carries : (silences : List Mesh) (log : List LogMesh) → All IsReadab
 whole_carries silences log is are = ap before_fault (whole_rows silences log is are) ∙ all_before (held_in silences log)
 
 -- ---- what is readable
-readable_silences : (vs : List Mesh) → All IsMesh vs → All (IsShort mesh_version reads_mesh_silence) vs → All IsReadable (map OfSilence vs)
-readable_silences [] is short = All-nil IsReadable
-readable_silences (v ∷ vs) is short =
-    All-cons IsReadable (OfSilence v) (map OfSilence vs)
-    (record { value = All-head IsMesh v vs is; short = All-head (IsShort mesh_version reads_mesh_silence) v vs short })
-    (readable_silences vs (All-tail IsMesh v vs is) (All-tail (IsShort mesh_version reads_mesh_silence) v vs short))
-
-readable_entries : (es : List LogMesh) → All IsLogMesh es → All (IsShort entry_version reads_mesh_entry) es → All IsReadable (map OfEntry es)
-readable_entries [] is short = All-nil IsReadable
-readable_entries (e ∷ es) is short =
-    All-cons IsReadable (OfEntry e) (map OfEntry es)
-    (record { value = All-head IsLogMesh e es is; short = All-head (IsShort entry_version reads_mesh_entry) e es short })
-    (readable_entries es (All-tail IsLogMesh e es is) (All-tail (IsShort entry_version reads_mesh_entry) e es short))
-
 pub silences_readable : (vs : List Mesh) → All IsMesh vs → length (row_text mesh_version vs) ≤ most → All IsReadable (map OfSilence vs)
-silences_readable vs is small = readable_silences vs is (shorts mesh_version reads_mesh_silence vs small)
+silences_readable vs is small = All-map IsReadable OfSilence vs (λ k v within. record { value = is k v within; short = shorts mesh_version reads_mesh_silence vs small k v within })
 
 pub entries_readable : (es : List LogMesh) → All IsLogMesh es → length (row_text entry_version es) ≤ most → All IsReadable (map OfEntry es)
-entries_readable es is small = readable_entries es is (shorts entry_version reads_mesh_entry es small)
+entries_readable es is small = All-map IsReadable OfEntry es (λ k e within. record { value = is k e within; short = shorts entry_version reads_mesh_entry es small k e within })
 
 delta_within : (part : Part) (content : List ℕ) → part.bytes ≡ delimited content → nat_le (length (writes_part part)) 4_194_304 ≡ true → length content ≤ most
 delta_within part content is fits =

@@ -21,9 +21,11 @@ use Rattle.am_collect.specs.Events.Event.{Delivered}
 use Rattle.am_nflog.specs.Keys.{key_cmp}
 use Rattle.std.specs.Ordering.{nat_cmp}
 use Rattle.std.specs.Cmp.Lexicographic.{slice_cmp}
+use Rattle.am_steps.specs.BothStates.{StateOf}
 use Rattle.am_steps.specs.Contents.{carries, held_in, IsValue}
 use Rattle.am_steps.proofs.RoundTrip.{delta_carries, delta_readable, whole_carries, whole_readable}
 use Rattle.am_steps.specs.Recorded.{sent_in}
+use Rattle.am_steps.proofs.States.{IsStateOf}
 
 -- ---- what was handed out was wanted, and kept its limit
 
@@ -95,54 +97,54 @@ changed_values now silences log (OfEntry e ∷ ds) are =
     (changed_values now silences (after entry_version key_cmp log (Delivered e) now) ds (All-tail IsValue (OfEntry e) ds are))
 
 -- ---- of one state
-module _ {X : Type 0} (pick : List Delivery → List X) (append : (ds es : List Delivery) → pick (ds ++ es) ≡ pick ds ++ pick es) where
-  -- what is picked of each version is among what is picked of all
+module _ {K X : Type 0} {state : StateOf K X} (facts : IsStateOf state) where
+  -- what of one delivery is the state's own is among what of all of them is
   abbrev IsPickedOf : List Delivery → Delivery → Type 0
-  IsPickedOf ds d = All (Contains (pick ds)) (pick (d ∷ []))
+  IsPickedOf ds d = All (Contains (state.versions_in ds)) (state.versions_in (d ∷ []))
 
   pub each_picked : (ds : List Delivery) → All (IsPickedOf ds) ds
   each_picked [] = All-nil (IsPickedOf [])
   each_picked (d ∷ ds) =
-      let split : pick (d ∷ ds) ≡ pick (d ∷ []) ++ pick ds = append (d ∷ []) ds in
+      let split : state.versions_in (d ∷ ds) ≡ state.versions_in (d ∷ []) ++ state.versions_in ds = facts.append (d ∷ []) ds in
       All-cons (IsPickedOf (d ∷ ds)) d ds
-      (λ k x within. subst (λ (xs : List X). Contains xs (slice_index_or (pick (d ∷ [])) k x)) (sym split)
-      (Contains-append_left (pick (d ∷ [])) (pick ds) _ (All-contains_itself (pick (d ∷ [])) k x within)))
-      (λ k e within j x inside. subst (λ (xs : List X). Contains xs (slice_index_or (pick (slice_index_or ds k e ∷ [])) j x)) (sym split)
-      (Contains-append_right (pick (d ∷ [])) (pick ds) _ (each_picked ds k e within j x inside)))
+      (λ k x within. subst (λ (xs : List X). Contains xs (slice_index_or (state.versions_in (d ∷ [])) k x)) (sym split)
+      (Contains-append_left (state.versions_in (d ∷ [])) (state.versions_in ds) _ (All-contains_itself (state.versions_in (d ∷ [])) k x within)))
+      (λ k e within j x inside. subst (λ (xs : List X). Contains xs (slice_index_or (state.versions_in (slice_index_or ds k e ∷ [])) j x)) (sym split)
+      (Contains-append_right (state.versions_in (d ∷ [])) (state.versions_in ds) _ (each_picked ds k e within j x inside)))
 
   -- each version in a frame is among those that changed the map, or is held
-  module _ (Held : X → Type 0) (cs : List Delivery) (changed : List X) (same : pick cs ≡ changed) where
+  module _ (Held : X → Type 0) (cs : List Delivery) (changed : List X) (same : state.versions_in cs ≡ changed) where
     abbrev pub IsKnown : X → Type 0
     IsKnown v = Contains changed v ⊎ Held v
 
     abbrev pub AreKnown : ℕ × Frame → Type 0
-    AreKnown frame = All IsKnown (pick (carries frame.1))
+    AreKnown frame = All IsKnown (state.versions_in (carries frame.1))
 
     delta_known : (d : Delivery) → IsValue d → IsPickedOf cs d → Delta_holds AreKnown d
     delta_known d value among place fitting =
-        subst (λ (ds : List Delivery). All IsKnown (pick ds)) (sym (delta_carries d (delta_readable d value fitting)))
-        (λ k x within. inl (subst (λ (xs : List X). Contains xs (slice_index_or (pick (d ∷ [])) k x)) same (among k x within)))
+        subst (λ (ds : List Delivery). All IsKnown (state.versions_in ds)) (sym (delta_carries d (delta_readable d value fitting)))
+        (λ k x within. inl (subst (λ (xs : List X). Contains xs (slice_index_or (state.versions_in (d ∷ [])) k x)) same (among k x within)))
 
     pub deltas_known : All IsValue cs → All (Delta_holds AreKnown) cs
     deltas_known values k d within = delta_known _ (values k d within) (each_picked cs k d within)
 
-    module _ (new : InstanceState) (held : List X) (parted : pick (held_in new.silences new.log) ≡ held) (all_held : All Held held) (is : All IsMesh new.silences) (are : All IsLogMesh new.log) where
-      all_known : All IsKnown (pick (held_in new.silences new.log))
+    module _ (new : InstanceState) (held : List X) (parted : state.versions_in (held_in new.silences new.log) ≡ held) (all_held : All Held held) (is : All IsMesh new.silences) (are : All IsLogMesh new.log) where
+      all_known : All IsKnown (state.versions_in (held_in new.silences new.log))
       all_known = subst (All IsKnown) (sym parted) (λ k x within. inr (all_held k x within))
 
       pub pull_known : (place : ℕ) → fits (frames.Pull (whole_state new.silences new.log)) ≡ true → AreKnown (place, frames.Pull (whole_state new.silences new.log))
       pull_known place fitting =
           let both = whole_readable new.silences new.log is are fitting in
-          subst (λ (ds : List Delivery). All IsKnown (pick ds)) (sym (whole_carries new.silences new.log both.0 both.1)) all_known
+          subst (λ (ds : List Delivery). All IsKnown (state.versions_in ds)) (sym (whole_carries new.silences new.log both.0 both.1)) all_known
 
       pub push_known : (place : ℕ) → fits (frames.Push (whole_state new.silences new.log)) ≡ true → AreKnown (place, frames.Push (whole_state new.silences new.log))
       push_known place fitting =
           let both = whole_readable new.silences new.log is are fitting in
-          subst (λ (ds : List Delivery). All IsKnown (pick ds)) (sym (whole_carries new.silences new.log both.0 both.1)) all_known
+          subst (λ (ds : List Delivery). All IsKnown (state.versions_in ds)) (sym (whole_carries new.silences new.log both.0 both.1)) all_known
 
 -- said of the lists of versions
-pub all_picked : {X : Type 0} (pick : List Delivery → List X) (P : List X → Type 0) (fs : List (ℕ × Frame)) → All (λ frame. P (pick (carries frame.1))) fs → All P (sent_in pick fs)
-all_picked pick P [] all = All-nil P
-all_picked pick P (f ∷ fs) all =
-    let Q : ℕ × Frame → Type 0 = λ frame. P (pick (carries frame.1)) in
-    All-cons P (pick (carries f.1)) (sent_in pick fs) (All-head Q f fs all) (all_picked pick P fs (All-tail Q f fs all))
+pub all_picked : {K X : Type 0} (state : StateOf K X) (P : List X → Type 0) (fs : List (ℕ × Frame)) → All (λ frame. P (state.versions_in (carries frame.1))) fs → All P (sent_in state fs)
+all_picked state P [] all = All-nil P
+all_picked state P (f ∷ fs) all =
+    let Q : ℕ × Frame → Type 0 = λ frame. P (state.versions_in (carries frame.1)) in
+    All-cons P (state.versions_in (carries f.1)) (sent_in state fs) (All-head Q f fs all) (all_picked state P fs (All-tail Q f fs all))

@@ -1,6 +1,8 @@
 pub mod Contents
 pub mod States
+pub mod BothStates
 pub mod Recorded
+pub mod StepLaws
 pub mod Places
 pub mod Versions
 pub mod Events

@@ -11,7 +11,6 @@ pub mod laws;
 pub mod line_laws;
 mod log;
 mod places;
-mod rows;
 mod sent;
 mod silences;
 mod texts;

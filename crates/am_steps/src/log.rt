@@ -10,10 +10,11 @@ ghost use Rattle.am_nflog.specs.Mesh.{IsMesh, mesh_version, writes_mesh_entry};
 ghost use Rattle.am_nflog.specs.MeshTable.{reads_mesh_entry};
 ghost use Rattle.am_steps.specs.Versions.{entry_of};
 
-use crate::rows::append_version;
 use crate::texts::hashes_of;
 use am_nflog::{Entry, LogKey, MeshEntry};
 use am_schedule::{LogLine, Shared};
+use am_version_order::Version;
+use am_wire::writing::append_delimited;
 use am_wire::{Bytes, WireError};
 use std::alloc::{AllocError, Global};
 
@@ -57,7 +58,7 @@ fn append(alloc: Global, row: &mut Vec<u8>, line: &LogLine) -> Result<(), AllocE
     ensures within { OnOk result (length (writes_mesh_entry (entry_of line.now)) ≤ most) }
 {
     match version(alloc, line) {
-        Ok(version) => append_version(row, &version),
+        Ok(version) => append_delimited(row, version.canonical()),
         Err(_) => Err(AllocError),
     }
 }

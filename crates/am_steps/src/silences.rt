@@ -11,10 +11,11 @@ ghost use Rattle.am_silence.specs.MeshTable.{reads_mesh_silence};
 ghost use Rattle.am_steps.specs.Versions.{wants, silence_of};
 ghost use Rattle.am_steps.specs.Events.{posted};
 
-use crate::rows::append_version;
 use crate::texts::{no_text, text_of};
 use am_schedule::{PostLine, Shared, SilenceLine, Word};
 use am_silence::{MatcherKind, MatcherRef, Matchers, MeshSilence, Posted, Silence};
+use am_version_order::Version;
+use am_wire::writing::append_delimited;
 use am_wire::{Bytes, Text, WireError};
 use std::alloc::{AllocError, Global};
 
@@ -64,7 +65,7 @@ fn append(alloc: Global, row: &mut Vec<u8>, line: &SilenceLine) -> Result<(), Al
     ensures within { OnOk result (length (writes_mesh_silence (silence_of line.now)) ≤ most) }
 {
     match version(alloc, line) {
-        Ok(version) => append_version(row, &version),
+        Ok(version) => append_delimited(row, version.canonical()),
         Err(_) => Err(AllocError),
     }
 }

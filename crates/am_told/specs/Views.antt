@@ -31,10 +31,9 @@ unfoldable pub shows_line : Option (List ℕ) → ℕ → ℕ → List ℕ
 shows_line None silences entries = []
 shows_line (Some name) silences entries = word_of name ++ codes " shows " ++ decimal silences ++ codes " " ++ decimal entries ++ codes "\n"
 
--- NAME sil ID STATE: a silence, with its state at the moment
-unfoldable pub silence_line : Option (List ℕ) → ℕ → Mesh → List ℕ
-silence_line name now m =
-    owner_words name ++ codes "sil " ++ word_of m.silence.id ++ codes " " ++ state_word (state_of m.silence now) ++ codes "\n"
+-- NAME sil ID STATE: a silence that has this state
+unfoldable pub silence_line : Option (List ℕ) → Mesh → State → List ℕ
+silence_line name m state = owner_words name ++ codes "sil " ++ word_of m.silence.id ++ codes " " ++ state_word state ++ codes "\n"
 
 -- GROUP GROUPNAME INTEGRATION IDX: the key of an entry
 unfoldable pub key_words : LogKey → List ℕ
@@ -48,9 +47,9 @@ entry_line name m =
     owner_words name ++ codes "nfl " ++ key_words m.entry.key ++ codes " " ++ numbers_word m.entry.firing_alerts
     ++ codes " " ++ numbers_word m.entry.resolved_alerts ++ codes "\n"
 
--- the silences in view by id
+-- the silences in view by id, with their states at the moment
 abbrev pub silence_lines : Option (List ℕ) → ℕ → List Mesh → List ℕ
-silence_lines name now silences = flat_map (silence_line name now) (swept mesh_version now silences)
+silence_lines name now silences = flat_map (λ m. silence_line name m (state_of m.silence now)) (swept mesh_version now silences)
 
 -- the entries in view by key
 abbrev pub entry_lines : Option (List ℕ) → ℕ → List LogMesh → List ℕ
@@ -61,6 +60,15 @@ abbrev pub view_text : Option (List ℕ) → ℕ → List Mesh → List LogMesh 
 view_text name now silences log =
     shows_line name (length (swept mesh_version now silences)) (length (swept entry_version now log))
     ++ silence_lines name now silences ++ entry_lines name now log
+
+-- silences with their states, as they are shown
+abbrev pub state_lines : Option (List ℕ) → List (Mesh × State) → List ℕ
+state_lines name silences = flat_map (λ shown. silence_line name shown.0 shown.1) silences
+
+-- all lines of what is shown: silences with their states, and entries
+abbrev pub shown_text : Option (List ℕ) → List (Mesh × State) → List LogMesh → List ℕ
+shown_text name silences log =
+    shows_line name (length silences) (length log) ++ state_lines name silences ++ flat_map (entry_line name) log
 
 -- Exactly the first bytes of the text went out, and not all; or memory ran out, and the writer is as it was. `contents` is what it holds.
 abbrev pub StopsWriting : {W : Type 0} → (W → Option (List ℕ)) → W → W → List ℕ → SnapshotError → Type 0

@@ -8,7 +8,7 @@ use crate::lists::Numbers;
 use crate::words::Word;
 use am_nflog::{LogKey, MeshEntry};
 use am_silence::{MeshSilence, State};
-use am_version_order::{Moment, Version};
+use am_version_order::Version;
 use std::alloc::AllocError;
 use std::fmt::{self, Display};
 
@@ -78,18 +78,18 @@ pub fn append_shows(
     writeln!(out, "{name} shows {silences} {entries}")
 }
 
-/// Appends the line of a silence, with its state at the moment.
+/// Appends the line of a silence that has this state.
 #[tactic(auto, unfolding(crate::specs::Views::silence_line))]
 pub fn append_silence(
     out: &mut String,
     owner: Owner<'_>,
     version: &MeshSilence,
-    now: Moment,
+    state: State,
 ) -> Result<(), AllocError>
-    ensures { OnOk result (string_bytes out.new ≡ string_bytes out.old ++ silence_line (option_copied owner.entry.0) now version.now) }
+    ensures { OnOk result (string_bytes out.new ≡ string_bytes out.old ++ silence_line (option_copied owner.entry.0) version.now state) }
 {
     let id = Word(version.key().as_str().as_bytes());
-    let state = state_name(version.state_at(now));
+    let state = state_name(state);
     writeln!(out, "{owner}sil {id} {state}")
 }
 

@@ -5,8 +5,9 @@ mod lines;
 use crate::status;
 use am_instance::ConfigError;
 use am_member::asking::ReadError;
-use am_member::{Fault as ConnectionFault, FetchFault, FileFault, ReplyError, SendFault};
+use am_member::{Fault as ConnectionFault, FetchFault, FileFault, ReplyError};
 use am_picture::PictureError;
+use am_reactor::LinkFault;
 use am_replay::ReplayError;
 use am_silence_json::ListError;
 use am_snapshot::{FoldError, SnapshotError};
@@ -14,9 +15,14 @@ use am_told::Word;
 use std::fmt;
 use std::io::ErrorKind;
 
+/// Prints a fault on standard error.
+pub fn print<R: Eprint>(rt: &R, fault: Fault) {
+    let _ = eprintln!(rt; "am_tool: {fault}");
+}
+
 /// Prints a fault on standard error, and answers the exit status of the program.
 pub fn report<R: Eprint>(rt: &R, fault: Fault) -> u8 {
-    let _ = eprintln!(rt; "am_tool: {fault}");
+    print(rt, fault);
     fault.status()
 }
 
@@ -47,14 +53,18 @@ pub enum Fault {
     Accept(ErrorKind),
     /// In a connection.
     Connection(ConnectionFault),
-    /// The system's clock could not be read, so a connection was not taken.
+    /// The system's clock could not be read at the start.
     Clock(ErrorKind),
+    /// The system refused to tell what is ready.
+    Ready(ErrorKind),
+    /// No peer answered the first pull in time, so requests are answered without it.
+    NoPull,
     /// So many frames for peers found no memory.
     UnsentMemory(usize),
     /// So many frames for peers were over their limit.
     UnsentLimit(usize),
-    /// What was to be sent to the peer at a port was not.
-    Send(SendFault, u16),
+    /// What was to be sent to the peer at a port is lost.
+    Lost(LinkFault, u16),
 }
 
 impl Fault {
@@ -248,9 +258,11 @@ impl fmt::Display for Fault {
             Fault::Accept(kind) => lines::of_kind(f, "Accept", kind),
             Fault::Connection(fault) => lines::write_connection_fault(fault, f),
             Fault::Clock(kind) => lines::of_kind(f, "Clock", kind),
+            Fault::Ready(kind) => lines::of_kind(f, "Ready", kind),
+            Fault::NoPull => f.write_str("NoPull"),
             Fault::UnsentMemory(frames) => lines::numbered(f, "Unsent Memory", frames),
             Fault::UnsentLimit(frames) => lines::numbered(f, "Unsent Limit", frames),
-            Fault::Send(fault, port) => lines::write_send_fault(fault, port, f),
+            Fault::Lost(fault, port) => lines::write_link_fault(fault, port, f),
         }
     }
 }

@@ -35,10 +35,7 @@ fn run<'a>(rt: &'a HostRuntime, job: Job<'a>) -> u8 {
     match job {
         Job::Replay(None) => status_of(rt, replay(rt)),
         Job::Replay(Some(file)) => status_of(rt, picture::run(rt, file)),
-        Job::Rows(job) => match run_rows(rt, job) {
-            Ok(_) => status::DONE,
-            Err(fault) => fault::report(rt, fault),
-        },
+        Job::Rows(job) => status_of(rt, run_rows(rt, job)),
         Job::Diff(job) => diff::run(rt, &job),
         Job::Instance(options) => status_of(rt, member::run(rt, &options)),
     }
@@ -77,7 +74,7 @@ fn play<R: Read, W: Write, P: Progress>(
 }
 
 /// Folds or shows what stands on standard input.
-fn run_rows(rt: &HostRuntime, job: RowJob) -> Result<u64, Fault> {
+fn run_rows(rt: &HostRuntime, job: RowJob) -> Result<(), Fault> {
     let alloc = rt.alloc();
     let Ok(mut input) = BufReader::new(alloc, rt.stdin()) else {
         return Err(Fault::from(SnapshotError::Memory));
@@ -86,24 +83,25 @@ fn run_rows(rt: &HostRuntime, job: RowJob) -> Result<u64, Fault> {
     let RowJob { task, state, now } = job;
     match (task, state) {
         (Task::Fold, StateName::Silences) => {
-            fold_row::<MeshSilence, _, _>(alloc, &mut input, &mut output, now)
+            fold_row::<MeshSilence, _, _>(alloc, &mut input, &mut output, now)?;
         }
         (Task::Fold, StateName::Log) => {
-            fold_row::<MeshEntry, _, _>(alloc, &mut input, &mut output, now)
+            fold_row::<MeshEntry, _, _>(alloc, &mut input, &mut output, now)?;
         }
         (Task::Show(Form::Lines), StateName::Silences) => {
-            Ok(show_silences(alloc, &mut input, &mut output, now)?)
+            show_silences(alloc, &mut input, &mut output, now)?;
         }
         (Task::Show(Form::Lines), StateName::Log) => {
-            Ok(show_log(alloc, &mut input, &mut output, now)?)
+            show_log(alloc, &mut input, &mut output, now)?;
         }
         (Task::Show(Form::Json), StateName::Silences) => {
-            Ok(show_json::<MeshSilence, _, _>(alloc, &mut input, &mut output, now)?)
+            show_json::<MeshSilence, _, _>(alloc, &mut input, &mut output, now)?;
         }
         (Task::Show(Form::Json), StateName::Log) => {
-            Ok(show_json::<MeshEntry, _, _>(alloc, &mut input, &mut output, now)?)
+            show_json::<MeshEntry, _, _>(alloc, &mut input, &mut output, now)?;
         }
     }
+    Ok(())
 }
 
 /// Writes the fold of the row that stands on the input.
@@ -114,14 +112,13 @@ fn fold_row<V: Version + Message, R: Read, W: Write>(
     input: &mut R,
     output: &mut W,
     now: Moment,
-) -> Result<u64, Fault>
+) -> Result<(), Fault>
     ensures folded { OnOk result (IfSome (R.remaining input.old) (λ bytes.
         (row : List ℕ) × IsFold V.seen V.Key.cmp V.reads bytes row × Appends (W.contents output.old) (W.contents output.new) row)) }
 {
     let folded = fold_held::<V, _, _>(alloc, input, output, now)?;
-    let written = folded.written;
     mem::forget(folded);
-    Ok(written)
+    Ok(())
 }
 
 fn main(rt: HostRuntime) -> ExitCode {

@@ -1,173 +1,159 @@
-//! A member of a cluster: its start, and the connections that it takes.
+//! A member of a cluster that runs: what it answers, and what it does by itself.
 
+mod dialogue;
+mod duties;
+mod serving;
+mod signals;
 mod start;
 mod started;
+mod times;
 
 use crate::fault::{self, Fault};
+use crate::words::Options;
 use am_gossip::Frame;
-use am_instance::{Instance, Place, Unsent};
-use am_member::{Ended, Parted, attend, next_moment, part_frames, save_file, send_to};
+use am_instance::{Event, Instance, Outcome, Place, Unsent};
+use am_member::{Ended, Fault as ConnectionFault, next_moment, save_file};
+use duties::Duties;
 use rand::rngs::StdRng;
 use rand_core::Rng;
 pub use start::run;
-use std::io::ErrorKind;
-use std::net::{TcpListener, TcpStream};
-use std::time::Duration;
+use std::time::Instant;
 
 /// A member that runs.
 #[derive(Drop)]
 pub struct Member<'a> {
     rt: &'a HostRuntime,
+    options: &'a Options<'a>,
     instance: Instance,
     /// At which port each member listens, by place; 0 for this one.
     ports: Vec<u16>,
-    /// The files of its state.
-    silences: &'a str,
-    log: &'a str,
-    time_limit: Duration,
     random: StdRng,
+    /// The frames that wait to be handed out, each with the place of its peer.
+    queue: Vec<(Place, Frame)>,
+    duties: Duties,
+    /// Something may have changed since the last save.
+    is_changed: bool,
+    /// It is to stop.
+    stops: bool,
 }
 
-/// Takes so many connections, and saves both states in the end. Whatever is at fault on the way is printed, and the member
-/// goes on, unless the listener is at fault.
-fn serve(member: &mut Member<'_>, listener: &TcpListener, connections: u64) -> Result<(), Fault> {
-    for _ in 0..connections {
-        match listener.accept() {
-            Ok((stream, _)) => take(member, &stream),
-            Err(error) if is_of_client(error.kind()) => tell(member, Fault::Accept(error.kind())),
+impl Member<'_> {
+    /// Prints a fault.
+    fn tell(&self, fault: Fault) {
+        fault::print(self.rt, fault);
+    }
+
+    /// Prints how many frames are not sent.
+    fn tell_unsent(&self, unsent: Unsent) {
+        if unsent.memory > 0 {
+            self.tell(Fault::UnsentMemory(unsent.memory));
+        }
+        if unsent.limit > 0 {
+            self.tell(Fault::UnsentLimit(unsent.limit));
+        }
+    }
+
+    /// 128 random bits.
+    fn random_bits(&mut self) -> u128 {
+        let high = self.random.next_u64();
+        let low = self.random.next_u64();
+        u128::from(high) << 64 | u128::from(low)
+    }
+
+    /// Has frames wait to be handed out.
+    fn queue_frames(&mut self, frames: Vec<(Place, Frame)>) {
+        let mut frames = frames;
+        if self.queue.append(&mut frames).is_err() {
+            self.tell(Fault::UnsentMemory(frames.len()));
+        }
+    }
+
+    /// What follows the steps of a connection.
+    fn follow(&mut self, ended: Ended) {
+        let Ended {
+            frames,
+            unsent,
+            ticked,
+            fault,
+        } = ended;
+        if let Some(fault) = fault {
+            self.tell(Fault::Connection(fault));
+        }
+        self.tell_unsent(unsent);
+        if ticked {
+            self.save();
+        }
+        self.queue_frames(frames);
+    }
+
+    /// What follows a step that the member made by itself.
+    fn follow_step(&mut self, outcome: Outcome) {
+        let Outcome { frames, unsent, .. } = outcome;
+        self.tell_unsent(unsent);
+        self.queue_frames(frames);
+    }
+
+    /// Makes a step by itself, and answers whether it was made.
+    fn step(&mut self, event: Event) -> bool {
+        let now = next_moment(self.rt, self.instance.last());
+        match self.instance.step(event, now) {
+            Ok(outcome) => {
+                self.follow_step(outcome);
+                true
+            }
             Err(error) => {
-                save(member);
-                return Err(Fault::Accept(error.kind()));
+                self.tell(Fault::Connection(ConnectionFault::Step(error)));
+                false
             }
         }
     }
-    save(member);
-    Ok(())
-}
 
-/// Whether a connection that isn't accepted so says nothing against the listener.
-fn is_of_client(kind: ErrorKind) -> bool {
-    matches!(
-        kind,
-        ErrorKind::ConnectionAborted
-            | ErrorKind::ConnectionReset
-            | ErrorKind::Interrupted
-            | ErrorKind::NetworkDown
-            | ErrorKind::NetworkUnreachable
-            | ErrorKind::HostUnreachable
-            | ErrorKind::TimedOut
-            | ErrorKind::WouldBlock
-    )
-}
-
-/// Prints a fault.
-fn tell(member: &Member<'_>, fault: Fault) {
-    let _ = fault::report(member.rt, fault);
-}
-
-/// Takes one connection: makes its steps, saves both states where a Tick was among them, and sends what is to be sent.
-fn take(member: &mut Member<'_>, stream: &TcpStream) {
-    let bits = random_bits(&mut member.random);
-    let now = next_moment(member.rt, member.instance.last());
-    let alloc = member.rt.alloc();
-    let attended = attend(
-        alloc,
-        member.rt,
-        stream,
-        &mut member.instance,
-        bits,
-        now,
-        member.time_limit,
-    );
-    match attended {
-        Ok(ended) => follow(member, ended),
-        Err(error) => tell(member, Fault::Clock(error.kind())),
-    }
-}
-
-/// 128 random bits.
-fn random_bits(random: &mut StdRng) -> u128 {
-    let high = random.next_u64();
-    let low = random.next_u64();
-    u128::from(high) << 64 | u128::from(low)
-}
-
-/// What follows a connection that has ended.
-fn follow(member: &Member<'_>, ended: Ended) {
-    let Ended {
-        frames,
-        unsent,
-        ticked,
-        fault,
-    } = ended;
-    if let Some(fault) = fault {
-        tell(member, Fault::Connection(fault));
-    }
-    tell_unsent(member, unsent);
-    if ticked {
-        save(member);
-    }
-    send_all(member, frames);
-}
-
-/// Prints how many frames are not sent.
-fn tell_unsent(member: &Member<'_>, unsent: Unsent) {
-    if unsent.memory > 0 {
-        tell(member, Fault::UnsentMemory(unsent.memory));
-    }
-    if unsent.limit > 0 {
-        tell(member, Fault::UnsentLimit(unsent.limit));
-    }
-}
-
-/// Saves the silences, and then the log.
-fn save(member: &Member<'_>) {
-    let silences = save_file(member.rt, member.silences, member.instance.silences());
-    if let Err(fault) = silences {
-        tell(member, Fault::Silences(fault));
-    }
-    let log = save_file(member.rt, member.log, member.instance.log());
-    if let Err(fault) = log {
-        tell(member, Fault::Log(fault));
-    }
-}
-
-/// Sends each peer its frames, in the order of the peers' places.
-fn send_all(member: &Member<'_>, frames: Vec<(Place, Frame)>) {
-    let mut left = frames;
-    for place in 0..member.ports.len() {
-        if left.is_empty() {
-            return;
+    /// Saves the silences, and then the log.
+    fn save(&mut self) {
+        let silences = save_file(self.rt, self.options.silences, self.instance.silences());
+        let log = save_file(self.rt, self.options.log, self.instance.log());
+        self.is_changed = silences.is_err() || log.is_err();
+        if let Err(fault) = silences {
+            self.tell(Fault::Silences(fault));
         }
-        let count = left.len();
-        let Ok(parted) = part_frames(member.rt.alloc(), place as u64, left) else {
-            return tell(member, Fault::UnsentMemory(count));
-        };
-        let Parted { own, others } = parted;
-        send_frames(member, member.ports[place], &own);
-        left = others;
+        if let Err(fault) = log {
+            self.tell(Fault::Log(fault));
+        }
     }
-}
 
-/// Sends frames to the peer at a port. What fails is printed, and lost.
-fn send_frames(member: &Member<'_>, port: u16, frames: &[Frame]) {
-    if frames.is_empty() {
-        return;
+    /// Drops what has expired, and saves both states.
+    fn tick(&mut self) {
+        if self.step(Event::Tick) {
+            self.save();
+        }
     }
-    let config = member.instance.config();
-    let Some(name) = config.members().get(config.place() as usize) else {
-        return;
-    };
-    let alloc = member.rt.alloc();
-    let sent = send_to(
-        alloc,
-        member.rt,
-        name.as_str(),
-        port,
-        frames,
-        member.time_limit,
-    );
-    if let Err(fault) = sent {
-        tell(member, Fault::Send(fault, port));
+
+    /// Asks each peer for all that it has.
+    fn pull(&mut self) {
+        for place in 0..self.ports.len() {
+            if self.ports[place] != 0 {
+                let _ = self.step(Event::PullFrom(place as Place));
+            }
+        }
+    }
+
+    /// Does what is due.
+    fn do_duties(&mut self, now: Instant) {
+        if self.duties.is_tick_due(now) {
+            self.tick();
+        }
+        if self.duties.is_save_due(now) && self.is_changed {
+            self.save();
+        }
+        if self.duties.is_pull_due(now) {
+            self.pull();
+        }
+        if self.duties.is_first_pull_over(now) {
+            self.tell(Fault::NoPull);
+            self.duties.end_first_pull(self.options, now);
+        }
+        if self.duties.is_signal_due(now) && signals::is_told_to_end(self.rt) {
+            self.stops = true;
+        }
     }
 }

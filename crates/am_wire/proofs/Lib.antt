@@ -17,3 +17,4 @@ pub mod SignedMoments
 pub mod ReaderLemmas
 pub mod Unpacking
 pub mod Sizes
+pub mod Offsets

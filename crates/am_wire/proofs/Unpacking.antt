@@ -1,7 +1,8 @@
 -- Numbers that are packed one after the other.
-use Rattle.std.proofs.Common.{◌≡◌, ℕ, zero, suc, ◌+◌, ◌-◌, ◌<◌, ◌≤◌, arith, true, false, eqb, append-nil, length-append, List, [], ◌∷◌, ◌++◌, length, drop, Some, None, Result, Ok, Err, refl, sym, ap, ◌∙◌, append_assoc}
+use Rattle.std.proofs.Common.{◌≡◌, ℕ, zero, suc, ◌+◌, ◌-◌, ◌<◌, ◌≤◌, ◌==◌, arith, true, false, eqb, append-nil, length-append, List, [], ◌∷◌, ◌++◌, length, drop, Some, None, Result, Ok, Err, refl, sym, ap, ◌∙◌, append_assoc}
 use Rattle.std.specs.List.{flat_map}
 use Rattle.std.proofs.lemmas.Bool.{eqb-true, ne_eqb}
+use Rattle.std.proofs.lemmas.Bool.Decides.{nat_tests}
 use Rattle.am_wire.specs.declared.error.WireError.{WireError}
 use Rattle.am_wire.specs.Varint.{varint_at, shortest}
 use Rattle.am_wire.specs.Fields.{pieces, next_piece}
@@ -65,3 +66,11 @@ packed_filled [] filled = absurd cc
 packed_filled (n ∷ ns) filled =
     let long : 0 < length (flat_map shortest (n ∷ ns)) = omega (arith, shortest_filled n, length-append (shortest n) (flat_map shortest ns)) in
     ne_eqb _ _ (λ none. absurd (omega (arith, long, none)))
+
+more_than_none : (n : ℕ) → eqb (suc n) 0 ≡ false
+more_than_none n = grind (arith, nat_tests)
+
+-- and those that are not there have none
+pub none_alike : (ns : List ℕ) → (length (flat_map shortest ns) == 0) ≡ (length ns == 0)
+none_alike [] = refl
+none_alike (n ∷ ns) = packed_filled (n ∷ ns) (sym (more_than_none (length ns))) ∙ sym (more_than_none (length ns))

@@ -17,3 +17,4 @@ pub mod SignedParts
 pub mod RoundTrip
 pub mod Reader
 pub mod Inputs
+pub mod Offsets

@@ -2,6 +2,7 @@
 #![tactic(auto)]
 
 mod bytes;
+mod delimited;
 mod draft;
 mod error;
 mod expiring;
@@ -11,6 +12,7 @@ pub mod laws;
 mod lists;
 mod message;
 mod messages;
+mod offset;
 mod parts;
 mod reader;
 pub mod reading;

@@ -5,5 +5,6 @@ pub use crate::expiring::{Expiring, ExpiringDraft};
 pub use crate::field::{AnyField, Schema};
 pub use crate::fields::Scan;
 pub use crate::lists::{LastBytes, take_numbers};
+pub use crate::offset::{Offset, split_part};
 pub use crate::parts::{LastNumber, LastText, Submessage, take_item};
 pub use crate::timestamp::{TimestampDraft, moment_in};

@@ -6,10 +6,12 @@ ghost use Rattle.am_wire.specs.Varint.{shortest};
 ghost use Rattle.am_wire.specs.declared.error.WireError.TheVariants as errors;
 ghost use Rattle.am_wire.specs.Writing.{tag, writes_number, writes_delimited, writes_text};
 
+pub use crate::delimited::{append_delimited, delimited_bytes, delimited_length};
 use crate::error::WireError;
 pub use crate::expiring::{expiring_size, write_expiring};
 pub use crate::lists::{write_bytes, write_numbers};
 pub use crate::message::{write_message, write_sized_message};
+pub use crate::offset::{write_packed_part, write_part};
 use crate::rows::MOST_MESSAGE_BYTES;
 pub use crate::size::{
     bytes_size, delimited_size, message_size, number_size, numbers_size, text_size, varint_size,
@@ -17,8 +19,9 @@ pub use crate::size::{
 };
 use std::alloc::AllocError;
 
+// Writes a number at the end.
 #[tactic(auto, unfolding(crate::specs::Varint::groups))]
-fn append_varint(out: &mut Vec<u8>, value: u64) -> Result<(), AllocError>
+pub(crate) fn append_varint(out: &mut Vec<u8>, value: u64) -> Result<(), AllocError>
     ensures ok { OnOk result (out.new.items ≡ out.old.items ++ shortest value) }
 {
     if value < 128 {

@@ -1,6 +1,6 @@
 //! What holds of the versions that frames carry.
 
-ghost use Rattle.std.specs.Prelude.{◌≡◌, ◌≤◌, ◌++◌, ◌∷◌, [], List, length, map, All, Ok, None, true};
+ghost use Rattle.std.specs.Prelude.{◌≡◌, ◌≤◌, ◌∷◌, [], List, length, map, All, Ok, None, true};
 ghost use Rattle.am_wire.specs.Limits.{most};
 ghost use Rattle.am_silence.specs.Mesh.{Mesh, IsMesh, mesh_version};
 ghost use Rattle.am_nflog.specs.Mesh.{Mesh as LogMesh, IsMesh as IsLogMesh, mesh_version as entry_version};
@@ -10,7 +10,9 @@ ghost use Rattle.am_snapshot.specs.Texts.{row_text};
 ghost use Rattle.am_instance.specs.Deliveries.{Delivery, first_fault, parts_of, rows_in};
 ghost use Rattle.am_instance.specs.Deliveries.Delivery.{OfSilence, OfEntry};
 ghost use Rattle.am_instance.specs.Sendings.{delta_of, whole_state};
+ghost use Rattle.am_steps.specs.BothStates.{log_state, silence_state};
 ghost use Rattle.am_steps.specs.Contents.{carries, entries_in, held_in, silences_in, IsReadable, IsValue};
+ghost use Rattle.am_steps.specs.StepLaws.{VersionsStayInOrder};
 
 /// A Delta of a version carries just that version, and nothing in it is at fault.
 pub fn deltas_carry_their_version()
@@ -49,6 +51,6 @@ pub fn what_keeps_its_limit_is_readable()
 pub fn states_are_parted()
     ensures silences { (silences : List Mesh) (log : List LogMesh) → silences_in (held_in silences log) ≡ silences }
     ensures log { (silences : List Mesh) (log : List LogMesh) → entries_in (held_in silences log) ≡ log }
-    ensures silences_then { (ds es : List Delivery) → silences_in (ds ++ es) ≡ silences_in ds ++ silences_in es }
-    ensures log_then { (ds es : List Delivery) → entries_in (ds ++ es) ≡ entries_in ds ++ entries_in es }
+    ensures silences_then { VersionsStayInOrder silence_state }
+    ensures log_then { VersionsStayInOrder log_state }
 {}

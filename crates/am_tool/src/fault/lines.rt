@@ -4,7 +4,8 @@ use super::InputFault;
 use am_gossip::FrameError;
 use am_instance::{ConfigError, StepError};
 use am_member::asking::ReadError;
-use am_member::{Fault, FetchFault, FileFault, ReplyError, SendError, SendFault};
+use am_member::{Fault, FetchFault, FileFault, ReplyError};
+use am_reactor::LinkFault;
 use am_replay::ReplayError;
 use am_schedule::FaultKind;
 use am_silence_json::ListError;
@@ -170,15 +171,18 @@ fn write_step_error<W: fmt::Write>(error: StepError, f: &mut Formatter<W>) -> fm
     }
 }
 
-pub fn write_send_fault<W: fmt::Write>(
-    fault: SendFault,
+pub fn write_link_fault<W: fmt::Write>(
+    fault: LinkFault,
     port: u16,
     f: &mut Formatter<W>,
 ) -> fmt::Result {
     match fault {
-        SendFault::Connect(kind) => write!(f, "Connect {kind:?} {port}"),
-        SendFault::Send(SendError::Write { written }) => write!(f, "Send Write {port} {written}"),
-        SendFault::Send(SendError::Memory) => numbered(f, "Send Memory", port),
-        SendFault::Send(SendError::Length) => numbered(f, "Send Length", port),
+        LinkFault::Connect(kind) => write!(f, "Connect {kind:?} {port}"),
+        LinkFault::Write { written, .. } | LinkFault::Time { written } => {
+            write!(f, "Send Write {port} {written}")
+        }
+        LinkFault::Full => numbered(f, "Send Full", port),
+        LinkFault::Memory => numbered(f, "Send Memory", port),
+        LinkFault::NoPeer => numbered(f, "Send NoPeer", port),
     }
 }

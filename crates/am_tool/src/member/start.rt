@@ -1,59 +1,117 @@
 //! The start of a member.
 
+use super::duties::Duties;
 use super::started::Started;
-use super::{Member, serve};
+use super::{Member, signals, times};
 use crate::fault::Fault;
 use crate::words::Options;
 use am_instance::{Config, ConfigError, Instance};
-use am_member::{Peer, load_file, next_moment};
+use am_member::{Peer, load_file, next_moment, send};
+use am_reactor::Limits;
 use am_version_order::Moment;
 use am_wire::Text;
 use rand::make_rng;
+use rand::rngs::StdRng;
 use std::alloc::{AllocError, Global};
 use std::net::{Ipv4Addr, TcpListener};
+use std::time::Instant;
 
-/// Runs a member until it has taken its connections.
+/// The most bytes that wait for a peer while a connection to it is open.
+const MOST_WAITING: usize = 134_217_728;
+
+/// Runs a member until it is told to end, or has taken its connections; then it saves both states.
 ///
 /// # Errors
 ///
-/// The first [`Fault`] of the start, in the order of names, silences, log, listener; or that of the listener.
-pub fn run<'a>(rt: &'a HostRuntime, options: &Options<'a>) -> Result<(), Fault> {
+/// The first [`Fault`] of the start, in the order of names, silences, log, listener; or that of the listener later.
+pub fn run<'a>(rt: &'a HostRuntime, options: &'a Options<'a>) -> Result<(), Fault> {
     let mut member = member(rt, options)?;
     let listener = match TcpListener::bind(rt, (Ipv4Addr::LOCALHOST, options.port)) {
         Ok(listener) => listener,
         Err(error) => return Err(Fault::Listen(error.kind(), options.port)),
     };
+    tell_start(&member);
+    let served = serve(&mut member, listener);
+    member.save();
+    served
+}
+
+/// Prints that a member listens, and the times that it keeps.
+fn tell_start(member: &Member<'_>) {
     let started = Started {
-        options,
+        options: member.options,
         silences: member.instance.silences().len(),
         entries: member.instance.log().len(),
     };
-    let _ = eprintln!(rt; "am_tool: {started}");
-    serve(&mut member, &listener, options.connections)
+    let _ = eprintln!(member.rt; "am_tool: {started}");
+    times::report(member.rt, member.options);
+}
+
+/// Serves whoever connects, until the member is told to end or has taken its connections.
+fn serve(member: &mut Member<'_>, listener: TcpListener) -> Result<(), Fault> {
+    let rt = member.rt;
+    let options = member.options;
+    let Ok(greeting) = greeting(rt.alloc(), options.name) else {
+        return Err(Fault::Config(ConfigError::Memory));
+    };
+    let Ok(ports) = member.ports.clone() else {
+        return Err(Fault::Config(ConfigError::Memory));
+    };
+    let limits = Limits {
+        at_once: options.at_once,
+        connections: options.connections,
+        time: options.time_limit,
+        link_bytes: MOST_WAITING,
+        watch_input: options.stop_at_input_end,
+    };
+    let alloc = rt.alloc();
+    match am_reactor::run(alloc, rt, listener, &ports, &greeting, member, limits) {
+        Ok(()) => Ok(()),
+        Err(error) => Err(Fault::Accept(error.kind())),
+    }
+}
+
+/// What a connection to a peer begins with.
+fn greeting(alloc: Global, name: &str) -> Result<Vec<u8>, AllocError> {
+    let mut bytes = Vec::new(alloc);
+    match send(alloc, name, &[], &mut bytes) {
+        Ok(_) => Ok(bytes),
+        Err(_) => Err(AllocError),
+    }
 }
 
 /// The member before it listens.
-fn member<'a>(rt: &'a HostRuntime, options: &Options<'a>) -> Result<Member<'a>, Fault> {
+fn member<'a>(rt: &'a HostRuntime, options: &'a Options<'a>) -> Result<Member<'a>, Fault> {
     let config = config(rt.alloc(), options)?;
     let Ok(ports) = ports(rt.alloc(), &config, &options.peers) else {
         return Err(Fault::Config(ConfigError::Memory));
     };
     let instance = instance(rt, config, options)?;
-    let random = match make_rng(rt) {
-        Ok(random) => random,
-        Err(error) => return Err(Fault::Random(error.kind())),
+    let random = random(rt)?;
+    let duties = match Instant::now(rt) {
+        Ok(now) => Duties::new(options, signals::are_blocked(rt), now),
+        Err(error) => return Err(Fault::Clock(error.kind())),
     };
     Ok(Member {
         rt,
+        options,
         instance,
         ports,
-        silences: options.silences,
-        log: options.log,
-        time_limit: options.time_limit,
         random,
+        queue: Vec::new(rt.alloc()),
+        duties,
+        is_changed: false,
+        stops: false,
     })
 }
 
+/// What random bits are drawn from.
+fn random(rt: &HostRuntime) -> Result<StdRng, Fault> {
+    match make_rng(rt) {
+        Ok(random) => Ok(random),
+        Err(error) => Err(Fault::Random(error.kind())),
+    }
+}
 /// The names of the members, and how long things are kept.
 fn config(alloc: Global, options: &Options<'_>) -> Result<Config, Fault> {
     let Ok(name) = Text::copied(alloc, options.name) else {

@@ -24,11 +24,26 @@ pub struct Options<'a> {
     /// The file of the notification log.
     pub log: &'a str,
     pub retention: Interval,
+    /// The retention in seconds.
+    pub retention_seconds: u64,
     pub peer_timeout: Interval,
     /// After how many connections it ends.
     pub connections: u64,
     /// For how long one connection may last.
     pub time_limit: Duration,
+    /// How many connections it serves at once.
+    pub at_once: u16,
+    /// How often it ticks, pulls and saves by itself.
+    pub tick_every: Option<Duration>,
+    pub pull_every: Option<Duration>,
+    pub save_every: Option<Duration>,
+    /// It answers nothing before a peer has answered its first pull, or is waited for no more.
+    pub pull_first: bool,
+    pub pull_first_limit: Duration,
+    /// It ends where standard input does.
+    pub stop_at_input_end: bool,
+    /// The smallest repeat interval, in seconds.
+    pub least_repeat: Option<u64>,
 }
 
 /// The numbers among the options.
@@ -39,6 +54,18 @@ struct Numbers {
     peer_timeout: Interval,
     connections: u64,
     time_limit: Duration,
+    at_once: u16,
+    own: OwnNumbers,
+}
+
+/// The numbers of what a member does by itself.
+#[derive(Clone, Copy)]
+struct OwnNumbers {
+    tick_every: Option<Duration>,
+    pull_every: Option<Duration>,
+    save_every: Option<Duration>,
+    pull_first_limit: Duration,
+    least_repeat: Option<u64>,
 }
 
 /// The command with its options.
@@ -51,7 +78,7 @@ pub fn command<'a>(alloc: Global) -> Result<Command<'a>, AllocError> {
         .arg(option(alloc, "peer", "NAME=PORT", PEER_HELP).action(ArgAction::Append))?
         .arg(option(alloc, "sil", "FILE", SIL_HELP).required(true))?
         .arg(option(alloc, "nfl", "FILE", NFL_HELP).required(true))?;
-    limits(alloc, command)
+    own(alloc, limits(alloc, command)?)
 }
 
 /// The options that have a default.
@@ -60,7 +87,27 @@ fn limits<'a>(alloc: Global, command: Command<'a>) -> Result<Command<'a>, AllocE
         .arg(option(alloc, "retention", "S", RETENTION_HELP).default_value("432000"))?
         .arg(option(alloc, "peer-timeout", "S", PEER_TIMEOUT_HELP).default_value("15"))?
         .arg(option(alloc, "connections", "N", CONNECTIONS_HELP))?
-        .arg(option(alloc, "time-limit", "S", TIME_LIMIT_HELP).default_value("5"))
+        .arg(option(alloc, "time-limit", "S", TIME_LIMIT_HELP).default_value("5"))?
+        .arg(option(alloc, "at-once", "N", AT_ONCE_HELP).default_value("256"))
+}
+
+/// The options of what it does by itself.
+fn own<'a>(alloc: Global, command: Command<'a>) -> Result<Command<'a>, AllocError> {
+    command
+        .arg(option(alloc, "tick-every", "S", TICK_EVERY_HELP))?
+        .arg(option(alloc, "pull-every", "S", PULL_EVERY_HELP))?
+        .arg(option(alloc, "save-every", "S", SAVE_EVERY_HELP))?
+        .arg(flag(alloc, "pull-first", PULL_FIRST_HELP))?
+        .arg(option(alloc, "pull-first-limit", "S", PULL_FIRST_LIMIT_HELP).default_value("30"))?
+        .arg(flag(alloc, "stop-at-input-end", STOP_HELP))?
+        .arg(option(alloc, "least-repeat", "S", LEAST_REPEAT_HELP))
+}
+
+fn flag<'a>(alloc: Global, name: &'a str, help: &'a str) -> Arg<'a> {
+    Arg::new(alloc, name)
+        .long(name)
+        .help(help)
+        .action(ArgAction::SetTrue)
 }
 
 pub fn option<'a>(alloc: Global, name: &'a str, value: &'a str, help: &'a str) -> Arg<'a> {
@@ -92,9 +139,18 @@ pub fn read_options<'a>(
         silences: text(flags, "sil"),
         log: text(flags, "nfl"),
         retention: numbers.retention,
+        retention_seconds: number(flags, "retention", MOST_SECONDS).unwrap_or(0),
         peer_timeout: numbers.peer_timeout,
         connections: numbers.connections,
         time_limit: numbers.time_limit,
+        at_once: numbers.at_once,
+        tick_every: numbers.own.tick_every,
+        pull_every: numbers.own.pull_every,
+        save_every: numbers.own.save_every,
+        pull_first: flags.get_flag("pull-first"),
+        pull_first_limit: numbers.own.pull_first_limit,
+        stop_at_input_end: flags.get_flag("stop-at-input-end"),
+        least_repeat: numbers.own.least_repeat,
     })
 }
 
@@ -110,13 +166,48 @@ fn read_numbers(flags: &ArgMatches<'_>) -> Result<Numbers, &'static str> {
     let peer_timeout = seconds(flags, "peer-timeout").ok_or(BAD_PEER_TIMEOUT)?;
     let connections = connections(flags).ok_or(BAD_CONNECTIONS)?;
     let time_limit = time_limit(flags)?;
+    let at_once = number(flags, "at-once", 65_535).ok_or(BAD_AT_ONCE)?;
     Ok(Numbers {
         port: port as u16,
         retention,
         peer_timeout,
         connections,
         time_limit,
+        at_once: at_once as u16,
+        own: read_own(flags)?,
     })
+}
+
+/// The numbers of what it does by itself, or what is said of the first one that is none.
+fn read_own(flags: &ArgMatches<'_>) -> Result<OwnNumbers, &'static str> {
+    let tick_every = every(flags, "tick-every").ok_or(BAD_TICK_EVERY)?;
+    let pull_every = every(flags, "pull-every").ok_or(BAD_PULL_EVERY)?;
+    let save_every = every(flags, "save-every").ok_or(BAD_SAVE_EVERY)?;
+    let limit = number(flags, "pull-first-limit", MOST_SECONDS).ok_or(BAD_PULL_FIRST_LIMIT)?;
+    let least_repeat = some_number(flags, "least-repeat").ok_or(BAD_LEAST_REPEAT)?;
+    Ok(OwnNumbers {
+        tick_every,
+        pull_every,
+        save_every,
+        pull_first_limit: Duration::from_secs(limit),
+        least_repeat,
+    })
+}
+
+/// The number of an option that may be left out: none where it is, and nothing where the word is no number.
+fn some_number(flags: &ArgMatches<'_>, name: &str) -> Option<Option<u64>> {
+    match flags.get_str(name) {
+        Some(word) => Some(Some(number_within(1, MOST_SECONDS, word)?)),
+        None => Some(None),
+    }
+}
+
+/// How often something is done, where the option is given.
+fn every(flags: &ArgMatches<'_>, name: &str) -> Option<Option<Duration>> {
+    match some_number(flags, name)? {
+        Some(seconds) => Some(Some(Duration::from_secs(seconds))),
+        None => Some(None),
+    }
 }
 
 /// A whole number from 1 on.
@@ -193,9 +284,36 @@ const CONNECTIONS_HELP: &str =
 const TIME_LIMIT_HELP: &str =
     "For how many seconds a connection may last, of a client or to a peer, 1 to 3600";
 
+const AT_ONCE_HELP: &str =
+    "How many connections it serves at once, 1 to 65535; those beyond wait until one of them ends";
+
+const TICK_EVERY_HELP: &str =
+    "Ticks by itself every so many seconds, 1 to 999999999: drops what has expired, and saves both files";
+
+const PULL_EVERY_HELP: &str =
+    "Asks each peer for all it has every so many seconds, 1 to 999999999, and says at the start which spread and flight \
+    time that keeps";
+
+const SAVE_EVERY_HELP: &str =
+    "Saves both files every so many seconds, 1 to 999999999, where something may have changed";
+
+const PULL_FIRST_HELP: &str =
+    "Answers no request, and no peer that asks for all, before a peer has sent all it has";
+
+const PULL_FIRST_LIMIT_HELP: &str =
+    "For how many seconds --pull-first waits at the most, 1 to 999999999";
+
+const STOP_HELP: &str = "Saves both files and ends where standard input ends";
+
+const LEAST_REPEAT_HELP: &str =
+    "The smallest repeat interval in seconds, 1 to 999999999: warns where --pull-every asks for more";
+
 const AFTER: &str = "\
-Nothing ticks by itself: what has expired is dropped, and both files are saved, when a peer sends a Tick frame, and at
-the end of --connections. A Tick is a greeting with a peer's name and the bytes 4 and 0, sent to the port; for a peer b:
+Without --tick-every, what has expired is dropped, and both files are saved, when a peer sends a Tick frame, and when the
+member ends: after --connections, at --stop-at-input-end, or by SIGTERM or SIGINT where it was started with them blocked:
+  env --block-signal=TERM --block-signal=INT am_tool instance --name a --listen 9101 --peer b=9102 \\
+    --sil a.sil --nfl a.nfl --tick-every 60 --pull-every 60 --save-every 5 --pull-first
+A Tick is a greeting with a peer's name and the bytes 4 and 0, sent to the port; for a peer b:
   printf '\\0\\1b\\4\\0' >/dev/tcp/127.0.0.1/PORT";
 
 const BAD_LISTEN: &str =
@@ -212,5 +330,23 @@ const BAD_CONNECTIONS: &str =
 
 const BAD_TIME_LIMIT: &str =
     "invalid value for '--time-limit <S>': a whole number from 1 to 3600 is wanted, in digits alone";
+
+const BAD_AT_ONCE: &str =
+    "invalid value for '--at-once <N>': a whole number from 1 to 65535 is wanted, in digits alone";
+
+const BAD_TICK_EVERY: &str =
+    "invalid value for '--tick-every <S>': a whole number from 1 to 999999999 is wanted, in digits alone";
+
+const BAD_PULL_EVERY: &str =
+    "invalid value for '--pull-every <S>': a whole number from 1 to 999999999 is wanted, in digits alone";
+
+const BAD_SAVE_EVERY: &str =
+    "invalid value for '--save-every <S>': a whole number from 1 to 999999999 is wanted, in digits alone";
+
+const BAD_PULL_FIRST_LIMIT: &str =
+    "invalid value for '--pull-first-limit <S>': a whole number from 1 to 999999999 is wanted, in digits alone";
+
+const BAD_LEAST_REPEAT: &str =
+    "invalid value for '--least-repeat <S>': a whole number from 1 to 999999999 is wanted, in digits alone";
 
 const ONE_FILE: &str = "'--sil <FILE>' and '--nfl <FILE>' name one file";

@@ -2,11 +2,12 @@ use Rattle.std.proofs.Common.{◌≡◌, ◌≤◌, [], true, length}
 use Rattle.std.specs.Prelude.{All}
 use Rattle.am_instance.specs.Replies.{IsNothing}
 use Rattle.am_instance.specs.Steps.{collects}
+use Rattle.am_steps.specs.BothStates.{log_state, silence_state}
 use Rattle.am_steps.specs.Recorded.{AreValues}
 use Rattle.am_cluster.specs.declared.recording.Kind.TheVariants as kinds
 use Rattle.am_cluster.specs.Recording.{brings_or_makes}
 use Rattle.am_cluster.specs.Ties.{CanFly}
-use Rattle.am_cluster.proofs.Acted.{all_fly_from, brings_nothing, on_ok, on_ok_and, told_frames, values_known}
+use Rattle.am_cluster.proofs.Acted.{all_fly_from, brings_nothing, can_be_next, on_ok, on_ok_and, told_frames, values_known}
 use Rattle.am_cluster.proofs.events.act.Goals as goal
 
 pub write_answer-requires : goal.write_answer-requires
@@ -21,14 +22,12 @@ write_answer-requires c =
         room_for_it = c.requires.enough.0;
         spare_for_it = c.requires.enough.1;
         spare_for_made = c.requires.enough.2;
-        silences = λ frames flying.
-            c.steps_are_possible.ensures.silences c.args.journal.now.members c.args.entry.now.place c.args.entry.now.moment c.args.journal.now.silences c.args.entry.now.source
-            c.args.instance.now c.step_of-answer.new.instance c.args.event c.step_of-answer.result frames (λ counts. c.requires.ready.runs) c.requires.ready.silences c.step_of-answer.ensures.step
-            c.requires.ready.from_silences flying values;
-        log = λ frames flying.
-            c.steps_are_possible.ensures.log c.args.journal.now.members c.args.entry.now.place c.args.entry.now.moment c.args.journal.now.log c.args.entry.now.source
-            c.args.instance.now c.step_of-answer.new.instance c.args.event c.step_of-answer.result frames (λ counts. c.requires.ready.runs_too) c.requires.ready.log c.step_of-answer.ensures.step
-            c.requires.ready.from_log flying values;
+        silences =
+            can_be_next silence_state c.steps_are_possible.ensures.silences c.args.journal.now.members c.args.journal.now.silences c.args.entry.now c.args.event c.args.instance.now c.step_of-answer.new.instance c.step_of-answer.result
+            c.requires.ready.silences c.step_of-answer.ensures.step values;
+        log =
+            can_be_next log_state c.steps_are_possible.ensures.log c.args.journal.now.members c.args.journal.now.log c.args.entry.now c.args.event c.args.instance.now c.step_of-answer.new.instance c.step_of-answer.result
+            c.requires.ready.log c.step_of-answer.ensures.step values;
         sound = c.step_of-answer.ensures.no_fault;
         few = on_ok (λ o. length o.made.silences.items ≤ 2) c.args.instance.now c.step_of-answer.new.instance c.args.event c.args.entry.now.moment c.step_of-answer.result (λ o step. c.few_are_made.ensures.silences c.args.instance.now c.step_of-answer.new.instance c.args.event c.args.entry.now.moment o step) c.step_of-answer.ensures.step;
         idle = on_ok (λ o. collects c.args.event ≡ true → (o.frames.items ≡ []) × (o.unsent.memory ≡ 0)) c.args.instance.now c.step_of-answer.new.instance c.args.event c.args.entry.now.moment c.step_of-answer.result
@@ -48,14 +47,12 @@ returns c =
       room_for_it = c.requires.enough.0;
       spare_for_it = c.requires.enough.1;
       spare_for_made = c.requires.enough.2;
-      silences = λ frames flying.
-          c.steps_are_possible.ensures.silences c.args.journal.now.members c.args.entry.now.place c.args.entry.now.moment c.args.journal.now.silences c.args.entry.now.source
-          c.args.instance.now c.step_of-answer.new.instance c.args.event c.step_of-answer.result frames (λ counts. c.requires.ready.runs) c.requires.ready.silences c.step_of-answer.ensures.step
-          c.requires.ready.from_silences flying values;
-      log = λ frames flying.
-          c.steps_are_possible.ensures.log c.args.journal.now.members c.args.entry.now.place c.args.entry.now.moment c.args.journal.now.log c.args.entry.now.source
-          c.args.instance.now c.step_of-answer.new.instance c.args.event c.step_of-answer.result frames (λ counts. c.requires.ready.runs_too) c.requires.ready.log c.step_of-answer.ensures.step
-          c.requires.ready.from_log flying values;
+      silences =
+          can_be_next silence_state c.steps_are_possible.ensures.silences c.args.journal.now.members c.args.journal.now.silences c.args.entry.now c.args.event c.args.instance.now c.step_of-answer.new.instance c.step_of-answer.result
+          c.requires.ready.silences c.step_of-answer.ensures.step values;
+      log =
+          can_be_next log_state c.steps_are_possible.ensures.log c.args.journal.now.members c.args.journal.now.log c.args.entry.now c.args.event c.args.instance.now c.step_of-answer.new.instance c.step_of-answer.result
+          c.requires.ready.log c.step_of-answer.ensures.step values;
       sound = c.step_of-answer.ensures.no_fault;
       few = on_ok (λ o. length o.made.silences.items ≤ 2) c.args.instance.now c.step_of-answer.new.instance c.args.event c.args.entry.now.moment c.step_of-answer.result (λ o step. c.few_are_made.ensures.silences c.args.instance.now c.step_of-answer.new.instance c.args.event c.args.entry.now.moment o step) c.step_of-answer.ensures.step;
       idle = on_ok (λ o. collects c.args.event ≡ true → (o.frames.items ≡ []) × (o.unsent.memory ≡ 0)) c.args.instance.now c.step_of-answer.new.instance c.args.event c.args.entry.now.moment c.step_of-answer.result

@@ -1,9 +1,9 @@
 use Rattle.std.proofs.Common.{◌≡◌, map, take}
-use Rattle.am_steps.specs.Contents.{entries_in, silences_in}
+use Rattle.am_steps.specs.BothStates.{log_state, silence_state}
 use Rattle.am_steps.specs.Recorded.{sent_in}
 use Rattle.am_cluster.proofs.sending.sent_in.Given as goal
 
 abbrev pub invariant-loop-frame : goal.invariant-loop-frame
 invariant-loop-frame l =
-    (map (λ frame. frame.items) l.sent.silences.items ≡ sent_in silences_in (take l.frame-index l.frames))
-    × (map (λ frame. frame.items) l.sent.log.items ≡ sent_in entries_in (take l.frame-index l.frames))
+    (map (λ frame. frame.items) l.sent.silences.items ≡ sent_in silence_state (take l.frame-index l.frames))
+    × (map (λ frame. frame.items) l.sent.log.items ≡ sent_in log_state (take l.frame-index l.frames))

@@ -12,7 +12,7 @@ returns c = λ spread flight now entry asked made place positive goes timely has
     let earlier = c.args.earlier.now in
     let members = length earlier.replicas in
     let tied = (c.consistency.ensures.world.members place replica found).log in
-    c.first_is_told_after_a_spread.ensures members spread flight now earlier.log goes.log_rest goes.log_step entry positive
-    (subst (λ n. IsRun entry_version key_cmp n (earlier.log ++ goes.log_step ∷ goes.log_rest)) goes.members (subst (IsRun entry_version key_cmp (length c.args.later.now.replicas)) goes.log c.consistency-2.ensures.runs.1))
-    (subst (λ n. IsTimely entry_version spread flight n (earlier.log ++ goes.log_step ∷ goes.log_rest)) goes.members (subst (IsTimely entry_version spread flight (length c.args.later.now.replicas)) goes.log timely.1))
-    goes.log_moment (subst (λ ss. Contains (delivered_in ss) entry) goes.log has) old place (tied.runs ∙ runs) replica.stand asked made tied.held key answered
+    c.first_is_told_after_a_spread.ensures members spread flight now earlier.log goes.log.rest goes.log.step entry positive
+    (subst (λ n. IsRun entry_version key_cmp n (earlier.log ++ goes.log.step ∷ goes.log.rest)) goes.members (subst (IsRun entry_version key_cmp (length c.args.later.now.replicas)) goes.log.parts c.consistency-2.ensures.runs.1))
+    (subst (λ n. IsTimely entry_version spread flight n (earlier.log ++ goes.log.step ∷ goes.log.rest)) goes.members (subst (IsTimely entry_version spread flight (length c.args.later.now.replicas)) goes.log.parts timely.1))
+    goes.log.begins (subst (λ ss. Contains (delivered_in ss) entry) goes.log.parts has) old place (tied.runs ∙ runs) replica.stand asked made tied.held key answered

@@ -1,13 +1,8 @@
-use Rattle.am_http.proofs.Standings.{end_small}
-use Rattle.am_http.proofs.Growing.{grows_weaker, still_open}
+use Rattle.am_http.proofs.Growing.{reads_body, reads_head}
 use Rattle.am_http.proofs.receiving.read_more.Goals as goal
 
-pub returns-in-Some-clause-more : goal.returns-in-Some-clause-more
-returns-in-Some-clause-more g c =
-    let open_ = rw c.in-Some.is at c.requires in
-    grows_weaker _ _ _ _ _ _ _ (end_small _ _ open_) c.fill.ensures
+pub returns-in-None : goal.returns-in-None
+returns-in-None g c = reads_head _ _ _ _ _ (rw c.in-None.is at c.requires) c.read_some.ensures.once
 
-pub returns-in-Some-clause-failed : goal.returns-in-Some-clause-failed
-returns-in-Some-clause-failed g c =
-    let open_ = rw c.in-Some.is at c.requires in
-    λ is. still_open _ _ _ _ _ _ open_ c.fill.ensures is
+pub returns-in-Some : goal.returns-in-Some
+returns-in-Some g c = reads_body _ _ _ _ _ _ (rw c.in-Some.is at c.requires) c.fill.ensures.reads

@@ -1,9 +1,9 @@
 use Rattle.std.proofs.Common.{arith, Option, ℕ, ◌+◌, List, refl, sym, ap₂, subst, length, ◌-◌, ◌∙◌}
 use Rattle.std.specs.Prelude.{IsSomeAnd}
+use Rattle.am_wire.specs.Offsets.{Follows}
 use Rattle.am_silence.specs.declared.matcher.Matcher.{Matcher}
 use Rattle.am_silence.specs.Matchers.{writes_matcher}
 use Rattle.am_silence.specs.MatcherTexts.{writes_matchers}
-use Rattle.am_silence.specs.Offsets.{Follows}
 use Rattle.am_silence.proofs.Buckets.{goes_on, matcher_follows, goes_further, found_here, found_later}
 use Rattle.am_silence.proofs.bucket.first_wanting.Goals as goal
 

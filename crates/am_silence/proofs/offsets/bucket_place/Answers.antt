@@ -1,9 +1,9 @@
 use Rattle.std.proofs.Common.{rules, ◌≡◌, ℕ, ◌+◌, ◌<◌, List, ◌++◌, length, inr, sym, subst, arith}
+use Rattle.am_wire.specs.Offsets.{Follows}
+use Rattle.am_wire.proofs.Offsets.{follows_past}
 use Rattle.am_silence.specs.declared.matcher.Matcher.{Matcher}
 use Rattle.am_silence.specs.MatcherTexts.{writes_matchers}
 use Rattle.am_silence.specs.Mesh.{bucket_of}
-use Rattle.am_silence.specs.Offsets.{Follows}
-use Rattle.am_silence.proofs.Parts.{follows_past}
 use Rattle.am_silence.proofs.offsets.bucket_place.Goals as goal
 
 pub returns-in-Ok : goal.returns-in-Ok

@@ -1,11 +1,6 @@
 use Rattle.std.proofs.Common.{◌≡◌, ◌++◌, ◌∷◌, [], refl, sym, ap, ◌∙◌, subst, length, Some, arith}
 use Rattle.std.proofs.Common.{slice_get}
-use Rattle.std.specs.Ordering.{nat_cmp}
-use Rattle.std.specs.Cmp.Lexicographic.{slice_cmp}
-use Rattle.am_silence.specs.Mesh.{mesh_version}
-use Rattle.am_nflog.specs.Mesh.{mesh_version as entry_version}
-use Rattle.am_nflog.specs.Keys.{key_cmp}
-use Rattle.am_steps.specs.Contents.{silences_in, entries_in}
+use Rattle.am_steps.specs.BothStates.{log_state, silence_state}
 use Rattle.am_steps.specs.Recorded.{HasSource}
 use Rattle.am_runs.specs.Steps.Step.{Refused}
 use Rattle.am_cluster.specs.Ties.{IsWorld}
@@ -45,8 +40,8 @@ act-requires c =
     let tells = tell _ (record { replicas = c.self.inside.members.items; silences = c.self.inside.journal.silences; log = c.self.inside.journal.log; lines = c.self.inside.journal.lines; flights = c.self.inside.flights.items }) (c.make_room.ensures.members ∙ c.self.invariant.members) c.make_room.ensures.silences c.make_room.ensures.log c.make_room.ensures.lines in
     record {
       ready = can_act _ _ tells c.args.place c.args.now c.args.line _ c.args.event c.args.source c.self.invariant.world found runs
-          (subst (λ v. HasSource silences_in mesh_version (slice_cmp nat_cmp) (length v.replicas) v.silences c.args.now c.args.event c.args.source) (sym c.self.view_is) c.requires.silences)
-          (subst (λ v. HasSource entries_in entry_version key_cmp (length v.replicas) v.log c.args.now c.args.event c.args.source) (sym c.self.view_is) c.requires.log)
+          (subst (λ v. HasSource silence_state (length v.replicas) v.silences c.args.now c.args.event c.args.source) (sym c.self.view_is) c.requires.silences)
+          (subst (λ v. HasSource log_state (length v.replicas) v.log c.args.now c.args.event c.args.source) (sym c.self.view_is) c.requires.log)
           c.requires.sound;
       coming = c.in_ok-coming.ensures.coming;
       values = c.in_ok-coming.ensures.values;

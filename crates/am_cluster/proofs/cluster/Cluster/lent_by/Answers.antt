@@ -2,7 +2,8 @@ use Rattle.std.proofs.Common.{◌≡◌, sym, ap, subst, length}
 use Rattle.std.specs.Prelude.{None}
 use Rattle.am_instance.specs.declared.event.Event.TheVariants as events
 use Rattle.am_instance.specs.Steps.{fault_of}
-use Rattle.am_cluster.proofs.Lent.{lendable, lent_log, lent_silences}
+use Rattle.am_cluster.specs.BothRuns.{log_run, silence_run}
+use Rattle.am_cluster.proofs.Lent.{lendable, lent_in}
 use Rattle.am_cluster.proofs.Lived.{found_at, inside}
 use Rattle.am_cluster.proofs.cluster.Cluster.lent_by.Goals as goal
 
@@ -15,16 +16,18 @@ pub returns-clause-silences : goal.returns-clause-silences
 returns-clause-silences c = λ now.
     let less = inside _ _ c.args.lender c.self.view_is c.requires.within in
     let found = found_at c.self.inside.members.items c.args.lender c.index.result.now less c.index.ensures in
-    lent_silences (record { replicas = c.self.inside.members.items; silences = c.self.inside.journal.silences; log = c.self.inside.journal.log; lines = c.self.inside.journal.lines; flights = c.self.inside.flights.items })
+    lent_in (record { replicas = c.self.inside.members.items; silences = c.self.inside.journal.silences; log = c.self.inside.journal.log; lines = c.self.inside.journal.lines; flights = c.self.inside.flights.items })
     c.args.self.now c.args.lender now c.index.result.now c.behind-self.inside.instance c.in_ok-frame.frame c.self.view_is c.self.invariant.world found (sym (ap (λ x. x.stand) c.behind-self.view_is)) c.requires.runs c.in_ok-frame.ensures.frame
+    silence_run (λ m. m.silences)
     (λ runs gone. c.lent_maps_come_from_their_lender.ensures.silences (length c.self.inside.members.items) c.args.lender now c.self.inside.journal.silences c.behind-self.inside.instance runs gone c.in_ok-frame.ensures.maps c.in_ok-frame.ensures.silences c.in_ok-frame.ensures.log)
 
 pub returns-clause-log : goal.returns-clause-log
 returns-clause-log c = λ now.
     let less = inside _ _ c.args.lender c.self.view_is c.requires.within in
     let found = found_at c.self.inside.members.items c.args.lender c.index.result.now less c.index.ensures in
-    lent_log (record { replicas = c.self.inside.members.items; silences = c.self.inside.journal.silences; log = c.self.inside.journal.log; lines = c.self.inside.journal.lines; flights = c.self.inside.flights.items })
+    lent_in (record { replicas = c.self.inside.members.items; silences = c.self.inside.journal.silences; log = c.self.inside.journal.log; lines = c.self.inside.journal.lines; flights = c.self.inside.flights.items })
     c.args.self.now c.args.lender now c.index.result.now c.behind-self.inside.instance c.in_ok-frame.frame c.self.view_is c.self.invariant.world found (sym (ap (λ x. x.stand) c.behind-self.view_is)) c.requires.runs c.in_ok-frame.ensures.frame
+    log_run (λ m. m.log)
     (λ runs gone. c.lent_maps_come_from_their_lender.ensures.log (length c.self.inside.members.items) c.args.lender now c.self.inside.journal.log c.behind-self.inside.instance runs gone c.in_ok-frame.ensures.maps c.in_ok-frame.ensures.silences c.in_ok-frame.ensures.log)
 
 pub returns-clause-lendable : goal.returns-clause-lendable

@@ -1,4 +1,4 @@
-use Rattle.am_nflog.specs.Offsets.{StandsAt}
+use Rattle.am_wire.specs.Offsets.{StandsAt}
 use Rattle.am_nflog.specs.Spelled.{spelled}
 use Rattle.am_nflog.proofs.mesh.MeshEntry.group_hash.Goals as goal
 

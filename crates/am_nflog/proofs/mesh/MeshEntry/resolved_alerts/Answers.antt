@@ -1,7 +1,7 @@
 use Rattle.std.proofs.Common.{◌≡◌}
 use Rattle.std.specs.List.{flat_map}
 use Rattle.am_wire.specs.Varint.{shortest}
-use Rattle.am_nflog.specs.Offsets.{StandsAt}
+use Rattle.am_wire.specs.Offsets.{StandsAt}
 use Rattle.am_nflog.specs.Spelled.{spelled}
 use Rattle.am_nflog.proofs.mesh.MeshEntry.resolved_alerts.Goals as goal
 use Rattle.am_nflog.proofs.mesh.MeshEntry.resolved_alerts.Goals.{After-part_of-packed}

@@ -1,4 +1,4 @@
-use Rattle.am_silence.specs.Offsets.{StandsAt}
+use Rattle.am_wire.specs.Offsets.{StandsAt}
 use Rattle.am_silence.specs.Spelled.{version_in}
 use Rattle.am_silence.proofs.mesh.MeshSilence.created_by.Goals as goal
 

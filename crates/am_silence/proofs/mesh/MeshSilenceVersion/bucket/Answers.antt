@@ -1,5 +1,5 @@
+use Rattle.am_wire.specs.Offsets.{StandsAt}
 use Rattle.am_silence.specs.Mesh.{bucket_of}
-use Rattle.am_silence.specs.Offsets.{StandsAt}
 use Rattle.am_silence.specs.Spelled.{version_in}
 use Rattle.am_silence.proofs.mesh.MeshSilenceVersion.bucket.Goals as goal
 

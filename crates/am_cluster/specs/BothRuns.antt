@@ -1,0 +1,23 @@
+-- The two runs of a cluster, of which the same is said: that of the silences and that of the log.
+use Rattle.std.specs.Prelude.{ℕ, List}
+use Rattle.am_silence.specs.Mesh.{Mesh}
+use Rattle.am_nflog.specs.Mesh.{Mesh as LogMesh}
+use Rattle.am_nflog.specs.LogKeys.{LogKey}
+use Rattle.am_runs.specs.Steps.{Step}
+use Rattle.am_steps.specs.BothStates.{StateOf, log_state, silence_state}
+use Rattle.am_cluster.specs.Worlds.{Replica, World}
+
+-- One of them, by the types K of its keys and X of its versions: its state, what every step so far was to that, and what is
+-- saved of that beside a member.
+pub record RunOf (K X : Type 0) : Type 0 where
+  pub state : StateOf K X
+  pub steps : World → List (Step X)
+  pub saved : Replica → List X
+
+-- that of the silences
+abbrev pub silence_run : RunOf (List ℕ) Mesh
+silence_run = record { state = silence_state; steps = λ world. world.silences; saved = λ replica. replica.saved_silences }
+
+-- that of the log
+abbrev pub log_run : RunOf LogKey LogMesh
+log_run = record { state = log_state; steps = λ world. world.log; saved = λ replica. replica.saved_log }

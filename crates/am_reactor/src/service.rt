@@ -1,0 +1,80 @@
+//! What a loop serves.
+
+ghost use Rattle.std.specs.Prelude.{ℕ, ◌≤◌, length};
+
+use crate::fault::{Broken, LinkFault};
+use std::io::ErrorKind;
+use std::time::{Duration, Instant};
+
+/// What goes to a peer.
+#[derive(Drop)]
+pub struct Outgoing {
+    /// The peer's place among the ports of the loop.
+    pub peer: usize,
+    pub bytes: Vec<u8>,
+}
+
+/// What the timer says.
+#[derive(Clone, Copy, Debug, PartialEq, Eq)]
+pub enum Wake {
+    /// The loop goes on, and wakes the service after so long at the latest.
+    GoOn(Option<Duration>),
+    /// The loop accepts nothing more, sends what waits, and returns.
+    Stop,
+}
+
+/// What a loop serves. It is told of everything that comes, and asked for everything that goes out.
+pub trait Service {
+    /// What stands for one connection.
+    type Session: Drop;
+
+    /// How many bytes of a session are still to be written.
+    ghost pending: { Self.Session → ℕ };
+
+    /// A connection was accepted.
+    fn begin(&mut self) -> Self::Session;
+
+    /// Bytes came, at least one. It isn't called once the session is over.
+    fn feed(&mut self, session: &mut Self::Session, piece: &[u8]);
+
+    /// The input ended. It is called once at most, and not once the session is over.
+    fn end(&mut self, session: &mut Self::Session);
+
+    /// The connection failed, or its time is over. This is the last call for the session.
+    fn broken(&mut self, session: &mut Self::Session, broken: Broken);
+
+    /// Whether something dear waits to be done for the session.
+    fn waits(&self, session: &Self::Session) -> bool;
+
+    /// Whether what waits may be done now.
+    fn may_resume(&self) -> bool;
+
+    /// Does what waits: for one session in a turn of the loop, the one that waits longest.
+    fn resume(&mut self, session: &mut Self::Session);
+
+    /// What is still to be written, or a first part of it that has a byte.
+    fn output<'a>(&self, session: &'a Self::Session) -> &'a [u8]
+        ensures { length result.now ≤ pending session.now };
+
+    /// So many bytes of the output went out.
+    fn sent(&mut self, session: &mut Self::Session, count: usize)
+        requires { count ≤ pending session.old };
+
+    /// Whether nothing more is read. Once nothing waits and all is written, the connection is let go.
+    fn is_over(&self, session: &Self::Session) -> bool;
+
+    /// What goes to a peer next. It is asked after each call that may bring something, until there is nothing.
+    fn outgoing(&mut self) -> Option<Outgoing>;
+
+    /// What waited for a peer is lost. It is told once of a link.
+    fn lost(&mut self, peer: usize, fault: LinkFault);
+
+    /// The timer: it is called in each turn, before the loop waits.
+    fn wake(&mut self, now: Instant) -> Wake;
+
+    /// Standard input ended. It is told once, and only where it is watched.
+    fn input_ended(&mut self);
+
+    /// No connection was accepted, for a reason that doesn't end the loop.
+    fn accept_failed(&mut self, kind: ErrorKind);
+}

@@ -1,0 +1,8 @@
+//! Bytes from any reader, up to a limit, and bytes to any writer, with the count of those that went out.
+#![tactic(auto)]
+
+mod reading;
+mod writing;
+
+pub use reading::{Stop, fill, read_some};
+pub use writing::{WriteFault, send};

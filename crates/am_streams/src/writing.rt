@@ -1,0 +1,36 @@
+//! Bytes to any writer.
+
+ghost use Rattle.std.specs.Prelude.{◌<◌, length, take, OnOk, IfErr};
+ghost use Rattle.std.specs.Io.KnownBytes.{Appends};
+ghost use Rattle.am_streams.specs.Writing.{WritesPart};
+
+use std::io::Write;
+
+/// A write failed or took nothing, when so many bytes had gone out.
+#[derive(Clone, Copy, Debug, PartialEq, Eq)]
+pub struct WriteFault {
+    pub written: u64,
+}
+
+/// Writes all the bytes.
+///
+/// # Errors
+///
+/// [`WriteFault`] at the first call that fails or takes nothing; it is not tried again.
+pub fn send<W: Write>(writer: &mut W, bytes: &[u8]) -> Result<(), WriteFault>
+    ensures all { OnOk result (Appends (W.contents writer.old) (W.contents writer.new) bytes.now) }
+    ensures stopped { IfErr result (λ e. WritesPart (W.contents writer.old) (W.contents writer.new) bytes.now e.written) }
+{
+    let mut written = 0;
+    while written < bytes.len() {
+        // A write that fails takes nothing.
+        let taken = writer.write(&bytes[written..]).unwrap_or(0);
+        if taken == 0 {
+            return Err(WriteFault {
+                written: written as u64,
+            });
+        }
+        written += taken;
+    }
+    Ok(())
+}

@@ -1,0 +1,115 @@
+//! A connection that is served.
+
+use am_api_silences::{Read, ReplyBytes};
+use am_gossip::Frame;
+use am_member::is_dear;
+use am_session::{Said, Session};
+use std::alloc::Global;
+
+/// A connection, what it said that waits to be answered, and the reply that goes out.
+#[derive(Drop)]
+pub struct Dialogue {
+    pub session: Session,
+    /// What was said and waits: for its turn, or until a peer has answered the first pull.
+    pub waiting: Option<Said>,
+    pub reply: ReplyBytes,
+    /// How many bytes of the reply went out.
+    pub written: usize,
+}
+
+impl Dialogue {
+    /// Before the first byte. It takes no memory.
+    pub fn new(alloc: Global) -> Dialogue {
+        Dialogue {
+            session: Session::new(alloc),
+            waiting: None,
+            reply: ReplyBytes::Fixed(&[]),
+            written: 0,
+        }
+    }
+
+    /// Keeps of what was said what has to wait, and gives the rest: lists wait for their turn, and where a first pull is
+    /// waited for, so do all requests, and frames from the first Push on.
+    pub fn hold(&mut self, said: Said, waits_for_pull: bool) -> Option<Said> {
+        if let Some(waiting) = &mut self.waiting {
+            add(waiting, said);
+            return None;
+        }
+        if must_wait(&said, waits_for_pull) {
+            self.waiting = Some(said);
+            return None;
+        }
+        if !waits_for_pull {
+            return Some(said);
+        }
+        self.hold_from_push(said)
+    }
+
+    /// Keeps frames from the first Push on.
+    fn hold_from_push(&mut self, said: Said) -> Option<Said> {
+        let mut said = said;
+        let Some(place) = said.frames.iter().position(is_push) else {
+            return Some(said);
+        };
+        let Ok(rest) = said.frames.split_off(place) else {
+            return Some(said);
+        };
+        self.waiting = Some(Said {
+            frames: rest,
+            request: None,
+            fault: said.fault,
+        });
+        said.fault = None;
+        Some(said)
+    }
+
+    /// What is still to be written.
+    pub fn output(&self) -> &[u8] {
+        self.reply.as_slice().get(self.written..).unwrap_or(&[])
+    }
+}
+
+fn is_push(frame: &Frame) -> bool {
+    matches!(frame, Frame::Push(_))
+}
+
+/// Whether a request has to wait.
+fn must_wait(said: &Said, waits_for_pull: bool) -> bool {
+    match &said.request {
+        Some(read) => waits_for_pull || is_dear(read),
+        None => false,
+    }
+}
+
+/// Adds what was said behind what waits.
+fn add(waiting: &mut Said, said: Said) {
+    let Said { frames, fault, .. } = said;
+    let mut frames = frames;
+    if waiting.fault.is_none() {
+        waiting.fault = fault;
+    }
+    let _ = waiting.frames.append(&mut frames);
+}
+
+/// Whether nothing was said.
+pub fn is_nothing(said: &Said) -> bool {
+    said.frames.is_empty() && said.request.is_none() && said.fault.is_none()
+}
+
+/// Whether a frame brings all that a peer has.
+fn is_pull(frame: &Frame) -> bool {
+    matches!(frame, Frame::Pull(_))
+}
+
+/// Whether all that a peer has is among what was said.
+pub fn has_pull(said: &Said) -> bool {
+    said.frames.iter().any(is_pull)
+}
+
+/// Whether what was said may change what the member holds.
+pub fn may_change(said: &Said) -> bool {
+    match &said.request {
+        Some(Read::Whole(request)) => request.method.as_str() != "GET",
+        _ => !said.frames.is_empty(),
+    }
+}

@@ -1,0 +1,174 @@
+//! What a member answers to those who connect to it, and what goes to its peers.
+
+ghost use Rattle.std.specs.Prelude.{◌-◌, length};
+ghost use Rattle.am_api_silences.specs.Replies.{bytes_of};
+
+use super::Member;
+use super::dialogue::{Dialogue, has_pull, is_nothing, may_change};
+use crate::fault::Fault;
+use am_gossip::{Frame, append_frame};
+use am_member::{Fault as ConnectionFault, Parted, exchange, next_moment, part_frames};
+use am_reactor::{Broken, Failure, LinkFault, Outgoing, Service, Wake};
+use am_session::Said;
+use std::alloc::{AllocError, Global};
+use std::io::ErrorKind;
+use std::time::Instant;
+
+/// The bytes of frames.
+fn text_of(alloc: Global, frames: &[Frame]) -> Result<Vec<u8>, AllocError> {
+    let mut text = Vec::new(alloc);
+    for frame in frames {
+        if append_frame(&mut text, frame).is_err() {
+            return Err(AllocError);
+        }
+    }
+    Ok(text)
+}
+
+/// A connection that was closed before its end, as a fault.
+fn fault_of(broken: Broken, is_over: bool) -> ConnectionFault {
+    let write = ConnectionFault::Write {
+        written: broken.written,
+    };
+    match broken.why {
+        Failure::Write(_) => write,
+        Failure::Time if is_over => write,
+        Failure::Read(_) | Failure::Time => ConnectionFault::Read { at: broken.read },
+    }
+}
+
+impl Member<'_> {
+    /// Answers what was said, or keeps it until it may be answered.
+    fn hear(&mut self, dialogue: &mut Dialogue, said: Said) {
+        if let Some(said) = dialogue.hold(said, self.duties.waits_for_pull()) {
+            self.answer(dialogue, said);
+        }
+    }
+
+    /// Answers what was said.
+    fn answer(&mut self, dialogue: &mut Dialogue, said: Said) {
+        if is_nothing(&said) && dialogue.session.name().is_none() {
+            return;
+        }
+        let pulled = has_pull(&said);
+        self.is_changed |= may_change(&said);
+        let bits = self.random_bits();
+        let now = next_moment(self.rt, self.instance.last());
+        let alloc = self.rt.alloc();
+        let session = &mut dialogue.session;
+        let exchanged = exchange(alloc, &mut self.instance, session, said, bits, now);
+        if let Some(reply) = exchanged.reply {
+            dialogue.reply = reply;
+        }
+        if pulled && exchanged.ended.fault.is_none() {
+            self.end_first_pull();
+        }
+        self.follow(exchanged.ended);
+    }
+
+    /// A peer has answered, or is waited for no more.
+    fn end_first_pull(&mut self) {
+        if let Ok(now) = Instant::now(self.rt) {
+            self.duties.end_first_pull(self.options, now);
+        }
+    }
+
+    /// The frames that wait for the peer of the first of them, as they go out.
+    fn next_outgoing(&mut self) -> Option<Outgoing> {
+        let place = self.queue.first()?.0;
+        let alloc = self.rt.alloc();
+        let frames = std::mem::replace(&mut self.queue, Vec::new(alloc));
+        let count = frames.len();
+        let Ok(Parted { own, others }) = part_frames(alloc, place, frames) else {
+            self.tell(Fault::UnsentMemory(count));
+            return None;
+        };
+        self.queue = others;
+        match text_of(alloc, &own) {
+            Ok(bytes) => Some(Outgoing {
+                peer: place as usize,
+                bytes,
+            }),
+            Err(_) => {
+                self.tell(Fault::UnsentMemory(own.len()));
+                None
+            }
+        }
+    }
+}
+
+impl Service for Member<'_> {
+    type Session = Dialogue;
+
+    ghost pending = { λ dialogue. length (bytes_of dialogue.reply) - dialogue.written };
+
+    fn begin(&mut self) -> Dialogue {
+        Dialogue::new(self.rt.alloc())
+    }
+
+    fn feed(&mut self, session: &mut Dialogue, piece: &[u8]) {
+        let said = session.session.feed(piece);
+        self.hear(session, said);
+    }
+
+    fn end(&mut self, session: &mut Dialogue) {
+        let said = session.session.end();
+        self.hear(session, said);
+    }
+
+    fn broken(&mut self, session: &mut Dialogue, broken: Broken) {
+        let fault = fault_of(broken, session.session.is_over());
+        self.tell(Fault::Connection(fault));
+    }
+
+    fn waits(&self, session: &Dialogue) -> bool {
+        session.waiting.is_some()
+    }
+
+    fn may_resume(&self) -> bool {
+        !self.duties.waits_for_pull()
+    }
+
+    fn resume(&mut self, session: &mut Dialogue) {
+        if let Some(said) = session.waiting.take() {
+            self.answer(session, said);
+        }
+    }
+
+    fn output<'a>(&self, session: &'a Dialogue) -> &'a [u8] {
+        session.output()
+    }
+
+    fn sent(&mut self, session: &mut Dialogue, count: usize) {
+        session.written += count;
+    }
+
+    fn is_over(&self, session: &Dialogue) -> bool {
+        session.session.is_over()
+    }
+
+    fn outgoing(&mut self) -> Option<Outgoing> {
+        self.next_outgoing()
+    }
+
+    fn lost(&mut self, peer: usize, fault: LinkFault) {
+        let port = self.ports.get(peer).copied().unwrap_or(0);
+        self.tell(Fault::Lost(fault, port));
+    }
+
+    fn wake(&mut self, now: Instant) -> Wake {
+        self.do_duties(now);
+        if self.stops {
+            return Wake::Stop;
+        }
+        Wake::GoOn(self.duties.left(now))
+    }
+
+    fn input_ended(&mut self) {
+        self.stops = true;
+    }
+
+    fn accept_failed(&mut self, kind: ErrorKind) {
+        self.tell(Fault::Accept(kind));
+    }
+}

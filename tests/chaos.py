@@ -1,0 +1,633 @@
+#!/usr/bin/env python3
+"""Three members whose network, processes and disks fail at random, while people post, update and end silences.
+
+    tests/chaos.py [--seed N] [--seconds S] [PROGRAM]
+
+PROGRAM is crates/am_tool/out/am_tool if it isn't given; ./am_tool and rt ci build it. The members tick, pull and save by
+themselves. What one sends to a peer goes through a proxy, which may lose, delay, repeat, reorder and cut it; members are
+killed, frozen, stopped by signals and started again, and their disks are full at times; silent, slow and broken clients
+are there all along. In the end the network is healed and all members run, and then all have to show the same: what was
+acknowledged and surely held by a member that lives, or stands in its file, and nothing that nobody made. Then all are
+stopped, and their files have to hold just that.
+
+What may be lost is what a member acknowledged that was killed before a save of it, and of which no connection had come
+whole to a member that held it on. Nothing else is left out.
+
+Chaos lasts S seconds, 20 by default, in rounds of at most 30. `--seed` repeats what is drawn at random, and not what the
+members make of it. Nothing leaves 127.0.0.1. Prints each case that fails, and at the end how many passed.
+"""
+
+import argparse
+import base64
+import collections
+import contextlib
+import json
+import os
+import random
+import resource
+import shutil
+import signal
+import socket
+import subprocess
+import tempfile
+import threading
+import time
+
+import members
+from ledger import Ledger, milliseconds, now, shown, versions_of
+from members import PATIENCE, free_ports, outcome, parted, received, run
+from proxies import WEATHERS, Proxy
+from tally import check, finish
+from wire import delta, field, greeting, timestamp, varint
+
+NAMES = ["a", "b", "c"]
+STATES = {"sil": "silences", "nfl": "entries of the log"}
+
+# How long a connection may last, how often members do each thing, and how long they wait for a first Pull: in seconds.
+TIME_LIMIT, EVERY, FIRST = 2, 1, 3
+OPTIONS = ["--time-limit", str(TIME_LIMIT)]
+OPTIONS += [word for what in ("tick", "pull", "save") for word in (f"--{what}-every", str(EVERY))]
+AGAIN = ["--pull-first", "--pull-first-limit", str(FIRST)]
+
+# Signals that stop a member are blocked, as docs/OPERATING.md has it, and too large files are a fault of the write.
+STARTED_BY = ["env", "--block-signal=TERM", "--block-signal=INT", "--ignore-signal=XFSZ"]
+
+# How long a client waits for a reply; how late a save may be; and how long members may take to agree: in seconds.
+REPLY, LATE_SAVE, AGREEMENT = 4, 3, 60
+
+# The most that a round lasts, in seconds; how many clients post; and how much a disk holds, in bytes.
+ROUND, CLIENTS, DISK = 30, 10, 16 << 20
+
+# What clients leave behind who mean no good.
+OPENINGS = [
+    b"",
+    b"G",
+    b"GET /api/v2/silences HTTP/1.1\r\nHost: a",
+    b"GET /api/v2/silences HTTP/1.1\r\n\r\n",
+    b"POST /api/v2/silences HTTP/1.1\r\nContent-Length: 500\r\n\r\n{",
+    b"\xff\xfe garbage\r\n\r\n",
+    b"\0",
+    b"\0\1a",
+    b"\0\1b\1\x50\x0a",
+    b"\0\1q\4\0",
+]
+
+# Replies that refuse a post, an update and an end for a cause that chaos may bring about.
+REFUSALS = [
+    (400, b'"end in the past"'),
+    (404, b'"silence not found"'),
+    (500, b'"silence already expired"'),
+]
+
+
+class Disk:
+    """A folder of a member, which can be filled: by a file system of its own, or else by a limit of its process."""
+
+    def __init__(self, folder):
+        self.folder, self.is_full = folder, False
+        os.mkdir(folder)
+        mount = ["mount", "-t", "tmpfs", "-o", f"size={DISK}", "tmpfs", folder]
+        self.is_mounted = shutil.which("mount") is not None and outcome(mount)[0] == 0
+
+    def fill(self, process):
+        self.is_full = True
+        if not self.is_mounted:
+            resource.prlimit(process.pid, resource.RLIMIT_FSIZE, (1, resource.RLIM_INFINITY))
+            return
+        with open(f"{self.folder}/filler", "wb", buffering=0) as filler, contextlib.suppress(OSError):
+            for size in (1 << 16, 1 << 12, 1):
+                with contextlib.suppress(OSError):
+                    while filler.write(bytes(size)) == size:
+                        pass
+
+    def free(self, process):
+        if self.is_mounted:
+            with contextlib.suppress(FileNotFoundError):
+                os.remove(f"{self.folder}/filler")
+        elif process.poll() is None:
+            resource.prlimit(process.pid, resource.RLIMIT_FSIZE, (resource.RLIM_INFINITY, resource.RLIM_INFINITY))
+        self.is_full = False
+
+    def close(self):
+        if self.is_mounted:
+            outcome(["umount", "-l", self.folder])
+
+
+class Member(members.Member):
+    """A member that is meddled with, and what it surely holds while it lives."""
+
+    def __init__(self, name, port, disk):
+        super().__init__(name, port, [], disk.folder)
+        self.disk, self.starts = disk, 0
+        # the number of its start while it lives; what it acknowledged since, with the moment; what else it surely took
+        self.generation, self.acknowledged, self.holds = None, [], {}
+        # whether it has answered since its start; whether it is frozen; when something was last done to it, and to its disk
+        self.is_open, self.is_frozen, self.meddled, self.full_at = False, False, 0.0, 0.0
+
+    def command(self):
+        return [*STARTED_BY, *super().command()]
+
+    def begin(self):
+        """Starts it; whether it listens, having loaded what stands in its files."""
+        found = {state: self.file(state) for state in STATES}
+        self.meddled, self.is_open = time.monotonic(), False
+        super().start()
+        self.starts += 1
+        self.acknowledged, self.holds = [], {**found["sil"], **found["nfl"]}
+        self.generation = self.starts
+        loaded = f"; loaded {len(found['sil'])} silences, {len(found['nfl'])} entries"
+        deadline = time.monotonic() + PATIENCE
+        while not any(" listens on " in it and it.endswith(loaded) for it in list(self.lines)):
+            if time.monotonic() > deadline or self.process.poll() is not None:
+                return False
+            time.sleep(0.01)
+        return True
+
+    def file(self, state):
+        """The versions in one of its files."""
+        try:
+            with open(self.sil if state == "sil" else self.nfl, "rb") as file:
+                return versions_of(state, file.read())
+        except FileNotFoundError:
+            return {}
+
+    def is_let_alone(self, since):
+        """Whether nothing was done to it since then, and it answered before."""
+        return self.generation is not None and self.is_open and not self.is_frozen and self.meddled < since
+
+    def request(self, method, path, body=b""):
+        """The status and the body of a reply; no status where it is not known what came of it, 0 where nothing did."""
+        head = f"{method} {path} HTTP/1.1\r\nHost: localhost\r\nContent-Length: {len(body)}\r\n\r\n"
+        generation = self.generation
+        try:
+            stream = socket.create_connection(("127.0.0.1", self.port), timeout=REPLY)
+        except OSError:
+            return 0, b""
+        try:
+            with stream:
+                stream.sendall(head.encode() + body)
+                status, body = parted(received(stream))
+        except OSError:
+            return None, b""
+        if status and not self.is_open and generation == self.generation:
+            self.meddled, self.is_open = time.monotonic(), True
+        return status, body
+
+    def saved(self, state):
+        """What stands in one of its files, as `show` tells it in JSON."""
+        with open(self.sil if state == "sil" else self.nfl, "rb") as file:
+            words = ["show", "--state", state, "--json", "--now", str(time.time_ns())]
+            status, output, error = run(words, stdin=file)
+        return json.loads(output) if status == 0 else error
+
+
+class Client:
+    """Somebody who posts, updates and ends silences of their own at members, and looks at those of all."""
+
+    def __init__(self, round_, name):
+        self.round, self.ledger, self.name = round_, round_.ledger, name
+        self.draw = random.Random(f"{round_.seed} {name}")
+        self.keys, self.count = [], 0
+
+    def work(self):
+        while not self.round.is_over.wait(self.draw.uniform(0.005, 0.06)):
+            # mostly one that answers, since the others keep them waiting
+            is_any = self.draw.random() < 0.1
+            found = [it for it in self.round.members if is_any or it.is_let_alone(time.monotonic())]
+            (act,) = self.draw.choices([self.post, self.update, self.end, self.look], [45, 30, 15, 10])
+            if act in (self.update, self.end) and not self.keys:
+                act = self.post
+            if found:
+                act(self.draw.choice(found))
+
+    def ask(self, member, method, path, value=None):
+        """A reply of a member, which has to come where it is let alone."""
+        begun = time.monotonic()
+        reply = member.request(method, path, b"" if value is None else json.dumps(value).encode())
+        self.ledger.counts["requests"] += 1
+        took = time.monotonic() - begun
+        if member.is_let_alone(begun):
+            self.round.slowest = max(self.round.slowest, took)
+            if not reply[0]:
+                self.round.complain("answers", f"{member.name} {method} {path} after {took:.2f} s")
+        return reply
+
+    def posted(self, value, ends_in, starts_in=0.0, key=None):
+        """A silence to post, and its comment and its end in milliseconds, by which it is known again."""
+        self.count += 1
+        comment, ends = f"{self.name} {self.count}", now() + int(1000 * ends_in)
+        matcher = {"name": "job", "value": value, "isRegex": False, "isEqual": True}
+        found = {"matchers": [matcher], "startsAt": moment(now() + int(1000 * starts_in)), "endsAt": moment(ends)}
+        return {**found, "createdBy": self.name, "comment": comment, **({"id": key} if key else {})}, comment, ends
+
+    def post(self, member):
+        starts_in = self.draw.choice([0, 0, 0, 3, 600])
+        ends_in = starts_in + self.draw.choice([2, 7, 3600, 7200])
+        silence, comment, ends = self.posted(f"{self.name} {self.count}", ends_in, starts_in)
+        key = self.try_post(member, silence, self.ledger.begin("post", None, comment, ends))
+        if key is not None:
+            self.keys.append(key)
+
+    def update(self, member):
+        key = self.draw.choice(self.keys)
+        status, body = self.ask(member, "GET", f"/api/v2/silence/{key[1]}")
+        if status != 200:
+            return
+        former = json.loads(body)
+        silence, comment, ends = self.posted("", self.draw.choice([3600, 7200]), key=key[1])
+        silence["matchers"], silence["startsAt"] = former["matchers"], former["startsAt"]
+        made = self.try_post(member, silence, self.ledger.begin("update", key, comment, ends))
+        if made is not None and made != key:
+            self.keys.append(made)
+
+    def try_post(self, member, silence, operation):
+        """The key of what a post made, where it is acknowledged."""
+        generation = member.generation
+        status, body = self.ask(member, "POST", "/api/v2/silences", silence)
+        if status == 200:
+            key = ("sil", json.loads(body)["silenceID"])
+            self.ledger.acknowledge(operation, key, member, generation)
+            return key
+        self.fail(member, operation, status, body)
+        return None
+
+    def end(self, member):
+        key, generation = self.draw.choice(self.keys), member.generation
+        operation = self.ledger.begin("end", key)
+        status, body = self.ask(member, "DELETE", f"/api/v2/silence/{key[1]}")
+        if status == 200:
+            self.ledger.acknowledge(operation, key, member, generation)
+        else:
+            self.fail(member, operation, status, body)
+
+    def fail(self, member, operation, status, body):
+        """Writes down that an operation was refused, where that is known."""
+        if status is not None:
+            self.ledger.refuse(operation)
+        if status and (status, body) not in REFUSALS:
+            self.round.complain("refusals", f"{member.name}: {operation}: {status} {body!r}")
+
+    def look(self, member):
+        status, body = self.ask(member, "GET", "/api/v2/silences")
+        if status != 200:
+            return
+        found = json.loads(body)
+        keys = [it["id"] for it in found]
+        if keys != sorted(set(keys)):
+            self.round.complain("lists", f"{member.name}: {keys}")
+        for it in map(shown, found):
+            if not self.ledger.has_begun(it):
+                self.round.complain("lists", f"{member.name}: {it}")
+
+
+def moment(milliseconds_since_1970):
+    """A moment as API v2 writes it."""
+    seconds, rest = divmod(milliseconds_since_1970, 1000)
+    return time.strftime("%Y-%m-%dT%H:%M:%S", time.gmtime(seconds)) + f".{rest:03}Z"
+
+
+class Meddler:
+    """What happens to one member."""
+
+    def __init__(self, round_, member):
+        self.round, self.member, self.ledger = round_, member, round_.ledger
+        self.draw = random.Random(f"{round_.seed} {member.name}")
+        self.client = Client(round_, f"last of {member.name}")
+
+    def work(self):
+        acts = [self.freeze, self.kill, self.kill_behind_a_post, self.stop, self.fill]
+        while not self.round.is_over.wait(self.draw.uniform(0.3, 4)):
+            (act,) = self.draw.choices(acts, [3, 3, 2, 2, 3])
+            self.round.acts[act.__name__] += 1
+            act()
+
+    def pause(self, most):
+        self.round.is_over.wait(self.draw.uniform(0, most))
+
+    def freeze(self):
+        member = self.member
+        member.is_frozen, member.meddled = True, time.monotonic()
+        member.process.send_signal(signal.SIGSTOP)
+        self.pause(3)
+        member.process.send_signal(signal.SIGCONT)
+        member.is_frozen, member.meddled = False, time.monotonic()
+
+    def kill(self):
+        self.crash()
+        self.pause(2)
+        self.begin()
+
+    def kill_behind_a_post(self):
+        self.client.post(self.member)
+        self.kill()
+
+    def stop(self):
+        self.halt(self.draw.choice([signal.SIGTERM, signal.SIGINT]))
+        self.pause(2)
+        self.begin()
+
+    def fill(self):
+        self.member.disk.fill(self.member.process)
+        self.member.full_at = time.monotonic()
+        self.pause(3)
+        if self.draw.random() < 0.3:
+            self.draw.choice([self.kill, self.stop])()
+        self.member.disk.free(self.member.process)
+        self.member.full_at = time.monotonic()
+
+    def begin(self):
+        if not self.member.begin():
+            self.round.complain("starts", f"{self.member.name}: {self.member.lines}")
+
+    def leave(self):
+        """Takes from a member, before it ends, what it acknowledged and what it held."""
+        member = self.member
+        with self.ledger.lock:
+            left = member.acknowledged, member.holds
+            member.generation, member.acknowledged, member.holds = None, [], {}
+        if member.process.poll() is not None:
+            self.round.complain("lives", f"{member.name} ended by itself: {member.process.returncode} {member.lines[-3:]}")
+        return left
+
+    def crash(self):
+        """Kills a member, behind which its file has what it acknowledged some time ago, where nothing was done to it."""
+        member, killed = self.member, time.monotonic()
+        acknowledged, _ = self.leave()
+        member.kill()
+        self.told()
+        found, least = member.file("sil"), max(member.meddled, member.full_at + EVERY + LATE_SAVE)
+        for at, operation in acknowledged:
+            if least < at < killed - EVERY - LATE_SAVE and not member.disk.is_full and not operation.stands_in(found):
+                self.round.complain("saves", f"{member.name} acknowledged {killed - at:.1f} s before: {operation}")
+
+    def halt(self, number):
+        """Stops a member by a signal, behind which its files have all that it acknowledged and held."""
+        member = self.member
+        acknowledged, holds = self.leave()
+        is_full = member.disk.is_full
+        member.process.send_signal(number)
+        begun, status = time.monotonic(), member.end()
+        self.told()
+        if is_full:
+            return
+        if status != 0 or time.monotonic() - begun > TIME_LIMIT + REPLY:
+            self.round.complain("stops", f"{member.name} {number}: {status} after {time.monotonic() - begun:.1f} s")
+        found = {**member.file("sil"), **member.file("nfl")}
+        lost = [it for _, it in acknowledged if not it.stands_in(found)]
+        lost += [it for it in holds.values() if it.key not in found or found[it.key].updated < it.updated]
+        for it in lost:
+            self.round.complain("stops", f"{member.name} {number} lost {it}")
+
+    def told(self):
+        """Looks at what a member printed while it ran."""
+        for line in self.member.lines:
+            if not line.startswith("am_tool: "):
+                self.round.complain("lines", f"{self.member.name}: {line}")
+
+
+class Round:
+    """Three members with their proxies, in folders of their own."""
+
+    def __init__(self, seed, top):
+        self.seed, self.ledger, self.is_over = seed, Ledger(), threading.Event()
+        self.complaints, self.acts, self.slowest = collections.defaultdict(list), collections.Counter(), 0.0
+        self.draw = random.Random(f"{seed} weather")
+        self.members = [Member(name, port, Disk(f"{top}/{name}")) for name, port in zip(NAMES, free_ports(3))]
+        self.proxies = [self.proxy(it, peer) for it in self.members for peer in self.members if it is not peer]
+        self.meddlers = [Meddler(self, it) for it in self.members]
+
+    def proxy(self, member, peer):
+        taken = lambda generation, data: self.ledger.taken(peer, generation, data)
+        proxy = Proxy(peer, f"{self.seed} {member.name} {peer.name}", TIME_LIMIT / 2, taken)
+        member.words += ["--peer", f"{peer.name}={proxy.port}"]
+        return proxy
+
+    def complain(self, kind, what):
+        with self.ledger.lock:
+            self.complaints[kind].append(what)
+
+    def run(self, seconds):
+        """Has all that may go wrong go wrong for some time, while clients work."""
+        for it in self.members:
+            it.words += OPTIONS
+            if not it.begin():
+                raise ValueError(f"{it.name} does not start: {it.lines}")
+            # all begin with nothing; later starts pull before they answer
+            it.words += AGAIN
+        clients = [Client(self, f"client {number}") for number in range(CLIENTS)]
+        work = [it.work for it in [*clients, *self.meddlers]] + [self.change_weather, self.loiter, self.notify]
+        threads = [threading.Thread(target=self.guarded, args=(it,), daemon=True) for it in work]
+        for it in threads:
+            it.start()
+        self.is_over.wait(seconds)
+        self.is_over.set()
+        for it in threads:
+            it.join(PATIENCE)
+
+    def guarded(self, work):
+        try:
+            work()
+        except Exception as error:  # a fault of this script fails a case
+            self.complain("script", f"{work}: {error!r}")
+            if os.environ.get("TRACE"):
+                raise
+
+    def change_weather(self):
+        while not self.is_over.wait(self.draw.uniform(0.1, 0.8)):
+            weather = self.draw.choice([*WEATHERS, "storm"])
+            chosen = self.draw.choice([[it] for it in self.proxies] + [self.around(it) for it in self.members])
+            for it in chosen:
+                it.weather = weather
+
+    def around(self, member):
+        """The proxies through which others reach a member, and it reaches them."""
+        own = {word.rpartition("=")[2] for word in member.words}
+        return [it for it in self.proxies if it.peer is member or str(it.port) in own]
+
+    def loiter(self):
+        """Clients that say nothing, too little or nonsense, and stay, or don't read their replies."""
+        draw, streams = random.Random(f"{self.seed} loiterers"), collections.deque()
+        while not self.is_over.wait(0.05):
+            with contextlib.suppress(OSError):
+                stream = socket.create_connection(("127.0.0.1", draw.choice(self.members).port), timeout=0.5)
+                streams.append(stream)
+                stream.sendall(draw.choice(OPENINGS))
+            while len(streams) > 40:
+                streams.popleft().close()
+        for it in streams:
+            it.close()
+
+    def notify(self):
+        """Brings entries of the log to members, under the name of a peer."""
+        draw = random.Random(f"{self.seed} notified")
+        while not self.is_over.wait(draw.uniform(0.05, 0.3)):
+            member, group = draw.choice(self.members), f"group {draw.randrange(50)}"
+            seconds = time.time_ns() // 10**9
+            generation, begun, data = member.generation, time.monotonic(), entry(group, seconds)
+            self.ledger.entries["nfl", group].add(seconds * 1000)
+            data = greeting(draw.choice([it for it in NAMES if it != member.name])) + delta("nfl", data)
+            with contextlib.suppress(OSError):
+                with socket.create_connection(("127.0.0.1", member.port), timeout=TIME_LIMIT) as stream:
+                    stream.sendall(data)
+                    stream.shutdown(socket.SHUT_WR)
+                    if stream.recv(1) == b"" and time.monotonic() - begun < TIME_LIMIT / 2:
+                        self.ledger.taken(member, generation, data)
+
+    # ---- the end
+
+    def heal(self):
+        """Has everything go well from now on, and waits until nothing is on its way that was delayed."""
+        for it in self.proxies:
+            it.weather = "fair"
+        late = [thread for it in self.proxies for thread in it.threads]
+        for it in self.meddlers:
+            it.member.disk.free(it.member.process)
+            if it.member.process.poll() is not None:
+                self.complain("lives", f"{it.member.name} ended by itself: {it.member.lines[-3:]}")
+                it.begin()
+        for thread in late:
+            thread.join(PATIENCE)
+
+    def listed(self):
+        """What each member lists."""
+        replies = [it.request("GET", "/api/v2/silences") for it in self.members]
+        return [json.loads(body) if status == 200 else None for status, body in replies]
+
+    def judge(self):
+        """Waits until all show the same, with all that lasts, and looks at it and at the files that they leave."""
+        begun = time.monotonic()
+        while True:
+            lists = self.listed()
+            missing = self.missing(lists)
+            if os.environ.get("TRACE"):
+                print(f"{time.monotonic() - begun:.2f} {[it and len(it) for it in lists]} {len(missing)} {[it.lines[-2:] for it in self.members]}")
+            if (lists[0] is not None and lists[1:] == lists[:1] * 2 and not missing) or time.monotonic() - begun > AGREEMENT:
+                break
+            time.sleep(0.1)
+        self.took = time.monotonic() - begun
+        check("all list the same", lists[0] is not None and lists[1:] == lists[:1] * 2, self.differences(lists))
+        check("what was acknowledged and surely held is there", not missing, missing[:5])
+        listed = [shown(silence) for it in lists for silence in it or []]
+        unmade = [it for it in listed if not self.ledger.is_made(it)]
+        check("nobody shows what nobody made", not unmade, unmade[:5])
+        comments = collections.Counter(it["comment"] for it in lists[0] or [])
+        check("no post made two silences", max(comments.values(), default=1) == 1, comments.most_common(3))
+        self.judge_files(lists[0] or [])
+
+    def missing(self, lists):
+        """The operations that have to last and aren't listed everywhere, and versions that were surely taken alike."""
+        found = [{it.key: it for it in map(shown, silences or [])} for silences in lists]
+        with self.ledger.lock:
+            lasting = self.ledger.lasting(self.members)
+            taken = [it for member in self.members for it in list(member.holds.values()) if it.key[0] == "sil"]
+        self.ledger.counts["lasting"] = len(lasting)
+        lost = [it for it in lasting if not all(it.is_passed_by(versions.get(it.key)) for versions in found)]
+        is_there = lambda it, versions: it.key in versions and it.updated <= versions[it.key].updated
+        return lost + [it for it in taken if not all(is_there(it, versions) for versions in found)]
+
+    def differences(self, lists):
+        """Where lists differ, for a line that says so."""
+        if None in lists:
+            return [None if it is None else len(it) for it in lists]
+        texts = [{json.dumps(it, sort_keys=True) for it in silences} for silences in lists]
+        return [(len(it), sorted(it - set.intersection(*texts))[:2]) for it in texts]
+
+    def judge_files(self, listed):
+        """Stops all members, whose files then hold what was listed, and the same entries of the log."""
+        entries = {it.key: it for member in self.members for it in member.holds.values() if it.key[0] == "nfl"}
+        for it in self.meddlers:
+            it.halt(signal.SIGTERM)
+        stateless = lambda silences: [{**it, "status": None} for it in silences]
+        wrong = [it.name for it in self.members if stateless(it.saved("sil")) != stateless(listed)]
+        check("the files show what was listed", not wrong, wrong)
+        for state in STATES:
+            sources = [f"{it.name}={it.sil if state == 'sil' else it.nfl}" for it in self.members]
+            found = run(["diff", "--state", state, "--held", *sources])
+            check(f"the files hold the same {STATES[state]}", found == (0, b"", ""), found)
+        held = [(member, member.file("nfl")) for member in self.members]
+        unmade = [it for _, found in held for it in found.values() if not self.ledger.is_made(it)]
+        check("nobody holds an entry that nobody made", not unmade, unmade[:5])
+        lost = [it for it in entries.values() for _, found in held if found.get(it.key, it).updated < it.updated or it.key not in found]
+        check("entries that were surely taken are there", not lost, lost[:5])
+        groups = [base64.b64decode(it["groupKey"]).decode() for it in self.members[0].saved("nfl")]
+        check("the log is shown", groups == sorted(key[1] for key in held[0][1]), groups)
+
+    def tell(self):
+        """Checks that nobody complained, and says what was tried."""
+        for kind, title in COMPLAINTS.items():
+            found = self.complaints[kind]
+            check(title, not found, f"{len(found)} times: {found[:5]}")
+        counts, fates = self.ledger.counts, collections.Counter()
+        for it in self.proxies:
+            fates += it.fates
+        words = lambda counter: ", ".join(f"{count} {name}" for name, count in sorted(counter.items()))
+        print(f"  {counts['requests']} requests; {counts['acknowledged']} acknowledged, of which {counts['lasting']} had to last", flush=True)
+        print(f"  connections: {words(fates)}; members: {words(self.acts)}")
+        print(f"  the slowest reply of a member let alone took {self.slowest:.2f} s; all agreed {self.took:.1f} s after the end", flush=True)
+
+    def close(self):
+        self.is_over.set()
+        for it in self.proxies:
+            it.close()
+        for it in self.members:
+            with contextlib.suppress(AttributeError, ProcessLookupError):
+                it.process.send_signal(signal.SIGCONT)
+                it.kill()
+            it.disk.close()
+
+
+# What may be complained of while members run, and what is right.
+COMPLAINTS = {
+    "starts": "each start listens, and loads what stands in the files",
+    "lives": "no member ends by itself",
+    "answers": "a member that is let alone answers each request",
+    "refusals": "no request is refused without cause",
+    "lists": "each list has what was posted, and each silence once",
+    "saves": "what was acknowledged is saved in time",
+    "stops": "a stop by a signal ends well, and saves all",
+    "lines": "each line that is printed is of the program",
+    "script": "this script makes no mistake",
+}
+
+
+def entry(group, updated):
+    """A version of the log: of a group at the receiver `team`, in which the hash 1 fires."""
+    inner = field(1, group.encode()) + field(2, field(1, b"team") + field(2, b"email"))
+    inner += field(5, timestamp(updated)) + field(6, varint(1))
+    return field(1, inner) + field(2, timestamp(updated + 86_400))
+
+
+def play(seed, seconds):
+    """One round."""
+    print(f"chaos: seed {seed}, {seconds} seconds", flush=True)
+    with tempfile.TemporaryDirectory() as top:
+        one = Round(seed, top)
+        try:
+            one.run(seconds)
+            one.heal()
+            one.judge()
+            one.tell()
+        except Exception as error:  # a round that can't go on is a case that fails
+            check("the round", False, f"{error!r} {dict(one.complaints)}")
+            if os.environ.get("TRACE"):
+                raise
+        finally:
+            one.close()
+
+
+def main():
+    words = argparse.ArgumentParser(description=__doc__, formatter_class=argparse.RawDescriptionHelpFormatter)
+    words.add_argument("--seed", type=int, default=1)
+    words.add_argument("--seconds", type=int, default=20)
+    words.add_argument("program", nargs="*")
+    words = words.parse_args()
+    members.choose("chaos", words.program)
+    left, seed = words.seconds, words.seed
+    while left > 0:
+        play(seed, min(left, ROUND))
+        left, seed = left - ROUND, seed + 1
+    finish("chaos")
+
+
+if __name__ == "__main__":
+    main()

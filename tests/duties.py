@@ -1,0 +1,313 @@
+#!/usr/bin/env python3
+"""Runs members of the built am_tool, and looks at what they do by themselves, and at many connections at once.
+
+    tests/duties.py [PROGRAM]
+
+PROGRAM is crates/am_tool/out/am_tool if it isn't given. Members tick, pull and save by themselves, pull before they
+answer, stop by a signal and where their input ends, and serve one client beside hundreds that say nothing. What is wanted is
+written by hand, from docs/FORMATS.md and docs/OPERATING.md.
+"""
+
+import contextlib
+import json
+import os
+import signal
+import socket
+import subprocess
+import sys
+import tempfile
+import time
+
+import members
+from members import PATIENCE, Member, free_ports, parted, received, run
+from tally import check, compare, finish
+from wire import EMPTY_PUSH, greeting
+
+GET = b"GET /api/v2/silences HTTP/1.1\r\n\r\n"
+
+# Words in front of a member's that have it see SIGTERM and SIGINT.
+BLOCKED = ["env", "--block-signal=TERM", "--block-signal=INT"]
+
+# The options with a number, and numbers that each refuses.
+NUMBERS = [
+    ("--at-once", ("0", "65536", "+1", "x")),
+    ("--tick-every", ("0", "1000000000", "1.5")),
+    ("--pull-every", ("0", "1000000000", "")),
+    ("--save-every", ("0", "1000000000", "-1")),
+    ("--pull-first-limit", ("0", "1000000000", "1s")),
+    ("--least-repeat", ("0", "1000000000", " 1")),
+]
+
+
+def silence(value):
+    """What is posted: a silence for an hour from now on."""
+    moment = lambda seconds: time.strftime("%Y-%m-%dT%H:%M:%SZ", time.gmtime(seconds))
+    matcher = {"name": "job", "value": value, "isRegex": False}
+    now = time.time()
+    return {
+        "matchers": [matcher],
+        "startsAt": moment(now),
+        "endsAt": moment(now + 3600),
+        "createdBy": "me",
+        "comment": value,
+    }
+
+
+def post(member, value):
+    status, _ = member.ask("POST", "/api/v2/silences", json.dumps(silence(value)).encode())
+    return status
+
+
+def eventually(look, patience=PATIENCE):
+    """What `look` answers as soon as that counts as true, or the last of its answers."""
+    end = time.monotonic() + patience
+    while True:
+        found = look()
+        if found or time.monotonic() > end:
+            return found
+        time.sleep(0.05)
+
+
+def comments(member):
+    return sorted(it["comment"] for it in member.listed() or [])
+
+
+def saved(member):
+    """The lines of what stands in its file of silences."""
+    with contextlib.suppress(OSError), open(member.sil, "rb") as file:
+        return run(["show", "--state", "sil", "--now", str(time.time_ns())], input=file.read())[1]
+    return b""
+
+
+class Served(Member):
+    """A member, whose command may have words in front, and whose standard input may be a pipe."""
+
+    def start(self, front=(), stdin=subprocess.DEVNULL):
+        self.lines = []
+        streams = {"stdin": stdin, "stdout": subprocess.PIPE, "stderr": subprocess.PIPE}
+        self.has_begun = members.threading.Event()
+        self.process = subprocess.Popen([*front, members.program, *self.words], **streams)
+        self.reader = members.threading.Thread(target=self.read, daemon=True)
+        self.reader.start()
+        self.has_begun.wait(PATIENCE)
+        check(f"{self.name} listens", bool(self.lines) and " listens on " in self.lines[0], self.lines)
+
+
+def test_words(folder):
+    named = ["instance", "--name", "m", "--listen", "1", "--sil", f"{folder}/s", "--nfl", f"{folder}/n", "--peer", "b"]
+    for option, values in NUMBERS:
+        for value in values:
+            status, output, error = run([*named, f"{option}={value}"])
+            compare(f"{option} {value}", (status, output, error.split("'")[1].split(" ")[0]), (2, b"", option))
+
+
+def test_times(folder):
+    """What is printed of the spread and the flight time: 2 * 5 + 1, and 3 * 60 + 2 * 11 + 1."""
+    told = lambda member: eventually(lambda: len(member.lines) > 1, 1) and member.lines[1:]
+    keeps = "am_tool: keeps a spread of 203 s and a flight time of 11 s"
+    for name, options, wanted in [
+        ("n", [], False),
+        ("o", ["--pull-every", "60"], [keeps]),
+        ("p", ["--pull-every", "60", "--retention", "214", "--least-repeat", "107"], [keeps]),
+        (
+            "q",
+            ["--pull-every", "60", "--retention", "213", "--least-repeat", "106"],
+            [keeps, "am_tool: warning: --retention is under 214 s", "am_tool: warning: --least-repeat is under 107 s"],
+        ),
+        ("r", ["--pull-every", "1", "--time-limit", "1"], ["am_tool: keeps a spread of 10 s and a flight time of 3 s"]),
+    ]:
+        (port,) = free_ports(1)
+        member = Served(name, port, [], folder, options)
+        member.start()
+        time.sleep(0.3)
+        compare(f"times with {options}", told(member), wanted)
+        member.kill()
+
+
+def test_saves(folder):
+    (port,) = free_ports(1)
+    member = Served("s", port, [], folder, ["--save-every", "1"])
+    member.start()
+    compare("a post", post(member, "x"), 200)
+    check("it is saved", eventually(lambda: saved(member).endswith(b" active\n")), member.lines)
+    before = os.stat(member.sil).st_mtime_ns
+    member.listed()
+    time.sleep(2.5)
+    compare("nothing is saved where nothing changed", os.stat(member.sil).st_mtime_ns, before)
+    compare("another post", post(member, "y"), 200)
+    check("it is saved too", eventually(lambda: saved(member).count(b"active") == 2), member.lines)
+    member.kill()
+
+
+def test_ticks(folder):
+    (port,) = free_ports(1)
+    member = Served("t", port, [], folder, ["--tick-every", "1", "--retention", "1"])
+    member.start()
+    brief = {**silence("brief"), "endsAt": time.strftime("%Y-%m-%dT%H:%M:%SZ", time.gmtime(time.time() + 2))}
+    compare("a brief silence", member.ask("POST", "/api/v2/silences", json.dumps(brief).encode())[0], 200)
+    check("a Tick saves it", eventually(lambda: os.path.exists(member.sil) and os.stat(member.sil).st_size > 0))
+    check("and forgets it later", eventually(lambda: os.stat(member.sil).st_size == 0), member.lines)
+    member.kill()
+
+
+def test_pulls(folder):
+    ports = free_ports(2)
+    a = Served("a", ports[0], [("b", ports[1])], folder)
+    b = Served("b", ports[1], [("a", ports[0])], folder, ["--pull-every", "1"])
+    a.start()
+    compare("a post before b is there", post(a, "old"), 200)
+    b.start()
+    check("b pulls it", eventually(lambda: comments(b) == ["old"]), b.lines)
+    b.kill()
+
+    first = Served("b", ports[1], [("a", ports[0])], folder, ["--pull-first"])
+    first.start()
+    compare("the first answer has what a has", comments(first), ["old"])
+    first.kill()
+    a.kill()
+
+    alone = Served("b", ports[1], [("a", ports[0])], folder, ["--pull-first", "--pull-first-limit", "2", "--time-limit", "20"])
+    alone.start()
+    begun = time.monotonic()
+    compare("an answer where no peer is there", comments(alone), [])
+    check("it waited for the limit", 1 < time.monotonic() - begun < PATIENCE)
+    check("which is told", "am_tool: NoPull" in alone.lines, alone.lines)
+    alone.kill()
+
+
+def test_held_push(folder):
+    """A Push isn't answered before the first pull is over."""
+    (port,) = free_ports(1)
+    with socket.create_server(("127.0.0.1", 0)) as peer:
+        peer.settimeout(PATIENCE)
+        place = peer.getsockname()[1]
+        member = Served("h", port, [("p", place)], folder, ["--pull-first", "--pull-first-limit", "3"])
+        member.start()
+        begun = time.monotonic()
+        member.send(greeting("p") + EMPTY_PUSH)
+        kinds = []
+        while 3 not in kinds and len(kinds) < 50:
+            with peer.accept()[0] as stream:
+                data = received(stream)
+            rest = data[len(greeting("h")) :]
+            kinds += [rest[0]] if rest else []
+        check("it asks before it answers", kinds[0] == 2 and kinds[-1] == 3, kinds)
+        check("and answers when it waits no more", time.monotonic() - begun > 2)
+        member.kill()
+
+
+def test_stops(folder):
+    for name, told in (("u", signal.SIGTERM), ("v", signal.SIGINT)):
+        (port,) = free_ports(1)
+        member = Served(name, port, [], folder)
+        member.start(front=BLOCKED)
+        compare("a post", post(member, "kept"), 200)
+        member.process.send_signal(told)
+        compare(f"{told.name} where it is blocked", member.end(), 0)
+        check("both are saved", saved(member).endswith(b" active\n") and os.path.exists(member.nfl))
+    (port,) = free_ports(1)
+    member = Served("w", port, [], folder)
+    member.start()
+    member.process.send_signal(signal.SIGTERM)
+    compare("SIGTERM where it isn't", member.end(), -signal.SIGTERM)
+
+
+def test_input(folder):
+    (port,) = free_ports(1)
+    member = Served("i", port, [], folder, ["--stop-at-input-end"])
+    member.start(stdin=subprocess.PIPE)
+    compare("a post", post(member, "kept"), 200)
+    member.process.stdin.write(b"words that nobody reads\n")
+    member.process.stdin.flush()
+    compare("it goes on while its input does", comments(member), ["kept"])
+    member.process.stdin.close()
+    compare("the end of its input", member.end(), 0)
+    check("it is saved", saved(member).endswith(b" active\n"))
+    words = ["instance", "--name", "m", "--listen", str(port), "--sil", f"{folder}/j", "--nfl", f"{folder}/k"]
+    compare("an input that ended before", run([*words, "--stop-at-input-end"])[0], 0)
+
+
+def test_stop_under_way(folder):
+    """A stop sends what waits, and accepts nothing more."""
+    (port,) = free_ports(1)
+    member = Served("x", port, [], folder, ["--time-limit", "20"])
+    member.start(front=BLOCKED)
+    for value in range(12):
+        large = {**silence(str(value)), "comment": "c" * 900_000}
+        compare("a large post", member.ask("POST", "/api/v2/silences", json.dumps(large).encode())[0], 200)
+    with socket.socket() as stream:
+        stream.setsockopt(socket.SOL_SOCKET, socket.SO_RCVBUF, 4096)
+        stream.settimeout(PATIENCE)
+        stream.connect(("127.0.0.1", port))
+        stream.sendall(GET)
+        first = stream.recv(1)
+        member.process.send_signal(signal.SIGTERM)
+        time.sleep(0.5)
+        status, body = parted(first + received(stream))
+        compare("what was on its way is sent", (status, len(json.loads(body))), (200, 12))
+    compare("and then it ends", member.end(), 0)
+
+
+def test_at_once(folder):
+    (port,) = free_ports(1)
+    member = Served("y", port, [], folder, ["--at-once", "2", "--time-limit", "600"])
+    member.start()
+    connect = lambda: socket.create_connection(("127.0.0.1", port), timeout=PATIENCE)
+    with connect() as one, connect() as two, connect() as three:
+        for stream in (one, two):
+            stream.sendall(GET[:20])
+        time.sleep(0.3)
+        three.sendall(GET)
+        three.settimeout(0.5)
+        with contextlib.suppress(socket.timeout):
+            check("a third one waits", not three.recv(1))
+        three.settimeout(PATIENCE)
+        one.sendall(GET[20:])
+        compare("the first is answered", parted(received(one)), (200, b"[]"))
+        compare("and then the third", parted(received(three)), (200, b"[]"))
+    member.kill()
+
+
+def test_silent_clients(folder):
+    (port,) = free_ports(1)
+    member = Served("z", port, [], folder, ["--time-limit", "600"])
+    member.start()
+    streams = [socket.create_connection(("127.0.0.1", port), timeout=PATIENCE) for _ in range(200)]
+    for stream in streams[:60]:
+        stream.sendall(b"POST /api/v2/silences HTTP/1.1\r\ncontent-length: 100\r\n\r\n{")
+    begun = time.monotonic()
+    for value in range(20):
+        compare("a post beside silent ones", post(member, str(value)), 200)
+    compare("and a list", len(comments(member)), 20)
+    check("none of them waited for those", time.monotonic() - begun < 10)
+    for stream in streams:
+        stream.close()
+    member.kill()
+
+
+def main():
+    members.choose("duties", sys.argv[1:])
+    with tempfile.TemporaryDirectory(prefix="am_duties_") as folder:
+        for test in [
+            test_words,
+            test_times,
+            test_saves,
+            test_ticks,
+            test_pulls,
+            test_held_push,
+            test_stops,
+            test_input,
+            test_stop_under_way,
+            test_at_once,
+            test_silent_clients,
+        ]:
+            place = f"{folder}/{test.__name__}"
+            os.mkdir(place)
+            try:
+                test(place)
+            except Exception as fault:
+                check(f"{test.__name__} runs", False, repr(fault))
+    finish("duties")
+
+
+main()
