@@ -128,31 +128,36 @@ stop_steps sender now frames old before new after error stop =
 -- ---- the steps of frames
 
 -- steps of the events of frames
-abbrev FrameSteps : Option (List ℕ) → ℕ → List Frame → Bool → InstanceState → InstanceState → Type 0
-FrameSteps name now frames stopped old new =
-    (asked : List Event) × AreEventsOfFrames old.config name frames asked × (steps : List Happened) × AreStepsUpTo now asked stopped old steps new
+record FrameSteps (name : Option (List ℕ)) (now : ℕ) (frames : List Frame) (stopped : Bool) (old new : InstanceState) : Type 0 where
+  asked : List Event
+  are : AreEventsOfFrames old.config name frames asked
+  steps : (steps : List Happened) × AreStepsUpTo now asked stopped old steps new
 
 -- no frame, no step
 no_frame : (name : Option (List ℕ)) (now : ℕ) (frames : List Frame) (stopped : Bool) (old new : InstanceState) →
     ((frames ≡ []) ⊎ IsFromNobody old.config name frames) → new ≡ old → FrameSteps name now frames stopped old new
-no_frame name now frames stopped old new why same = ([], inl (refl, why), whole_steps now [] stopped old new (none_at now old new same))
+no_frame name now frames stopped old new why same =
+    record { asked = []; are = inl (refl, why); steps = whole_steps now [] stopped old new (none_at now old new same) }
 
 -- all steps were made
 named_steps : (name : Option (List ℕ)) (now : ℕ) (frames : List Frame) (stopped : Bool) (old : InstanceState) (before : Effects) (new : InstanceState) (after : Effects) →
     MakesNamed name now frames old before new after → FrameSteps name now frames stopped old new
 named_steps None now frames stopped old before new after made = no_frame None now frames stopped old new (inl made.0) made.1
-named_steps (Some name) now frames stopped old before new after made = (
-  sent_from made.0 frames,
-  inr (made.0, made.1, refl),
-  whole_steps now (sent_from made.0 frames) stopped old new (all_steps made.0 now frames old before new after made.2),
-)
+named_steps (Some name) now frames stopped old before new after made = record {
+  asked = sent_from made.0 frames;
+  are = inr (made.0, made.1, refl);
+  steps = whole_steps now (sent_from made.0 frames) stopped old new (all_steps made.0 now frames old before new after made.2);
+}
 
 -- the steps stopped
 stepped_steps : (name : Option (List ℕ)) (now : ℕ) (frames : List Frame) (old : InstanceState) (before : Effects) (new : InstanceState) (after : Effects) (stop : Fault) →
     AreStepped name now frames old before new after (Err stop) → FrameSteps name now frames (is_stopped (Some stop)) old new
 stepped_steps name now frames old before new after UnknownName stepped = no_frame name now frames true old new (inr stepped.0) stepped.1
-stepped_steps name now frames old before new after (Step error) stepped =
-    (sent_from stepped.0 frames, inr (stepped.0, stepped.1, refl), stop_steps stepped.0 now frames old before new after error stepped.2)
+stepped_steps name now frames old before new after (Step error) stepped = record {
+  asked = sent_from stepped.0 frames;
+  are = inr (stepped.0, stepped.1, refl);
+  steps = stop_steps stepped.0 now frames old before new after error stepped.2;
+}
 stepped_steps name now frames old before new after (InRead at) stepped = absurd stepped
 stepped_steps name now frames old before new after (Write written) stepped = absurd stepped
 stepped_steps name now frames old before new after TooLarge stepped = absurd stepped
@@ -169,9 +174,10 @@ heard_steps name now frames fault old new effects told (inr stops) =
 -- ---- the step of a request
 
 -- steps of the events of what was read
-abbrev ReadSteps : Read → ℕ → ℕ → Bool → InstanceState → InstanceState → Type 0
-ReadSteps read bits now stopped old new =
-    (asked : List Event) × AreEventsOfRead read bits asked × (steps : List Happened) × AreStepsUpTo now asked stopped old steps new
+record ReadSteps (read : Read) (bits now : ℕ) (stopped : Bool) (old new : InstanceState) : Type 0 where
+  asked : List Event
+  are : AreEventsOfRead read bits asked
+  steps : (steps : List Happened) × AreStepsUpTo now asked stopped old steps new
 
 -- what it means is one step or none
 meant_steps : (meant : Result Event Refusal) (now : ℕ) (stopped : Bool) (old : InstanceState) (answered : Answered) (new : InstanceState) → ComesOf meant old now answered new →
@@ -182,11 +188,15 @@ meant_steps (Err refusal) now stopped old answered new comes = whole_steps now [
 
 read_steps : (read : Read) (bits now : ℕ) (stopped : Bool) (old new : InstanceState) (exchanged : Exchanged) → IsAnsweredTo read bits now old new exchanged →
     ReadSteps read bits now stopped old new
-read_steps (Whole request) bits now stopped old new exchanged answer =
-    let answered = answer.1.0 in
-    (listed answered.0, (answered.0, answered.1, refl), meant_steps answered.0 now stopped old answer.0 new answered.2)
-read_steps (Refused refusal) bits now stopped old new exchanged answer = ([], refl, whole_steps now [] stopped old new (none_at now old new answer.1.0.same))
-read_steps More bits now stopped old new exchanged answer = ([], refl, whole_steps now [] stopped old new (none_at now old new answer.same))
+read_steps (Whole request) bits now stopped old new exchanged answer = record {
+  asked = listed answer.1.0;
+  are = (answer.1.0, answer.1.1, refl);
+  steps = meant_steps answer.1.0 now stopped old answer.0 new answer.1.2;
+}
+read_steps (Refused refusal) bits now stopped old new exchanged answer =
+    record { asked = []; are = refl; steps = whole_steps now [] stopped old new (none_at now old new answer.1.same) }
+read_steps More bits now stopped old new exchanged answer =
+    record { asked = []; are = refl; steps = whole_steps now [] stopped old new (none_at now old new answer.same) }
 
 -- ---- a turn
 
@@ -218,20 +228,20 @@ turn_by : (standing : Standing) (old : InstanceState) (turn : Turn) (request : O
     (steps : List Happened) × AreStepsOf old turn steps
 turn_by standing old turn (Some read) is done =
     let found = read_steps read turn.bits turn.now (is_stopped turn.answer.ended.fault) old turn.left turn.answer (done.answered.asked read is) in
-    steps_of_turn old turn found.0
+    steps_of_turn old turn found.asked
     (record {
-      of_request = λ other also. subst (λ (r : Read). AreEventsOfRead r turn.bits found.0) (some_is read other turn.said.request is also) found.1;
+      of_request = λ other also. subst (λ (r : Read). AreEventsOfRead r turn.bits found.asked) (some_is read other turn.said.request is also) found.are;
       of_frames = λ none. absurd (none-some read (sym none ∙ is));
     })
-    found.2
+    found.steps
 turn_by standing old turn None is done =
     let found = heard_steps (name_of turn.heard) turn.now turn.said.frames turn.said.fault old turn.left (effects_of turn.answer.ended) turn.answer.ended.fault (done.answered.heard is).1 in
-    steps_of_turn old turn found.0
+    steps_of_turn old turn found.asked
     (record {
       of_request = λ read some. absurd (none-some read (sym is ∙ some));
-      of_frames = λ none. found.1;
+      of_frames = λ none. found.are;
     })
-    found.2
+    found.steps
 
 pub turn_steps : (standing : Standing) (old : InstanceState) (turn : Turn) → IsTurn standing old turn → (steps : List Happened) × AreStepsOf old turn steps
 turn_steps standing old turn done = turn_by standing old turn turn.said.request refl done

@@ -1,6 +1,6 @@
 //! What comes of what a connection said, piece by piece.
 
-ghost use Rattle.std.specs.Prelude.{◌≡◌, ◌≢◌, [], true, None, IfErr, OnOk, OnTrue, option_map};
+ghost use Rattle.std.specs.Prelude.{◌≡◌, option_map};
 ghost use Rattle.std.specs.Option.{option_copied};
 ghost use Rattle.am_session.specs.Sessions.{name_of, spoken};
 ghost use Rattle.am_member.specs.Exchanging.{AreHeard, AreStepped, IsAnsweredTo, IsDear, IsExchanged, IsReplied, fault_heard, is_list, left_at};
@@ -70,17 +70,6 @@ fn reply_to(
     }
 }
 
-/// Without a name there is no frame.
-fn no_name(frames: &[Frame]) -> Result<(), Fault>
-    ensures none { OnOk result (frames.now ≡ []) }
-    ensures some { IfErr result (λ e. (e ≡ Fault.UnknownName) × (frames.now ≢ [])) }
-{
-    if frames.is_empty() {
-        return Ok(());
-    }
-    Err(Fault::UnknownName)
-}
-
 /// Makes the steps of frames that the peer of this name sent.
 ///
 /// # Errors
@@ -97,7 +86,11 @@ fn step_named(
     ensures { AreStepped (option_copied name.entry) now frames.items instance.old (effects_of ended.old) instance.new (effects_of ended.new) result }
 {
     let Some(name) = name else {
-        return no_name(&frames);
+        return if frames.is_empty() {
+            Ok(())
+        } else {
+            Err(Fault::UnknownName)
+        };
     };
     let Some(sender) = peer_named(instance.config(), name) else {
         return Err(Fault::UnknownName);
