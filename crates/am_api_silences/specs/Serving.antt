@@ -1,7 +1,8 @@
 -- A request from a reader, and its answer to a writer.
 use Rattle.std.specs.Prelude.{◌≡◌, ℕ, List, Option, Some, None, Result, Ok, Err}
 use Rattle.std.specs.Io.KnownBytes.{Appends}
-use Rattle.am_http.specs.Receiving.{IsReceived, StopsReading, WritesPart}
+use Rattle.am_streams.specs.Writing.{WritesPart}
+use Rattle.am_http.specs.Receiving.{IsReceived, StopsReading}
 use Rattle.am_http.specs.declared.receiving.ReadFault.{ReadFault}
 use Rattle.am_http.specs.declared.request.Read.{Read}
 use Rattle.am_http.specs.declared.request.Read.TheVariants.{More, Whole, Refused}

@@ -8,8 +8,9 @@ ghost use Rattle.am_api_silences.specs.Serving.{GoesOut, IsHandedOn, IsServed, I
 
 use crate::answering::{Answered, respond, turn_away};
 use am_gossip::Frame;
-use am_http::{Read, receive, receive_behind, send};
+use am_http::{Read, receive, receive_behind};
 use am_instance::{Instance, Place, Unsent};
+use am_streams::send;
 use am_version_order::Moment;
 use std::alloc::Global;
 use std::io;

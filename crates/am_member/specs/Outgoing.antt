@@ -4,7 +4,7 @@ use Rattle.std.specs.List.{flat_map, list_all}
 use Rattle.am_wire.specs.Varint.{shortest}
 use Rattle.am_gossip.specs.declared.frame.Frame.{Frame}
 use Rattle.am_gossip.specs.Frames.{fits, frame_text}
-use Rattle.am_http.specs.Receiving.{WritesPart}
+use Rattle.am_streams.specs.Writing.{WritesPart}
 use Rattle.am_member.specs.declared.fault.SendError.{SendError}
 use Rattle.am_member.specs.declared.fault.SendError.TheVariants.{Write}
 

@@ -3,8 +3,8 @@
 ghost use Rattle.std.specs.Prelude.{◌≡◌};
 
 use am_gossip::FrameError;
-use am_http::WriteFault;
 use am_instance::StepError;
+use am_streams::WriteFault;
 use std::alloc::{AllocError, AllocFailed};
 use thiserror::Error;
 

@@ -2,7 +2,7 @@
 
 use crate::asking::{ReadError, read_reply, request_text};
 use crate::timed::{Timed, end_after, left_until};
-use am_http::send;
+use am_streams::send;
 use std::alloc::{AllocError, Global};
 use std::io::{self, ErrorKind};
 use std::net::{Ipv4Addr, Ipv6Addr, Net, SocketAddr, TcpStream};

@@ -10,18 +10,6 @@ use std::io;
 /// The most bytes that a connection gives.
 const MOST_BYTES: u64 = 134_217_728;
 
-/// Reads behind the last byte that a connection may give.
-fn read_past<R: io::Read>(reader: &mut R, piece: &mut [u8]) -> Result<usize, Fault>
-    requires { 0 < length piece.old }
-    ensures { IsPiece most_bytes (R.remaining reader.old) (R.remaining reader.new) piece.new result }
-{
-    match reader.read(&mut piece[..1]) {
-        Ok(0) => Ok(0),
-        Ok(_) => Err(Fault::TooLarge),
-        Err(_) => Err(Fault::Read { at: MOST_BYTES }),
-    }
-}
-
 /// Reads once, behind `count` bytes of a connection: how many bytes stand at the front of the piece then, none at the
 /// end of the input.
 ///
@@ -33,12 +21,12 @@ pub fn read_piece<R: io::Read>(reader: &mut R, piece: &mut [u8], count: u64) -> 
     requires within { count ≤ most_bytes }
     ensures { IsPiece count (R.remaining reader.old) (R.remaining reader.new) piece.new result }
 {
-    let room = (MOST_BYTES - count).min(piece.len() as u64) as usize;
-    if room == 0 {
-        return read_past(reader, piece);
-    }
+    let left = MOST_BYTES - count;
+    // Behind the last byte of a connection one more is asked for, so that its end is told from a byte too many.
+    let room = left.max(1).min(piece.len() as u64) as usize;
     match reader.read(&mut piece[..room]) {
-        Ok(count) => Ok(count),
+        Ok(read) if read as u64 > left => Err(Fault::TooLarge),
+        Ok(read) => Ok(read),
         Err(_) => Err(Fault::Read { at: count }),
     }
 }

@@ -82,6 +82,6 @@ pub fn send<W: Write>(
     ensures too_long { (result ≡ Err errors.Length) ↔ ((is_name name.now && all_fit frames.now) ≡ false) }
 {
     let text = outgoing(alloc, name, frames)?;
-    am_http::send(writer, &text)?;
+    am_streams::send(writer, &text)?;
     Ok(text.len() as u64)
 }

@@ -9,8 +9,8 @@ use crate::error::ReplayError;
 use crate::input::read_input;
 use crate::player::play;
 use crate::progress::{Progress, Unseen};
-use am_http::send;
 use am_schedule::parse;
+use am_streams::send;
 use std::alloc::Global;
 use std::io::{Read, Write};
 

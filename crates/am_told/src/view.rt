@@ -7,11 +7,11 @@ ghost use Rattle.am_merge.specs.Maps.{swept};
 ghost use Rattle.am_told.specs.Views.{entry_lines, silence_lines, view_text, StopsWriting};
 
 use crate::view_lines::{Owner, append_entry, append_shows, append_silence};
-use am_http::send;
 use am_merge::Held;
 use am_nflog::MeshEntry;
 use am_silence::MeshSilence;
 use am_snapshot::SnapshotError;
+use am_streams::send;
 use am_version_order::{Moment, Version};
 use std::alloc::{AllocError, Global};
 use std::io::Write;

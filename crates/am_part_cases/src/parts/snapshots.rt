@@ -4,12 +4,12 @@ use crate::common::{
     Answered, Brittle, Call, Fault, How, Pieces, bytes, cut, first, how_of, make, moment, parts,
     print, print_debug, say_bytes, say_text, writer,
 };
-use am_http::{WriteFault, send};
 use am_merge::Held;
 use am_nflog::MeshEntry;
 use am_silence::MeshSilence;
 use am_snapshot::laws::what_is_saved_is_loaded;
 use am_snapshot::{FoldError, SnapshotError, fold, load, save, take_row};
+use am_streams::send;
 use am_told::{show_log, show_silences};
 use am_version_order::{Moment, Version};
 use am_wire::Message;
@@ -132,10 +132,8 @@ fn named(fault: FoldError) -> SnapshotError {
 }
 
 fn sent(bytes: &[u8], writer: &mut Brittle) -> Outcome {
-    match send(writer, bytes) {
-        Ok(()) => Ok(bytes.len() as u64),
-        Err(WriteFault { written }) => Err(SnapshotError::Write { written }),
-    }
+    send(writer, bytes)?;
+    Ok(bytes.len() as u64)
 }
 
 /// Does what is asked with the bytes, and says what comes of it and what is written.

@@ -13,10 +13,10 @@ ghost use Rattle.am_told.specs.Json.Views.{view_line};
 
 use crate::in_json::tokens::line_of;
 use crate::in_json::values::InJson;
-use am_http::send;
 use am_merge::Held;
 use am_silence_json::tokens::add;
 use am_snapshot::{SnapshotError, load};
+use am_streams::send;
 use am_version_order::{Moment, Version};
 use am_wire::Message;
 use json::{Token, Writer};
