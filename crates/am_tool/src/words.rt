@@ -9,6 +9,7 @@ use crate::fault::{self, Fault};
 use crate::status;
 use am_member::number_within;
 use am_snapshot::SnapshotError;
+use am_streams::send;
 use am_version_order::Moment;
 use clap::error::ErrorKind;
 use clap::{Arg, ArgAction, ArgMatches, Command};
@@ -123,7 +124,7 @@ pub fn words_of<R: Env + AllocGlobal>(rt: &R) -> Result<Vec<String>, WordsError>
 
 /// Prints why there is no job: a help text on standard output, all else on standard error. Answers the exit
 /// status of the program.
-pub fn report<R: Print + Eprint + AllocGlobal>(rt: &R, error: &WordsError) -> u8 {
+pub fn report(rt: &HostRuntime, error: &WordsError) -> u8 {
     match error {
         WordsError::NotUtf8 => {
             let _ = eprintln!(rt; "am_tool: a word of the command line is not UTF-8");
@@ -139,27 +140,16 @@ pub fn report<R: Print + Eprint + AllocGlobal>(rt: &R, error: &WordsError) -> u8
     }
 }
 
-fn print_help<R: Print + Eprint + AllocGlobal>(rt: &R, help: &clap::Error) -> u8 {
+/// Prints a help text on standard output.
+fn print_help(rt: &HostRuntime, help: &clap::Error) -> u8 {
     let Ok(text) = help.to_string(rt.alloc()) else {
         return fault::report(rt, Fault::from(SnapshotError::Memory));
     };
-    match print_counted(rt, text.as_str()) {
+    let mut output = rt.stdout();
+    match send(&mut output, text.as_bytes()) {
         Ok(()) => status::DONE,
-        Err(written) => fault::report(rt, Fault::from(SnapshotError::Write { written })),
+        Err(stopped) => fault::report(rt, Fault::from(SnapshotError::from(stopped))),
     }
-}
-
-// Writes a text to standard output. Where a write fails or takes nothing: how many bytes went out.
-fn print_counted<R: Print>(rt: &R, text: &str) -> Result<(), u64> {
-    let mut left = text.as_bytes();
-    while !left.is_empty() {
-        let taken = rt.write_some(left).unwrap_or(0);
-        if taken == 0 {
-            return Err((text.len() - left.len()) as u64);
-        }
-        left = &left[taken..];
-    }
-    Ok(())
 }
 
 fn command<'a>(alloc: Global) -> Result<Command<'a>, AllocError> {
