@@ -17,8 +17,8 @@ use Rattle.am_snapshot.specs.Loads.{AreDistinct, RepeatsKey, StopsLoad, load_fau
 use Rattle.am_snapshot.specs.Best.{HoldsBest}
 use Rattle.am_snapshot.specs.Rows.{Writes}
 use Rattle.am_snapshot.specs.Folds.{IsFold, IsFoldWithin, StopsFold, reading_fault, writing_fault}
-use Rattle.am_snapshot.specs.declared.row.WriteFault.{WriteFault}
-use Rattle.am_snapshot.specs.declared.row.WriteFault.TheVariants as writing
+use Rattle.am_snapshot.specs.declared.row.RowWriteFault.{RowWriteFault}
+use Rattle.am_snapshot.specs.declared.row.RowWriteFault.TheVariants as writing
 use Rattle.am_snapshot.proofs.RowReads.{ReadsSoFar, HasRead-whole, some_then}
 
 -- two facts of what is there
@@ -43,7 +43,7 @@ module _ {K X : Type 0} (seen : X → Version K) (cmp : K → K → Ordering) (r
   pub fold_within : (row : List ℕ) → IfSome start (λ input. IsFold seen cmp reads input row) → IfSome start (λ input. length input ≤ most) → IfSome start (λ input. IsFoldWithin seen cmp reads input row)
   fold_within row fold size = both_then _ _ _ (λ input one small. record { fold = one; size = small }) start fold size
 
-  pub fold_writing : {W : Type 0} (contents : W → Option (List ℕ)) (old new : W) (row : List ℕ) (fault : WriteFault)
+  pub fold_writing : {W : Type 0} (contents : W → Option (List ℕ)) (old new : W) (row : List ℕ) (fault : RowWriteFault)
       → IfSome start (λ input. IsFoldWithin seen cmp reads input row) → Writes contents old new row (Err fault) → StopsFold seen cmp reads start left contents old new (writing_fault fault)
   fold_writing contents old new row (writing.Write k) fold wrote = (row, wrote.1, wrote.0, wrote.2, fold)
   fold_writing contents old new row writing.TooLarge fold wrote = (wrote.1, some_then _ _ (λ input one. inr (row, one, wrote.0)) start fold)

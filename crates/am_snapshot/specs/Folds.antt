@@ -11,8 +11,8 @@ use Rattle.am_wire.specs.Limits.{most}
 use Rattle.am_wire.specs.Inputs.{AreMessages, StopsAfter}
 use Rattle.am_snapshot.specs.Texts.{row_text}
 use Rattle.am_snapshot.specs.Best.{HoldsBest}
-use Rattle.am_snapshot.specs.declared.row.WriteFault.{WriteFault}
-use Rattle.am_snapshot.specs.declared.row.WriteFault.TheVariants as writing
+use Rattle.am_snapshot.specs.declared.row.RowWriteFault.{RowWriteFault}
+use Rattle.am_snapshot.specs.declared.row.RowWriteFault.TheVariants as writing
 use Rattle.am_snapshot.specs.declared.folding.FoldError.{FoldError}
 use Rattle.am_snapshot.specs.declared.folding.FoldError.TheVariants.{Read, Write, Wire, TooLarge, Memory}
 
@@ -25,7 +25,7 @@ reading_fault reading.Ended = Memory
 reading_fault reading.Memory = Memory
 
 -- the fault of writing a row, as that of a fold
-abbrev pub writing_fault : WriteFault → FoldError
+abbrev pub writing_fault : RowWriteFault → FoldError
 writing_fault (writing.Write k) = Write k
 writing_fault writing.TooLarge = TooLarge
 writing_fault writing.Memory = Memory

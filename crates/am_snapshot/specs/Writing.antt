@@ -1,6 +1,7 @@
 -- What a writer took of bytes that are written.
-use Rattle.std.specs.Prelude.{◌≡◌, ℕ, ◌+◌, ◌<◌, List, ◌++◌, length, Option}
+use Rattle.std.specs.Prelude.{◌≡◌, ℕ, ◌+◌, List, ◌++◌, length, Option}
 use Rattle.std.specs.Io.KnownBytes.{Appends}
+use Rattle.am_streams.specs.Writing.{WritesPart}
 
 -- of what waited and what was added to it, the writer took the front, and the rest waits
 pub record Passes (old new : Option (List ℕ)) (waiting added left : List ℕ) (before after : ℕ) : Type 0 where
@@ -10,10 +11,5 @@ pub record Passes (old new : Option (List ℕ)) (waiting added left : List ℕ) 
   pub count : after ≡ before + length sent
 
 -- the writer took the front of the bytes, and not all of them
-pub record TakesPart (old new : Option (List ℕ)) (bytes : List ℕ) (before after : ℕ) : Type 0 where
-  pub sent : List ℕ
-  pub rest : List ℕ
-  pub whole : bytes ≡ sent ++ rest
-  pub more : 0 < length rest
-  pub went_out : Appends old new sent
-  pub count : after ≡ before + length sent
+abbrev pub TakesPart : Option (List ℕ) → Option (List ℕ) → List ℕ → ℕ → ℕ → Type 0
+TakesPart old new bytes before after = (n : ℕ) × WritesPart old new bytes n × (after ≡ before + n)

@@ -1,5 +1,8 @@
 //! Why a snapshot was not written or not read.
 
+ghost use Rattle.std.specs.Prelude.{◌≡◌};
+
+use am_streams::WriteFault;
 use am_wire::WireError;
 use thiserror::Error;
 
@@ -18,4 +21,16 @@ pub enum SnapshotError {
     TooLarge,
     #[error("out of memory")]
     Memory,
+}
+
+impl From<WriteFault> for SnapshotError {
+    ghost use Rattle.am_snapshot.specs.declared.error.SnapshotError.TheVariants.{Write};
+
+    ghost from_gives = { λ fault e. e ≡ Write fault.written };
+
+    fn from(fault: WriteFault) -> SnapshotError {
+        SnapshotError::Write {
+            written: fault.written,
+        }
+    }
 }

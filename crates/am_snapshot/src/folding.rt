@@ -8,7 +8,7 @@ ghost use Rattle.am_snapshot.specs.Best.{HoldsBest};
 ghost use Rattle.am_snapshot.specs.Folds.{IsFold, StopsFold};
 
 use crate::reading::take_row;
-use crate::row::{WriteFault, write_row};
+use crate::row::{RowWriteFault, write_row};
 use am_merge::Held;
 use am_version_order::{Moment, Version};
 use am_wire::{Message, RowFault, WireError};
@@ -47,16 +47,16 @@ impl From<RowFault> for FoldError {
     }
 }
 
-impl From<WriteFault> for FoldError {
+impl From<RowWriteFault> for FoldError {
     ghost use Rattle.am_snapshot.specs.Folds.{writing_fault};
 
     ghost from_gives = { λ fault e. e ≡ writing_fault fault };
 
-    fn from(fault: WriteFault) -> FoldError {
+    fn from(fault: RowWriteFault) -> FoldError {
         match fault {
-            WriteFault::Write { written } => FoldError::Write { written },
-            WriteFault::TooLarge => FoldError::TooLarge,
-            WriteFault::Memory => FoldError::Memory,
+            RowWriteFault::Write { written } => FoldError::Write { written },
+            RowWriteFault::TooLarge => FoldError::TooLarge,
+            RowWriteFault::Memory => FoldError::Memory,
         }
     }
 }

@@ -4,17 +4,12 @@ ghost use Rattle.std.specs.Prelude.{◌≡◌, [], ◌++◌, ◌+◌, ◌<◌, �
 ghost use Rattle.std.specs.Io.KnownBytes.{Appends};
 ghost use Rattle.am_snapshot.specs.Writing.{Passes, TakesPart};
 
+use am_streams::{WriteFault, send};
 use std::alloc::{AllocError, Global};
 use std::io::Write;
 
 /// How many bytes are gathered before they are written.
 const ROOM: usize = 65_536;
-
-/// A write failed or took nothing, when so many bytes had gone out.
-#[derive(Clone, Copy)]
-pub struct Stopped {
-    pub written: u64,
-}
 
 /// Bytes on their way to a writer, gathered so that few small writes are made.
 #[derive(Drop)]
@@ -48,7 +43,7 @@ impl Outgoing {
     }
 
     /// Writes what was gathered.
-    pub fn flush<W: Write>(&mut self, writer: &mut W) -> Result<(), Stopped>
+    pub fn flush<W: Write>(&mut self, writer: &mut W) -> Result<(), WriteFault>
         requires { self.old.written + vec_len self.old.gathered < 2 ^ 64 }
         ensures passed { OnOk result (Passes (W.contents writer.old)
             (W.contents writer.new) self.old.gathered.items [] [] self.old.written self.new.written) }
@@ -63,7 +58,7 @@ impl Outgoing {
 
     /// Gathers a part. Where there is no room, what was gathered is written first, and a part that is
     /// larger than the room is written by itself.
-    pub fn send<W: Write>(&mut self, writer: &mut W, part: &[u8]) -> Result<(), Stopped>
+    pub fn send<W: Write>(&mut self, writer: &mut W, part: &[u8]) -> Result<(), WriteFault>
         requires { self.old.written + vec_len self.old.gathered + length part.now < 2 ^ 64 }
         ensures passed { OnOk result (Passes (W.contents writer.old)
             (W.contents writer.new) self.old.gathered.items part.now self.new.gathered.items self.old.written self.new.written) }
@@ -81,24 +76,17 @@ impl Outgoing {
     }
 }
 
-/// Writes all the bytes by calls of `write`, after so many others, and answers how many went out then.
-/// It stops at the first call that fails or takes nothing.
-fn write_counted<W: Write>(writer: &mut W, bytes: &[u8], before: u64) -> Result<u64, Stopped>
+/// Writes all the bytes, after so many others, and answers how many went out then.
+fn write_counted<W: Write>(writer: &mut W, bytes: &[u8], before: u64) -> Result<u64, WriteFault>
     requires { before + length bytes.now < 2 ^ 64 }
     ensures all { OnOk result (Appends (W.contents writer.old) (W.contents writer.new) bytes.now) }
     ensures count { IfOk result (λ n. n ≡ before + length bytes.now) }
     ensures stopped { IfErr result (λ e. TakesPart (W.contents writer.old) (W.contents writer.new) bytes.now before e.written) }
 {
-    let mut sent = 0;
-    while sent < bytes.len() {
-        // A write that fails takes nothing.
-        let taken = writer.write(&bytes[sent..]).unwrap_or(0);
-        if taken == 0 {
-            return Err(Stopped {
-                written: before + sent as u64,
-            });
-        }
-        sent += taken;
+    match send(writer, bytes) {
+        Ok(()) => Ok(before + bytes.len() as u64),
+        Err(fault) => Err(WriteFault {
+            written: before + fault.written,
+        }),
     }
-    Ok(before + sent as u64)
 }

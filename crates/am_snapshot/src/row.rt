@@ -10,8 +10,9 @@ ghost use Rattle.am_snapshot.specs.Rows.{Writes};
 ghost use Rattle.am_snapshot.specs.Saving.{IsSavable};
 
 use crate::in_memory::row_length;
-use crate::outgoing::{Outgoing, Stopped};
+use crate::outgoing::Outgoing;
 use am_merge::Held;
+use am_streams::WriteFault;
 use am_version_order::Version;
 use am_wire::write_varint;
 use std::alloc::Global;
@@ -19,7 +20,7 @@ use std::io::Write;
 
 /// Why a row was not written.
 #[derive(Clone, Copy)]
-pub enum WriteFault {
+pub enum RowWriteFault {
     /// A write failed or took nothing, when so many bytes had gone out.
     Write { written: u64 },
     /// The row has over 67,108,864 bytes.
@@ -27,18 +28,22 @@ pub enum WriteFault {
     Memory,
 }
 
-impl From<Stopped> for WriteFault {
-    ghost use Rattle.am_snapshot.specs.declared.row.WriteFault.TheVariants.{Write};
+impl From<WriteFault> for RowWriteFault {
+    ghost use Rattle.am_snapshot.specs.declared.row.RowWriteFault.TheVariants.{Write};
 
     ghost from_gives = { λ e fault. fault ≡ Write e.written };
 
-    fn from(e: Stopped) -> WriteFault {
-        WriteFault::Write { written: e.written }
+    fn from(e: WriteFault) -> RowWriteFault {
+        RowWriteFault::Write { written: e.written }
     }
 }
 
 /// Sends bytes behind their length on their way.
-fn send_delimited<W: Write>(out: &mut Outgoing, writer: &mut W, bytes: &[u8]) -> Result<(), Stopped>
+fn send_delimited<W: Write>(
+    out: &mut Outgoing,
+    writer: &mut W,
+    bytes: &[u8],
+) -> Result<(), WriteFault>
     requires { out.old.written + vec_len out.old.gathered + length (delimited bytes.now) < 2 ^ 64 }
     ensures passed { OnOk result (Passes (W.contents writer.old) (W.contents writer.new) out.old.gathered.items
         (delimited bytes.now) out.new.gathered.items out.old.written out.new.written) }
@@ -54,7 +59,7 @@ fn send_versions<V: Version, W: Write>(
     out: &mut Outgoing,
     writer: &mut W,
     held: &Held<V>,
-) -> Result<(), Stopped>
+) -> Result<(), WriteFault>
     requires { out.old.written + vec_len out.old.gathered + length (row_text V.seen held.now) < 2 ^ 64 }
     ensures passed { OnOk result (Passes (W.contents writer.old) (W.contents writer.new) out.old.gathered.items
         (row_text V.seen held.now) out.new.gathered.items out.old.written out.new.written) }
@@ -73,15 +78,15 @@ pub fn write_row<V: Version, W: Write>(
     alloc: Global,
     held: &Held<V>,
     writer: &mut W,
-) -> Result<u64, WriteFault>
+) -> Result<u64, RowWriteFault>
     ensures written { Writes W.contents writer.old writer.new (row_text V.seen held.now) result }
     ensures savable { OnOk result (IsSavable V.seen V.Key.cmp V.is_value held.now) }
 {
     let Some(length) = row_length(held) else {
-        return Err(WriteFault::TooLarge);
+        return Err(RowWriteFault::TooLarge);
     };
     let Ok(mut out) = Outgoing::new(alloc) else {
-        return Err(WriteFault::Memory);
+        return Err(RowWriteFault::Memory);
     };
     send_versions(&mut out, writer, held)?;
     out.flush(writer)?;

@@ -7,22 +7,22 @@ ghost use Rattle.am_snapshot.specs.Texts.{row_text};
 ghost use Rattle.am_snapshot.specs.Saving.{IsSavable, StopsSaving};
 
 use crate::error::SnapshotError;
-use crate::row::{WriteFault, write_row};
+use crate::row::{RowWriteFault, write_row};
 use am_merge::Held;
 use am_version_order::Version;
 use std::alloc::Global;
 use std::io::Write;
 
-impl From<WriteFault> for SnapshotError {
+impl From<RowWriteFault> for SnapshotError {
     ghost use Rattle.am_snapshot.specs.Saving.{save_fault};
 
     ghost from_gives = { λ fault e. e ≡ save_fault fault };
 
-    fn from(fault: WriteFault) -> SnapshotError {
+    fn from(fault: RowWriteFault) -> SnapshotError {
         match fault {
-            WriteFault::Write { written } => SnapshotError::Write { written },
-            WriteFault::TooLarge => SnapshotError::TooLarge,
-            WriteFault::Memory => SnapshotError::Memory,
+            RowWriteFault::Write { written } => SnapshotError::Write { written },
+            RowWriteFault::TooLarge => SnapshotError::TooLarge,
+            RowWriteFault::Memory => SnapshotError::Memory,
         }
     }
 }
