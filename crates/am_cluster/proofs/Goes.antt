@@ -4,7 +4,7 @@ use Rattle.std.proofs.lemmas.Bool.Decides.{eqb_tells}
 use Rattle.am_silence.specs.Mesh.{Mesh}
 use Rattle.am_nflog.specs.Mesh.{Mesh as LogMesh}
 use Rattle.am_instance.specs.InstanceStates.{kept_silences, kept_log}
-use Rattle.am_runs.specs.Steps.{Step, Flight as Sending, is_at, flights_by, flights_of}
+use Rattle.am_runs.specs.Steps.{Step, SentFrame, is_at, flights_by, flights_of}
 use Rattle.am_runs.specs.Members.{Member, stepped, member_of}
 use Rattle.am_runs.proofs.Pasts.{flights_of-push}
 use Rattle.am_steps.specs.BothStates.{log_state, silence_state}
@@ -15,7 +15,7 @@ use Rattle.am_cluster.proofs.Places.{got_before, got_set, got_other, set_length,
 use Rattle.am_cluster.proofs.Tied.{tied_elsewhere, tied_idle}
 
 -- a frame that flew still does after a step more
-still_sent : {X : Type 0} (before : List (Step X)) (s : Step X) (index : ℕ) (f : Sending X) → slice_get (flights_of before) index ≡ Some f → slice_get (flights_of (before ++ s ∷ [])) index ≡ Some f
+still_sent : {X : Type 0} (before : List (Step X)) (s : Step X) (index : ℕ) (f : SentFrame X) → slice_get (flights_of before) index ≡ Some f → slice_get (flights_of (before ++ s ∷ [])) index ≡ Some f
 still_sent before s index f e = subst (λ fs. slice_get fs index ≡ Some f) (sym (flights_of-push before s)) (got_before (flights_of before) (flights_by s) index f e)
 
 module _ (old : World) (s : Step Mesh) (l : Step LogMesh) (line : ℕ) where

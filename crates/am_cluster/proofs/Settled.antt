@@ -280,21 +280,21 @@ log_settle = record {
 }
 
 module _ {K X : Type 0} {state : StateOf K X} {is_value : X → Type 0} (can_be : CanBeSettled state is_value) where
-  joined : (source : Source) (lender now : ℕ) (before lent after : InstanceState) → CanLend lent → (answer : Result Outcome StepError) (frames : List (ℕ × Frame)) (reply : Reply) →
+  lent_joined : (source : Source) (lender now : ℕ) (before lent after : InstanceState) → CanLend lent → (answer : Result Outcome StepError) (frames : List (ℕ × Frame)) (reply : Reply) →
       IsStep before (loan lender lent) now answer after → IsTold source answer frames (Ok reply) → (key : K) →
       at state.seen state.cmp (state.kept after).held key
       ≡ greater_of state.seen (at state.seen state.cmp (state.kept before).held key) (at state.seen state.cmp (state.kept lent).held key)
-  joined source lender now before lent after can (Ok outcome) frames reply step told key =
+  lent_joined source lender now before lent after can (Ok outcome) frames reply step told key =
       let held : K → Option X = at state.seen state.cmp (state.kept before).held in
       let came = ap state.versions_in (lent_whole lender now before lent outcome after can step) ∙ can_be.facts.parted lent in
       (can_be.facts.left before after (loan lender lent) now (Ok outcome) step).map key
       ∙ (ap (λ f. f key) (can_be.facts.lift now held (delivers (loan lender lent) outcome.made))
       ∙ (ap (λ vs. after_all state.seen state.cmp held (takings now vs) key) came
       ∙ taken_all state.seen state.cmp can_be.facts.keys held now (state.kept lent).held key (can_be.facts.maps lent can.maps)))
-  joined source lender now before lent after can (Err (MomentBack last)) frames reply step told key = absurd told
-  joined source lender now before lent after can (Err UnknownPeer) frames reply step told key = absurd told
-  joined source lender now before lent after can (Err (Memory taken)) frames reply step told key = absurd told
-  joined source lender now before lent after can (Err (FrameFault fault)) frames reply step told key = absurd told
+  lent_joined source lender now before lent after can (Err (MomentBack last)) frames reply step told key = absurd told
+  lent_joined source lender now before lent after can (Err UnknownPeer) frames reply step told key = absurd told
+  lent_joined source lender now before lent after can (Err (Memory taken)) frames reply step told key = absurd told
+  lent_joined source lender now before lent after can (Err (FrameFault fault)) frames reply step told key = absurd told
 
   module _ (now line : ℕ) where
     sweeps : (old new : World) (place : ℕ) → IsMade old (Collects place) now line new → IsSweeping state.seen state.cmp (held_of state) old place now new
@@ -311,7 +311,7 @@ module _ {K X : Type 0} {state : StateOf K X} {is_value : X → Type 0} (can_be 
         let was = made.1.0 in let lent = made.1.1 in let found = made.1.2 in let there = made.1.3 in let can = made.1.4 in let h = made.1.5 in let are = ap (λ w. w.replicas) h.world in
         record {
           here = λ key. ap (λ vs. at state.seen state.cmp vs key) (changed_here (held_of state) old borrower was (with_stand was h.stand) new found are)
-              ∙ (joined (Lent lender) lender now was.stand lent.stand h.stand can h.answer h.frames made.0 h.step h.told key
+              ∙ (lent_joined (Lent lender) lender now was.stand lent.stand h.stand can h.answer h.frames made.0 h.step h.told key
               ∙ (ap (λ o. greater_of state.seen (at state.seen state.cmp (held_of state o) key) (at state.seen state.cmp (state.kept lent.stand).held key)) (sym found)
               ∙ ap (λ o. greater_of state.seen (at state.seen state.cmp (held_of state (replica_at old borrower)) key) (at state.seen state.cmp (held_of state o) key)) (sym there)));
           others = same_elsewhere (held_of state) old borrower was (with_stand was h.stand) new found are;
