@@ -55,7 +55,7 @@ AGAIN = ["--pull-first", "--pull-first-limit", str(FIRST)]
 STARTED_BY = ["env", "--block-signal=TERM", "--block-signal=INT", "--ignore-signal=XFSZ"]
 
 # How long a client waits for a reply; how late a save may be; and how long members may take to agree: in seconds.
-REPLY, LATE_SAVE, AGREEMENT = 4, 3, 60
+REPLY, LATE_SAVE, AGREEMENT = 4, 1.5, 60
 
 # For how many seconds a silence is kept after its end, in rounds of an odd and of an even seed.
 RETENTIONS = {1: 432_000, 0: 4}
@@ -621,6 +621,12 @@ def play(seed, seconds):
             one.close()
 
 
+def stop(*_):
+    """Ends this script, so that it leaves nothing behind."""
+    signal.signal(signal.SIGTERM, signal.SIG_IGN)
+    sys.exit(1)
+
+
 def main():
     words = argparse.ArgumentParser(description=__doc__, formatter_class=argparse.RawDescriptionHelpFormatter)
     words.add_argument("--seed", type=int, default=1)
@@ -628,8 +634,7 @@ def main():
     words.add_argument("program", nargs="*")
     words = words.parse_args()
     members.choose("chaos", words.program)
-    # nothing is left behind where this script is stopped
-    signal.signal(signal.SIGTERM, lambda *_: sys.exit(1))
+    signal.signal(signal.SIGTERM, stop)
     rounds = max(2, -(-words.seconds // ROUND))
     for number in range(rounds):
         play(words.seed + number, words.seconds // rounds)
