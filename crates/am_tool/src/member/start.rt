@@ -7,13 +7,13 @@ use crate::fault::Fault;
 use crate::words::Options;
 use am_instance::{Config, ConfigError, Instance};
 use am_member::{Peer, load_file, next_moment, send};
-use am_reactor::Limits;
+use am_reactor::{Limits, listen};
 use am_version_order::Moment;
 use am_wire::Text;
 use rand::make_rng;
 use rand::rngs::StdRng;
 use std::alloc::{AllocError, Global};
-use std::net::{Ipv4Addr, TcpListener};
+use std::net::TcpListener;
 use std::time::Instant;
 
 /// The most bytes that wait for a peer while a connection to it is open.
@@ -26,7 +26,7 @@ const MOST_WAITING: usize = 134_217_728;
 /// The first [`Fault`] of the start, in the order of names, silences, log, listener; or that of the listener later.
 pub fn run<'a>(rt: &'a HostRuntime, options: &'a Options<'a>) -> Result<(), Fault> {
     let mut member = member(rt, options)?;
-    let listener = match TcpListener::bind(rt, (Ipv4Addr::LOCALHOST, options.port)) {
+    let listener = match listen(rt, options.port) {
         Ok(listener) => listener,
         Err(error) => return Err(Fault::Listen(error.kind(), options.port)),
     };
