@@ -68,7 +68,11 @@ impl<T: Drop> Connections<T> {
         !self.waiting.is_empty()
     }
 
-    /// Takes in a connection that was just accepted, and answers its key; or gives it back.
+    /// Takes in a connection that was just accepted, and answers its key.
+    ///
+    /// # Errors
+    ///
+    /// Where there is no memory or no key for it, it is closed.
     pub fn insert(&mut self, connection: Connection<T>) -> Result<u16, AllocError> {
         let key = self.table.insert(connection)?;
         match u16::try_from(key) {

@@ -12,6 +12,7 @@ mod limits;
 mod line;
 mod link;
 mod links;
+mod listening;
 mod reactor;
 mod reading;
 mod running;
@@ -23,5 +24,6 @@ mod writing;
 
 pub use fault::{Broken, Failure, LinkFault};
 pub use limits::Limits;
+pub use listening::listen;
 pub use running::run;
 pub use service::{Outgoing, Service, Wake};
