@@ -1,5 +1,5 @@
 use Rattle.am_member.proofs.Exchanging.{whole_answered, refused_answered, none_answered}
-use Rattle.am_member.proofs.exchanging.reply_to.Goals as goal
+use Rattle.am_member.proofs.answering.reply_to.Goals as goal
 
 pub returns-in-Whole : goal.returns-in-Whole
 returns-in-Whole c = whole_answered _ _ _ _ _ _ c.in-Whole.request c.answer.result c.in-Whole.is c.answer.ensures c.replied.ensures

@@ -1,6 +1,6 @@
 use Rattle.std.proofs.Common.{sym, ◌∙◌}
 use Rattle.am_member.proofs.Exchanging.{heard_out, heard_stop, heard_fault, stopped}
-use Rattle.am_member.proofs.exchanging.hear.Goals as goal
+use Rattle.am_member.proofs.answering.hear.Goals as goal
 
 pub returns-in-Ok-clause-heard : goal.returns-in-Ok-clause-heard
 returns-in-Ok-clause-heard c = heard_out _ _ _ _ _ _ _ _ _ _ c.name.ensures c.idle.ensures.effects c.in-Ok.ensures c.fault_heard.ensures
