@@ -124,7 +124,7 @@ class Member(members.Member):
     def __init__(self, name, port, disk):
         super().__init__(name, port, [], disk.folder)
         self.disk, self.starts = disk, 0
-        # the number of its start while it lives; what it acknowledged since, with the moment; what it surely took, and its file
+        # the number of its start while it lives; what it acknowledged since, and when; what its file had and it surely took
         self.generation, self.acknowledged, self.holds = None, [], {}
         # whether it has answered since its start; whether it is frozen; when something was last done to it and to its disk
         self.is_open, self.is_frozen, self.meddled, self.full_at = False, False, 0.0, 0.0
@@ -572,7 +572,7 @@ class Round:
         words = lambda counter: ", ".join(f"{count} {name}" for name, count in sorted(counter.items()))
         print(f"  {counts['requests']} requests; {counts['acknowledged']} acknowledged; {counts['lasting']} had to last")
         print(f"  connections: {words(fates)}; members: {words(self.acts)}")
-        print(f"  the slowest reply of a member let alone took {self.slowest:.2f} s; all agreed after {self.took:.1f} s", flush=True)
+        print(f"  slowest reply of a member let alone {self.slowest:.2f} s; all agreed after {self.took:.1f} s", flush=True)
 
     def close(self):
         self.is_over.set()
