@@ -4,5 +4,5 @@ use Rattle.am_member.proofs.hearing.hear_peer.Goals as goal
 
 pub returns : goal.returns
 returns g c =
-    hears_as _ _ _ _ _ _ _ _ _ _ _ _ _ c.split_at.ensures.back refl (sym c.fault_in.ensures)
-    (c.converse.ensures c.args.len (omega (arith, c.split_at.ensures.back_len)))
+    hears_as _ _ _ _ _ _ _ _ _ _ _ _ _ c.split_at.ensures.back refl (sym c.fault_in-incoming.ensures)
+    (c.converse-end.ensures c.args.len (omega (arith, c.split_at.ensures.back_len)))
