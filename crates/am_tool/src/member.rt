@@ -131,7 +131,7 @@ impl Member<'_> {
     /// Asks each peer for all that it has.
     fn pull(&mut self) {
         for place in 0..self.ports.len() {
-            if self.ports[place] != 0 {
+            if self.ports.get(place).copied().unwrap_or(0) != 0 {
                 let _ = self.step(Event::PullFrom(place as Place));
             }
         }

@@ -140,7 +140,7 @@ impl Service for Member<'_> {
     }
 
     fn sent(&mut self, session: &mut Dialogue, count: usize) {
-        session.written += count;
+        session.written = session.written.saturating_add(count);
     }
 
     fn is_over(&self, session: &Dialogue) -> bool {
