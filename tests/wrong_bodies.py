@@ -320,8 +320,9 @@ def try_batch(room, crate, batch, texts):
         for edit in batch:
             judge(edit, said, texts, after)
     elif len(batch) > 1:
-        for edit in batch:
-            try_batch(room, crate, [edit], texts)
+        middle = len(batch) // 2
+        try_batch(room, crate, batch[:middle], texts)
+        try_batch(room, crate, batch[middle:], texts)
     else:
         first = next((it for it in said if "error" in it), said[-1])
         tell(batch[0], False, f"not tried: {first[:200]}")
