@@ -124,9 +124,9 @@ class Member(members.Member):
     def __init__(self, name, port, disk):
         super().__init__(name, port, [], disk.folder)
         self.disk, self.starts = disk, 0
-        # the number of its start while it lives; what it acknowledged since, with the moment; what else it surely took
+        # the number of its start while it lives; what it acknowledged since, and when; what its file had and it surely took
         self.generation, self.acknowledged, self.holds = None, [], {}
-        # whether it has answered since its start; whether it is frozen; when something was last done to it, and to its disk
+        # whether it has answered since its start; whether it is frozen; when something was last done to it and to its disk
         self.is_open, self.is_frozen, self.meddled, self.full_at = False, False, 0.0, 0.0
 
     def command(self):
@@ -178,10 +178,10 @@ class Member(members.Member):
             self.meddled, self.is_open = time.monotonic(), True
         return status, body
 
-    def saved(self, state):
-        """What stands in one of its files, as `show` tells it in JSON."""
+    def saved(self, state, at):
+        """What stands in one of its files at a moment, in milliseconds, as `show` tells it in JSON."""
         with open(self.sil if state == "sil" else self.nfl, "rb") as file:
-            words = ["show", "--state", state, "--json", "--now", str(time.time_ns())]
+            words = ["show", "--state", state, "--json", "--now", str(at * 10**6)]
             status, output, error = run(words, stdin=file)
         return json.loads(output) if status == 0 else error
 
@@ -352,7 +352,7 @@ class Meddler:
             left = member.acknowledged, member.holds
             member.generation, member.acknowledged, member.holds = None, [], {}
         if member.process.poll() is not None:
-            self.round.complain("lives", f"{member.name} ended by itself: {member.process.returncode} {member.lines[-3:]}")
+            self.round.complain("lives", f"{member.name} ended by itself: {member.lines[-3:]}")
         return left
 
     def crash(self):
@@ -503,14 +503,15 @@ class Round:
     def judge(self):
         """Waits until all show the same, with all that lasts, and looks at it and at the files that they leave."""
         begun = time.monotonic()
+        are_same = lambda lists: lists[0] is not None and lists[1:] == lists[:1] * 2
         while True:
             lists = self.listed()
             missing = self.missing(lists)
-            if (lists[0] is not None and lists[1:] == lists[:1] * 2 and not missing) or time.monotonic() - begun > AGREEMENT:
+            self.took = time.monotonic() - begun
+            if are_same(lists) and not missing or self.took > AGREEMENT:
                 break
             time.sleep(0.1)
-        self.took = time.monotonic() - begun
-        check("all list the same", lists[0] is not None and lists[1:] == lists[:1] * 2, self.differences(lists))
+        check("all list the same", are_same(lists), self.differences(lists))
         check("what was acknowledged and surely held is there", not missing, missing[:5])
         listed = [shown(silence) for it in lists for silence in it or []]
         unmade = [it for it in listed if not self.ledger.is_made(it)]
@@ -543,22 +544,22 @@ class Round:
         entries = {it.key: it for member in self.members for it in member.holds.values() if it.key[0] == "nfl"}
         for it in self.meddlers:
             it.halt(signal.SIGTERM)
-        stateless = lambda silences: [{**it, "status": None} for it in silences]
-        saved = [it.saved("sil") for it in self.members]
-        listed = [it for it in listed if not self.ledger.is_forgotten(shown(it).ends)]
-        wrong = [it.name for it, silences in zip(self.members, saved) if stateless(silences) != stateless(listed)]
-        check("the files show what was listed", not wrong, wrong)
+        at = now()
+        listed = [{**it, "status": None} for it in listed if not self.ledger.is_forgotten(shown(it).ends, at)]
+        for it in self.members:
+            saved = [{**silence, "status": None} for silence in it.saved("sil", at)]
+            check(f"the file of {it.name} shows what was listed", saved == listed, self.differences([saved, listed]))
         for state in STATES:
             sources = [f"{it.name}={it.sil if state == 'sil' else it.nfl}" for it in self.members]
             found = run(["diff", "--state", state, *["--held"][: self.seed % 2], *sources])
             check(f"the files hold the same {STATES[state]}", found == (0, b"", ""), found)
-        held = [(member, member.file("nfl")) for member in self.members]
-        unmade = [it for _, found in held for it in found.values() if not self.ledger.is_made(it)]
+        found = self.members[0].file("nfl")
+        unmade = [it for it in found.values() if not self.ledger.is_made(it)]
         check("nobody holds an entry that nobody made", not unmade, unmade[:5])
-        lost = [it for it in entries.values() for _, found in held if found.get(it.key, it).updated < it.updated or it.key not in found]
+        lost = [it for it in entries.values() if it.key not in found or found[it.key].updated < it.updated]
         check("entries that were surely taken are there", not lost, lost[:5])
-        groups = [base64.b64decode(it["groupKey"]).decode() for it in self.members[0].saved("nfl")]
-        check("the log is shown", groups == sorted(key[1] for key in held[0][1]), groups)
+        groups = [base64.b64decode(it["groupKey"]).decode() for it in self.members[0].saved("nfl", at)]
+        check("the log is shown", groups == sorted(key[1] for key in found), groups)
 
     def tell(self):
         """Checks that nobody complained, and says what was tried."""
@@ -569,9 +570,9 @@ class Round:
         for it in self.proxies:
             fates += it.fates
         words = lambda counter: ", ".join(f"{count} {name}" for name, count in sorted(counter.items()))
-        print(f"  {counts['requests']} requests; {counts['acknowledged']} acknowledged, of which {counts['lasting']} had to last", flush=True)
+        print(f"  {counts['requests']} requests; {counts['acknowledged']} acknowledged; {counts['lasting']} had to last")
         print(f"  connections: {words(fates)}; members: {words(self.acts)}")
-        print(f"  the slowest reply of a member let alone took {self.slowest:.2f} s; all agreed {self.took:.1f} s after the end", flush=True)
+        print(f"  slowest reply of a member let alone {self.slowest:.2f} s; all agreed after {self.took:.1f} s", flush=True)
 
     def close(self):
         self.is_over.set()

@@ -12,11 +12,11 @@ use Rattle.am_instance.specs.InstanceStates.{InstanceState}
 use Rattle.am_session.specs.declared.fault.SessionFault.{SessionFault}
 use Rattle.am_session.specs.declared.fault.SessionFault.TheVariants as session_faults
 use Rattle.am_session.specs.Sessions.{Standing, name_of, over}
-use Rattle.am_member.specs.declared.exchange.Exchanged.{Exchanged}
+use Rattle.am_member.specs.declared.answering.Exchanged.{Exchanged}
 use Rattle.am_member.specs.declared.fault.Fault.{Fault}
 use Rattle.am_member.specs.declared.fault.Fault.TheVariants.{Read as InRead, Write, TooLarge, Frame as InFrame, UnknownName, Step}
-use Rattle.am_member.specs.Incoming.{Effects}
-use Rattle.am_member.specs.Exchanging.{AreStepped, IsAnsweredTo, IsReplied, IsUntouched, fault_heard, left_at}
+use Rattle.am_member.specs.Incoming.{Effects, no_effects}
+use Rattle.am_member.specs.Exchanging.{AreHeard, AreStepped, IsAnsweredTo, IsReplied, IsUntouched, fault_heard, left_at}
 
 module _ (read : Read) (bits now : ℕ) (old new : InstanceState) (exchanged : Exchanged) where
   pub whole_answered : (request : Request) (answered : Answered) → read ≡ Whole request → IsAnswered old request bits now answered new → IsReplied answered exchanged →
@@ -45,3 +45,22 @@ stopped name now frames old before new after (InRead at) standing stepped = absu
 stopped name now frames old before new after (Write written) standing stepped = absurd stepped
 stopped name now frames old before new after TooLarge standing stepped = absurd stepped
 stopped name now frames old before new after (InFrame error) standing stepped = absurd stepped
+
+-- the same of steps with the name of the session, from no effects on
+as_said : (name given : Option (List ℕ)) (now : ℕ) (frames : List Frame) (old : InstanceState) (before : Effects) (new : InstanceState) (after : Effects) (result : Result Unit Fault) →
+    given ≡ name → before ≡ no_effects → AreStepped given now frames old before new after result → AreStepped name now frames old no_effects new after result
+as_said name given now frames old before new after result same none stepped =
+    subst (λ (e : Effects). AreStepped name now frames old e new after result) none
+    (subst (λ (n : Option (List ℕ)). AreStepped n now frames old before new after result) same stepped)
+
+-- all steps were made
+pub heard_out : (name given : Option (List ℕ)) (now : ℕ) (frames : List Frame) (fault : Option SessionFault) (old : InstanceState) (before : Effects) (new : InstanceState) (after : Effects) (told : Option Fault) →
+    given ≡ name → before ≡ no_effects → AreStepped given now frames old before new after (Ok tt) → told ≡ option_map fault_heard fault →
+    AreHeard name now frames fault old new after told
+heard_out name given now frames fault old before new after told same none stepped is = inl (as_said name given now frames old before new after (Ok tt) same none stepped, is)
+
+-- one wasn't
+pub heard_stop : (name given : Option (List ℕ)) (now : ℕ) (frames : List Frame) (fault : Option SessionFault) (old : InstanceState) (before : Effects) (new : InstanceState) (after : Effects) (stop : Fault) →
+    given ≡ name → before ≡ no_effects → AreStepped given now frames old before new after (Err stop) →
+    AreHeard name now frames fault old new after (Some stop)
+heard_stop name given now frames fault old before new after stop same none stepped = inr (stop, as_said name given now frames old before new after (Err stop) same none stepped, refl)

@@ -19,7 +19,7 @@ use Rattle.am_api_silences.specs.Replies.{IsReplyBytes, Says}
 use Rattle.am_api_silences.specs.declared.answering.Answered.{Answered}
 use Rattle.am_api_silences.specs.declared.replies.ReplyBytes.{ReplyBytes}
 use Rattle.am_api_silences.specs.declared.replies.ReplyBytes.TheVariants.{Own, Fixed}
-use Rattle.am_member.specs.declared.exchange.Exchanged.{Exchanged}
+use Rattle.am_member.specs.declared.answering.Exchanged.{Exchanged}
 use Rattle.am_member.specs.Exchanging.{IsAnsweredTo, IsReplied}
 use Rattle.am_http.specs.declared.request.Read.TheVariants.{Whole}
 use Rattle.am_member.specs.Lives.{IsBareAnswer, IsBareBytes, RepliesBare}

@@ -15,7 +15,7 @@ use Rattle.am_instance.specs.InstanceStates.{InstanceState}
 use Rattle.am_session.specs.declared.fault.SessionFault.{SessionFault}
 use Rattle.am_session.specs.declared.fault.SessionFault.TheVariants as session_faults
 use Rattle.am_session.specs.Sessions.{Spoken, Standing, name_of, over}
-use Rattle.am_member.specs.declared.exchange.Exchanged.{Exchanged}
+use Rattle.am_member.specs.declared.answering.Exchanged.{Exchanged}
 use Rattle.am_member.specs.declared.fault.Fault.{Fault}
 use Rattle.am_member.specs.declared.fault.Fault.TheVariants.{TooLarge, Frame as InFrame, UnknownName, Step}
 use Rattle.am_member.specs.Incoming.{Effects, IsOnlyPeerOf, IsPeerOf, MakesAll, StopsAt, effects_of, no_effects}

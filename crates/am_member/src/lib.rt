@@ -3,11 +3,11 @@
 //! server of API v2.
 #![tactic(auto)]
 
+mod answering;
 pub mod asking;
 mod clock;
 mod ended;
 mod error;
-mod exchange;
 mod fault;
 mod fetching;
 mod files;
@@ -27,10 +27,10 @@ mod times;
 mod turns;
 mod writing;
 
+pub use answering::{Exchanged, exchange, is_dear};
 pub use clock::{later_moment, next_moment};
 pub use ended::Ended;
 pub use error::{FileFault, SendFault};
-pub use exchange::{Exchanged, exchange, is_dear};
 pub use fault::{Fault, SendError};
 pub use fetching::{FetchFault, Server, fetch, server_of};
 pub use files::{load_file, save_file};

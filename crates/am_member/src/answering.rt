@@ -122,9 +122,12 @@ fn hear(
     ensures heard { AreHeard (name_of session.old) now frames.items fault instance.old instance.new (effects_of result) result.fault }
     ensures session { session.new ≡ left_at result.fault session.old }
 {
-    let mut ended = Ended::idle(alloc, fault_heard(fault));
+    let mut ended = Ended::idle(alloc, None);
     match step_named(instance, &mut ended, session.name(), frames, now) {
-        Ok(()) => ended,
+        Ok(()) => {
+            ended.fault = fault_heard(fault);
+            ended
+        }
         Err(stop) => {
             session.stop();
             ended.fault = Some(stop);
