@@ -6,8 +6,8 @@
 Of these crates, or of all that have some, the edits wrong/CRATE/*.edit are tried; with --named those of
 crates/CRATE/must-fail/ too, which `rt ci` tries one by one. An edit is in the form of must-fail's. Since an edit of a
 body leaves the contracts as they are, many functions are wrong in one check: a batch has one edit a function.
-The check is `rt ci CRATE` on a copy of the repository, over the libraries that earlier runs of it proved on this machine: run
-`rt ci CRATE` first.
+The check is `rt check` in the crate's folder of a copy of the repository, over what earlier checks kept in out/ of that crate
+and of those that it stands on: run `rt check` in crates/CRATE first.
 
 Of each edit one of these is told:
 
@@ -173,14 +173,34 @@ def batches(edits, texts):
 
 
 def copy_repository(room):
+    """The sources, and a .git, since rt takes the nearest folder that has one for the top of a repository."""
     for name in ("crates.txt", "HANDLES"):
         shutil.copy(f"{TOP}/{name}", room)
     for crate in sorted(os.listdir(f"{TOP}/crates")):
         for part in PARTS:
             if os.path.isdir(f"{TOP}/crates/{crate}/{part}"):
                 shutil.copytree(f"{TOP}/crates/{crate}/{part}", f"{room}/crates/{crate}/{part}")
-    # (rt ci runs at the top of a repository)
     os.mkdir(f"{room}/.git")
+
+
+def below(crate):
+    """The crates of the repository that a crate stands on, and those that they stand on."""
+    with open(f"{TOP}/crates.txt", encoding="utf-8") as file:
+        lines = dict(line.split(":", 1) for line in file if ":" in line and not line.startswith("#"))
+    found, left = set(), [crate]
+    while left:
+        new = {it for it in lines[left.pop()].split() if it in lines} - found
+        found |= new
+        left += new
+    return found
+
+
+def copy_kept(room, crate):
+    """What checks kept of a crate, and the libraries below it."""
+    for kept in [f"{crate}/out", *(f"{it}/out/rlib" for it in below(crate))]:
+        found, to = f"{TOP}/crates/{kept}", f"{room}/crates/{kept}"
+        if os.path.isdir(found) and not os.path.isdir(to):
+            shutil.copytree(found, to)
 
 
 def write_sources(room, crate, texts):
@@ -190,11 +210,11 @@ def write_sources(room, crate, texts):
 
 
 def check(room, crate):
-    """What the gate says of a crate of the copy, which is formatted first, as the gate wants it."""
+    """What a check says of a crate of the copy, which is formatted first."""
     subprocess.run(["rt", "fmt"], cwd=f"{room}/crates/{crate}", stdin=subprocess.DEVNULL, capture_output=True, check=False)
     ran = subprocess.run(
-        ["rt", "ci", crate],
-        cwd=room,
+        ["rt", "check"],
+        cwd=f"{room}/crates/{crate}",
         stdin=subprocess.DEVNULL,
         stdout=subprocess.PIPE,
         stderr=subprocess.STDOUT,
@@ -300,8 +320,9 @@ def try_batch(room, crate, batch, texts):
         for edit in batch:
             judge(edit, said, texts, after)
     elif len(batch) > 1:
-        for edit in batch:
-            try_batch(room, crate, [edit], texts)
+        middle = len(batch) // 2
+        try_batch(room, crate, batch[:middle], texts)
+        try_batch(room, crate, batch[middle:], texts)
     else:
         first = next((it for it in said if "error" in it), said[-1])
         tell(batch[0], False, f"not tried: {first[:200]}")
@@ -319,6 +340,7 @@ def edits_of(crate, is_named):
 def try_crate(room, crate, is_named):
     edits, texts = edits_of(crate, is_named), sources(crate)
     made, bad = batches(edits, texts)
+    copy_kept(room, crate)
     for edit in bad:
         tell(edit, False, "not tried: an 'old:' text doesn't stand once in its file")
     for batch in made:
