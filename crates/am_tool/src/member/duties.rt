@@ -113,7 +113,10 @@ impl Duties {
 
     /// Whether no peer has answered in time.
     pub fn is_first_pull_over(&self, now: Instant) -> bool {
-        matches!(self.first_pull, Some(end) if end <= now)
+        match self.first_pull {
+            Some(end) => end <= now,
+            None => false,
+        }
     }
 
     /// How long it is until something is due.
