@@ -16,13 +16,13 @@ use std::fmt;
 use std::io::ErrorKind;
 
 /// Prints a fault on standard error.
-pub fn print<R: Eprint>(rt: &R, fault: Fault) {
+pub fn print<R: Eprint>(rt: &R, fault: &Fault) {
     let _ = eprintln!(rt; "am_tool: {fault}");
 }
 
 /// Prints a fault on standard error, and answers the exit status of the program.
 pub fn report<R: Eprint>(rt: &R, fault: Fault) -> u8 {
-    print(rt, fault);
+    print(rt, &fault);
     fault.status()
 }
 

@@ -40,7 +40,7 @@ pub struct Member<'a> {
 impl Member<'_> {
     /// Prints a fault.
     fn tell(&self, fault: Fault) {
-        fault::print(self.rt, fault);
+        fault::print(self.rt, &fault);
     }
 
     /// Prints how many frames are not sent.

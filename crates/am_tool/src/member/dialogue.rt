@@ -1,5 +1,8 @@
 //! A connection that is served.
 
+ghost use Rattle.std.specs.Prelude.{◌≤◌, ◌-◌, length};
+ghost use Rattle.am_api_silences.specs.Replies.{bytes_of};
+
 use am_api_silences::{Read, ReplyBytes};
 use am_gossip::Frame;
 use am_member::is_dear;
@@ -64,8 +67,15 @@ impl Dialogue {
     }
 
     /// What is still to be written.
-    pub fn output(&self) -> &[u8] {
-        self.reply.as_slice().get(self.written..).unwrap_or(&[])
+    pub fn output(&self) -> &[u8]
+        ensures { length result.now ≤ length (bytes_of self.now.reply) - self.now.written }
+    {
+        let reply = self.reply.as_slice();
+        if self.written < reply.len() {
+            &reply[self.written..]
+        } else {
+            &[]
+        }
     }
 }
 

@@ -32,13 +32,14 @@ impl Timer {
 
     /// Whether it is due. It is due again after its time then.
     fn is_due(&mut self, now: Instant) -> bool {
-        match self.next {
-            Some(next) if next <= now => {
-                self.next = now.checked_add(self.every);
-                true
-            }
-            _ => false,
+        let Some(next) = self.next else {
+            return false;
+        };
+        if now < next {
+            return false;
         }
+        self.next = now.checked_add(self.every);
+        true
     }
 
     /// How long it is until it is due, and no longer than `most`.
