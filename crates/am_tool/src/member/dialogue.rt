@@ -66,6 +66,13 @@ impl Dialogue {
         Some(said)
     }
 
+    /// Has a reply go out, where there is one.
+    pub fn reply_with(&mut self, reply: Option<ReplyBytes>) {
+        if let Some(reply) = reply {
+            self.reply = reply;
+        }
+    }
+
     /// What is still to be written.
     pub fn output(&self) -> &[u8]
         ensures { length result.now ≤ length (bytes_of self.now.reply) - self.now.written }

@@ -7,7 +7,9 @@ use super::Member;
 use super::dialogue::{Dialogue, has_pull, is_nothing, may_change};
 use crate::fault::Fault;
 use am_gossip::{Frame, append_frame};
-use am_member::{Fault as ConnectionFault, Parted, exchange, next_moment, part_frames};
+use am_member::{
+    Ended, Exchanged, Fault as ConnectionFault, Parted, exchange, next_moment, part_frames,
+};
 use am_reactor::{Broken, Failure, LinkFault, Outgoing, Service, Wake};
 use am_session::Said;
 use std::alloc::{AllocError, Global};
@@ -52,18 +54,29 @@ impl Member<'_> {
         }
         let pulled = has_pull(&said);
         self.is_changed |= may_change(&said);
+        let ended = self.make_steps(dialogue, said);
+        if pulled && ended.fault.is_none() {
+            self.end_first_pull();
+        }
+        self.follow(ended);
+    }
+
+    /// Makes the steps of what was said, and has the reply go out.
+    fn make_steps(&mut self, dialogue: &mut Dialogue, said: Said) -> Ended {
         let bits = self.random_bits();
         let now = next_moment(self.rt, self.instance.last());
         let alloc = self.rt.alloc();
         let session = &mut dialogue.session;
-        let exchanged = exchange(alloc, &mut self.instance, session, said, bits, now);
-        if let Some(reply) = exchanged.reply {
-            dialogue.reply = reply;
-        }
-        if pulled && exchanged.ended.fault.is_none() {
-            self.end_first_pull();
-        }
-        self.follow(exchanged.ended);
+        let Exchanged { reply, ended } = exchange(
+            alloc,
+            &mut self.instance,
+            session,
+            said,
+            bits,
+            now,
+        );
+        dialogue.reply_with(reply);
+        ended
     }
 
     /// A peer has answered, or is waited for no more.
