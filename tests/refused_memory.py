@@ -14,6 +14,7 @@ many requests each row makes, and at the end how many rows passed. What is wante
 import bisect
 import collections
 import concurrent.futures
+import contextlib
 import json
 import mmap
 import os
@@ -420,8 +421,17 @@ def test_starts(folder, library):
         number += 1
         counts.begin(number)
         listens = member.start()
+        if listens:
+            # the loop makes its room behind the line of the start: a member that finds none says so there, and ends
+            with contextlib.suppress(subprocess.TimeoutExpired):
+                member.process.wait(0.3)
+            ended = member.process.poll()
         status = member.kill() if listens else member.end()
         refused = counts.refused()
+        if listens and refused == 1 and ended in (3, 4):
+            if member.lines[1:] not in (["am_tool: Accept OutOfMemory"], ["am_tool: Memory"]):
+                faults.append(f"{number}: status {status}, {member.lines}")
+            continue
         if listens and refused == 0:
             break
         if listens and refused == 1 and member.lines[0].endswith("loaded 1 silences, 1 entries"):
@@ -439,9 +449,8 @@ def test_starts(folder, library):
             faults.append(f"{number}: the files are others: {found}")
     if number == 1:
         faults.append("no request was refused")
-    # (the loop makes its room behind the line of the start: a member that finds none says `Accept OutOfMemory`, and ends)
-    if not_needed > 40:
-        faults.append(f"{not_needed} requests are not needed or come behind the line of the start, and 40 were to be at most")
+    if not_needed > 1:
+        faults.append(f"{not_needed} requests are not needed, and 1 was to be at most")
     settle("am_tool instance, its start", faults, f"{number - 1} requests, of which {not_needed} are asked again")
 
 
