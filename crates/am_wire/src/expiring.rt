@@ -1,8 +1,6 @@
 //! Messages that are kept up to a moment.
 
-ghost use Rattle.std.specs.Prelude.{◌≡◌, ℕ, List, [], ◌∷◌, ◌++◌, ◌≤◌, None, OnOk, length};
-ghost use Rattle.am_version_order.specs.Moments.{greatest};
-ghost use Rattle.am_wire.specs.Fields.{FieldAt, field_of};
+ghost use Rattle.std.specs.Prelude.{◌≡◌, ℕ, List, length};
 ghost use Rattle.am_wire.specs.Reading.{table_at};
 ghost use Rattle.am_wire.specs.Sizes.{counted};
 ghost use Rattle.am_wire.specs.Expiring.{expiring, expiring_fits, writes_expiring};
@@ -10,13 +8,12 @@ ghost use Rattle.am_wire.specs.Expiring.{expiring, expiring_fits, writes_expirin
 use crate::draft::Draft;
 use crate::error::WireError;
 use crate::field::Schema;
-use crate::message::{Message, write_message, write_sized_message};
 use crate::parts::Submessage;
 use crate::size::{delimited_size, message_size};
 use crate::timestamp::{TimestampDraft, moment_in};
 use crate::value::{Field, WireType};
 use am_version_order::Moment;
-use std::alloc::{AllocError, Global};
+use std::alloc::Global;
 
 /// A message, and the moment from which on it may be forgotten.
 #[derive(Drop)]
@@ -94,24 +91,4 @@ pub fn expiring_size(size: u64, expires_at: Moment) -> u64
     ensures { (text : List ℕ) → size ≡ counted (length text) → result ≡ counted (length (writes_expiring text expires_at)) }
 {
     delimited_size(1, size).saturating_add(message_size(2, &expires_at))
-}
-
-/// Writes a message whose [`Message::size`] is known, and its moment.
-///
-/// # Errors
-///
-/// [`AllocError`] where memory runs out. A part of the text may be left.
-pub fn write_expiring<M: Message>(
-    out: &mut Vec<u8>,
-    size: u64,
-    message: &M,
-    expires_at: Moment,
-) -> Result<(), AllocError>
-    requires { size ≡ counted (length (M.writes message.now)) }
-    ensures written { OnOk result (out.new.items ≡ out.old.items ++ writes_expiring (M.writes message.now) expires_at) }
-    ensures value { OnOk result (M.is_value message.now) }
-    ensures moment { OnOk result (expires_at ≤ greatest) }
-{
-    write_sized_message(out, 1, size, message)?;
-    write_message(out, 2, &expires_at)
 }

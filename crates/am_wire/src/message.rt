@@ -99,25 +99,6 @@ pub fn write_message<M: Message>(
     ensures written { OnOk result (out.new.items ≡ out.old.items ++ writes_delimited number (M.writes message.now)) }
     ensures value { OnOk result (M.is_value message.now) }
 {
-    write_sized_message(out, number, message.size(), message)
-}
-
-/// Writes a message whose [`Message::size`] is known as a field.
-///
-/// # Errors
-///
-/// [`AllocError`] where memory runs out. A part of the field may be left.
-pub fn write_sized_message<M: Message>(
-    out: &mut Vec<u8>,
-    number: u32,
-    size: u64,
-    message: &M,
-) -> Result<(), AllocError>
-    requires number { number < 2 ^ 29 }
-    requires size { size ≡ counted (length (M.writes message.now)) }
-    ensures written { OnOk result (out.new.items ≡ out.old.items ++ writes_delimited number (M.writes message.now)) }
-    ensures value { OnOk result (M.is_value message.now) }
-{
-    write_prefix(out, number, size)?;
+    write_prefix(out, number, message.size())?;
     message.write(out)
 }

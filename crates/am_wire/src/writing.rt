@@ -8,9 +8,9 @@ ghost use Rattle.am_wire.specs.Writing.{tag, writes_number, writes_delimited, wr
 
 pub use crate::delimited::{append_delimited, delimited_bytes, delimited_length};
 use crate::error::WireError;
-pub use crate::expiring::{expiring_size, write_expiring};
+pub use crate::expiring::expiring_size;
 pub use crate::lists::{write_bytes, write_numbers};
-pub use crate::message::{write_message, write_sized_message};
+pub use crate::message::write_message;
 pub use crate::offset::{write_packed_part, write_part};
 use crate::rows::MOST_MESSAGE_BYTES;
 pub use crate::size::{
