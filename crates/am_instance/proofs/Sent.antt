@@ -7,9 +7,19 @@ use Rattle.std.proofs.lemmas.List.FromFn.{map-range_with_len_more}
 use Rattle.std.proofs.lemmas.Grind.{flat_map-append}
 use Rattle.std.specs.List.{flat_map, range_with_len}
 use Rattle.am_gossip.specs.declared.frame.Frame.{Frame}
+use Rattle.am_gossip.specs.declared.frame.Frame.TheVariants.{Push}
+use Rattle.am_gossip.specs.declared.frame.Part.{Part}
+use Rattle.am_gossip.specs.Frames.{fits}
+use Rattle.am_instance.specs.declared.outbox.Exchange.{Exchange}
+use Rattle.am_instance.specs.declared.outbox.Exchange.TheVariants.{Ask, Answer}
 use Rattle.am_instance.specs.Configs.{is_other, places_but}
 use Rattle.am_instance.specs.Changes.{only_if}
-use Rattle.am_instance.specs.Sendings.{Sent, Sends, addressed}
+use Rattle.am_instance.specs.Sendings.{Sent, Sends, addressed, states_frame}
+
+-- both states keep the limit of one frame where they keep that of the other
+pub frame_fits : (exchange : Exchange) (parts : List Part) → fits (states_frame exchange parts) ≡ fits (Push parts)
+frame_fits Ask parts = refl
+frame_fits Answer parts = refl
 
 pub sends_append : (one two : List (ℕ × Frame)) (a b c : Sent) → Sends one a b → Sends two b c → Sends (one ++ two) a c
 sends_append [] two a b c first second = subst (λ x. Sends two x c) first second

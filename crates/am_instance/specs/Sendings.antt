@@ -1,19 +1,19 @@
 -- What a step sends.
-use Rattle.std.specs.Prelude.{◌≡◌, ◌⊎◌, ℕ, ◌+◌, ◌-◌, ◌^◌, min, Bool, true, false, List, [], ◌∷◌, ◌++◌, map}
+use Rattle.std.specs.Prelude.{◌≡◌, ◌⊎◌, ℕ, ◌+◌, ◌-◌, ◌^◌, min, true, false, List, [], ◌∷◌, ◌++◌, map}
 use Rattle.std.specs.List.{flat_map}
 use Rattle.am_version_order.specs.Versions.{Version}
 use Rattle.am_wire.specs.Writing.{delimited}
 use Rattle.am_silence.specs.Mesh.{Mesh, mesh_version}
 use Rattle.am_nflog.specs.Mesh.{Mesh as LogMesh, mesh_version as entry_version}
 use Rattle.am_gossip.specs.declared.frame.Frame.{Frame}
-use Rattle.am_gossip.specs.declared.frame.Frame.TheVariants.{Delta}
+use Rattle.am_gossip.specs.declared.frame.Frame.TheVariants.{Delta, Push, Pull}
 use Rattle.am_gossip.specs.declared.frame.Part.{Part}
 use Rattle.am_gossip.specs.declared.frame.StateKey.{StateKey}
 use Rattle.am_gossip.specs.declared.frame.StateKey.TheVariants.{Sil, Nfl}
 use Rattle.am_gossip.specs.Frames.{fits, states}
 use Rattle.am_snapshot.specs.Texts.{row_text}
-use Rattle.am_instance.specs.declared.outbox.Missing.{Missing}
-use Rattle.am_instance.specs.declared.outbox.Missing.TheVariants.{Memory, Limit}
+use Rattle.am_instance.specs.declared.outbox.Exchange.{Exchange}
+use Rattle.am_instance.specs.declared.outbox.Exchange.TheVariants.{Ask, Answer}
 use Rattle.am_instance.specs.declared.reply.Outcome.{Outcome}
 use Rattle.am_instance.specs.Deliveries.{Delivery}
 use Rattle.am_instance.specs.Deliveries.Delivery.{OfSilence, OfEntry}
@@ -78,10 +78,10 @@ deltas_to places ds = flat_map (λ d. addressed places (delta_of d)) ds
 abbrev pub whole_state : List Mesh → List LogMesh → List Part
 whole_state silences log = states (row_text mesh_version silences) (row_text entry_version log)
 
--- why there is no frame: it is over its limit, or it keeps it and there was no memory
-abbrev pub IsMissing : Bool → Missing → Type 0
-IsMissing fitting Memory = fitting ≡ true
-IsMissing fitting Limit = fitting ≡ false
+-- the frame in which both states go out
+abbrev pub states_frame : Exchange → List Part → Frame
+states_frame Ask parts = Push parts
+states_frame Answer parts = Pull parts
 
 -- for each version of one state in turn, a Delta to each of the places
 abbrev pub deltas_of : {K X : Type 0} → (X → Version K) → StateKey → List ℕ → List X → List (ℕ × Frame)

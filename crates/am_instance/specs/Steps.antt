@@ -84,7 +84,7 @@ pub record IsAccepted (old : InstanceState) (event : Event) (now : ℕ) : Type 0
   pub known : knows_peer old.config (peer_of event) ≡ true
   pub sound : fault_of old.config now event ≡ None
 
--- what is known of a post: the silence in view of its id, and whether its fresh id is held
+-- why a post is refused, with a verdict on its matchers
 abbrev pub post_refusal : InstanceState → Posted → ℕ → ℕ → Verdict → Option SilenceError
 post_refusal stand posted bits now verdict =
     refusal (posted_over now stand.silences posted.id) verdict (is_some (silence_at stand.silences (id_text bits)))

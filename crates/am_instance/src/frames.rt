@@ -19,7 +19,7 @@ ghost use Rattle.am_instance.specs.Steps.{Delivers, IsArrival, IsJudgement, IsWo
 use crate::error::StepError;
 use crate::event::Place;
 use crate::instance::Instance;
-use crate::outbox::{Outbox, Route};
+use crate::outbox::{Exchange, Outbox, Route};
 use crate::reply::{Made, Outcome, Reply};
 use crate::rows::{Taking, judge_row, take_row};
 use am_gossip::{Frame, Part, StateKey};
@@ -52,7 +52,7 @@ impl Instance {
             }
             Frame::Push(state) => {
                 let mut outbox = self.take_in(sender, state.parts(), now)?;
-                outbox.send_pull(sender, &self.silences, &self.log);
+                outbox.send_states(sender, &self.silences, &self.log, Exchange::Answer);
                 Ok(outcome(self.alloc, Reply::Nothing, outbox))
             }
         }
@@ -72,7 +72,7 @@ impl Instance {
         ensures { IsWork self.old (events.PullFrom place) now (Ok result) self.new }
     {
         let mut outbox = Outbox::new(self.alloc);
-        outbox.send_push(place, &self.silences, &self.log);
+        outbox.send_states(place, &self.silences, &self.log, Exchange::Ask);
         outcome(self.alloc, Reply::Nothing, outbox)
     }
 

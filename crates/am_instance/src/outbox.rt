@@ -1,12 +1,12 @@
 //! Frames that a step hands out.
 
-ghost use Rattle.std.specs.Prelude.{◌≡◌, ◌≤◌, [], ◌∷◌, length, filter, Some, true, false, IfSome, IfNone, IfOk, IfErr, OnOk, OnErr};
+ghost use Rattle.std.specs.Prelude.{◌≡◌, [], ◌∷◌, filter, Some, None, true, false, IfSome, OnSome, IfOk};
 ghost use Rattle.std.specs.Option.{option_copied};
 ghost use Rattle.am_wire.specs.Writing.{delimited};
 ghost use Rattle.am_gossip.specs.Frames.{fits};
 ghost use Rattle.am_gossip.specs.declared.frame.Frame.TheVariants as frames;
 ghost use Rattle.am_instance.specs.Configs.{is_other, places_but};
-ghost use Rattle.am_instance.specs.Sendings.{IsSent, Sends, IsMissing, addressed, delta, handed_out, no_memory};
+ghost use Rattle.am_instance.specs.Sendings.{IsSent, Sends, addressed, delta, no_memory, states_frame};
 ghost use Rattle.am_instance.specs.Sendings.{nothing_sent, over_limit, whole_state};
 
 use crate::event::Place;
@@ -18,7 +18,7 @@ use am_silence::MeshSilence;
 use am_snapshot::{row_bytes, row_length};
 use am_wire::Bytes;
 use am_wire::writing::{delimited_bytes, delimited_length};
-use std::alloc::{AllocError, AllocFailed, Global};
+use std::alloc::{AllocError, Global};
 use std::marker::Model;
 
 /// Whom the Deltas of a step go to: all members but the own one and the one that the versions came from.
@@ -29,31 +29,20 @@ pub struct Route {
     pub origin: Place,
 }
 
-/// Why there is no frame.
+/// Why both states go out.
 #[derive(Clone, Copy)]
-enum Missing {
-    Memory,
-    Limit,
+pub enum Exchange {
+    /// So that the peer answers with its own.
+    Ask,
+    /// As the answer to those of the peer.
+    Answer,
 }
 
-impl From<AllocError> for Missing {
-    ghost use Rattle.am_instance.specs.declared.outbox.Missing.TheVariants.{Memory};
-
-    ghost from_gives = { λ _ e. e ≡ Memory };
-
-    fn from(_e: AllocError) -> Missing {
-        Missing::Memory
-    }
-}
-
-impl<T: Drop> From<AllocFailed<T>> for Missing {
-    ghost use Rattle.am_instance.specs.declared.outbox.Missing.TheVariants.{Memory};
-
-    ghost from_gives = { λ _ e. e ≡ Memory };
-
-    fn from(_e: AllocFailed<T>) -> Missing {
-        Missing::Memory
-    }
+/// How many bytes the rows of both states have.
+#[derive(Clone, Copy)]
+struct Lengths {
+    silences: u64,
+    log: u64,
 }
 
 /// The frames of a step so far, and how many were left out.
@@ -160,26 +149,34 @@ impl Outbox {
         }
     }
 
-    /// Sends both states to a peer that asked for them, or that is to answer with its own.
-    pub fn send_push(&mut self, place: Place, silences: &Held<MeshSilence>, log: &Held<MeshEntry>)
-        ensures { IsSent (place, frames.Push (whole_state silences.now log.now)) self.old self.new }
+    /// Sends both states whole to a peer.
+    pub fn send_states(
+        &mut self,
+        place: Place,
+        silences: &Held<MeshSilence>,
+        log: &Held<MeshEntry>,
+        exchange: Exchange,
+    )
+        ensures { IsSent (place, states_frame exchange (whole_state silences.now log.now)) self.old self.new }
     {
-        match whole_state(self.alloc, silences, log) {
-            Ok(state) => self.hand_out(place, Frame::Push(state)),
-            Err(Missing::Memory) => self.count_memory(),
-            Err(Missing::Limit) => self.count_limit(),
+        let Some(lengths) = lengths_within(silences, log) else {
+            self.count_limit();
+            return;
+        };
+        match whole_state(self.alloc, silences, log, lengths) {
+            Ok(state) => self.hand_out(place, states_frame(exchange, state)),
+            Err(_) => self.count_memory(),
         }
     }
+}
 
-    /// Answers a peer that sent its states with the own ones.
-    pub fn send_pull(&mut self, place: Place, silences: &Held<MeshSilence>, log: &Held<MeshEntry>)
-        ensures { IsSent (place, frames.Pull (whole_state silences.now log.now)) self.old self.new }
-    {
-        match whole_state(self.alloc, silences, log) {
-            Ok(state) => self.hand_out(place, Frame::Pull(state)),
-            Err(Missing::Memory) => self.count_memory(),
-            Err(Missing::Limit) => self.count_limit(),
-        }
+/// The frame in which both states go out.
+fn states_frame(exchange: Exchange, state: FullState) -> Frame
+    ensures { result ≡ states_frame exchange state }
+{
+    match exchange {
+        Exchange::Ask => Frame::Push(state),
+        Exchange::Answer => Frame::Pull(state),
     }
 }
 
@@ -187,10 +184,7 @@ impl Outbox {
 fn copy_of(alloc: Global, written: Option<&Bytes>) -> Option<Bytes>
     ensures { IfSome result (λ copy. option_copied written.entry ≡ Some copy) }
 {
-    match written?.try_clone(alloc) {
-        Ok(copy) => Some(copy),
-        Err(_) => None,
-    }
+    written?.try_clone(alloc).ok()
 }
 
 /// The row of a version that keeps the limit of a Delta, where there is memory for it.
@@ -200,35 +194,36 @@ fn delta_row(alloc: Global, key: StateKey, content: &[u8]) -> Option<Bytes>
     if !delta_fits(key, delimited_length(content)) {
         return None;
     }
-    match delimited_bytes(alloc, content) {
-        Ok(bytes) => Some(bytes),
-        Err(_) => None,
-    }
+    delimited_bytes(alloc, content).ok()
 }
 
-/// Both states whole, where they keep the limit. How long they are is known before anything is written.
+/// How long both states are, where they keep the limit of a frame. It takes no memory.
+fn lengths_within(silences: &Held<MeshSilence>, log: &Held<MeshEntry>) -> Option<Lengths>
+    ensures fitting { OnSome result (fits (frames.Push (whole_state silences.now log.now)) ≡ true) }
+    ensures too_long { result ≡ None → fits (frames.Push (whole_state silences.now log.now)) ≡ false }
+{
+    let of_silences = row_length(silences)?;
+    let of_log = row_length(log)?;
+    if !states_fit(of_silences, of_log) {
+        return None;
+    }
+    Some(Lengths {
+        silences: of_silences,
+        log: of_log,
+    })
+}
+
+/// Both states whole, whose lengths are known.
 fn whole_state(
     alloc: Global,
     silences: &Held<MeshSilence>,
     log: &Held<MeshEntry>,
-) -> Result<FullState, Missing>
-    ensures state { IfOk result (λ state. state ≡ whole_state silences.now log.now) }
-    ensures push { OnOk result (fits (frames.Push (whole_state silences.now log.now)) ≡ true) }
-    ensures pull { OnOk result (fits (frames.Pull (whole_state silences.now log.now)) ≡ true) }
-    ensures push_too_long { IfErr result (IsMissing (fits (frames.Push (whole_state silences.now log.now)))) }
-    ensures pull_too_long { IfErr result (IsMissing (fits (frames.Pull (whole_state silences.now log.now)))) }
+    lengths: Lengths,
+) -> Result<FullState, AllocError>
+    ensures { IfOk result (λ state. state ≡ whole_state silences.now log.now) }
 {
-    let Some(of_silences) = row_length(silences) else {
-        return Err(Missing::Limit);
-    };
-    let Some(of_log) = row_length(log) else {
-        return Err(Missing::Limit);
-    };
-    if !states_fit(of_silences, of_log) {
-        return Err(Missing::Limit);
-    }
-    let silences = row_bytes(alloc, silences, of_silences)?;
-    let log = row_bytes(alloc, log, of_log)?;
+    let silences = row_bytes(alloc, silences, lengths.silences)?;
+    let log = row_bytes(alloc, log, lengths.log)?;
     let mut parts = Vec::with_capacity(alloc, 2)?;
     parts.push(Part {
         key: StateKey::Sil,

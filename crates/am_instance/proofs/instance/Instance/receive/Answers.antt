@@ -39,7 +39,7 @@ pub returns-in_ok-outbox-in-Push : goal.returns-in_ok-outbox-in-Push
 returns-in_ok-outbox-in-Push c =
     let parts = rw (c.parts-in-Push.ensures, ← c.self-in-Push.view_is) at c.in_ok-outbox-in-Push.ensures in
     rw (c.in-Push.is, ← c.self-in-Push.view_is) (taken_frame c.args.self.now _ c.args.sender (frames.Push c.in-Push.state) c.args.now c.outcome-in-Push.result c.in_ok-outbox-in-Push.outbox refl
-    parts (c.send_pull.new.self, c.send_pull.ensures, c.outcome-in-Push.ensures.sent) c.outcome-in-Push.ensures.reply c.outcome-in-Push.ensures.made)
+    parts (c.send_states.new.self, c.send_states.ensures, c.outcome-in-Push.ensures.sent) c.outcome-in-Push.ensures.reply c.outcome-in-Push.ensures.made)
 
 pub returns-in-Tick : goal.returns-in-Tick
 returns-in-Tick c = rw c.in-Tick.is (c.collect.ensures.frame c.args.sender)
