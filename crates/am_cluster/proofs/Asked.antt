@@ -4,7 +4,7 @@ use Rattle.std.specs.Prelude.{All}
 use Rattle.std.proofs.lemmas.List.Elements.{All-nil, All-cons, All-head, All-tail}
 use Rattle.am_silence.specs.Mesh.{mesh_version}
 use Rattle.am_nflog.specs.Mesh.{mesh_version as entry_version}
-use Rattle.am_instance.specs.Configs.{Settings}
+use Rattle.am_instance.specs.Configs.{Settings, place_named}
 use Rattle.am_instance.specs.Deliveries.{Delivery}
 use Rattle.am_instance.specs.Deliveries.Delivery.{OfSilence, OfEntry}
 use Rattle.am_steps.specs.Contents.{silences_in, entries_in}
@@ -13,7 +13,6 @@ use Rattle.am_schedule.specs.declared.step.Event.TheVariants as lines
 use Rattle.am_schedule.specs.declared.step.Versions.{Versions}
 use Rattle.am_steps.specs.declared.asked.Asked.{Asked}
 use Rattle.am_steps.specs.Events.{Brings, IsSentBefore, asked_by, brought_by, from, pull}
-use Rattle.am_steps.specs.Places.{place_named}
 use Rattle.am_steps.specs.Versions.{sent_at, updated, versions_of}
 use Rattle.am_cluster.specs.Steps.{Fits}
 

@@ -1,5 +1,5 @@
 -- What a step of a schedule does to the cluster.
-use Rattle.std.specs.Prelude.{◌≡◌, ◌⊎◌, ℕ, List, Option, Some, None, Result, Ok, Err, length}
+use Rattle.std.specs.Prelude.{◌≡◌, ◌⊎◌, ℕ, List, Option, Some, None, Result, Ok, Err, length, option_and_then}
 use Rattle.am_silence.specs.Mesh.{Mesh}
 use Rattle.am_nflog.specs.Mesh.{Mesh as LogMesh}
 use Rattle.am_runs.specs.Steps.{Step}
@@ -8,6 +8,7 @@ use Rattle.am_steps.specs.Recorded.{HasSource}
 use Rattle.am_schedule.specs.declared.step.Action.{Action}
 use Rattle.am_schedule.specs.declared.step.Action.TheVariants as actions
 use Rattle.am_schedule.specs.declared.step.Event.{Event}
+use Rattle.am_instance.specs.Configs.{place_named}
 use Rattle.am_instance.specs.declared.event.Event.TheVariants as events
 use Rattle.am_instance.specs.declared.reply.Reply.{Reply}
 use Rattle.am_instance.specs.declared.reply.Reply.TheVariants.{Nothing}
@@ -15,7 +16,6 @@ use Rattle.am_runs.specs.declared.step.Source.TheVariants.{Made}
 use Rattle.am_steps.specs.declared.asked.Asked.{Asked}
 use Rattle.am_steps.specs.declared.asked.Asked.TheVariants as asked
 use Rattle.am_steps.specs.Events.{asked_by}
-use Rattle.am_steps.specs.Places.{place_named}
 use Rattle.am_cluster.specs.declared.error.ClusterError.{ClusterError}
 use Rattle.am_cluster.specs.declared.error.ClusterError.TheVariants as errors
 use Rattle.am_cluster.specs.Delivering.{IsDelivery, IsRefused}
@@ -24,14 +24,9 @@ use Rattle.am_cluster.specs.Lives.{IsSave, IsStart, IsStop, OfMember}
 use Rattle.am_cluster.specs.Losing.{IsLoss}
 use Rattle.am_cluster.specs.Worlds.{Replica, World, replica_at}
 
--- the place of the member of a name, as a member is told of all of them
-abbrev pub named_by : Option Replica → List ℕ → Option ℕ
-named_by None name = None
-named_by (Some replica) name = place_named replica.stand.config name
-
--- as the first member is
+-- the place of the member of a name, as the first member is told of all of them
 abbrev pub place_in : World → List ℕ → Option ℕ
-place_in world name = named_by (replica_at world 0) name
+place_in world name = option_and_then (λ replica. place_named replica.stand.config name) (replica_at world 0)
 
 -- a step without an event is answered by nothing
 abbrev pub quiet : Result Unit ClusterError → Result Reply ClusterError

@@ -10,7 +10,7 @@ use crate::error::ClusterError;
 use am_instance::{Config, Event, Reply};
 use am_runs::Source;
 use am_schedule::{Action, Event as LineEvent, Step};
-use am_steps::{Asked, place_named, to_event};
+use am_steps::{Asked, to_event};
 use am_version_order::Moment;
 use std::alloc::AllocError;
 
@@ -30,13 +30,9 @@ impl Cluster {
         ensures named { result ≡ place_in self.now name.now }
         ensures within { IfSome result (λ place. place < length self.now.replicas) }
     {
-        match self.members.first() {
-            Some(member) => match place_named(member.instance.config(), name) {
-                Some(place) => Some(place as usize),
-                None => None,
-            },
-            None => None,
-        }
+        let member = self.members.first()?;
+        let place = member.instance.config().place_named(name)?;
+        Some(place as usize)
     }
 
     /// What a line asks of the member at a place.

@@ -1,4 +1,5 @@
 pub mod Names
+pub mod Named
 pub mod Sent
 pub mod TakenRows
 pub mod Lifts

@@ -1,7 +1,8 @@
 -- The members of a cluster, as one of them is told of them.
-use Rattle.std.specs.Prelude.{ℕ, ◌≡◌, ◌<◌, ◌≤◌, Bool, not, ◌&&◌, ◌==◌, nat_lt, List, [], ◌∷◌, length, filter, All, IsPermutation}
+use Rattle.std.specs.Prelude.{ℕ, ◌≡◌, ◌<◌, ◌≤◌, Bool, not, ◌&&◌, ◌==◌, nat_lt, List, [], ◌∷◌, length, filter, position, Option, All, IsPermutation}
 use Rattle.std.specs.List.{AllByRecursion, range_with_len}
 use Rattle.std.specs.Ordering.{nat_cmp}
+use Rattle.std.specs.Str.{bytes_eq}
 use Rattle.std.specs.Cmp.Lexicographic.{slice_cmp}
 use Rattle.std.specs.declared.cmp.Ordering.TheVariants.{Less}
 
@@ -23,6 +24,10 @@ pub record HasTwice (names : List (List ℕ)) : Type 0 where
   pub name : List ℕ
   pub rest : List (List ℕ)
   pub among : IsPermutation names (name ∷ name ∷ rest)
+
+-- the place of the member of a name; of several, which no cluster has, the first
+abbrev pub place_named : Settings → List ℕ → Option ℕ
+place_named settings name = position (λ member. bytes_eq member name) settings.members
 
 -- a place of a member, and not the own one
 abbrev pub is_peer : Settings → ℕ → Bool

@@ -1,10 +1,11 @@
 //! Who is in the cluster, and how long things are kept and waited for.
 
-ghost use Rattle.std.specs.Prelude.{◌≡◌, ◌≢◌, ◌+◌, ◌*◌, ◌<◌, ◌≤◌, ◌↔◌, ◌⊎◌, ◌∷◌, Any, Contains, Some, None, length};
-ghost use Rattle.std.specs.Prelude.{insert, slice_get, false, IsTrue, IfOk, OnOk, OnErr, IfSome, IsPermutation};
+ghost use Rattle.std.specs.Prelude.{◌≡◌, ◌≢◌, ℕ, ◌+◌, ◌*◌, ◌<◌, ◌≤◌, ◌↔◌, ◌⊎◌, ◌∷◌, Any, Contains, Some, None, length};
+ghost use Rattle.std.specs.Prelude.{insert, position, slice_get, false, IsTrue, IfOk, OnOk, OnErr, IfSome, IsPermutation};
 ghost use Rattle.std.specs.Option.{SomeIff};
+ghost use Rattle.std.specs.Str.{bytes_eq};
 ghost use Rattle.am_version_order.specs.Moments.{greatest};
-ghost use Rattle.am_instance.specs.Configs.{AreInOrder, AreMembers, HasTwice, IsEmptyName, IsLongName, is_peer};
+ghost use Rattle.am_instance.specs.Configs.{AreInOrder, AreMembers, HasTwice, IsEmptyName, IsLongName, is_peer, place_named};
 ghost use Rattle.am_instance.specs.declared.error.ConfigError.TheVariants as errors;
 
 use crate::error::ConfigError;
@@ -115,6 +116,13 @@ fn in_order(name: Text, peers: Vec<Text>) -> Result<(Vec<Text>, usize), ConfigEr
     };
     names.insert(place, name)?;
     Ok((names, place))
+}
+
+/// Where the first of these texts stands that is this one.
+fn index_of(texts: &[Text], name: &str) -> Option<usize>
+    ensures { result ≡ position (λ text. bytes_eq text name.now) texts.now }
+{
+    texts.iter().position(|text| text.as_str() == name)
 }
 
 /// The members of a cluster, which of them this one is, for how long versions are kept after their end, and for how
@@ -248,6 +256,17 @@ impl Config {
         ensures { result ≡ is_peer self.now place }
     {
         place < self.members.len() as u64 && place != self.place
+    }
+
+    /// The place of the member of that name, which may be the own one, or `None` where no member has it. It takes no memory.
+    pub fn place_named(&self, name: &str) -> Option<Place>
+        ensures named { result ≡ place_named self.now name.now }
+        ensures there { IfSome result (λ place. slice_get self.now.members place ≡ Some name.now) }
+        ensures only { (place : ℕ) → slice_get self.now.members place ≡ Some name.now → result ≡ Some place }
+        ensures nowhere { (result ≡ None) ↔ (¬ Contains self.now.members name.now) }
+    {
+        let index = index_of(self.members(), name)?;
+        Some(index as u64)
     }
 
     /// When this member is due that began to wait at `start`. `None` past [`Moment::GREATEST`]. It takes no memory.

@@ -7,7 +7,6 @@ use am_cluster::{Cluster, ClusterError, Flight, SettleError};
 use am_dedup::Decision;
 use am_instance::{Place, Reply};
 use am_schedule::{Action, Event, Line, Schedule, Step, Word};
-use am_steps::place_named;
 use am_version_order::Moment;
 use am_wire::Text;
 use std::alloc::{AllocError, Global};
@@ -172,7 +171,7 @@ fn peer_of(cluster: &Cluster, event: &Event) -> Option<Place> {
 /// The place of the member of a name.
 fn place_of(cluster: &Cluster, name: &str) -> Option<Place> {
     let first = cluster.instance(0)?;
-    place_named(first.config(), name)
+    first.config().place_named(name)
 }
 
 fn yes_or_no(answer: bool) -> Answer {

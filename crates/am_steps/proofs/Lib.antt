@@ -12,6 +12,5 @@ pub mod Outgoing
 pub mod Counting
 pub mod Lengths
 pub mod ReadAgain
-pub mod Named
 pub mod Faults
 pub mod Least

@@ -4,7 +4,7 @@ use Rattle.am_silence.specs.declared.plan.Posted.{Posted}
 use Rattle.am_matcher.specs.declared.labels.Label.{Label}
 use Rattle.am_gossip.specs.declared.frame.Frame.TheVariants as frames
 use Rattle.am_runs.specs.declared.step.Source.TheVariants as sources
-use Rattle.am_instance.specs.Configs.{Settings}
+use Rattle.am_instance.specs.Configs.{Settings, place_named}
 use Rattle.am_instance.specs.Deliveries.{Delivery}
 use Rattle.am_instance.specs.Steps.{fault_of, brought}
 use Rattle.am_instance.specs.declared.event.Event.{Event}
@@ -18,7 +18,6 @@ use Rattle.am_schedule.specs.declared.step.Event.{Event as LineEvent}
 use Rattle.am_schedule.specs.declared.step.Event.TheVariants as lines
 use Rattle.am_steps.specs.declared.asked.Asked.{Asked}
 use Rattle.am_steps.specs.declared.asked.Asked.TheVariants as asked
-use Rattle.am_steps.specs.Places.{place_named}
 use Rattle.am_steps.specs.Versions.{wants, receiver_of, versions_of, part_of, updated, sent_at}
 
 -- a step that brings no versions

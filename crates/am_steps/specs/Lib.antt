@@ -3,7 +3,6 @@ pub mod States
 pub mod BothStates
 pub mod Recorded
 pub mod StepLaws
-pub mod Places
 pub mod Versions
 pub mod Events
 pub mod LineLaws

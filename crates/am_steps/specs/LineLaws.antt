@@ -1,9 +1,8 @@
 -- What holds of all lines.
 use Rattle.std.specs.Prelude.{◌≡◌, ◌≤◌, ◌<◌, ℕ, List, length, All, Contains, Some, slice_get}
 use Rattle.am_version_order.specs.Moments.{greatest}
-use Rattle.am_instance.specs.Configs.{Settings, AreInOrder}
+use Rattle.am_instance.specs.Configs.{Settings, AreInOrder, place_named}
 use Rattle.am_instance.specs.Deliveries.{Delivery}
-use Rattle.am_steps.specs.Places.{place_named}
 use Rattle.am_steps.specs.Versions.{updated, sent_at}
 
 -- in a cluster, whose members are in order, a member stands at the place of its name

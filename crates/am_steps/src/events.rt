@@ -5,7 +5,6 @@ ghost use Rattle.am_steps.specs.Events.{Brings, IsSentBefore, IsSound, asked_by,
 
 use crate::asked::{Asked, made};
 use crate::groups::{decide, notified};
-use crate::places::place_named;
 use crate::silences::post;
 use crate::texts::text_of;
 use crate::written::from;
@@ -57,7 +56,7 @@ pub fn to_event(alloc: Global, config: &Config, event: &LineEvent) -> Result<Ask
     ensures sent { IfOk result (λ asked. IsSentBefore asked (brought_by event.now)) }
 {
     match event {
-        LineEvent::From { peer, versions } => match place_named(config, peer.as_str()) {
+        LineEvent::From { peer, versions } => match config.place_named(peer.as_str()) {
             Some(sender) => from(alloc, sender, versions),
             None => Ok(Asked::NoMember),
         },
@@ -78,7 +77,7 @@ pub fn to_event(alloc: Global, config: &Config, event: &LineEvent) -> Result<Ask
         })),
         LineEvent::Show => Ok(made(Event::Show)),
         LineEvent::Tick => Ok(made(Event::Tick)),
-        LineEvent::Pull { peer } => Ok(pull(place_named(config, peer.as_str()))),
+        LineEvent::Pull { peer } => Ok(pull(config.place_named(peer.as_str()))),
         LineEvent::Start => Ok(Asked::Start),
     }
 }

@@ -1,6 +1,6 @@
 //! From a line of a schedule to the event of an instance, and from a step of an instance to the steps of both runs: the
-//! event of each line, the versions that it brings, and the place of the peer that it names; the versions that frames
-//! carry, parted by their state, and what holds of the steps, for each of both states.
+//! event of each line; the versions that frames carry, parted by their state, and what holds of the steps, for each of both
+//! states.
 #![tactic(auto)]
 
 mod asked;
@@ -10,7 +10,6 @@ mod groups;
 pub mod laws;
 pub mod line_laws;
 mod log;
-mod places;
 mod sent;
 mod silences;
 mod texts;
@@ -18,5 +17,3 @@ mod written;
 
 pub use asked::Asked;
 pub use events::to_event;
-pub use places::place_named;
-pub use written::version_count;

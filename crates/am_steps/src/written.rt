@@ -1,9 +1,9 @@
 //! What a `from` line writes.
 
-ghost use Rattle.std.specs.Prelude.{◌≡◌, [], ◌∷◌, length, map, Some, None, IfOk};
+ghost use Rattle.std.specs.Prelude.{◌≡◌, [], ◌∷◌, map, Some, None, IfOk};
 ghost use Rattle.am_instance.specs.Deliveries.{before_fault, first_fault, rows_in};
 ghost use Rattle.am_steps.specs.Versions.{least, part_of, sent_at, versions_of};
-ghost use Rattle.am_steps.specs.Events.{Brings, IsSentBefore, IsSound, brought_by, from};
+ghost use Rattle.am_steps.specs.Events.{Brings, IsSentBefore, IsSound, from};
 
 use crate::asked::Asked;
 use crate::log::log_row;
@@ -11,22 +11,9 @@ use crate::silences::silence_row;
 use am_gossip::{Frame, Part, StateKey};
 use am_instance::{Event, Place};
 use am_runs::Source;
-use am_schedule::{Event as LineEvent, LogLine, Shared, SilenceLine, Versions};
+use am_schedule::{LogLine, Shared, SilenceLine, Versions};
 use am_version_order::Moment;
 use std::alloc::{AllocError, Global};
-
-/// How many versions the event of a line brings. It takes no memory.
-pub fn version_count(event: &LineEvent) -> usize
-    ensures { result ≡ length (brought_by event.now) }
-{
-    match event {
-        LineEvent::From { versions, .. } => match versions {
-            Versions::Silences(lines) => lines.as_slice().len(),
-            Versions::Log(lines) => lines.as_slice().len(),
-        },
-        _ => 0,
-    }
-}
 
 /// The least update moment of silences.
 #[tactic(auto, using(crate::proofs::Least::least_low))]

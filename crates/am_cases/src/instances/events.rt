@@ -7,7 +7,6 @@ use am_part_cases::common::{
     Fault, first, labels, matchers, moment, number, numbers, parts, receiver, seconds,
 };
 use am_silence::Posted;
-use am_steps::place_named;
 use am_wire::{Bytes, Text};
 use std::alloc::Global;
 
@@ -45,7 +44,7 @@ fn request(alloc: Global, verb: &str, rest: &str) -> Result<Request, Fault> {
 
 /// The place of a member, by its name; another place is a number.
 pub fn place(config: &Config, word: &str) -> Result<Place, Fault> {
-    match place_named(config, word) {
+    match config.place_named(word) {
         Some(place) => Ok(place),
         None => number(word),
     }

@@ -11,14 +11,14 @@ use am_part_cases::{put, say};
 use am_runs::Source;
 use am_schedule::{Action, Event as LineEvent, FaultKind, Line, Schedule, parse};
 use am_silence::Posted;
-use am_steps::{Asked, place_named, to_event, version_count};
+use am_steps::{Asked, to_event};
 use am_wire::Bytes;
 use std::alloc::Global;
 
 /// `places NAME,..`: at which places the members of these names are.
 pub fn places(rt: &HostRuntime, config: &Config, names: &str) -> Result<(), Fault> {
     for name in names.split(',') {
-        say!(rt; ?place_named(config, name))?;
+        say!(rt; ?config.place_named(name))?;
     }
     Ok(())
 }
@@ -50,28 +50,25 @@ fn last(rt: &HostRuntime, config: &Config, schedule: &Schedule) -> Result<(), Fa
 
 fn ask(rt: &HostRuntime, config: &Config, event: &LineEvent) -> Result<(), Fault> {
     let asked = to_event(rt.alloc(), config, event)?;
-    say_asked(rt, &asked, version_count(event))
+    say_asked(rt, &asked)
 }
 
-fn say_asked(rt: &HostRuntime, asked: &Asked, count: usize) -> Result<(), Fault> {
+fn say_asked(rt: &HostRuntime, asked: &Asked) -> Result<(), Fault> {
     match asked {
         Asked::Start => print_line(rt, "start"),
         Asked::NoMember => print_line(rt, "no member"),
         Asked::Event { event, source } => {
             say_event(rt, event)?;
-            say_source(rt, source, count)
+            say_source(rt, source)
         }
     }
 }
 
-fn say_source(rt: &HostRuntime, source: &Source, count: usize) -> Result<(), Fault> {
+fn say_source(rt: &HostRuntime, source: &Source) -> Result<(), Fault> {
     match source {
-        Source::Made if count == 0 => Ok(()),
-        Source::Written(sent) => {
-            put!(rt; "brings ", count)?;
-            say_moment(rt, ", sent at ", *sent)
-        }
-        other => say!(rt; "brings ", count, " ", ?other),
+        Source::Made => Ok(()),
+        Source::Written(sent) => say_moment(rt, "sent at ", *sent),
+        other => say!(rt; ?other),
     }
 }
 

@@ -1,4 +1,4 @@
-use Rattle.am_steps.proofs.Named.{found_again}
+use Rattle.am_instance.proofs.Named.{found_again}
 use Rattle.am_steps.proofs.line_laws.names_are_found.Goals as goal
 
 pub returns : goal.returns

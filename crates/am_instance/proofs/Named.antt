@@ -32,7 +32,7 @@ module _ (p : List ℕ → Bool) (x : List ℕ) (xs : List (List ℕ)) where
   at_later is = rw is (omega arith)
 
 module _ (name : List ℕ) where
-  abbrev is_name : List ℕ → Bool
+  abbrev pub is_name : List ℕ → Bool
   is_name text = bytes_eq text name
 
   -- the text at the place that was found is the name
