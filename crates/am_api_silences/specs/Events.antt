@@ -2,15 +2,11 @@
 use Rattle.std.specs.Prelude.{◌≡◌, ℕ, ◌⊎◌, List, Any, ⊤, Result, Ok, Err, string_bytes}
 use Rattle.serde_json.specs.Data.{Data}
 use Rattle.am_silence_json.specs.Posts.{IsPosted, IsFirstWrong, IsObjectText}
-use Rattle.am_silence_json.specs.declared.key.Key.{Key}
-use Rattle.am_silence_json.specs.declared.key.Key.TheVariants as keys
 use Rattle.am_http.specs.Lines.{line_seen, line_of}
 use Rattle.am_http.specs.Paths.{IsCallOf}
 use Rattle.am_http.specs.Queries.{filter_texts_of}
 use Rattle.am_http.specs.declared.cause.Cause.{Cause}
 use Rattle.am_http.specs.declared.cause.Cause.TheVariants.{BadFilter, BadJson, BadSilence, Memory}
-use Rattle.am_http.specs.declared.cause.PostedKey.{PostedKey}
-use Rattle.am_http.specs.declared.cause.PostedKey.TheVariants as told
 use Rattle.am_http.specs.declared.refusal.Refusal.{Refusal}
 use Rattle.am_http.specs.declared.request.Request.{Request}
 use Rattle.am_http.specs.declared.routes.Call.{Call}
@@ -20,15 +16,6 @@ use Rattle.am_instance.specs.declared.event.Event.TheVariants as events
 use Rattle.am_instance.specs.declared.event.Request.{Request as SilenceRequest}
 use Rattle.am_instance.specs.declared.event.Request.TheVariants as requests
 use Rattle.am_api_silences.specs.Filters.{AreFilters, IsBadFilter}
-
--- the key of a post, as the table of statuses names it
-abbrev pub key_told : Key → PostedKey
-key_told keys.Id = told.Id
-key_told keys.Matchers = told.Matchers
-key_told keys.StartsAt = told.StartsAt
-key_told keys.EndsAt = told.EndsAt
-key_told keys.CreatedBy = told.CreatedBy
-key_told keys.Comment = told.Comment
 
 -- What a call with this body asks of an instance: the silences that pass all filters of the query, the silence of an
 -- identifier, the post of the object that the body is, or the end of a silence.
@@ -44,7 +31,7 @@ abbrev pub HasFault : Call → List ℕ → Cause → Type 0
 HasFault call body Memory = ⊤
 HasFault (calls.List query) body BadFilter = Any IsBadFilter (filter_texts_of query.now)
 HasFault calls.Post body BadJson = (d : Data) → ¬ IsObjectText body d
-HasFault calls.Post body (BadSilence key) = (d : Data) × (wrong : Key) × IsObjectText body d × IsFirstWrong d wrong × (key ≡ key_told wrong)
+HasFault calls.Post body (BadSilence key) = (d : Data) × IsObjectText body d × IsFirstWrong d key
 HasFault _ body _ = ⊥
 
 -- what is asked, or what is at fault

@@ -3,28 +3,14 @@
 ghost use Rattle.std.specs.Prelude.{◌≡◌, IfOk, IfErr};
 ghost use Rattle.am_http.specs.declared.cause.Cause.TheVariants as causes;
 ghost use Rattle.am_http.specs.declared.routes.Call.TheVariants as calls;
-ghost use Rattle.am_api_silences.specs.Events.{IsAsk, IsEventOf, IsMeant, IsRefusedFor, key_told};
+ghost use Rattle.am_api_silences.specs.Events.{IsAsk, IsEventOf, IsMeant, IsRefusedFor};
 
 use crate::filters::filters_in;
-use am_http::{Call, Cause, PostedKey, Refusal, Request, call_of};
+use am_http::{Call, Cause, Refusal, Request, call_of};
 use am_instance::{Event, Request as SilenceRequest};
-use am_silence_json::{BodyError, Key, read_post};
+use am_silence_json::{BodyError, read_post};
 use am_wire::Text;
 use std::alloc::Global;
-
-/// The key of a post, as the table of statuses names it.
-fn key_told(key: Key) -> PostedKey
-    ensures { result ≡ key_told key }
-{
-    match key {
-        Key::Id => PostedKey::Id,
-        Key::Matchers => PostedKey::Matchers,
-        Key::StartsAt => PostedKey::StartsAt,
-        Key::EndsAt => PostedKey::EndsAt,
-        Key::CreatedBy => PostedKey::CreatedBy,
-        Key::Comment => PostedKey::Comment,
-    }
-}
 
 /// An identifier of its own.
 fn identifier(alloc: Global, id: &str) -> Result<Text, Cause>
@@ -44,7 +30,7 @@ fn post(alloc: Global, body: &[u8], bits: u128) -> Result<SilenceRequest, Cause>
     match read_post(alloc, body) {
         Ok(posted) => Ok(SilenceRequest::Post { posted, bits }),
         Err(BodyError::BadJson) => Err(Cause::BadJson),
-        Err(BodyError::Wrong(key)) => Err(Cause::BadSilence(key_told(key))),
+        Err(BodyError::Wrong(key)) => Err(Cause::BadSilence(key)),
         Err(BodyError::Memory) => Err(Cause::Memory),
     }
 }

@@ -1,12 +1,12 @@
 -- The table of statuses: the line that each cause of a refusal has.
 use Rattle.std.specs.Prelude.{ℕ, List, Option, Some, None, codes}
 use Rattle.std.specs.Option.{option_copied}
+use Rattle.am_silence_json.specs.declared.key.Key.{Key}
+use Rattle.am_silence_json.specs.declared.key.Key.TheVariants.{Id, Matchers, StartsAt, EndsAt, CreatedBy, Comment}
 use Rattle.am_http.specs.declared.cause.Cause.{Cause}
 use Rattle.am_http.specs.declared.cause.Cause.TheVariants.{HeadTooLarge, BadHead, TransferEncoding, BadContentLength}
 use Rattle.am_http.specs.declared.cause.Cause.TheVariants.{BodyTooLarge, EndedEarly, NoSuchPath, MethodNotAllowed}
 use Rattle.am_http.specs.declared.cause.Cause.TheVariants.{BadFilter, BadJson, BadSilence, Memory}
-use Rattle.am_http.specs.declared.cause.PostedKey.{PostedKey}
-use Rattle.am_http.specs.declared.cause.PostedKey.TheVariants.{Id, Matchers, StartsAt, EndsAt, CreatedBy, Comment}
 use Rattle.am_http.specs.declared.refusal.Refusal.{Refusal}
 use Rattle.am_http.specs.declared.cause.Resource.{Resource}
 use Rattle.am_http.specs.declared.cause.Resource.TheVariants.{Silences, Silence}
@@ -31,7 +31,7 @@ allowed_at Silences = codes "GET, POST"
 allowed_at Silence = codes "GET, DELETE"
 
 -- what is said of a key that is wanting or wrong
-abbrev pub bad_key : PostedKey → List ℕ
+abbrev pub bad_key : Key → List ℕ
 bad_key Id = codes "bad silence: id"
 bad_key Matchers = codes "bad silence: matchers"
 bad_key StartsAt = codes "bad silence: startsAt"

@@ -5,6 +5,7 @@ ghost use Rattle.http.specs.StatusCode.{IsStatusCode};
 ghost use Rattle.am_http.specs.Lines.{allowed_at, bad_key, line, line_of, line_seen};
 
 use crate::refusal::Refusal;
+use am_silence_json::Key;
 
 /// What a path of API v2 names.
 #[derive(Clone, Copy, Debug, PartialEq, Eq)]
@@ -13,17 +14,6 @@ pub enum Resource {
     Silences,
     /// `/api/v2/silence/ID`
     Silence,
-}
-
-/// A key of a posted silence.
-#[derive(Clone, Copy, Debug, PartialEq, Eq)]
-pub enum PostedKey {
-    Id,
-    Matchers,
-    StartsAt,
-    EndsAt,
-    CreatedBy,
-    Comment,
 }
 
 /// What is at fault in a request before a step is made, in the order in which it is tested.
@@ -49,8 +39,8 @@ pub enum Cause {
     BadFilter,
     /// The body is no JSON object.
     BadJson,
-    /// The key is wanting or wrong.
-    BadSilence(PostedKey),
+    /// What is posted has this key wanting or wrong.
+    BadSilence(Key),
     /// Memory ran out.
     Memory,
 }
@@ -81,19 +71,17 @@ impl Resource {
     }
 }
 
-impl PostedKey {
-    /// What is said where the key is wanting or wrong.
-    const fn bad(self) -> &'static str
-        ensures { result.now ≡ bad_key self }
-    {
-        match self {
-            PostedKey::Id => "bad silence: id",
-            PostedKey::Matchers => "bad silence: matchers",
-            PostedKey::StartsAt => "bad silence: startsAt",
-            PostedKey::EndsAt => "bad silence: endsAt",
-            PostedKey::CreatedBy => "bad silence: createdBy",
-            PostedKey::Comment => "bad silence: comment",
-        }
+/// What is said where a key of what is posted is wanting or wrong.
+const fn bad_key(key: Key) -> &'static str
+    ensures { result.now ≡ bad_key key }
+{
+    match key {
+        Key::Id => "bad silence: id",
+        Key::Matchers => "bad silence: matchers",
+        Key::StartsAt => "bad silence: startsAt",
+        Key::EndsAt => "bad silence: endsAt",
+        Key::CreatedBy => "bad silence: createdBy",
+        Key::Comment => "bad silence: comment",
     }
 }
 
@@ -117,7 +105,7 @@ impl Cause {
             },
             Cause::BadFilter => Refusal::new(400, "bad filter"),
             Cause::BadJson => Refusal::new(400, "bad JSON"),
-            Cause::BadSilence(key) => Refusal::new(400, key.bad()),
+            Cause::BadSilence(key) => Refusal::new(400, bad_key(key)),
             Cause::Memory => Refusal::new(500, "out of memory"),
         }
     }

@@ -14,7 +14,7 @@ mod request;
 mod routes;
 mod standing;
 
-pub use cause::{Cause, PostedKey, Resource};
+pub use cause::{Cause, Resource};
 pub use filters::filter_texts;
 pub use receiving::{ReadFault, receive, receive_behind};
 pub use refusal::Refusal;

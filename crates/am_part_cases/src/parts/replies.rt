@@ -1,7 +1,8 @@
 //! The calls that requests are, the table of statuses, and the bytes of replies.
 
 use crate::common::{Fault, first, parts, print_line, say_text, size};
-use am_http::{Cause, PostedKey, Resource, call_of, filter_texts, reply as reply_bytes};
+use am_http::{Cause, Resource, call_of, filter_texts, reply as reply_bytes};
+use am_silence_json::Key;
 
 /// `call METHOD TARGET`: what a method and a target ask for.
 pub fn call(rt: &HostRuntime, rest: &str) -> Result<(), Fault> {
@@ -35,12 +36,12 @@ const CAUSES: [Cause; 18] = [
     Cause::MethodNotAllowed(Resource::Silence),
     Cause::BadFilter,
     Cause::BadJson,
-    Cause::BadSilence(PostedKey::Id),
-    Cause::BadSilence(PostedKey::Matchers),
-    Cause::BadSilence(PostedKey::StartsAt),
-    Cause::BadSilence(PostedKey::EndsAt),
-    Cause::BadSilence(PostedKey::CreatedBy),
-    Cause::BadSilence(PostedKey::Comment),
+    Cause::BadSilence(Key::Id),
+    Cause::BadSilence(Key::Matchers),
+    Cause::BadSilence(Key::StartsAt),
+    Cause::BadSilence(Key::EndsAt),
+    Cause::BadSilence(Key::CreatedBy),
+    Cause::BadSilence(Key::Comment),
     Cause::Memory,
 ];
 
