@@ -17,10 +17,7 @@ fn identifier(alloc: Global, id: &str) -> Result<Text, Cause>
     ensures copied { IfOk result (λ copy. copy ≡ id.now) }
     ensures refused { IfErr result (λ cause. cause ≡ causes.Memory) }
 {
-    match Text::copied(alloc, id) {
-        Ok(copy) => Ok(copy),
-        Err(_) => Err(Cause::Memory),
-    }
+    Text::copied(alloc, id).ok().ok_or(Cause::Memory)
 }
 
 /// The post of a body.

@@ -87,10 +87,7 @@ fn cluster_parts(alloc: Global, words: &[&str]) -> Result<ClusterLine, FaultKind
 fn cluster_seconds(words: &[&str], place: usize) -> Result<Interval, FaultKind>
     ensures { result ≡ as_cluster (read_at seconds_in place (map (λ w. w.now) words.now)) }
 {
-    match seconds_at(words, place) {
-        Ok(seconds) => Ok(seconds),
-        Err(_) => Err(FaultKind::Cluster),
-    }
+    seconds_at(words, place).ok().ok_or(FaultKind::Cluster)
 }
 
 /// `cluster RETENTION TIMEOUT NAME ..`

@@ -89,8 +89,5 @@ fn bucket_place(start: u32, matchers: &MatcherIter<'_>) -> Result<Offset, AllocE
 fn place_behind(text: &Vec<u8>) -> Result<u32, AllocError>
     ensures { IfOk result (λ place. place ≡ length text.now.items) }
 {
-    match u32::try_from(text.len()) {
-        Ok(place) => Ok(place),
-        Err(_) => Err(AllocError),
-    }
+    u32::try_from(text.len()).ok().ok_or(AllocError)
 }

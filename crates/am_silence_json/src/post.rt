@@ -30,10 +30,7 @@ pub fn moment_in(object: &Value, key: &str) -> Option<Moment>
     ensures only { (m : ℕ) → HasMoment key.now (view object.now) m → result ≡ Some m }
 {
     let text = text_in(object, key)?;
-    match read_moment(text) {
-        Some(moment) => Some(moment),
-        None => None,
-    }
+    read_moment(text)
 }
 
 /// The posted identifier.

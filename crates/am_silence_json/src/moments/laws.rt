@@ -13,10 +13,7 @@ pub fn reads_again(moment: Moment) -> Option<Moment>
     ensures { result ≡ Some (moment - moment % 1_000_000) }
 {
     let text = write_moment(moment);
-    match read_moment(text.as_str()) {
-        Some(again) => Some(again),
-        None => None,
-    }
+    read_moment(text.as_str())
 }
 
 /// Each text that is written for a moment spells the moment cut to milliseconds.

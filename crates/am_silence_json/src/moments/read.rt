@@ -66,10 +66,7 @@ fn moment_of(clock: Clock, nanos: u32, offset: Offset) -> Option<Moment>
         return None;
     }
     match Date::new(clock.year as i16, clock.month as i8, clock.day as i8) {
-        Ok(date) => match Moment::from_parts(utc_seconds(date, clock, offset), nanos) {
-            Some(moment) => Some(moment),
-            None => None,
-        },
+        Ok(date) => Moment::from_parts(utc_seconds(date, clock, offset), nanos),
         Err(_) => None,
     }
 }
@@ -104,8 +101,5 @@ pub fn read_moment(text: &str) -> Option<Moment>
     ensures only { (m : ℕ) → ReadsMoment text.now m → result ≡ Some m }
 {
     let spelled = read_date_time(text.as_bytes())?;
-    match moment_of(spelled.clock, spelled.fraction.nanos, spelled.offset) {
-        Some(moment) => Some(moment),
-        None => None,
-    }
+    moment_of(spelled.clock, spelled.fraction.nanos, spelled.offset)
 }
