@@ -2,7 +2,7 @@
 use Rattle.std.proofs.Common.{◌≡◌, ℕ, zero, suc, ◌+◌, ◌<◌, ◌≤◌, List, [], ◌∷◌, length, get_or, take, drop, Option, Some, None, Result, Ok, Err, ⊎_elim, refl, sym, ap, ◌∙◌, subst, arith, ◌↔◌, take-append-drop, get_or-take, get_or-drop, length-take, length-drop}
 use Rattle.std.specs.Prelude.{IsPermutation, IfSome, true, false, Any, Contains, slice_get, insert}
 use Rattle.std.specs.Result.{result_err}
-use Rattle.std.specs.List.{All, AllByRecursion, IsAllAdjacentAnswer, remove}
+use Rattle.std.specs.List.{All, IsAllAdjacentAnswer, remove}
 use Rattle.std.specs.List.Sorted.{IsSorted, IsSearchInRange, IsBinarySearchResult, IsPartitionPoint}
 use Rattle.std.specs.Ordering.{nat_cmp, is_lt, ordering_reverse}
 use Rattle.std.specs.Cmp.Lexicographic.{slice_cmp}
@@ -12,7 +12,7 @@ use Rattle.std.proofs.lemmas.Bool.{cases_lt}
 use Rattle.std.proofs.lemmas.Cmp.{nat_list_cmp_total, tied_itself}
 use Rattle.std.proofs.lemmas.Map.Lookups.{exact_bytes}
 use Rattle.std.proofs.lemmas.List.{get_or_default}
-use Rattle.std.proofs.lemmas.Option.{get_or_from_slice_get, slice_get-get_or, slice_get_within}
+use Rattle.std.proofs.lemmas.Option.{slice_get-get_or}
 use Rattle.std.proofs.lemmas.List.Edits.{length-insert, get_or-insert_at}
 use Rattle.std.proofs.lemmas.List.Elements.{recursion_from_All}
 use Rattle.std.proofs.lemmas.List.Sorted.{All-permutation, searchable_from_sorted, Contains-permutation, IsPermutation-sym, IsPermutation-trans, IsPermutation-cons, IsPermutation-insert, IsPermutation-middle, IsPermutation-remove}
@@ -166,34 +166,6 @@ pub members_of : (old names : List (List ℕ)) (own : ℕ) → (Any IsEmptyName 
     AreMembers names own
 members_of old names own no_empty no_long moved order within =
     record { order = order; sized = All-permutation IsMemberName old names moved (sized_names old no_empty no_long); there = within }
-
--- a name below the others
-below_all : (x : List ℕ) (names : List (List ℕ)) → AllByRecursion (λ other. name_cmp x other ≡ Less) names → (k : ℕ) (d : List ℕ) → k < length names → name_cmp x (get_or names k d) ≡ Less
-below_all x [] all k d within = absurd (omega arith)
-below_all x (y ∷ names) all zero d within = all.0
-below_all x (y ∷ names) all (suc k) d within = below_all x names all.1 k d (omega arith)
-
--- names at two places
-apart_at : (names : List (List ℕ)) → AreInOrder names → (i k : ℕ) (d : List ℕ) → i < k → k < length names → name_cmp (get_or names i d) (get_or names k d) ≡ Less
-apart_at [] order i k d before within = absurd (omega arith)
-apart_at (x ∷ names) order i zero d before within = absurd (omega arith)
-apart_at (x ∷ names) order zero (suc k) d before within = below_all x names order.0 k d (omega arith)
-apart_at (x ∷ names) order (suc i) (suc k) d before within = apart_at names order.1 i k d (omega arith) (omega arith)
-
--- a name stands at one place
-pub one_place : (names : List (List ℕ)) → AreInOrder names → (name : List ℕ) (i k : ℕ) → slice_get names i ≡ Some name → slice_get names k ≡ Some name → i ≡ k
-one_place names order name i k here there =
-    let tie : name_cmp name name ≡ Equal = tied_itself name_order.total name in
-    let first = get_or_from_slice_get names i name name here in
-    let second = get_or_from_slice_get names k name name there in
-    let never : (a b : ℕ) → a < b → b < length names → get_or names a name ≡ name → get_or names b name ≡ name → ⊥ =
-    λ a b less within one other. let below : name_cmp name name ≡ Less = sym (ap (λ n. name_cmp n (get_or names b name)) one ∙ ap (λ n. name_cmp name n) other) ∙ apart_at names order a b name less within in
-    let wrong = sym below ∙ tie in
-    cc in
-    ⊎_elim
-    (λ less. absurd (never i k less (slice_get_within names k name there) first second))
-    (λ no. ⊎_elim (λ more. absurd (never k i more (slice_get_within names i name here) second first)) (λ up. omega (arith, no, up)) (cases_lt k i))
-    (cases_lt i k)
 
 -- ---- a fact of some name
 

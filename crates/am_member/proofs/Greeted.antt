@@ -4,12 +4,12 @@ use Rattle.std.proofs.KnownBytes.{Consumes-trans}
 use Rattle.std.proofs.lemmas.List.{drop-append-le}
 use Rattle.std.proofs.lemmas.Option.{none-some}
 use Rattle.std.specs.Io.KnownBytes.{Consumes}
+use Rattle.std.specs.Prelude.{slice_get}
 use Rattle.am_gossip.specs.declared.error.FrameError.TheVariants.{Memory}
 use Rattle.am_gossip.specs.Hellos.{hello_of}
 use Rattle.am_gossip.proofs.Greeted.{hello_found, hello_more}
 use Rattle.am_http.specs.Receiving.{behind}
-use Rattle.am_instance.specs.Configs.{AreMembers, Settings}
-use Rattle.am_instance.proofs.Names.{one_place}
+use Rattle.am_instance.specs.Configs.{Settings}
 use Rattle.am_instance.specs.InstanceStates.{InstanceState}
 use Rattle.am_member.specs.declared.fault.Fault.{Fault}
 use Rattle.am_member.specs.declared.fault.Fault.TheVariants.{Read, Write, TooLarge, Frame as InFrame, UnknownName, Step}
@@ -41,9 +41,8 @@ greets_memory config input mid_input left bytes later buffer count read consumed
 -- ---- a peer that was greeted
 
 -- no other peer has its name
-pub only_peer : (config : Settings) (name : List ℕ) (place : ℕ) → AreMembers config.members config.place → IsPeerOf config name place → IsOnlyPeerOf config name place
-only_peer config name place members found =
-    record { found = found; alone = λ other peer. one_place config.members members.order name other place peer.named found.named }
+pub only_peer : (config : Settings) (name : List ℕ) (place : ℕ) → ((other : ℕ) → slice_get config.members other ≡ Some name → other ≡ place) → IsPeerOf config name place → IsOnlyPeerOf config name place
+only_peer config name place only found = record { found = found; alone = λ other peer. only other peer.named }
 
 abbrev or_else : {A B : Type 0} → A → Result A B → A
 or_else other (Ok x) = x

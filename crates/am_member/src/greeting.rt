@@ -1,6 +1,6 @@
 //! The greeting that a peer's connection begins with.
 
-ghost use Rattle.std.specs.Prelude.{◌≡◌, ◌↔◌, ◌≤◌, ℕ, Some, None, length, slice_get, IfSome, IsTrue};
+ghost use Rattle.std.specs.Prelude.{◌≡◌, ◌≤◌, ℕ, None, length, IfSome};
 ghost use Rattle.am_http.specs.Receiving.{behind};
 ghost use Rattle.am_member.specs.Incoming.{IsOnlyPeerOf, IsPeerOf, most_bytes};
 ghost use Rattle.am_member.specs.Hearing.{Greets, IsNamed};
@@ -14,34 +14,16 @@ use std::io;
 /// How many bytes are asked for at once.
 const PIECE: usize = 4_096;
 
-/// Whether the member at a place has this name.
-fn is_named(config: &Config, place: usize, name: &str) -> bool
-    ensures { IsTrue result ↔ (slice_get config.now.members place ≡ Some name.now) }
-{
-    match config.members().get(place) {
-        Some(member) => member.as_str() == name,
-        None => false,
-    }
-}
-
-/// Whether the member at a place is a peer of this name.
-fn is_peer_of(config: &Config, place: usize, name: &str) -> bool
-    ensures { IsTrue result ↔ IsPeerOf config.now name.now place }
-{
-    is_named(config, place, name) && config.is_peer(place as u64)
-}
-
 /// The place of the peer of this name.
 pub fn peer_named(config: &Config, name: &str) -> Option<Place>
     ensures found { IfSome result (IsOnlyPeerOf config.now name.now) }
     ensures none { result ≡ None → (place : ℕ) → ¬ IsPeerOf config.now name.now place }
 {
-    for place in 0..config.members().len() {
-        if is_peer_of(config, place, name) {
-            return Some(place as u64);
-        }
+    let place = config.place_named(name)?;
+    if !config.is_peer(place) {
+        return None;
     }
-    None
+    Some(place)
 }
 
 /// What a greeting of this name and length is read as.
