@@ -15,6 +15,9 @@ how many lists they read a second.
 
 `frozen`: 300 posts of a member, a peer of which runs, and then is frozen.
 
+`saves`: posts for eight seconds of a member that holds 10,000 and 100,000 silences and as many entries, which never saves,
+and then saves both files every second: the most is how long one waits for a save.
+
 `load`: requests a second for one silence and of posts by `wrk` with 1, 16 and 200 clients, each on a new connection, where
 `wrk` is there.
 
@@ -48,8 +51,9 @@ PROGRAM = f"{TOP}/crates/am_tool/out/am_tool"
 ALERTMANAGER = shutil.which("prometheus-alertmanager")
 CONFIG = "route:\n  receiver: none\nreceivers:\n- name: none\n"
 
-# How long anything is waited for, in seconds; and how long the requests of a row may take beside many clients.
-PATIENCE, BUDGET = 120, 20
+# How long anything is waited for, in seconds; how long the requests of a row may take beside many clients; and how long
+# posts are made beside saves.
+PATIENCE, BUDGET, SAVING = 120, 20, 8
 
 # How many clients say nothing, and how many of them have sent half a request.
 SILENT, HALF = 200, 60
@@ -63,7 +67,7 @@ def identifier(number):
 
 ONE = f"/api/v2/silence/{identifier(7)}"
 
-PARTS = ["alone", "crowd", "readers", "frozen", "load", "spread"]
+PARTS = ["alone", "crowd", "readers", "frozen", "saves", "load", "spread"]
 
 
 def silence(number, now):
@@ -101,8 +105,8 @@ def write_state(folder, silences, entries):
         file.write(b"".join(entry(number, now) for number in range(entries)))
 
 
-def ours(folder, port, peers=(), name="a", program=PROGRAM):
-    words = [program, "instance", "--name", name, "--listen", str(port), "--time-limit", "60"]
+def ours(folder, port, peers=(), name="a", program=PROGRAM, options=()):
+    words = [program, "instance", "--name", name, "--listen", str(port), "--time-limit", "60", *options]
     for peer, at in peers:
         words += ["--peer", f"{peer}={at}"]
     words += ["--sil", f"{folder}/silences", "--nfl", f"{folder}/nflog"]
@@ -201,10 +205,10 @@ def running(start, silences):
             process.wait()
 
 
-def quantiles(count, work):
+def quantiles(count, work, budget=BUDGET):
     """The median, the 99th part and the most of the milliseconds that a number of good calls take, as far as they come in
     time. One that doesn't has the time until then."""
-    times, deadline = [], time.perf_counter() + BUDGET
+    times, deadline = [], time.perf_counter() + budget
     while len(times) < count and time.perf_counter() < deadline:
         begun = time.perf_counter()
         if work(deadline - begun) is not None or time.perf_counter() >= deadline:
@@ -302,6 +306,17 @@ def frozen(start):
     return told
 
 
+def saves(start):
+    """Posts of a member that saves, and of one that doesn't."""
+    told = {}
+    for count in (10_000, 100_000):
+        for title, options in (("never saved", []), ("saved each second", ["--save-every", "1"])):
+            with running(functools.partial(start, options=options), count) as port:
+                post = functools.partial(post_one, port)
+                told[f"{count} held, {title}: post, ms"] = quantiles(sys.maxsize, post, SAVING)
+    return told
+
+
 def load(start):
     """Requests a second by wrk; of posts the first are made to a server that holds 1,000 silences."""
     told = {}
@@ -390,8 +405,9 @@ def main():
     for part in (crowd, readers):
         if part.__name__ in words.only:
             beside(part, words.before)
-    if "frozen" in words.only:
-        beside(frozen, words.before, has_other=False)
+    for part in (frozen, saves):
+        if part.__name__ in words.only:
+            beside(part, words.before, has_other=False)
     if "load" in words.only and shutil.which("wrk"):
         beside(load, words.before)
     if "spread" in words.only:
