@@ -1,1 +1,4 @@
+pub mod Outbox
 pub mod Reading
+pub mod Sending
+pub mod Wrote

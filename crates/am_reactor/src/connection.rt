@@ -1,5 +1,8 @@
 //! One connection.
 
+ghost use Rattle.std.specs.Prelude.{◌≡◌};
+ghost use Rattle.am_reactor.specs.Sending.{counted};
+
 use crate::fault::{Broken, Failure};
 use crate::service::Service;
 use mio::net::TcpStream;
@@ -62,6 +65,13 @@ impl<T> Connection<T> {
             written: 0,
         }
     }
+}
+
+/// Counts bytes, as far as the counter has room for them.
+pub fn count_on(counter: &mut u64, more: usize)
+    ensures { counter.new ≡ counted counter.old more }
+{
+    *counter = counter.saturating_add(more as u64);
 }
 
 /// Tells the service that a connection is broken.

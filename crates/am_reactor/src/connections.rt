@@ -148,7 +148,9 @@ impl<T: Drop> Connections<T> {
         if pace == Pace::Busy {
             self.busy.push(key);
         }
-        if waits && !self.waiting.holds(key) {
+        if !waits {
+            self.waiting.remove(key);
+        } else if !self.waiting.holds(key) {
             self.waiting.push(key);
         }
         if is_heard {
@@ -178,12 +180,13 @@ pub fn attend<S: Service>(
     }
 }
 
-/// Does what waits for the session that waits longest. Answers its key.
+/// Does a stretch of what waits for the session that waits longest. Answers its key, which stays first in the line until the
+/// session waits no more.
 pub fn resume_first<S: Service>(
     connections: &mut Connections<S::Session>,
     service: &mut S,
 ) -> Option<usize> {
-    let key = connections.waiting.pop()?;
+    let key = connections.waiting.first()?;
     let connection = connections.table.get_mut(key)?;
     service.resume(&mut connection.session);
     Some(key)

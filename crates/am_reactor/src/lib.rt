@@ -13,6 +13,7 @@ mod line;
 mod link;
 mod links;
 mod listening;
+mod outbox;
 mod reactor;
 mod reading;
 mod running;

@@ -1,44 +1,27 @@
 //! A connection to a peer.
 
+ghost use Rattle.std.specs.Prelude.{◌≡◌, ◌↔◌, ◌<◌, ◌≤◌, ℕ, [], ◌++◌, false, length, Ok, IfOk, OnOk, OnErr, IsErrOf, IsTrue};
+ghost use Rattle.am_reactor.specs.Outbox.{room_in, with_behind, Advances};
+
 use crate::connection::Pace;
 use crate::fault::LinkFault;
+use crate::outbox::{Outbox, Progress};
 use mio::net::TcpStream;
-use std::alloc::{AllocError, Global};
-use std::io::{ErrorKind, Write};
+use std::alloc::Global;
+use std::io::ErrorKind;
 use std::net::{Ipv4Addr, Net, Shutdown, SocketAddr};
 use std::time::Instant;
-
-/// How often a link is written to in a turn.
-const WRITES: u32 = 16;
 
 /// A connection to a peer, and what goes over it.
 #[derive(Drop)]
 pub struct Link {
     pub stream: TcpStream,
-    bytes: Vec<u8>,
-    /// How many of the bytes went out.
-    written: usize,
+    outbox: Outbox,
     /// When its time is over.
     pub end: Instant,
     is_connected: bool,
     /// Whether it was told that more came than the link takes.
     is_full: bool,
-}
-
-/// How far a link is.
-#[derive(Clone, Copy, Debug, PartialEq, Eq)]
-pub enum Progress {
-    /// Something is still to be written.
-    Going(Pace),
-    /// All is written.
-    Done,
-}
-
-/// What goes over a link first.
-fn opening(alloc: Global, greeting: &[u8], bytes: &[u8]) -> Result<Vec<u8>, AllocError> {
-    let mut opening = Vec::from_slice(alloc, greeting)?;
-    opening.extend_from_slice(bytes)?;
-    Ok(opening)
 }
 
 impl Link {
@@ -54,14 +37,16 @@ impl Link {
         greeting: &[u8],
         bytes: &[u8],
         end: Instant,
-    ) -> Result<Link, LinkFault> {
-        let bytes = opening(alloc, greeting, bytes)?;
+    ) -> Result<Link, LinkFault>
+        ensures gone { IfOk result (λ link. link.outbox.gone ≡ []) }
+        ensures greeted { IfOk result (λ link. link.outbox.waiting ≡ greeting.now ++ bytes.now) }
+    {
+        let outbox = Outbox::new(alloc, greeting, bytes)?;
         let address = SocketAddr::from((Ipv4Addr::LOCALHOST, port));
         match TcpStream::connect(rt, address) {
             Ok(stream) => Ok(Link {
                 stream,
-                bytes,
-                written: 0,
+                outbox,
                 end,
                 is_connected: false,
                 is_full: false,
@@ -71,8 +56,10 @@ impl Link {
     }
 
     /// How many bytes went out.
-    pub fn written(&self) -> u64 {
-        self.written as u64
+    pub fn written(&self) -> u64
+        ensures { result ≡ length self.now.outbox.gone }
+    {
+        self.outbox.written() as u64
     }
 
     /// Adds bytes, where the link carries at most so many then.
@@ -80,18 +67,23 @@ impl Link {
     /// # Errors
     ///
     /// [`LinkFault::Full`], which is told once, and [`LinkFault::Memory`].
-    pub fn append(&mut self, bytes: &[u8], most: usize) -> Result<(), LinkFault> {
-        if bytes.len() > most.saturating_sub(self.bytes.len()) {
-            let was_full = self.is_full;
-            self.is_full = true;
-            return if was_full {
-                Ok(())
-            } else {
-                Err(LinkFault::Full)
-            };
+    pub fn append(&mut self, bytes: &[u8], most: usize) -> Result<(), LinkFault>
+        ensures behind { length bytes.now ≤ room_in most self.old.outbox
+            → OnOk result (self.new.outbox ≡ with_behind self.old.outbox bytes.now) }
+        ensures no_room { room_in most self.old.outbox < length bytes.now → self.new.outbox ≡ self.old.outbox }
+        ensures lost { OnErr result (self.new.outbox ≡ self.old.outbox) }
+        ensures full { IsErrOf result LinkFault.Full
+            ↔ ((room_in most self.old.outbox < length bytes.now) × (self.old.is_full ≡ false)) }
+        ensures told_once { IsTrue self.old.is_full → IsTrue self.new.is_full }
+        ensures told { IsErrOf result LinkFault.Full → IsTrue self.new.is_full }
+    {
+        let added = self.outbox.append(bytes, most);
+        if added != Err(LinkFault::Full) {
+            return added;
         }
-        self.bytes.extend_from_slice(bytes)?;
-        Ok(())
+        let was_full = self.is_full;
+        self.is_full = true;
+        if was_full { Ok(()) } else { added }
     }
 
     /// Whether the connection stands.
@@ -99,7 +91,9 @@ impl Link {
     /// # Errors
     ///
     /// [`LinkFault::Connect`] where it was refused.
-    fn connected(&mut self) -> Result<bool, LinkFault> {
+    fn connected(&mut self) -> Result<bool, LinkFault>
+        ensures { self.new.outbox ≡ self.old.outbox }
+    {
         if self.is_connected {
             return Ok(true);
         }
@@ -116,46 +110,19 @@ impl Link {
     /// # Errors
     ///
     /// [`LinkFault::Connect`] and [`LinkFault::Write`].
-    pub fn advance(&mut self) -> Result<Progress, LinkFault> {
+    pub fn advance(&mut self) -> Result<Progress, LinkFault>
+        ensures out { (count : ℕ) × Advances count self.old.outbox self.new.outbox }
+        ensures done { result ≡ Ok Progress.Done → self.new.outbox.waiting ≡ [] }
+    {
         if !self.connected()? {
             return Ok(Progress::Going(Pace::Idle));
         }
-        for _ in 0..WRITES {
-            match self.write_once()? {
-                Some(Pace::Busy) => {}
-                Some(Pace::Idle) => return Ok(Progress::Going(Pace::Idle)),
-                None => {
-                    let _ = self.stream.shutdown(Shutdown::Write);
-                    return Ok(Progress::Done);
-                }
-            }
-        }
-        Ok(Progress::Going(Pace::Busy))
-    }
-
-    /// Writes once: whether more can be written now. `None` where all is written.
-    fn write_once(&mut self) -> Result<Option<Pace>, LinkFault> {
-        let rest = match self.bytes.as_slice().split_at_checked(self.written) {
-            Some((_, rest)) if !rest.is_empty() => rest,
-            _ => return Ok(None),
-        };
         let mut stream = &self.stream;
-        let kind = match stream.write(rest) {
-            Ok(0) => ErrorKind::WriteZero,
-            Ok(count) => {
-                self.written = self.written.saturating_add(count);
-                return Ok(Some(Pace::Busy));
-            }
-            Err(error) => error.kind(),
-        };
-        match kind {
-            ErrorKind::WouldBlock => Ok(Some(Pace::Idle)),
-            ErrorKind::Interrupted => Ok(Some(Pace::Busy)),
-            kind => Err(LinkFault::Write {
-                written: self.written as u64,
-                kind,
-            }),
+        let progress = self.outbox.send_on(&mut stream)?;
+        if progress == Progress::Done {
+            let _ = self.stream.shutdown(Shutdown::Write);
         }
+        Ok(progress)
     }
 }
 

@@ -3,7 +3,8 @@
 use crate::connection::Pace;
 use crate::fault::LinkFault;
 use crate::line::Line;
-use crate::link::{Link, Progress};
+use crate::link::Link;
+use crate::outbox::Progress;
 use crate::service::{Outgoing, Service};
 use crate::source::Source;
 use mio::{Interest, Registry};

@@ -3,7 +3,7 @@
 ghost use Rattle.std.specs.Prelude.{◌≤◌, length};
 ghost use Rattle.am_reactor.specs.Reading.{FitsPiece};
 
-use crate::connection::{Connection, Pace};
+use crate::connection::{Connection, Pace, count_on};
 use crate::fault::Failure;
 use crate::service::Service;
 use mio::net::TcpStream;
@@ -72,6 +72,6 @@ pub fn hear<S: Service>(
 
 /// Tells the service of a piece.
 fn take_piece<S: Service>(connection: &mut Connection<S::Session>, service: &mut S, piece: &[u8]) {
-    connection.read = connection.read.saturating_add(piece.len() as u64);
+    count_on(&mut connection.read, piece.len());
     service.feed(&mut connection.session, piece);
 }

@@ -1,6 +1,7 @@
 //! What a loop serves.
 
-ghost use Rattle.std.specs.Prelude.{ℕ, ◌≤◌, length};
+ghost use Rattle.std.specs.Prelude.{◌≡◌, ℕ, ◌≤◌, List, [], length, drop};
+ghost use Rattle.am_reactor.specs.Sending.{IsFirstPart};
 
 use crate::fault::{Broken, LinkFault};
 use std::io::ErrorKind;
@@ -28,8 +29,8 @@ pub trait Service {
     /// What stands for one connection.
     type Session: Drop;
 
-    /// How many bytes of a session are still to be written.
-    ghost pending: { Self.Session → ℕ };
+    /// The bytes of a session that are still to be written.
+    ghost pending: { Self.Session → List ℕ };
 
     /// A connection was accepted.
     fn begin(&mut self) -> Self::Session;
@@ -49,16 +50,19 @@ pub trait Service {
     /// Whether what waits may be done now.
     fn may_resume(&self) -> bool;
 
-    /// Does what waits: for one session in a turn of the loop, the one that waits longest.
+    /// Does a stretch of what waits. It is called once in a turn of the loop, for the session that waits longest: that one stays
+    /// first until it waits no more.
     fn resume(&mut self, session: &mut Self::Session);
 
     /// What is still to be written, or a first part of it that has a byte.
     fn output<'a>(&self, session: &'a Self::Session) -> &'a [u8]
-        ensures { length result.now ≤ pending session.now };
+        ensures first_part { IsFirstPart result.now (pending session.now) }
+        ensures has_byte { result.now ≡ [] → pending session.now ≡ [] };
 
     /// So many bytes of the output went out.
     fn sent(&mut self, session: &mut Self::Session, count: usize)
-        requires { count ≤ pending session.old };
+        requires within { count ≤ length (pending session.old) }
+        ensures rest { pending session.new ≡ drop count (pending session.old) };
 
     /// Whether nothing more is read. Once nothing waits and all is written, the connection is let go.
     fn is_over(&self, session: &Self::Session) -> bool;

@@ -1,5 +1,7 @@
 //! What is done for a connection in a turn.
 
+ghost use Rattle.std.specs.Prelude.{◌≡◌, ◌≢◌, [], IsTrue};
+
 use crate::connection::{Connection, Pace, Phase, tell_broken};
 use crate::fault::Failure;
 use crate::leaving::{rinse, say_goodbye};
@@ -15,12 +17,15 @@ fn exchange<S: Service>(
     piece: &mut [u8],
 ) -> Result<Pace, Failure> {
     let heard = hear(connection, service, piece)?;
-    let told = tell(connection, service)?;
+    let mut stream = &connection.stream;
+    let told = tell(&mut connection.session, service, &mut stream, &mut connection.written)?;
     Ok(heard.and(told))
 }
 
 /// Whether nothing more is read of a connection, done for it or written to it.
-fn is_done<S: Service>(connection: &Connection<S::Session>, service: &S) -> bool {
+fn is_done<S: Service>(connection: &Connection<S::Session>, service: &S) -> bool
+    ensures { IsTrue result → S.pending connection.now.session ≡ [] }
+{
     let session = &connection.session;
     (connection.ended || service.is_over(session))
         && !service.waits(session)
@@ -33,7 +38,9 @@ pub fn serve<S: Service>(
     service: &mut S,
     piece: &mut [u8],
     now: Instant,
-) -> Option<Pace> {
+) -> Option<Pace>
+    ensures let_go { connection.old.phase ≡ Phase.Open → connection.new.phase ≢ Phase.Open → S.pending connection.new.session ≡ [] }
+{
     if connection.phase == Phase::Open {
         match exchange(connection, service, piece) {
             Err(why) => {
