@@ -1,3 +1,4 @@
+pub mod Connections
 pub mod Outbox
 pub mod Reading
 pub mod Sending

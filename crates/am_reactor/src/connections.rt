@@ -1,5 +1,9 @@
 //! The connections that are open.
 
+ghost use Rattle.std.specs.Prelude.{◌≡◌, None, Some, IfSome, IfNone, IfOk, OnErr};
+ghost use Rattle.slab.specs.Slab.{Updates, SameValues, get};
+ghost use Rattle.am_reactor.specs.Connections.{KeepsOthers};
+
 use crate::connection::{Connection, Pace, Phase, tell_broken};
 use crate::fault::Failure;
 use crate::line::Line;
@@ -73,7 +77,11 @@ impl<T: Drop> Connections<T> {
     /// # Errors
     ///
     /// Where there is no memory or no key for it, it is closed.
-    pub fn insert(&mut self, connection: Connection<T>) -> Result<u16, AllocError> {
+    pub fn insert(&mut self, connection: Connection<T>) -> Result<u16, AllocError>
+        ensures was_free { IfOk result (λ key. get self.old.table key ≡ None) }
+        ensures inserted { IfOk result (λ key. Updates self.old.table self.new.table key (Some connection)) }
+        ensures unchanged { OnErr result (SameValues self.old.table self.new.table) }
+    {
         let key = self.table.insert(connection)?;
         match u16::try_from(key) {
             Ok(number) if number < self.limit => {
@@ -88,7 +96,9 @@ impl<T: Drop> Connections<T> {
     }
 
     /// Closes a connection.
-    pub fn remove(&mut self, key: usize) {
+    pub fn remove(&mut self, key: usize)
+        ensures { Updates self.old.table self.new.table key None }
+    {
         self.by_end.remove(key);
         self.by_quiet.remove(key);
         self.busy.remove(key);
@@ -144,7 +154,9 @@ impl<T: Drop> Connections<T> {
     }
 
     /// Puts a connection where it belongs behind its turn.
-    fn place(&mut self, key: usize, pace: Pace, waits: bool, is_heard: bool) {
+    fn place(&mut self, key: usize, pace: Pace, waits: bool, is_heard: bool)
+        ensures { self.new.table ≡ self.old.table }
+    {
         if pace == Pace::Busy {
             self.busy.push(key);
         }
@@ -166,7 +178,9 @@ pub fn attend<S: Service>(
     piece: &mut [u8],
     key: usize,
     now: Instant,
-) {
+)
+    ensures { KeepsOthers key connections.old.table connections.new.table }
+{
     let Some(connection) = connections.table.get_mut(key) else {
         return;
     };
@@ -185,7 +199,10 @@ pub fn attend<S: Service>(
 pub fn resume_first<S: Service>(
     connections: &mut Connections<S::Session>,
     service: &mut S,
-) -> Option<usize> {
+) -> Option<usize>
+    ensures others { IfSome result (λ key. KeepsOthers key connections.old.table connections.new.table) }
+    ensures unchanged { IfNone result (SameValues connections.old.table connections.new.table) }
+{
     let key = connections.waiting.first()?;
     let connection = connections.table.get_mut(key)?;
     service.resume(&mut connection.session);
@@ -193,7 +210,9 @@ pub fn resume_first<S: Service>(
 }
 
 /// Closes a connection, and tells the service where it was still open.
-fn cut<S: Service>(connections: &mut Connections<S::Session>, service: &mut S, key: usize) {
+fn cut<S: Service>(connections: &mut Connections<S::Session>, service: &mut S, key: usize)
+    ensures { Updates connections.old.table connections.new.table key None }
+{
     if let Some(connection) = connections.table.get_mut(key) {
         tell_broken(connection, service, Failure::Time);
     }

@@ -1,12 +1,13 @@
 //! What comes of a connection.
 
-ghost use Rattle.std.specs.Prelude.{◌≤◌, length};
-ghost use Rattle.am_reactor.specs.Reading.{FitsPiece};
+ghost use Rattle.std.specs.Prelude.{◌≡◌, take};
+ghost use Rattle.std.specs.Io.KnownBytes.{Consumes};
+ghost use Rattle.am_reactor.specs.Reading.{FitsPiece, brought_by};
+ghost use Rattle.am_reactor.specs.Sending.{counted};
 
 use crate::connection::{Connection, Pace, count_on};
 use crate::fault::Failure;
 use crate::service::Service;
-use mio::net::TcpStream;
 use std::io::{ErrorKind, Read};
 
 /// How many pieces of one connection are read in a turn.
@@ -27,10 +28,11 @@ pub enum Brought {
 }
 
 /// Reads once.
-pub fn read_once(stream: &mut TcpStream, piece: &mut [u8]) -> Brought
-    ensures { FitsPiece piece.new result }
+pub fn read_once<R: Read>(reader: &mut R, piece: &mut [u8]) -> Brought
+    ensures fits { FitsPiece piece.new result }
+    ensures given { Consumes (R.remaining reader.old) (R.remaining reader.new) (take (brought_by result) piece.new) }
 {
-    match stream.read(piece) {
+    match reader.read(piece) {
         Ok(0) => Brought::End,
         Ok(count) => Brought::Bytes(count),
         Err(error) => match error.kind() {
@@ -39,6 +41,29 @@ pub fn read_once(stream: &mut TcpStream, piece: &mut [u8]) -> Brought
             kind => Brought::Failed(kind),
         },
     }
+}
+
+/// Reads once, and tells the service what came. Counts the bytes.
+fn hear_once<S: Service, R: Read>(
+    session: &mut S::Session,
+    service: &mut S,
+    reader: &mut R,
+    piece: &mut [u8],
+    read: &mut u64,
+) -> Brought
+    ensures given { Consumes (R.remaining reader.old) (R.remaining reader.new) (take (brought_by result) piece.new) }
+    ensures count { read.new ≡ counted read.old (brought_by result) }
+{
+    let brought = read_once(reader, piece);
+    match brought {
+        Brought::Bytes(count) => {
+            count_on(read, count);
+            service.feed(session, &piece[..count]);
+        }
+        Brought::End => service.end(session),
+        Brought::Nothing | Brought::Interrupted | Brought::Failed(_) => {}
+    }
+    brought
 }
 
 /// Reads what came, and tells the service, until nothing more is there, the session is over or its pieces of this turn are
@@ -51,27 +76,27 @@ pub fn hear<S: Service>(
     connection: &mut Connection<S::Session>,
     service: &mut S,
     piece: &mut [u8],
-) -> Result<Pace, Failure> {
+) -> Result<Pace, Failure>
+    ensures { connection.new.phase ≡ connection.old.phase }
+{
     for _ in 0..PIECES {
         if connection.ended || service.is_over(&connection.session) {
             return Ok(Pace::Idle);
         }
-        match read_once(&mut connection.stream, piece) {
-            Brought::Bytes(count) => take_piece(connection, service, &piece[..count]),
-            Brought::End => {
-                connection.ended = true;
-                service.end(&mut connection.session);
-            }
+        let mut stream = &connection.stream;
+        let brought = hear_once(
+            &mut connection.session,
+            service,
+            &mut stream,
+            piece,
+            &mut connection.read,
+        );
+        match brought {
+            Brought::Bytes(_) | Brought::Interrupted => {}
+            Brought::End => connection.ended = true,
             Brought::Nothing => return Ok(Pace::Idle),
-            Brought::Interrupted => {}
             Brought::Failed(kind) => return Err(Failure::Read(kind)),
         }
     }
     Ok(Pace::Busy)
-}
-
-/// Tells the service of a piece.
-fn take_piece<S: Service>(connection: &mut Connection<S::Session>, service: &mut S, piece: &[u8]) {
-    count_on(&mut connection.read, piece.len());
-    service.feed(&mut connection.session, piece);
 }
