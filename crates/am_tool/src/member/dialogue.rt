@@ -1,6 +1,6 @@
 //! A connection that is served.
 
-ghost use Rattle.std.specs.Prelude.{◌≤◌, ◌-◌, length};
+ghost use Rattle.std.specs.Prelude.{◌≡◌, ◌≤◌, drop, length};
 ghost use Rattle.am_api_silences.specs.Replies.{bytes_of};
 
 use am_api_silences::{Read, ReplyBytes};
@@ -75,7 +75,7 @@ impl Dialogue {
 
     /// What is still to be written.
     pub fn output(&self) -> &[u8]
-        ensures { length result.now ≤ length (bytes_of self.now.reply) - self.now.written }
+        ensures { result.now ≡ drop self.now.written (bytes_of self.now.reply) }
     {
         let reply = self.reply.as_slice();
         if self.written < reply.len() {
@@ -83,6 +83,15 @@ impl Dialogue {
         } else {
             &[]
         }
+    }
+
+    /// So many bytes of what was still to be written went out.
+    pub fn sent(&mut self, count: usize)
+        requires within { count ≤ length (drop self.old.written (bytes_of self.old.reply)) }
+        ensures rest { drop self.new.written (bytes_of self.new.reply) ≡ drop count (drop self.old.written (bytes_of self.old.reply)) }
+    {
+        let end = self.reply.as_slice().len();
+        self.written = end.min(self.written.saturating_add(count));
     }
 }
 

@@ -1,6 +1,6 @@
 //! What a member answers to those who connect to it, and what goes to its peers.
 
-ghost use Rattle.std.specs.Prelude.{◌-◌, length};
+ghost use Rattle.std.specs.Prelude.{drop};
 ghost use Rattle.am_api_silences.specs.Replies.{bytes_of};
 
 use super::Member;
@@ -113,7 +113,7 @@ impl Member<'_> {
 impl Service for Member<'_> {
     type Session = Dialogue;
 
-    ghost pending = { λ dialogue. length (bytes_of dialogue.reply) - dialogue.written };
+    ghost pending = { λ dialogue. drop dialogue.written (bytes_of dialogue.reply) };
 
     fn begin(&mut self) -> Dialogue {
         Dialogue::new(self.rt.alloc())
@@ -153,7 +153,7 @@ impl Service for Member<'_> {
     }
 
     fn sent(&mut self, session: &mut Dialogue, count: usize) {
-        session.written = session.written.saturating_add(count);
+        session.sent(count);
     }
 
     fn is_over(&self, session: &Dialogue) -> bool {
