@@ -1,5 +1,5 @@
 -- What a read may say.
-use Rattle.std.specs.Prelude.{◌<◌, ◌≤◌, ℕ, List, length}
+use Rattle.std.specs.Prelude.{◌≡◌, ◌<◌, ◌≤◌, ℕ, List, length, take}
 use Rattle.am_reactor.specs.declared.reading.Brought.{Brought}
 use Rattle.am_reactor.specs.declared.reading.Brought.TheVariants.{Bytes, End, Nothing, Interrupted, Failed}
 
@@ -18,3 +18,11 @@ FitsPiece piece End = Unit {0}
 FitsPiece piece Nothing = Unit {0}
 FitsPiece piece Interrupted = Unit {0}
 FitsPiece piece (Failed kind) = Unit {0}
+
+-- what a session is after a read: just the bytes that came were fed to it, and where nothing came it is as it was
+abbrev pub HearsOnce : {T : Type 0} → (T → List ℕ → T → Type 0) → List ℕ → T → T → Brought → Type 0
+HearsOnce fed piece old new (Bytes count) = fed old (take count piece) new
+HearsOnce fed piece old new End = Unit {0}
+HearsOnce fed piece old new Nothing = new ≡ old
+HearsOnce fed piece old new Interrupted = new ≡ old
+HearsOnce fed piece old new (Failed kind) = new ≡ old

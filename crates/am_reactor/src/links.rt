@@ -1,5 +1,8 @@
 //! The links to the peers.
 
+ghost use Rattle.std.specs.Prelude.{◌≡◌, ◌++◌, [], ℕ, None, IfOk, OnOk};
+ghost use Rattle.am_reactor.specs.Links.{KeepsLinks, Opens, link_to};
+
 use crate::connection::Pace;
 use crate::fault::LinkFault;
 use crate::line::Line;
@@ -36,7 +39,12 @@ impl Links {
         ports: &[u16],
         greeting: &[u8],
         most: usize,
-    ) -> Result<Links, AllocError> {
+    ) -> Result<Links, AllocError>
+        ensures greeting { IfOk result (λ links. links.greeting.items ≡ greeting.now) }
+        ensures ports { IfOk result (λ links. links.ports.items ≡ ports.now) }
+        ensures most { IfOk result (λ links. links.most ≡ most) }
+        ensures none { IfOk result (λ links. (peer : ℕ) → link_to links peer ≡ None) }
+    {
         let Ok(count) = u16::try_from(ports.len()) else {
             return Err(AllocError);
         };
@@ -93,11 +101,15 @@ impl Links {
         registry: &Registry,
         outgoing: &Outgoing,
         end: Instant,
-    ) -> Result<(), LinkFault> {
+    ) -> Result<(), LinkFault>
+        ensures opened { OnOk result (Opens self.old self.new outgoing.now.peer outgoing.now.bytes.items) }
+        ensures others { KeepsLinks outgoing.now.peer self.old self.new }
+    {
         let peer = outgoing.peer;
         let bytes = outgoing.bytes.as_slice();
+        let most = self.most;
         if let Some(Some(link)) = self.open.get_mut(peer) {
-            return link.append(bytes, self.most);
+            return link.append(bytes, most);
         }
         let link = self.connect(rt, registry, peer, bytes, end)?;
         if let Some(open) = self.open.get_mut(peer) {
@@ -116,7 +128,10 @@ impl Links {
         peer: usize,
         bytes: &[u8],
         end: Instant,
-    ) -> Result<Link, LinkFault> {
+    ) -> Result<Link, LinkFault>
+        ensures gone { IfOk result (λ link. link.outbox.gone ≡ []) }
+        ensures greeted { IfOk result (λ link. link.outbox.waiting ≡ self.now.greeting.items ++ bytes.now) }
+    {
         let port = self.ports.get(peer).copied().unwrap_or(0);
         let source = match u16::try_from(peer) {
             Ok(place) if port > 0 => Source::Link(place),
@@ -134,7 +149,9 @@ impl Links {
     /// # Errors
     ///
     /// Why what waits is lost.
-    fn advance(&mut self, peer: usize) -> Result<Progress, LinkFault> {
+    fn advance(&mut self, peer: usize) -> Result<Progress, LinkFault>
+        ensures others { KeepsLinks peer self.old self.new }
+    {
         match self.open.get_mut(peer) {
             Some(Some(link)) => link.advance(),
             _ => Ok(Progress::Done),
@@ -142,7 +159,10 @@ impl Links {
     }
 
     /// Closes the link to a peer.
-    fn close(&mut self, peer: usize) {
+    fn close(&mut self, peer: usize)
+        ensures closed { link_to self.new peer ≡ None }
+        ensures others { KeepsLinks peer self.old self.new }
+    {
         if let Some(open) = self.open.get_mut(peer) {
             *open = None;
         }
@@ -160,7 +180,9 @@ impl Links {
 }
 
 /// Writes to a peer what can be written, and closes its link where all is, or where it fails.
-pub fn push_on<S: Service>(links: &mut Links, service: &mut S, peer: usize) {
+pub fn push_on<S: Service>(links: &mut Links, service: &mut S, peer: usize)
+    ensures others { KeepsLinks peer links.old links.new }
+{
     match links.advance(peer) {
         Ok(Progress::Going(Pace::Idle)) => {}
         Ok(Progress::Going(Pace::Busy)) => links.busy.push(peer),
@@ -183,7 +205,10 @@ pub fn push_all<S: Service>(links: &mut Links, service: &mut S) {
 }
 
 /// Closes the link to a peer, whose time is over.
-fn give_up<S: Service>(links: &mut Links, service: &mut S, peer: usize) {
+fn give_up<S: Service>(links: &mut Links, service: &mut S, peer: usize)
+    ensures closed { link_to links.new peer ≡ None }
+    ensures others { KeepsLinks peer links.old links.new }
+{
     let written = links.written(peer);
     links.close(peer);
     service.lost(peer, LinkFault::Time { written });

@@ -2,7 +2,7 @@
 
 ghost use Rattle.std.specs.Prelude.{◌≡◌, take};
 ghost use Rattle.std.specs.Io.KnownBytes.{Consumes};
-ghost use Rattle.am_reactor.specs.Reading.{FitsPiece, brought_by};
+ghost use Rattle.am_reactor.specs.Reading.{FitsPiece, HearsOnce, brought_by};
 ghost use Rattle.am_reactor.specs.Sending.{counted};
 
 use crate::connection::{Connection, Pace, count_on};
@@ -52,6 +52,7 @@ fn hear_once<S: Service, R: Read>(
     read: &mut u64,
 ) -> Brought
     ensures given { Consumes (R.remaining reader.old) (R.remaining reader.new) (take (brought_by result) piece.new) }
+    ensures fed { HearsOnce S.fed piece.new session.old session.new result }
     ensures count { read.new ≡ counted read.old (brought_by result) }
 {
     let brought = read_once(reader, piece);

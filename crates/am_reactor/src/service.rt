@@ -32,11 +32,15 @@ pub trait Service {
     /// The bytes of a session that are still to be written.
     ghost pending: { Self.Session → List ℕ };
 
+    /// What a session may be once bytes came.
+    ghost fed: { Self.Session → List ℕ → Self.Session → Type 0 };
+
     /// A connection was accepted.
     fn begin(&mut self) -> Self::Session;
 
     /// Bytes came, at least one. It isn't called once the session is over.
-    fn feed(&mut self, session: &mut Self::Session, piece: &[u8]);
+    fn feed(&mut self, session: &mut Self::Session, piece: &[u8])
+        ensures { fed session.old piece.now session.new };
 
     /// The input ended. It is called once at most, and not once the session is over.
     fn end(&mut self, session: &mut Self::Session);

@@ -1,5 +1,8 @@
 //! What an event is of.
 
+ghost use Rattle.std.specs.Prelude.{◌≡◌, Some};
+ghost use Rattle.am_reactor.specs.Source.{IsPlaced, number_of};
+
 use mio::Token;
 
 /// How many kinds of sources there are.
@@ -18,7 +21,9 @@ pub enum Source {
 
 impl Source {
     /// The token under which a source is registered.
-    pub fn token(self) -> Token {
+    pub fn token(self) -> Token
+        ensures { result.0 ≡ number_of self }
+    {
         match self {
             Source::Listener => Token(0),
             Source::Input => Token(1),
@@ -28,7 +33,9 @@ impl Source {
     }
 
     /// The source of a token.
-    pub fn of(token: Token) -> Option<Source> {
+    pub fn of(token: Token) -> Option<Source>
+        ensures { (source : Source) → IsPlaced source → token.0 ≡ number_of source → result ≡ Some source }
+    {
         let number = u16::try_from(token.0 / KINDS).ok()?;
         match token.0 % KINDS {
             0 => Some(Source::Listener),

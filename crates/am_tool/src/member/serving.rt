@@ -1,6 +1,6 @@
 //! What a member answers to those who connect to it, and what goes to its peers.
 
-ghost use Rattle.std.specs.Prelude.{drop};
+ghost use Rattle.std.specs.Prelude.{drop, ⊤};
 ghost use Rattle.am_api_silences.specs.Replies.{bytes_of};
 
 use super::Member;
@@ -114,6 +114,9 @@ impl Service for Member<'_> {
     type Session = Dialogue;
 
     ghost pending = { λ dialogue. drop dialogue.written (bytes_of dialogue.reply) };
+
+    // What a session says of a piece, its own `feed` tells.
+    ghost fed = { λ _ _ _. ⊤ };
 
     fn begin(&mut self) -> Dialogue {
         Dialogue::new(self.rt.alloc())
