@@ -6,6 +6,7 @@ mod RoundTrip
 mod One
 pub mod Bodies
 pub mod Rows
+mod Stretches
 mod EachMatcher
 mod EachShown
 mod OneMoment

@@ -9,4 +9,5 @@ pub mod Posts
 pub mod Shown
 pub mod Lists
 pub mod Tokens
+pub mod Listing
 pub mod Borrowed

@@ -1,7 +1,7 @@
 //! Silences as API v2 shows them.
 
 ghost use Rattle.std.specs.Prelude.{◌≡◌, ℕ, [], ◌∷◌, List, OnOk, map, codes};
-ghost use Rattle.json.specs.Token.{key, string, begin_array, end_array};
+ghost use Rattle.json.specs.Token.{key, string};
 ghost use Rattle.serde_json.specs.Data.{Data, array};
 ghost use Rattle.serde_json.specs.View.{items_of};
 ghost use Rattle.am_silence_json.specs.Written.{WritesMoment};
@@ -117,23 +117,12 @@ pub fn add_silence(out: &mut Writer, version: &MeshSilence, state: State) -> Res
 }
 
 /// Adds silences, without brackets.
-fn add_each_silence(out: &mut Writer, rows: &[(MeshSilence, State)]) -> Result<(), AllocError>
+pub fn add_each_silence(out: &mut Writer, rows: &[(MeshSilence, State)]) -> Result<(), AllocError>
     ensures { OnOk result ((ds : List Data) × AreGettable rows.now ds × Adds out.old out.new (row_tokens ds)) }
 {
     for (version, state) in rows {
         add_silence(out, version, *state)?;
     }
-    Ok(())
-}
-
-/// Adds the list of these silences.
-pub fn add_silences(out: &mut Writer, rows: &[(MeshSilence, State)]) -> Result<(), AllocError>
-    ensures { OnOk result ((ds : List Data) × AreGettable rows.now ds
-        × Adds out.old out.new (data_tokens (array (items_of ds)))) }
-{
-    add(out, Token::BeginArray)?;
-    add_each_silence(out, rows)?;
-    add(out, Token::EndArray)?;
     Ok(())
 }
 

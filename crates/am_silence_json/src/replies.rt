@@ -6,7 +6,8 @@ ghost use Rattle.serde_json.specs.View.{items_of};
 ghost use Rattle.serde_json.specs.Written.{compact_text};
 ghost use Rattle.am_silence_json.specs.Gettables.{IsGettable, AreGettable, posted_data};
 
-use crate::gettable::{add_posted, add_silence, add_silences};
+use crate::gettable::{add_each_silence, add_posted, add_silence};
+use crate::listing::{begin_list, end_list};
 use crate::tokens::add;
 use am_silence::{MeshSilence, State};
 use json::{Token, Writer};
@@ -21,9 +22,10 @@ pub fn write_silences(out: Vec<u8>, rows: &[(MeshSilence, State)]) -> Result<Vec
     ensures { IfOk result (λ body. (ds : List Data) × AreGettable rows.now ds
         × (body.items ≡ out.items ++ compact_text (array (items_of ds)))) }
 {
-    let mut writer = Writer::new(out);
-    add_silences(&mut writer, rows)?;
-    Ok(writer.into_inner())
+    let mut writer = begin_list(out)?;
+    add_each_silence(&mut writer, rows)?;
+    let body = end_list(writer)?;
+    Ok(body)
 }
 
 /// The silence of a version in its state: compact JSON behind what `out` holds.
