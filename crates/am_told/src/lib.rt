@@ -26,14 +26,11 @@ mod words;
 mod writing;
 
 pub use compared::Compared;
-pub use differences::{is_same, next_difference};
-pub use group_lines::less_by;
+pub use differences::next_difference;
 pub use groups::{greatest_of, is_behind_by, next_below};
 pub use in_json::{InJson, diff_json, show_json, write_differences_json, write_view_json};
 pub use inputs::{DiffError, Input, diff_rows, read_sources};
 pub use lists::{Numbers, Texts};
-pub use moments::shown_moment;
-pub use names::{is_held, nothing};
 pub use part::Part;
 pub use replica::{Replica, sides_of};
 pub use show::{show_log, show_silences};

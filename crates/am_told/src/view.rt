@@ -110,10 +110,6 @@ pub fn write_view<W: Write>(
 {
     let mut text = String::new(alloc);
     append_view(&mut text, silences, log, name, now)?;
-    match send(writer, text.as_bytes()) {
-        Ok(()) => Ok(text.len() as u64),
-        Err(fault) => Err(SnapshotError::Write {
-            written: fault.written,
-        }),
-    }
+    send(writer, text.as_bytes())?;
+    Ok(text.len() as u64)
 }

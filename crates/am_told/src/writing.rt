@@ -83,10 +83,6 @@ pub fn write_differences<V: Told, W: Write>(
 {
     let mut text = String::new(alloc);
     let found = append_differences(alloc, &mut text, replicas, compared, now)?;
-    match send(writer, text.as_bytes()) {
-        Ok(()) => Ok(found),
-        Err(fault) => Err(SnapshotError::Write {
-            written: fault.written,
-        }),
-    }
+    send(writer, text.as_bytes())?;
+    Ok(found)
 }

@@ -84,12 +84,8 @@ pub fn write_view_json<V: InJson, W: Write>(
     ensures stopped { IfErr result (StopsWriting W.contents writer.old writer.new (view_line V.seen V.value now held.now)) }
 {
     let line = view_line(alloc, held, now)?;
-    match send(writer, &line) {
-        Ok(()) => Ok(line.len() as u64),
-        Err(fault) => Err(SnapshotError::Write {
-            written: fault.written,
-        }),
-    }
+    send(writer, &line)?;
+    Ok(line.len() as u64)
 }
 
 /// Writes the view of the map whose snapshot the whole input is, as [`write_view_json`] does, and answers its bytes.

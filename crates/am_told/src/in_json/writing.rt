@@ -109,12 +109,8 @@ pub fn write_differences_json<V: InJson, W: Write>(
         W.contents writer.old writer.new) }
 {
     let differences = differences_of(alloc, replicas, compared, now)?;
-    match send(writer, &differences.line) {
-        Ok(()) => Ok(differences.found),
-        Err(fault) => Err(SnapshotError::Write {
-            written: fault.written,
-        }),
-    }
+    send(writer, &differences.line)?;
+    Ok(differences.found)
 }
 
 /// Reads sources as [`read_sources`] does, and then writes all their differences, as [`write_differences_json`] does.
