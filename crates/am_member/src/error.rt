@@ -2,7 +2,6 @@
 
 ghost use Rattle.std.specs.Prelude.{◌≡◌};
 
-use crate::fault::SendError;
 use am_snapshot::SnapshotError;
 use std::io::{self, ErrorKind};
 use thiserror::Error;
@@ -39,36 +38,5 @@ impl From<SnapshotError> for FileFault {
 
     fn from(error: SnapshotError) -> FileFault {
         FileFault::Snapshot(error)
-    }
-}
-
-/// Why not all was sent to a peer.
-#[derive(Clone, Copy, Debug, PartialEq, Eq, Error)]
-pub enum SendFault {
-    /// The system refused the connection.
-    #[error("the connection is refused: {0}")]
-    Connect(ErrorKind),
-    #[error("{0}")]
-    Send(SendError),
-}
-
-impl From<io::Error> for SendFault {
-    ghost use Rattle.std.specs.IoError.{error_kind};
-    ghost use Rattle.am_member.specs.declared.error.SendFault.TheVariants.{Connect};
-
-    ghost from_gives = { λ error e. e ≡ Connect (error_kind error) };
-
-    fn from(error: io::Error) -> SendFault {
-        SendFault::Connect(error.kind())
-    }
-}
-
-impl From<SendError> for SendFault {
-    ghost use Rattle.am_member.specs.declared.error.SendFault.TheVariants.{Send};
-
-    ghost from_gives = { λ error e. e ≡ Send error };
-
-    fn from(error: SendError) -> SendFault {
-        SendFault::Send(error)
     }
 }

@@ -5,7 +5,7 @@ ghost use Rattle.std.specs.Prelude.{◌≡◌};
 use am_gossip::FrameError;
 use am_instance::StepError;
 use am_streams::WriteFault;
-use std::alloc::{AllocError, AllocFailed};
+use std::alloc::AllocError;
 use thiserror::Error;
 
 /// Why not all was sent.
@@ -27,16 +27,6 @@ impl From<AllocError> for SendError {
     ghost from_gives = { λ _ e. e ≡ Memory };
 
     fn from(_e: AllocError) -> SendError {
-        SendError::Memory
-    }
-}
-
-impl<T: Drop> From<AllocFailed<T>> for SendError {
-    ghost use Rattle.am_member.specs.declared.fault.SendError.TheVariants.{Memory};
-
-    ghost from_gives = { λ _ e. e ≡ Memory };
-
-    fn from(_e: AllocFailed<T>) -> SendError {
         SendError::Memory
     }
 }

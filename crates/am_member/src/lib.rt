@@ -1,6 +1,6 @@
-//! A member of a cluster on this machine: the moments of its events, what comes of a connection and what a peer sends to
-//! another, over any reader and writer and over sockets with a limit of time, the files of its state, and what it asks a
-//! server of API v2.
+//! A member of a cluster on this machine: the moments of its events, what comes of a connection, over any reader and
+//! writer and over a socket with a limit of time, what a peer sends to another, the files of its state, and what a server
+//! of API v2 is asked.
 #![tactic(auto)]
 
 mod answering;
@@ -18,7 +18,6 @@ mod peer;
 mod queue;
 mod reading;
 mod reply;
-mod sending;
 mod serving;
 mod shown;
 mod steps;
@@ -30,16 +29,15 @@ mod writing;
 pub use answering::{Exchanged, exchange, is_dear};
 pub use clock::{later_moment, next_moment};
 pub use ended::Ended;
-pub use error::{FileFault, SendFault};
+pub use error::FileFault;
 pub use fault::{Fault, SendError};
 pub use fetching::{FetchFault, Server, fetch, server_of};
 pub use files::{load_file, save_file};
 pub use peer::{Peer, number_within, peer_of, port_of};
 pub use queue::{Parted, part_frames};
 pub use reply::{ReplyError, body_of};
-pub use sending::send_to;
 pub use serving::connection;
 pub use shown::{held_of, shown_of_row};
 pub use times::{Times, times_of};
-pub use turns::{attend, turn};
+pub use turns::turn;
 pub use writing::send;

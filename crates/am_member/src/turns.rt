@@ -20,13 +20,12 @@ const QUIET: u64 = 200;
 /// How many bytes are thrown away at once.
 const PIECE: usize = 16_384;
 
-/// Takes the connection of a stream, as [`connection`] does: `bits` are random, and its steps are made at `now`. Each
-/// read and write fails that waits past the limit, counted from the call on.
+/// Takes the connection of a stream.
 ///
 /// # Errors
 ///
 /// What the system says where the clock can't be read; no step is made then.
-pub fn attend<C: Clock>(
+fn attend<C: Clock>(
     alloc: Global,
     clock: &C,
     stream: &TcpStream,
@@ -62,7 +61,8 @@ fn let_go<C: Clock>(clock: &C, stream: &TcpStream, end: Instant) {
     }
 }
 
-/// Accepts one connection, and takes it as [`attend`] does.
+/// Accepts one connection, and takes it as [`connection`] does: `bits` are random, and its steps are made at `now`. Each
+/// read and write fails that waits past the limit, counted from the accept on.
 ///
 /// # Errors
 ///

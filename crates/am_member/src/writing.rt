@@ -9,7 +9,7 @@ ghost use Rattle.am_member.specs.declared.fault.SendError.TheVariants as errors;
 
 use crate::fault::SendError;
 use am_gossip::{Frame, FrameError, MOST_NAME_BYTES, append_frame, frame_fits};
-use am_wire::write_varint;
+use am_wire::writing::append_delimited;
 use std::alloc::{AllocError, Global};
 use std::io::Write;
 
@@ -32,8 +32,7 @@ fn append_greeting(out: &mut Vec<u8>, name: &str) -> Result<(), AllocError>
     ensures { OnOk result (out.new.items ≡ out.old.items ++ greeting_text name.now) }
 {
     out.push(0)?;
-    out.extend_from_slice(write_varint(name.len() as u64).as_slice())?;
-    out.extend_from_slice(name.as_bytes())
+    append_delimited(out, name.as_bytes())
 }
 
 /// Writes frames, one after the other; one over its limit, which was looked for before, would end it too.

@@ -3,7 +3,7 @@
 use crate::members::{PEER, at, instance};
 use am_gossip::Frame;
 use am_instance::Instance;
-use am_member::{Fault, SendFault, send_to, turn};
+use am_member::{Fault, send, turn};
 use std::io::{self, Read, Write};
 use std::net::{Ipv4Addr, TcpListener, TcpStream};
 use std::time::Duration;
@@ -36,10 +36,10 @@ fn client(rt: &HostRuntime, listener: &TcpListener, bytes: &[u8]) -> io::Result<
     Ok(stream)
 }
 
-// What comes of a Tick that a member of this name sends to a port.
-fn send_tick(rt: &HostRuntime, port: u16, name: &str) -> Result<u64, SendFault> {
-    let limit = Duration::from_millis(PATIENCE);
-    send_to(rt.alloc(), rt, name, port, &[Frame::Tick], limit)
+// How many bytes go out for a Tick that the member `b` sends to it.
+fn send_tick(rt: &HostRuntime, listener: &TcpListener) -> io::Result<Option<u64>> {
+    let mut stream = client(rt, listener, &[])?;
+    Ok(send(rt.alloc(), "b", &[Frame::Tick], &mut stream).ok())
 }
 
 // What a member tells of the next connection, at 11 s, with a limit in milliseconds.
@@ -77,12 +77,12 @@ fn replied(
 // What is told of a peer that sends a Tick, of a client, and of one that sends nothing and waits.
 fn three(rt: &HostRuntime, instance: &mut Instance) -> io::Result<([Told; 3], bool)> {
     let listener = listener(rt)?;
-    let sent = send_tick(rt, listener.local_addr()?.port(), "b");
+    let sent = send_tick(rt, &listener)?;
     let peer = turned(rt, &listener, instance, PATIENCE)?;
     let (person, is_listed) = replied(rt, instance, &listener, NONE_LISTED)?;
     let _silent = client(rt, &listener, &[])?;
     let silent = turned(rt, &listener, instance, 50)?;
-    Ok(([peer, person, silent], sent == Ok(5) && is_listed))
+    Ok(([peer, person, silent], sent == Some(5) && is_listed))
 }
 
 #[test]
@@ -116,17 +116,4 @@ fn what_a_peer_sends_is_listed(rt: HostRuntime) {
     };
     let wanted = [(1, false, None), (0, false, None)];
     assert!(rt; found == Some((wanted, true)), "two");
-}
-
-// What comes of sending to a port at which nobody listens.
-fn sent_to_nobody(rt: &HostRuntime) -> io::Result<Result<u64, SendFault>> {
-    let port = listener(rt)?.local_addr()?.port();
-    Ok(send_tick(rt, port, "a"))
-}
-
-#[test]
-fn nobody_is_told(rt: HostRuntime) {
-    let found = sent_to_nobody(&rt).ok();
-    let refused = SendFault::Connect(io::ErrorKind::ConnectionRefused);
-    assert!(rt; found == Some(Err(refused)), "nobody");
 }
