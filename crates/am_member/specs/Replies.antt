@@ -1,8 +1,8 @@
 -- The reply of a server (RFC 9112, section 4), as the bytes that came until it closed its connection.
 use Rattle.std.specs.Prelude.{◌≡◌, ◌≢◌, ℕ, ◌<◌, List, length, take, drop}
 use Rattle.httparse.specs.Grammar.{ResponseHead, ReadsResponse, print_response, status_code}
-use Rattle.am_member.specs.declared.reply.ReplyError.{ReplyError}
-use Rattle.am_member.specs.declared.reply.ReplyError.TheVariants.{NoHead, Status}
+use Rattle.am_member.specs.declared.error.ServerFault.{ServerFault}
+use Rattle.am_member.specs.declared.error.ServerFault.TheVariants.{NoHead, Status}
 
 -- the bytes in which a head has to end
 abbrev pub window : List ℕ → List ℕ
@@ -21,6 +21,7 @@ abbrev pub HasNoReply : List ℕ → Type 0
 HasNoReply reply = (head : ResponseHead) (rest : List ℕ) → ReadsResponse (window reply) head rest → 64 < length head.fields
 
 -- why a reply has no body that counts
-abbrev pub IsRefused : List ℕ → ReplyError → Type 0
+abbrev pub IsRefused : List ℕ → ServerFault → Type 0
 IsRefused reply NoHead = HasNoReply reply
 IsRefused reply (Status code) = (code ≢ 200) × (body : List ℕ) × HasReply reply code body
+IsRefused reply _ = ⊥

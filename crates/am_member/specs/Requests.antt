@@ -1,5 +1,7 @@
 -- What a server is asked, and how much is read of its reply.
-use Rattle.std.specs.Prelude.{ℕ, List, ◌++◌, codes}
+use Rattle.std.specs.Prelude.{ℕ, List, ◌++◌, codes, ⊤}
+use Rattle.am_member.specs.declared.error.ServerFault.{ServerFault}
+use Rattle.am_member.specs.declared.error.ServerFault.TheVariants.{Read, TooLarge, Memory}
 
 -- the request for all silences by HTTP/1.0 (RFC 1945, section 5), of the server at a host
 abbrev pub request_text : List ℕ → List ℕ
@@ -9,3 +11,10 @@ request_text host =
 -- the most bytes that are read of a reply
 abbrev pub most_reply : ℕ
 most_reply = 67125248
+
+-- the faults of reading a reply
+abbrev pub IsOfReading : ServerFault → Type 0
+IsOfReading (Read at) = ⊤
+IsOfReading TooLarge = ⊤
+IsOfReading Memory = ⊤
+IsOfReading _ = ⊥

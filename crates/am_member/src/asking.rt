@@ -1,26 +1,15 @@
 //! Asking a server for its silences, over any reader and writer.
 
 ghost use Rattle.std.specs.Prelude.{◌≡◌, ◌<◌, ◌≤◌, ℕ, List, length, IfOk, IfErr, IfSome, IsErrOf, OnOk};
-ghost use Rattle.am_member.specs.Requests.{request_text, most_reply};
-ghost use Rattle.am_member.specs.declared.asking.ReadError.TheVariants as errors;
+ghost use Rattle.am_member.specs.Requests.{IsOfReading, request_text, most_reply};
+ghost use Rattle.am_member.specs.declared.error.ServerFault.TheVariants as errors;
 
+use crate::error::ServerFault;
 use std::alloc::{AllocError, Global};
 use std::io::{ErrorKind, Read};
-use thiserror::Error;
 
 /// The most bytes of a reply: a head, and a list of 67,108,864 bytes.
 pub const MOST_REPLY_BYTES: usize = 67_125_248;
-
-/// Why a reply was not read whole.
-#[derive(Clone, Copy, Debug, PartialEq, Eq, Error)]
-pub enum ReadError {
-    #[error("a read failed after {at} bytes")]
-    Read { at: usize },
-    #[error("more than 67,125,248 bytes")]
-    TooLarge,
-    #[error("out of memory")]
-    Memory,
-}
 
 /// The request for all silences, of a server at this host and port. It is of HTTP/1.0 (RFC 1945), so that no reply comes in
 /// chunks, and the server closes the connection behind its reply.
@@ -42,22 +31,23 @@ pub fn request_text(alloc: Global, host: &str) -> Result<Vec<u8>, AllocError>
 ///
 /// # Errors
 ///
-/// [`ReadError::Read`] where a read fails; [`ReadError::TooLarge`] once byte 67,125,249 came; [`ReadError::Memory`].
-pub fn read_reply<R: Read + Drop>(alloc: Global, reader: R) -> Result<Vec<u8>, ReadError>
+/// [`ServerFault::Read`] where a read fails; [`ServerFault::TooLarge`] once byte 67,125,249 came; [`ServerFault::Memory`].
+pub fn read_reply<R: Read + Drop>(alloc: Global, reader: R) -> Result<Vec<u8>, ServerFault>
     ensures all { IfOk result (λ reply. IfSome (R.remaining reader) (λ bytes. reply.items ≡ bytes)) }
     ensures few { IfOk result (λ reply. length reply.items ≤ most_reply) }
     ensures too_large { IsErrOf result errors.TooLarge → IfSome (R.remaining reader) (λ bytes. most_reply < length bytes) }
+    ensures refused { IfErr result IsOfReading }
 {
     let mut reply = Vec::new(alloc);
     let mut limited = reader.take(MOST_REPLY_BYTES as u64 + 1);
     if let Err(error) = limited.read_to_end(&mut reply) {
         return Err(match error.kind() {
-            ErrorKind::OutOfMemory => ReadError::Memory,
-            _ => ReadError::Read { at: reply.len() },
+            ErrorKind::OutOfMemory => ServerFault::Memory,
+            _ => ServerFault::Read { at: reply.len() },
         });
     }
     if reply.len() > MOST_REPLY_BYTES {
-        return Err(ReadError::TooLarge);
+        return Err(ServerFault::TooLarge);
     }
     Ok(reply)
 }

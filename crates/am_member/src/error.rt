@@ -14,7 +14,7 @@ pub enum FileFault {
     File(ErrorKind),
     /// What stands in it is at fault, or not all of it was read or written.
     #[error("{0}")]
-    Snapshot(SnapshotError),
+    Snapshot(#[from] SnapshotError),
 }
 
 impl From<io::Error> for FileFault {
@@ -31,12 +31,38 @@ impl From<io::Error> for FileFault {
     }
 }
 
-impl From<SnapshotError> for FileFault {
-    ghost use Rattle.am_member.specs.declared.error.FileFault.TheVariants.{Snapshot};
+/// Why a server has not told what it was asked.
+#[derive(Clone, Copy, Debug, PartialEq, Eq, Error)]
+pub enum ServerFault {
+    /// There is no connection.
+    #[error("the connection is refused: {0}")]
+    Connect(ErrorKind),
+    /// A write failed or took nothing, when so many bytes of the request had gone out.
+    #[error("a write failed after {written} bytes")]
+    Write { written: u64 },
+    /// A read failed, when so many bytes of the reply had come.
+    #[error("a read failed after {at} bytes")]
+    Read { at: usize },
+    #[error("more than 67,125,248 bytes")]
+    TooLarge,
+    #[error("out of memory")]
+    Memory,
+    /// The reply doesn't begin with the head of a response of HTTP/1.0 or HTTP/1.1 within 16,384 bytes, of at most 64
+    /// fields.
+    #[error("no reply of HTTP")]
+    NoHead,
+    /// Its status isn't 200.
+    #[error("status {0}")]
+    Status(u16),
+}
 
-    ghost from_gives = { λ error e. e ≡ Snapshot error };
+impl From<io::Error> for ServerFault {
+    ghost use Rattle.std.specs.IoError.{error_kind};
+    ghost use Rattle.am_member.specs.declared.error.ServerFault.TheVariants.{Connect};
 
-    fn from(error: SnapshotError) -> FileFault {
-        FileFault::Snapshot(error)
+    ghost from_gives = { λ error e. e ≡ Connect (error_kind error) };
+
+    fn from(error: io::Error) -> ServerFault {
+        ServerFault::Connect(error.kind())
     }
 }

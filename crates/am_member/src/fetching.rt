@@ -1,14 +1,14 @@
 //! What a server of API v2 replies.
 
-use crate::asking::{ReadError, read_reply, request_text};
+use crate::asking::{read_reply, request_text};
+use crate::error::ServerFault;
 use crate::timed::{Timed, end_after, left_until};
 use am_streams::send;
-use std::alloc::{AllocError, Global};
-use std::io::{self, ErrorKind};
+use std::alloc::Global;
+use std::io;
 use std::net::{Ipv4Addr, Ipv6Addr, Net, SocketAddr, TcpStream};
 use std::rt::Clock;
 use std::time::{Duration, Instant};
-use thiserror::Error;
 
 /// A server: its host and port as they are written, and where it listens.
 #[derive(Clone, Copy, Debug)]
@@ -44,58 +44,30 @@ pub fn server_of(host: &str) -> Option<Server<'_>> {
     }
 }
 
-/// Why the reply of a server was not read.
-#[derive(Clone, Copy, Debug, PartialEq, Eq, Error)]
-pub enum FetchFault {
-    /// There is no connection.
-    #[error("the connection is refused: {0}")]
-    Connect(ErrorKind),
-    #[error("a write failed after {written} bytes")]
-    Write { written: u64 },
-    #[error("{0}")]
-    Reply(ReadError),
-}
-
-impl From<io::Error> for FetchFault {
-    fn from(error: io::Error) -> FetchFault {
-        FetchFault::Connect(error.kind())
-    }
-}
-
-impl From<AllocError> for FetchFault {
-    fn from(_: AllocError) -> FetchFault {
-        FetchFault::Reply(ReadError::Memory)
-    }
-}
-
-impl From<ReadError> for FetchFault {
-    fn from(error: ReadError) -> FetchFault {
-        FetchFault::Reply(error)
-    }
-}
-
 /// Asks a server for all its silences, and reads its reply until it closes the connection, all within the limit.
 ///
 /// # Errors
 ///
-/// [`FetchFault`]: why there is no connection, or not all was written or read.
+/// [`ServerFault`]: why there is no connection, or not all was written or read.
 pub fn fetch<R: Net<Stream = TcpStream> + Clock>(
     alloc: Global,
     rt: &R,
     server: &Server<'_>,
     limit: Duration,
-) -> Result<Vec<u8>, FetchFault> {
+) -> Result<Vec<u8>, ServerFault> {
     let end = end_after(rt, limit)?;
     let stream = connect(rt, server, end)?;
-    let request = request_text(alloc, server.host)?;
+    let Ok(request) = request_text(alloc, server.host) else {
+        return Err(ServerFault::Memory);
+    };
     let mut writer = Timed::new(rt, &stream, end, limit);
     if let Err(fault) = send(&mut writer, &request) {
-        return Err(FetchFault::Write {
+        return Err(ServerFault::Write {
             written: fault.written,
         });
     }
     let reader = Timed::new(rt, &stream, end, limit);
-    Ok(read_reply(alloc, reader)?)
+    read_reply(alloc, reader)
 }
 
 /// A connection to a server.
@@ -103,12 +75,10 @@ fn connect<R: Net<Stream = TcpStream> + Clock>(
     rt: &R,
     server: &Server<'_>,
     end: Instant,
-) -> Result<TcpStream, FetchFault> {
+) -> io::Result<TcpStream> {
     let first = TcpStream::connect_timeout(rt, &server.address, left_until(rt, end)?);
     match (first, server.other) {
-        (Err(_), Some(other)) => {
-            Ok(TcpStream::connect_timeout(rt, &other, left_until(rt, end)?)?)
-        }
-        (first, _) => Ok(first?),
+        (Err(_), Some(other)) => TcpStream::connect_timeout(rt, &other, left_until(rt, end)?),
+        (first, _) => first,
     }
 }

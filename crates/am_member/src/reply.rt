@@ -3,9 +3,9 @@
 ghost use Rattle.std.specs.Prelude.{◌≡◌, ◌≤◌, IfOk, IfErr, IfSome, IfNone, length, take, drop};
 ghost use Rattle.am_member.specs.Replies.{HasReply, HasNoReply, IsRefused};
 
+use crate::error::ServerFault;
 use httparse::Status;
 use httparse::spans::{EMPTY_HEADER_SPAN, ResponseSpans, parse_response};
-use thiserror::Error;
 
 /// The most bytes of a head.
 const MOST_HEAD_BYTES: usize = 16_384;
@@ -15,17 +15,6 @@ const MOST_FIELDS: usize = 64;
 
 /// The status of a reply that has what was asked for.
 const OK: u16 = 200;
-
-/// Why a reply has no body that counts.
-#[derive(Clone, Copy, Debug, PartialEq, Eq, Error)]
-pub enum ReplyError {
-    /// It doesn't begin with the head of a response of HTTP/1.0 or HTTP/1.1 within 16,384 bytes, of at most 64 fields.
-    #[error("no reply of HTTP")]
-    NoHead,
-    /// Its status isn't 200.
-    #[error("status {0}")]
-    Status(u16),
-}
 
 /// The bytes in which a head has to end.
 fn window(reply: &[u8]) -> &[u8]
@@ -55,8 +44,8 @@ fn head_of(reply: &[u8]) -> Option<ResponseSpans>
 ///
 /// # Errors
 ///
-/// [`ReplyError::NoHead`], and [`ReplyError::Status`] where the status is another.
-pub fn body_of(reply: &[u8]) -> Result<&[u8], ReplyError>
+/// [`ServerFault::NoHead`], and [`ServerFault::Status`] where the status is another.
+pub fn body_of(reply: &[u8]) -> Result<&[u8], ServerFault>
     ensures body { IfOk result (λ body. HasReply reply.now 200 body.now) }
     ensures refused { IfErr result (IsRefused reply.now) }
 {
@@ -65,7 +54,7 @@ pub fn body_of(reply: &[u8]) -> Result<&[u8], ReplyError>
             let (_, body) = reply.split_at(head.len);
             Ok(body)
         }
-        Some(head) => Err(ReplyError::Status(head.code)),
-        None => Err(ReplyError::NoHead),
+        Some(head) => Err(ServerFault::Status(head.code)),
+        None => Err(ServerFault::NoHead),
     }
 }

@@ -1,6 +1,6 @@
 //! How replicas differ.
 
-use crate::fault::{self, Fault, InputFault, SourceFault, snapshot_error};
+use crate::fault::{self, Fault, SourceFault};
 use crate::status;
 use crate::words::{DiffJob, Form, STANDARD_INPUT, SourceWord, StateName};
 use am_member::{FileFault, Server, body_of, fetch, held_of, later_moment, shown_of_row};
@@ -47,36 +47,44 @@ pub fn run<'a>(rt: &'a HostRuntime, job: &DiffJob<'a>) -> u8 {
     match compare(rt, job, now) {
         Ok(true) => status::DIFFERENT,
         Ok(false) => status::DONE,
-        Err(failure) => report(rt, job, failure),
-    }
-}
-
-/// Why the sources were not compared.
-enum Failure<'a> {
-    Source(SourceFault<'a>),
-    Diff(DiffError),
-}
-
-impl<'a> From<SourceFault<'a>> for Failure<'a> {
-    fn from(fault: SourceFault<'a>) -> Failure<'a> {
-        Failure::Source(fault)
-    }
-}
-
-impl From<DiffError> for Failure<'_> {
-    fn from(error: DiffError) -> Self {
-        Failure::Diff(error)
+        Err(fault) => fault::report_source(rt, &fault),
     }
 }
 
 /// Writes all differences to standard output, and answers whether there is one.
-fn compare<'a>(rt: &HostRuntime, job: &DiffJob<'a>, now: Moment) -> Result<bool, Failure<'a>> {
+fn compare<'a>(rt: &HostRuntime, job: &DiffJob<'a>, now: Moment) -> Result<bool, SourceFault<'a>> {
     if job.is_live() {
         let replicas = ask_all(rt, job)?;
-        return Ok(compare_shown(rt, job.form, now, &replicas)?);
+        return match compare_shown(rt, job.form, now, &replicas) {
+            Ok(found) => Ok(found),
+            Err(error) => Err(unnamed(error)),
+        };
     }
     let mut inputs = open_all(rt, &job.sources)?;
-    Ok(compare_rows(rt, job, now, &mut inputs)?)
+    match compare_rows(rt, job, now, &mut inputs) {
+        Ok(found) => Ok(found),
+        Err(error) => Err(named(job, error)),
+    }
+}
+
+/// A fault that is in no source.
+fn unnamed<'a>(error: SnapshotError) -> SourceFault<'a> {
+    SourceFault {
+        name: None,
+        fault: Fault::Snapshot(error),
+    }
+}
+
+/// Why sources of rows were not compared.
+fn named<'a>(job: &DiffJob<'a>, error: DiffError) -> SourceFault<'a> {
+    match error {
+        DiffError::Source { number, fault } => SourceFault {
+            name: job.sources.get(number).map(|source| source.name),
+            fault: Fault::Fold(fault),
+        },
+        DiffError::Write { written } => unnamed(SnapshotError::Write { written }),
+        DiffError::Memory => unnamed(SnapshotError::Memory),
+    }
 }
 
 /// The moment of the job; where it names none, the clock's.
@@ -101,8 +109,8 @@ fn open_all<'a>(
             Ok(reader) => reader,
             Err(fault) => {
                 return Err(SourceFault {
-                    name: source.name,
-                    fault: InputFault::File(fault),
+                    name: Some(source.name),
+                    fault: Fault::File(fault),
                 });
             }
         };
@@ -112,8 +120,8 @@ fn open_all<'a>(
         };
         if inputs.push(input).is_err() {
             return Err(SourceFault {
-                name: source.name,
-                fault: InputFault::from(SnapshotError::Memory),
+                name: Some(source.name),
+                fault: Fault::Snapshot(SnapshotError::Memory),
             });
         }
     }
@@ -137,13 +145,13 @@ fn ask_all<'a>(
 ) -> Result<Vec<Replica<'a, MeshSilence>>, SourceFault<'a>> {
     let mut replicas = Vec::new(rt.alloc());
     for source in &job.sources {
-        let name = source.name;
+        let name = Some(source.name);
         let held = match shown_by(rt, source, job.time_limit) {
             Ok(held) => held,
             Err(fault) => return Err(SourceFault { name, fault }),
         };
-        if replicas.push(Replica::new(name, held)).is_err() {
-            let fault = InputFault::from(SnapshotError::Memory);
+        if replicas.push(Replica::new(source.name, held)).is_err() {
+            let fault = Fault::Snapshot(SnapshotError::Memory);
             return Err(SourceFault { name, fault });
         }
     }
@@ -155,15 +163,12 @@ fn shown_by(
     rt: &HostRuntime,
     source: &SourceWord<'_>,
     time_limit: Duration,
-) -> Result<Held<MeshSilence>, InputFault> {
+) -> Result<Held<MeshSilence>, Fault> {
     match source.server() {
         Some(server) => shown_by_server(rt, &server, time_limit),
         None => {
             let mut reader = open(rt, source.file)?;
-            match shown_of_row(rt.alloc(), &mut reader) {
-                Ok(held) => Ok(held),
-                Err(error) => Err(InputFault::from(snapshot_error(error))),
-            }
+            Ok(shown_of_row(rt.alloc(), &mut reader)?)
         }
     }
 }
@@ -173,12 +178,12 @@ fn shown_by_server(
     rt: &HostRuntime,
     server: &Server<'_>,
     time_limit: Duration,
-) -> Result<Held<MeshSilence>, InputFault> {
+) -> Result<Held<MeshSilence>, Fault> {
     let reply = fetch(rt.alloc(), rt, server, time_limit)?;
     let list = read_silences(rt.alloc(), body_of(&reply)?)?;
     match held_of(rt.alloc(), list) {
         Ok(held) => Ok(held),
-        Err(_) => Err(InputFault::from(SnapshotError::Memory)),
+        Err(_) => Err(Fault::Snapshot(SnapshotError::Memory)),
     }
 }
 
@@ -188,17 +193,12 @@ fn compare_shown(
     form: Form,
     now: Moment,
     replicas: &[Replica<'_, MeshSilence>],
-) -> Result<bool, DiffError> {
+) -> Result<bool, SnapshotError> {
     let alloc = rt.alloc();
     let mut output = rt.stdout();
-    let written = match form {
+    match form {
         Form::Lines => write_differences(alloc, replicas, Compared::Shown, now, &mut output),
         Form::Json => write_differences_json(alloc, replicas, Compared::Shown, now, &mut output),
-    };
-    match written {
-        Ok(found) => Ok(found),
-        Err(SnapshotError::Write { written }) => Err(DiffError::Write { written }),
-        Err(_) => Err(DiffError::Memory),
     }
 }
 
@@ -224,23 +224,5 @@ fn compare_rows(
         (Form::Json, StateName::Log) => {
             diff_json::<MeshEntry, _, _>(alloc, inputs, job.compared, now, &mut output)
         }
-    }
-}
-
-/// Prints why the sources were not compared, and answers the exit status of the program.
-fn report(rt: &HostRuntime, job: &DiffJob<'_>, failure: Failure<'_>) -> u8 {
-    match failure {
-        Failure::Source(fault) => fault::report_source(rt, &fault),
-        Failure::Diff(DiffError::Source { number, fault }) => {
-            let fault = SourceFault {
-                name: job.sources.get(number).map_or("", |source| source.name),
-                fault: InputFault::from(snapshot_error(fault)),
-            };
-            fault::report_source(rt, &fault)
-        }
-        Failure::Diff(DiffError::Write { written }) => {
-            fault::report(rt, Fault::from(SnapshotError::Write { written }))
-        }
-        Failure::Diff(DiffError::Memory) => fault::report(rt, Fault::from(SnapshotError::Memory)),
     }
 }

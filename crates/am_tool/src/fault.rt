@@ -4,16 +4,17 @@ mod lines;
 
 use crate::status;
 use am_instance::ConfigError;
-use am_member::asking::ReadError;
-use am_member::{Fault as ConnectionFault, FetchFault, FileFault, ReplyError};
+use am_member::{Fault as ConnectionFault, FileFault, ServerFault};
 use am_picture::PictureError;
 use am_reactor::LinkFault;
 use am_replay::ReplayError;
 use am_silence_json::ListError;
 use am_snapshot::{FoldError, SnapshotError};
 use am_told::Word;
+use lines::FileLine;
 use std::fmt;
 use std::io::ErrorKind;
+use thiserror::Error;
 
 /// Prints a fault on standard error.
 pub fn print<R: Eprint>(rt: &R, fault: &Fault) {
@@ -27,43 +28,73 @@ pub fn report<R: Eprint>(rt: &R, fault: Fault) -> u8 {
 }
 
 /// Why a job was not done, or a part of it. It is printed as its names from outer to inner, and its numbers.
-#[derive(Clone, Copy)]
+#[derive(Clone, Copy, Debug, Error)]
 pub enum Fault {
-    /// In a row, or in what was written of one.
-    Snapshot(SnapshotError),
+    /// In a row that is loaded, or in what was written of one.
+    #[error(fmt = lines::write_snapshot_error)]
+    Snapshot(#[from] SnapshotError),
+    /// In a row that is folded, or in what was written of its fold.
+    #[error(fmt = lines::write_fold_error)]
+    Fold(#[from] FoldError),
     /// In a schedule, or in what was written of it.
-    Replay(ReplayError),
-    /// A schedule has so many steps, too many for a picture.
-    TooManySteps(usize),
+    #[error(fmt = lines::write_replay_error)]
+    Replay(#[from] ReplayError),
+    /// In a schedule that is drawn.
+    #[error(fmt = lines::write_picture_error)]
+    Drawing(#[from] PictureError),
     /// In the file of a picture.
+    #[error("Picture {}", FileLine(.0))]
     Picture(FileFault),
+    /// In the file of a source.
+    #[error(fmt = lines::write_file_fault)]
+    File(#[from] FileFault),
+    /// Of a source that is a server.
+    #[error(fmt = lines::write_server_fault)]
+    Server(#[from] ServerFault),
+    /// In the list that a server replied.
+    #[error(fmt = lines::write_list_error)]
+    List(#[from] ListError),
     /// A peer is not NAME=PORT.
+    #[error("Peer")]
     Peer,
     /// The names of the members are at fault.
-    Config(ConfigError),
+    #[error(fmt = lines::write_config_error)]
+    Config(#[from] ConfigError),
     /// In the file of the silences.
+    #[error("Silences {}", FileLine(.0))]
     Silences(FileFault),
     /// In the file of the notification log.
+    #[error("Log {}", FileLine(.0))]
     Log(FileFault),
     /// The system refused random bytes.
+    #[error("Random {0:?}")]
     Random(ErrorKind),
     /// The system refused to listen at a port.
+    #[error("Listen {0:?} {1}")]
     Listen(ErrorKind, u16),
     /// The system refused a connection that came.
+    #[error("Accept {0:?}")]
     Accept(ErrorKind),
     /// In a connection.
+    #[error(fmt = lines::write_connection_fault)]
     Connection(ConnectionFault),
     /// The system's clock could not be read at the start.
+    #[error("Clock {0:?}")]
     Clock(ErrorKind),
     /// The system refused to tell what is ready.
+    #[error("Ready {0:?}")]
     Ready(ErrorKind),
     /// No peer answered the first pull in time, so requests are answered without it.
+    #[error("NoPull")]
     NoPull,
     /// So many frames for peers found no memory.
+    #[error("Unsent Memory {0}")]
     UnsentMemory(usize),
     /// So many frames for peers were over their limit.
+    #[error("Unsent Limit {0}")]
     UnsentLimit(usize),
     /// What was to be sent to the peer at a port is lost.
+    #[error(fmt = lines::write_link_fault)]
     Lost(LinkFault, u16),
 }
 
@@ -72,13 +103,18 @@ impl Fault {
     pub fn status(self) -> u8 {
         match self {
             Fault::Snapshot(error) => status_of_snapshot(error),
+            Fault::Fold(error) => status_of_snapshot(snapshot_error(error)),
             Fault::Replay(error) => status_of_replay(error),
-            Fault::TooManySteps(_) => status::REFUSED,
-            Fault::Silences(fault) | Fault::Log(fault) | Fault::Picture(fault) => {
-                status_of_file(fault)
-            }
-            Fault::Config(ConfigError::Memory) => status::MEMORY,
+            Fault::Drawing(PictureError::Memory)
+            | Fault::List(ListError::Memory)
+            | Fault::Config(ConfigError::Memory) => status::MEMORY,
+            Fault::Drawing(_) | Fault::List(_) => status::REFUSED,
             Fault::Peer | Fault::Config(_) => status::WORDS,
+            Fault::Picture(fault)
+            | Fault::File(fault)
+            | Fault::Silences(fault)
+            | Fault::Log(fault) => status_of_file(fault),
+            Fault::Server(fault) => status_of_server(fault),
             _ => status::OUTSIDE,
         }
     }
@@ -112,42 +148,19 @@ fn status_of_file(fault: FileFault) -> u8 {
     }
 }
 
-impl From<SnapshotError> for Fault {
-    fn from(error: SnapshotError) -> Fault {
-        Fault::Snapshot(error)
-    }
-}
-
-impl From<ReplayError> for Fault {
-    fn from(error: ReplayError) -> Fault {
-        Fault::Replay(error)
-    }
-}
-
-impl From<PictureError> for Fault {
-    fn from(error: PictureError) -> Fault {
-        match error {
-            PictureError::Schedule(error) => Fault::Replay(ReplayError::Schedule(error)),
-            PictureError::TooManySteps { steps } => Fault::TooManySteps(steps),
-            PictureError::Memory => Fault::Replay(ReplayError::Memory { line: 0 }),
+/// The exit status where a server is at fault.
+fn status_of_server(fault: ServerFault) -> u8 {
+    match fault {
+        ServerFault::Connect(_) | ServerFault::Write { .. } | ServerFault::Read { .. } => {
+            status::OUTSIDE
         }
-    }
-}
-
-impl From<ConfigError> for Fault {
-    fn from(error: ConfigError) -> Fault {
-        Fault::Config(error)
-    }
-}
-
-impl From<FoldError> for Fault {
-    fn from(error: FoldError) -> Fault {
-        Fault::Snapshot(snapshot_error(error))
+        ServerFault::TooLarge | ServerFault::NoHead | ServerFault::Status(_) => status::REFUSED,
+        ServerFault::Memory => status::MEMORY,
     }
 }
 
 /// The same fault, as one of a snapshot.
-pub fn snapshot_error(error: FoldError) -> SnapshotError {
+fn snapshot_error(error: FoldError) -> SnapshotError {
     match error {
         FoldError::Read { at } => SnapshotError::Read { at },
         FoldError::Write { written } => SnapshotError::Write { written },
@@ -157,70 +170,14 @@ pub fn snapshot_error(error: FoldError) -> SnapshotError {
     }
 }
 
-/// Why a source was not read.
-#[derive(Clone, Copy)]
-pub enum InputFault {
-    File(FileFault),
-    /// The server was not asked, or its reply not read.
-    Fetch(FetchFault),
-    /// The reply has no list.
-    Reply(ReplyError),
-    /// The list is at fault.
-    List(ListError),
-}
-
-impl InputFault {
-    /// The exit status of the program.
-    fn status(self) -> u8 {
-        match self {
-            InputFault::File(fault) => status_of_file(fault),
-            InputFault::Fetch(FetchFault::Reply(ReadError::Memory))
-            | InputFault::List(ListError::Memory) => status::MEMORY,
-            InputFault::Fetch(FetchFault::Reply(ReadError::TooLarge)) => status::REFUSED,
-            InputFault::Fetch(_) => status::OUTSIDE,
-            InputFault::Reply(_) | InputFault::List(_) => status::REFUSED,
-        }
-    }
-}
-
-impl From<FileFault> for InputFault {
-    fn from(fault: FileFault) -> InputFault {
-        InputFault::File(fault)
-    }
-}
-
-impl From<SnapshotError> for InputFault {
-    fn from(error: SnapshotError) -> InputFault {
-        InputFault::File(FileFault::Snapshot(error))
-    }
-}
-
-impl From<FetchFault> for InputFault {
-    fn from(fault: FetchFault) -> InputFault {
-        InputFault::Fetch(fault)
-    }
-}
-
-impl From<ReplyError> for InputFault {
-    fn from(error: ReplyError) -> InputFault {
-        InputFault::Reply(error)
-    }
-}
-
-impl From<ListError> for InputFault {
-    fn from(error: ListError) -> InputFault {
-        InputFault::List(error)
-    }
-}
-
-/// A fault of a source, which is told by its name.
+/// A fault, and the name of the source in which it is, if it is in one.
 #[derive(Clone, Copy)]
 pub struct SourceFault<'a> {
-    pub name: &'a str,
-    pub fault: InputFault,
+    pub name: Option<&'a str>,
+    pub fault: Fault,
 }
 
-/// Prints a fault of a source on standard error, and answers the exit status of the program.
+/// Prints a fault on standard error, behind the name of its source, and answers the exit status of the program.
 pub fn report_source<R: Eprint>(rt: &R, fault: &SourceFault<'_>) -> u8 {
     let _ = eprintln!(rt; "am_tool: {fault}");
     fault.fault.status()
@@ -228,41 +185,9 @@ pub fn report_source<R: Eprint>(rt: &R, fault: &SourceFault<'_>) -> u8 {
 
 impl fmt::Display for SourceFault<'_> {
     fn fmt<W: fmt::Write>(&self, f: &mut fmt::Formatter<W>) -> fmt::Result {
-        write!(f, "{} ", Word(self.name.as_bytes()))?;
-        lines::write_input_fault(self.fault, f)
-    }
-}
-
-impl fmt::Display for Fault {
-    fn fmt<W: fmt::Write>(&self, f: &mut fmt::Formatter<W>) -> fmt::Result {
-        match *self {
-            Fault::Snapshot(error) => lines::write_snapshot_error(error, f),
-            Fault::Replay(error) => lines::write_replay_error(error, f),
-            Fault::TooManySteps(steps) => lines::numbered(f, "TooManySteps", steps),
-            Fault::Picture(fault) => {
-                f.write_str("Picture ")?;
-                lines::write_file_fault(fault, f)
-            }
-            Fault::Peer => f.write_str("Peer"),
-            Fault::Config(error) => lines::write_config_error(error, f),
-            Fault::Silences(fault) => {
-                f.write_str("Silences ")?;
-                lines::write_file_fault(fault, f)
-            }
-            Fault::Log(fault) => {
-                f.write_str("Log ")?;
-                lines::write_file_fault(fault, f)
-            }
-            Fault::Random(kind) => lines::of_kind(f, "Random", kind),
-            Fault::Listen(kind, port) => write!(f, "Listen {kind:?} {port}"),
-            Fault::Accept(kind) => lines::of_kind(f, "Accept", kind),
-            Fault::Connection(fault) => lines::write_connection_fault(fault, f),
-            Fault::Clock(kind) => lines::of_kind(f, "Clock", kind),
-            Fault::Ready(kind) => lines::of_kind(f, "Ready", kind),
-            Fault::NoPull => f.write_str("NoPull"),
-            Fault::UnsentMemory(frames) => lines::numbered(f, "Unsent Memory", frames),
-            Fault::UnsentLimit(frames) => lines::numbered(f, "Unsent Limit", frames),
-            Fault::Lost(fault, port) => lines::write_link_fault(fault, port, f),
+        if let Some(name) = self.name {
+            write!(f, "{} ", Word(name.as_bytes()))?;
         }
+        write!(f, "{}", self.fault)
     }
 }

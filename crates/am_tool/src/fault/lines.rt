@@ -1,21 +1,21 @@
 //! Faults of the libraries, as their names and numbers.
 
-use super::InputFault;
+use super::snapshot_error;
 use am_gossip::FrameError;
 use am_instance::{ConfigError, StepError};
-use am_member::asking::ReadError;
-use am_member::{Fault, FetchFault, FileFault, ReplyError};
+use am_member::{Fault, FileFault, ServerFault};
+use am_picture::PictureError;
 use am_reactor::LinkFault;
 use am_replay::ReplayError;
-use am_schedule::FaultKind;
+use am_schedule::{FaultKind, ScheduleError};
 use am_silence_json::ListError;
-use am_snapshot::SnapshotError;
+use am_snapshot::{FoldError, SnapshotError};
 use am_wire::WireError;
 use std::fmt::{self, Display, Formatter};
 use std::io::ErrorKind;
 
 /// A name and a number.
-pub fn numbered<W: fmt::Write, N: Display + Drop>(
+fn numbered<W: fmt::Write, N: Display + Drop>(
     f: &mut Formatter<W>,
     name: &str,
     number: N,
@@ -24,15 +24,15 @@ pub fn numbered<W: fmt::Write, N: Display + Drop>(
 }
 
 /// A name and the kind of the system's refusal.
-pub fn of_kind<W: fmt::Write>(f: &mut Formatter<W>, name: &str, kind: ErrorKind) -> fmt::Result {
+fn of_kind<W: fmt::Write>(f: &mut Formatter<W>, name: &str, kind: ErrorKind) -> fmt::Result {
     write!(f, "{name} {kind:?}")
 }
 
 pub fn write_snapshot_error<W: fmt::Write>(
-    error: SnapshotError,
+    error: &SnapshotError,
     f: &mut Formatter<W>,
 ) -> fmt::Result {
-    match error {
+    match *error {
         SnapshotError::Read { at } => numbered(f, "Read", at),
         SnapshotError::Write { written } => numbered(f, "Write", written),
         SnapshotError::Wire(error) => write_wire_error(error, f),
@@ -42,16 +42,34 @@ pub fn write_snapshot_error<W: fmt::Write>(
     }
 }
 
-pub fn write_replay_error<W: fmt::Write>(error: ReplayError, f: &mut Formatter<W>) -> fmt::Result {
-    match error {
+pub fn write_fold_error<W: fmt::Write>(error: &FoldError, f: &mut Formatter<W>) -> fmt::Result {
+    write_snapshot_error(&snapshot_error(*error), f)
+}
+
+pub fn write_replay_error<W: fmt::Write>(error: &ReplayError, f: &mut Formatter<W>) -> fmt::Result {
+    match *error {
         ReplayError::Read { at } => numbered(f, "Read", at),
-        ReplayError::Schedule(error) => {
-            write!(f, "Schedule {} {}", kind_name(error.kind), error.line)
-        }
+        ReplayError::Schedule(error) => write_schedule_error(error, f),
         ReplayError::TooLarge => f.write_str("TooLarge"),
         ReplayError::Memory { line } => numbered(f, "Memory", line),
         ReplayError::Write { written } => numbered(f, "Write", written),
     }
+}
+
+pub fn write_picture_error<W: fmt::Write>(
+    error: &PictureError,
+    f: &mut Formatter<W>,
+) -> fmt::Result {
+    match *error {
+        PictureError::Schedule(error) => write_schedule_error(error, f),
+        PictureError::TooManySteps { steps } => numbered(f, "TooManySteps", steps),
+        // at no line
+        PictureError::Memory => numbered(f, "Memory", 0),
+    }
+}
+
+fn write_schedule_error<W: fmt::Write>(error: ScheduleError, f: &mut Formatter<W>) -> fmt::Result {
+    write!(f, "Schedule {} {}", kind_name(error.kind), error.line)
 }
 
 /// What is wrong with a line of a schedule, by its name.
@@ -82,8 +100,8 @@ fn write_wire_error<W: fmt::Write>(error: WireError, f: &mut Formatter<W>) -> fm
     }
 }
 
-pub fn write_config_error<W: fmt::Write>(error: ConfigError, f: &mut Formatter<W>) -> fmt::Result {
-    match error {
+pub fn write_config_error<W: fmt::Write>(error: &ConfigError, f: &mut Formatter<W>) -> fmt::Result {
+    match *error {
         ConfigError::EmptyName => f.write_str("EmptyName"),
         ConfigError::LongName => f.write_str("LongName"),
         ConfigError::SameName => f.write_str("SameName"),
@@ -91,28 +109,20 @@ pub fn write_config_error<W: fmt::Write>(error: ConfigError, f: &mut Formatter<W
     }
 }
 
-pub fn write_input_fault<W: fmt::Write>(fault: InputFault, f: &mut Formatter<W>) -> fmt::Result {
-    match fault {
-        InputFault::File(fault) => write_file_fault(fault, f),
-        InputFault::Fetch(fault) => write_fetch_fault(fault, f),
-        InputFault::Reply(ReplyError::NoHead) => f.write_str("Reply"),
-        InputFault::Reply(ReplyError::Status(code)) => numbered(f, "Status", code),
-        InputFault::List(error) => write_list_error(error, f),
+pub fn write_server_fault<W: fmt::Write>(fault: &ServerFault, f: &mut Formatter<W>) -> fmt::Result {
+    match *fault {
+        ServerFault::Connect(kind) => of_kind(f, "Connect", kind),
+        ServerFault::Write { written } => numbered(f, "Write", written),
+        ServerFault::Read { at } => numbered(f, "Read", at),
+        ServerFault::TooLarge => f.write_str("TooLarge"),
+        ServerFault::Memory => f.write_str("Memory"),
+        ServerFault::NoHead => f.write_str("Reply"),
+        ServerFault::Status(code) => numbered(f, "Status", code),
     }
 }
 
-fn write_fetch_fault<W: fmt::Write>(fault: FetchFault, f: &mut Formatter<W>) -> fmt::Result {
-    match fault {
-        FetchFault::Connect(kind) => of_kind(f, "Connect", kind),
-        FetchFault::Write { written } => numbered(f, "Write", written),
-        FetchFault::Reply(ReadError::Read { at }) => numbered(f, "Read", at),
-        FetchFault::Reply(ReadError::TooLarge) => f.write_str("TooLarge"),
-        FetchFault::Reply(ReadError::Memory) => f.write_str("Memory"),
-    }
-}
-
-fn write_list_error<W: fmt::Write>(error: ListError, f: &mut Formatter<W>) -> fmt::Result {
-    match error {
+pub fn write_list_error<W: fmt::Write>(error: &ListError, f: &mut Formatter<W>) -> fmt::Result {
+    match *error {
         ListError::BadJson => f.write_str("BadJson"),
         ListError::NoList => f.write_str("NoList"),
         ListError::Wrong(place, key) => write!(f, "Silence {place} {key}"),
@@ -121,15 +131,25 @@ fn write_list_error<W: fmt::Write>(error: ListError, f: &mut Formatter<W>) -> fm
     }
 }
 
-pub fn write_file_fault<W: fmt::Write>(fault: FileFault, f: &mut Formatter<W>) -> fmt::Result {
-    match fault {
+pub fn write_file_fault<W: fmt::Write>(fault: &FileFault, f: &mut Formatter<W>) -> fmt::Result {
+    match *fault {
         FileFault::File(kind) => of_kind(f, "File", kind),
-        FileFault::Snapshot(error) => write_snapshot_error(error, f),
+        FileFault::Snapshot(error) => write_snapshot_error(&error, f),
     }
 }
 
-pub fn write_connection_fault<W: fmt::Write>(fault: Fault, f: &mut Formatter<W>) -> fmt::Result {
-    match fault {
+/// A fault of a file, behind a name.
+#[derive(Clone, Copy)]
+pub struct FileLine<'a>(pub &'a FileFault);
+
+impl Display for FileLine<'_> {
+    fn fmt<W: fmt::Write>(&self, f: &mut Formatter<W>) -> fmt::Result {
+        write_file_fault(self.0, f)
+    }
+}
+
+pub fn write_connection_fault<W: fmt::Write>(fault: &Fault, f: &mut Formatter<W>) -> fmt::Result {
+    match *fault {
         Fault::Read { at } => numbered(f, "Read", at),
         Fault::Write { written } => numbered(f, "Write", written),
         Fault::TooLarge => f.write_str("TooLarge"),
@@ -172,11 +192,12 @@ fn write_step_error<W: fmt::Write>(error: StepError, f: &mut Formatter<W>) -> fm
 }
 
 pub fn write_link_fault<W: fmt::Write>(
-    fault: LinkFault,
-    port: u16,
+    fault: &LinkFault,
+    port: &u16,
     f: &mut Formatter<W>,
 ) -> fmt::Result {
-    match fault {
+    let port = *port;
+    match *fault {
         LinkFault::Connect(kind) => write!(f, "Connect {kind:?} {port}"),
         LinkFault::Write { written, .. } | LinkFault::Time { written } => {
             write!(f, "Send Write {port} {written}")
