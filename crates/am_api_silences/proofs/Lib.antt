@@ -2,3 +2,5 @@ pub mod FilterRows
 pub mod Statuses
 pub mod Telling
 pub mod Handing
+pub mod Beginning
+pub mod Made

@@ -13,7 +13,10 @@ use Rattle.am_api_silences.specs.Events.{IsEventOf}
 use Rattle.am_api_silences.specs.Replies.{IsReplyBytes, Says, line_bytes}
 use Rattle.am_instance.specs.OneStep.{IsStep}
 use Rattle.am_api_silences.specs.Table.{clock_line, memory_line}
+use Rattle.am_api_silences.specs.Making.{Makes}
 use Rattle.am_api_silences.specs.declared.answering.Answered.{Answered}
+use Rattle.am_api_silences.specs.declared.answering.Begun.{Begun}
+use Rattle.am_api_silences.specs.declared.replies.ReplyBytes.{ReplyBytes}
 
 -- the frames of an answer, and how many were left out
 abbrev pub sent_with : Answered → Sent
@@ -44,3 +47,13 @@ ComesOf (Err refusal) old now answered new = IsTurnedAway refusal old answered n
 abbrev pub IsAnswered : InstanceState → Request → ℕ → ℕ → Answered → InstanceState → Type 0
 IsAnswered old request bits now answered new =
     (meant : Result Event Refusal) × IsEventOf request bits meant × ComesOf meant old now answered new
+
+-- ---- an answer whose reply is being made
+
+-- the answer that it becomes with this reply
+abbrev pub with_reply : Begun → ReplyBytes → Answered
+with_reply begun reply = record { reply = reply; frames = begun.frames; unsent = begun.unsent }
+
+-- whatever its reply is finished with, it becomes such an answer
+abbrev pub Becomes : (Answered → Type 0) → Begun → Type 0
+Becomes IsSuch begun = Makes (λ reply. IsSuch (with_reply begun reply)) begun.making

@@ -2,5 +2,6 @@ pub mod Filters
 pub mod Events
 pub mod Table
 pub mod Replies
+pub mod Making
 pub mod Answers
 pub mod Serving

@@ -4,6 +4,8 @@ use Rattle.std.specs.Borrow.{Bor}
 use Rattle.serde_json.specs.Data.{Data, array, string}
 use Rattle.serde_json.specs.View.{items_of}
 use Rattle.serde_json.specs.Written.{compact_text}
+use Rattle.am_silence.specs.Mesh.{Mesh}
+use Rattle.am_silence.specs.declared.state.State.{State}
 use Rattle.am_silence_json.specs.Gettables.{IsGettable, AreGettable, posted_data}
 use Rattle.am_http.specs.Lines.{Line, line_seen}
 use Rattle.am_http.specs.Replies.{reply_bytes}
@@ -22,10 +24,13 @@ good_bytes body = reply_bytes 200 None body
 abbrev pub line_bytes : Line → List ℕ
 line_bytes line = reply_bytes line.status line.allow (compact_text (string line.text))
 
+-- the bytes of the reply that lists these silences
+abbrev pub IsListReply : List (Mesh × State) → List ℕ → Type 0
+IsListReply rows bytes = (ds : List Data) × AreGettable rows ds × (bytes ≡ good_bytes (compact_text (array (items_of ds))))
+
 -- The bytes of a reply to a request. Only requests on silences have a body.
 abbrev pub IsReplyBytes : Reply → List ℕ → Type 0
-IsReplyBytes (replies.Silences rows) bytes =
-    (ds : List Data) × AreGettable rows.items ds × (bytes ≡ good_bytes (compact_text (array (items_of ds))))
+IsReplyBytes (replies.Silences rows) bytes = IsListReply rows.items bytes
 IsReplyBytes (replies.Silence version state) bytes = (d : Data) × IsGettable version.silence state d × (bytes ≡ good_bytes (compact_text d))
 IsReplyBytes (replies.Posted id) bytes = bytes ≡ good_bytes (compact_text (posted_data id))
 IsReplyBytes (replies.Refused error) bytes = bytes ≡ line_bytes (refused_line error)
@@ -65,3 +70,8 @@ memory_bytes = line_bytes memory_line
 abbrev pub Says : (List ℕ → Type 0) → ReplyBytes → Type 0
 Says IsMeant (Own bytes) = IsMeant bytes.items
 Says IsMeant (Fixed bytes) = bytes.now ≡ memory_bytes
+
+-- it has this status; where it says that there is no memory for another, it has 500
+abbrev pub HasStatusOf : ℕ → ReplyBytes → Type 0
+HasStatusOf status (Own bytes) = HasStatus status bytes.items
+HasStatusOf status (Fixed bytes) = HasStatus 500 bytes.now

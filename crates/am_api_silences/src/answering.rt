@@ -3,11 +3,13 @@
 ghost use Rattle.std.specs.Prelude.{◌≡◌, Ok, Err};
 ghost use Rattle.am_instance.specs.Sendings.{nothing_sent};
 ghost use Rattle.am_instance.specs.InstanceStates.{InstanceState};
-ghost use Rattle.am_api_silences.specs.Answers.{ComesOf, IsAnswered, IsTurnedAway, TellsStep, sent_with};
-ghost use Rattle.am_api_silences.specs.Replies.{HasStatus, bytes_of};
+ghost use Rattle.am_api_silences.specs.Answers.{Becomes, ComesOf, IsAnswered, IsTurnedAway, TellsStep, sent_with};
+ghost use Rattle.am_api_silences.specs.Making.{Makes};
+ghost use Rattle.am_api_silences.specs.Replies.{HasStatus, HasStatusOf, bytes_of};
 
 use crate::events::to_event;
-use crate::replies::{ReplyBytes, no_memory, tell};
+use crate::making::{Making, make};
+use crate::replies::{ReplyBytes, no_memory, status_with, tell};
 use crate::table;
 use am_gossip::Frame;
 use am_http::{Refusal, Request};
@@ -23,6 +25,33 @@ pub struct Answered {
     /// The frames to be sent, in order, each with the place of the peer that it goes to.
     pub frames: Vec<(Place, Frame)>,
     pub unsent: Unsent,
+}
+
+/// The answer to a request whose reply is being made, and what its step sends.
+#[derive(Drop)]
+pub struct Begun {
+    pub making: Making,
+    /// The frames to be sent, in order, each with the place of the peer that it goes to.
+    pub frames: Vec<(Place, Frame)>,
+    pub unsent: Unsent,
+}
+
+impl Begun {
+    /// An answer whose reply is whole already.
+    pub fn whole(answered: Answered) -> Begun
+        ensures { Becomes (λ answer. answer ≡ answered) result }
+    {
+        let Answered {
+            reply,
+            frames,
+            unsent,
+        } = answered;
+        Begun {
+            making: Making::Whole(reply),
+            frames,
+            unsent,
+        }
+    }
 }
 
 /// An answer with which nothing is sent.
@@ -50,17 +79,23 @@ pub fn turn_away(alloc: Global, refusal: &Refusal) -> (u16, Answered)
 }
 
 /// The answer to a request whose step was made, with its status.
-fn done(alloc: Global, outcome: Outcome) -> (u16, Answered)
-    ensures told { TellsStep (Ok outcome) result.1 }
-    ensures status { HasStatus result.0 (bytes_of result.1.reply) }
+fn done(alloc: Global, outcome: Outcome) -> (u16, Begun)
+    ensures told { Becomes (TellsStep (Ok outcome)) result.1 }
+    ensures status { Makes (HasStatusOf result.0) result.1.making }
 {
-    let (status, reply) = tell(alloc, Ok(&outcome.reply));
-    let answered = Answered {
+    let Outcome {
         reply,
-        frames: outcome.frames,
-        unsent: outcome.unsent,
+        frames,
+        unsent,
+        ..
+    } = outcome;
+    let (status, making) = make(alloc, reply);
+    let begun = Begun {
+        making,
+        frames,
+        unsent,
     };
-    (status, answered)
+    (status, begun)
 }
 
 /// The answer to a request whose step was refused, with its status.
@@ -77,15 +112,54 @@ fn stopped(alloc: Global, error: StepError) -> (u16, Answered)
     }
 }
 
-/// Makes the step of an event, and answers it, with the status.
-fn step(alloc: Global, instance: &mut Instance, event: Event, now: Moment) -> (u16, Answered)
-    ensures made { ComesOf (Ok event) instance.old now result.1 instance.new }
-    ensures status { HasStatus result.0 (bytes_of result.1.reply) }
+/// Makes the step of an event, and begins to answer it, with the status.
+fn step(alloc: Global, instance: &mut Instance, event: Event, now: Moment) -> (u16, Begun)
+    ensures made { Becomes (λ answered. ComesOf (Ok event) instance.old now answered instance.new) result.1 }
+    ensures status { Makes (HasStatusOf result.0) result.1.making }
 {
     match instance.step(event, now) {
         Ok(outcome) => done(alloc, outcome),
-        Err(error) => stopped(alloc, error),
+        Err(error) => {
+            let (status, answered) = stopped(alloc, error);
+            (status, Begun::whole(answered))
+        }
     }
+}
+
+/// Begins to answer a request, with the status that its reply has where there is memory for it.
+fn begin(
+    alloc: Global,
+    instance: &mut Instance,
+    request: &Request,
+    bits: u128,
+    now: Moment,
+) -> (u16, Begun)
+    ensures begun { Becomes (λ answered. IsAnswered instance.old request.now bits now answered instance.new) result.1 }
+    ensures status { Makes (HasStatusOf result.0) result.1.making }
+{
+    match to_event(alloc, request, bits) {
+        Ok(event) => step(alloc, instance, event, now),
+        Err(refusal) => {
+            let (status, answered) = turn_away(alloc, &refusal);
+            (status, Begun::whole(answered))
+        }
+    }
+}
+
+/// Makes the step of a request at `now`, and begins its reply: a list is written afterwards, a stretch at a time.
+///
+/// Whatever the reply is finished with, it is what [`answer`] gives.
+pub fn begin_answer(
+    alloc: Global,
+    instance: &mut Instance,
+    request: &Request,
+    bits: u128,
+    now: Moment,
+) -> Begun
+    ensures { Becomes (λ answered. IsAnswered instance.old request.now bits now answered instance.new) result }
+{
+    let (_, begun) = begin(alloc, instance, request, bits, now);
+    begun
 }
 
 /// Answers a request, with the status.
@@ -99,10 +173,20 @@ pub fn respond(
     ensures answered { IsAnswered instance.old request.now bits now result.1 instance.new }
     ensures status { HasStatus result.0 (bytes_of result.1.reply) }
 {
-    match to_event(alloc, request, bits) {
-        Ok(event) => step(alloc, instance, event, now),
-        Err(refusal) => turn_away(alloc, &refusal),
-    }
+    let (status, begun) = begin(alloc, instance, request, bits, now);
+    let Begun {
+        making,
+        frames,
+        unsent,
+    } = begun;
+    let reply = making.finish(alloc);
+    let status = status_with(status, &reply);
+    let answered = Answered {
+        reply,
+        frames,
+        unsent,
+    };
+    (status, answered)
 }
 
 /// Answers a request by one step at `now`. `bits` are random: a silence that it makes gets its identifier by them.

@@ -5,12 +5,14 @@
 mod answering;
 mod events;
 mod filters;
+mod making;
 mod replies;
 mod serving;
 mod table;
 
 pub use am_http::{Read, Refusal, Request, read_request};
-pub use answering::{Answered, answer, turn_away};
+pub use answering::{Answered, Begun, answer, begin_answer, turn_away};
 pub use events::to_event;
+pub use making::Making;
 pub use replies::{ReplyBytes, to_bytes};
 pub use serving::{Fault, Served, serve, serve_behind};

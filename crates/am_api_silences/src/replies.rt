@@ -1,12 +1,11 @@
 //! The bytes of replies.
 
-ghost use Rattle.std.specs.Prelude.{◌≡◌, List, IfOk};
-ghost use Rattle.serde_json.specs.Data.{Data, array};
-ghost use Rattle.serde_json.specs.View.{items_of};
+ghost use Rattle.std.specs.Prelude.{◌≡◌, IfOk};
+ghost use Rattle.serde_json.specs.Data.{Data};
 ghost use Rattle.serde_json.specs.Written.{compact_text};
-ghost use Rattle.am_silence_json.specs.Gettables.{AreGettable, IsGettable, posted_data};
+ghost use Rattle.am_silence_json.specs.Gettables.{IsGettable, posted_data};
 ghost use Rattle.am_http.specs.Lines.{line_seen};
-ghost use Rattle.am_api_silences.specs.Replies.{HasStatus, IsReplyBytes, IsSaid, Says, bytes_of, good_bytes};
+ghost use Rattle.am_api_silences.specs.Replies.{HasStatus, HasStatusOf, IsListReply, IsReplyBytes, IsSaid, Says, bytes_of, good_bytes};
 ghost use Rattle.am_api_silences.specs.Replies.{line_bytes, memory_bytes, said_status};
 
 use crate::table;
@@ -37,7 +36,7 @@ impl ReplyBytes {
 }
 
 /// The reply 200 with this body.
-fn good(alloc: Global, body: &[u8]) -> Result<Vec<u8>, AllocError>
+pub fn good(alloc: Global, body: &[u8]) -> Result<Vec<u8>, AllocError>
     ensures { IfOk result (λ bytes. bytes.items ≡ good_bytes body.now) }
 {
     reply(alloc, 200, None, body)
@@ -45,8 +44,7 @@ fn good(alloc: Global, body: &[u8]) -> Result<Vec<u8>, AllocError>
 
 /// The reply that lists silences.
 fn list(alloc: Global, rows: &[(MeshSilence, State)]) -> Result<Vec<u8>, AllocError>
-    ensures { IfOk result (λ bytes. (ds : List Data) × AreGettable rows.now ds
-        × (bytes.items ≡ good_bytes (compact_text (array (items_of ds))))) }
+    ensures { IfOk result (λ bytes. IsListReply rows.now bytes.items) }
 {
     let body = write_silences(Vec::new(alloc), rows)?;
     let bytes = good(alloc, &body)?;
@@ -134,5 +132,16 @@ pub fn tell(alloc: Global, said: Result<&Reply, &Refusal>) -> (u16, ReplyBytes)
     match to_bytes(alloc, said) {
         Ok(bytes) => (status_of(said), ReplyBytes::Own(bytes)),
         Err(_) => (500, ReplyBytes::Fixed(no_memory())),
+    }
+}
+
+/// The status of a reply, which is this one where there was memory for it.
+pub fn status_with(status: u16, reply: &ReplyBytes) -> u16
+    requires { HasStatusOf status reply.now }
+    ensures { HasStatus result (bytes_of reply.now) }
+{
+    match reply {
+        ReplyBytes::Own(_) => status,
+        ReplyBytes::Fixed(_) => 500,
     }
 }

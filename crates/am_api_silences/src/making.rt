@@ -1,0 +1,99 @@
+//! Replies that are being made: a list is written a stretch at a time.
+
+ghost use Rattle.std.specs.Prelude.{◌≡◌, IfOk};
+ghost use Rattle.am_api_silences.specs.Making.{GoesOn, IsBegun, IsMadeOf, IsNoMemory, Makes, is_whole};
+ghost use Rattle.am_api_silences.specs.Replies.{HasStatusOf, IsListReply, IsReplyBytes, Says};
+
+use crate::replies::{ReplyBytes, good, no_memory, tell};
+use am_instance::Reply;
+use am_silence::{MeshSilence, State};
+use am_silence_json::Listing;
+use std::alloc::{AllocError, Global};
+
+/// A reply that is being made.
+#[derive(Drop)]
+pub enum Making {
+    Whole(ReplyBytes),
+    /// A list, of whose silences some are left to be written.
+    List(Listing),
+}
+
+/// The reply where there is no memory for another.
+fn short() -> ReplyBytes
+    ensures { IsNoMemory result }
+{
+    ReplyBytes::Fixed(no_memory())
+}
+
+/// The reply that lists these silences, before the first of them is written.
+fn list(alloc: Global, rows: Vec<(MeshSilence, State)>) -> Making
+    ensures { IsBegun rows.items result }
+{
+    match Listing::begin(alloc, rows) {
+        Ok(list) => Making::List(list),
+        Err(_) => Making::Whole(short()),
+    }
+}
+
+/// The whole reply of a list: what is left of it is written.
+fn finished(alloc: Global, list: Listing) -> Result<Vec<u8>, AllocError>
+    ensures { IfOk result (λ bytes. IsListReply list.rows bytes.items) }
+{
+    let body = list.finish()?;
+    let bytes = good(alloc, &body)?;
+    Ok(bytes)
+}
+
+/// Begins a reply, with the status that it has where there is memory for it.
+pub fn make(alloc: Global, reply: Reply) -> (u16, Making)
+    ensures says { Makes (Says (IsReplyBytes reply)) result.1 }
+    ensures status { Makes (HasStatusOf result.0) result.1 }
+{
+    match reply {
+        Reply::Silences(rows) => (200, list(alloc, rows)),
+        other => {
+            let (status, whole) = tell(alloc, Ok(&other));
+            (status, Making::Whole(whole))
+        }
+    }
+}
+
+impl Making {
+    /// Writes so many silences more of a list, or all that are left. Where there is no memory for them, that is what is
+    /// replied.
+    pub fn go_on(self, count: usize) -> Making
+        ensures goes_on { GoesOn count self result }
+        ensures same { Makes (IsMadeOf self) result }
+    {
+        match self {
+            Making::Whole(reply) => Making::Whole(reply),
+            Making::List(list) => match list.go_on(count) {
+                Ok(list) => Making::List(list),
+                Err(_) => Making::Whole(short()),
+            },
+        }
+    }
+
+    /// Whether no silence is left to be written.
+    pub fn is_whole(&self) -> bool
+        ensures { result ≡ is_whole self.now }
+    {
+        match self {
+            Making::Whole(_) => true,
+            Making::List(list) => list.is_written(),
+        }
+    }
+
+    /// The whole reply: what is left of a list is written. Where there is no memory for it, that is what is replied.
+    pub fn finish(self, alloc: Global) -> ReplyBytes
+        ensures { IsMadeOf self result }
+    {
+        match self {
+            Making::Whole(reply) => reply,
+            Making::List(list) => match finished(alloc, list) {
+                Ok(bytes) => ReplyBytes::Own(bytes),
+                Err(_) => short(),
+            },
+        }
+    }
+}
