@@ -18,11 +18,10 @@ use Rattle.am_api_silences.specs.Answers.{ComesOf}
 use Rattle.am_api_silences.specs.declared.answering.Answered.{Answered}
 use Rattle.am_session.specs.declared.fault.SessionFault.{SessionFault}
 use Rattle.am_session.specs.Sessions.{Standing, name_of}
-use Rattle.am_member.specs.declared.answering.Exchanged.{Exchanged}
 use Rattle.am_member.specs.declared.fault.Fault.{Fault}
 use Rattle.am_member.specs.declared.fault.Fault.TheVariants.{Read as InRead, Write, TooLarge, Frame as InFrame, UnknownName, Step}
 use Rattle.am_member.specs.Incoming.{Effects, MakesAll, StopsAt, effects_of, no_effects}
-use Rattle.am_member.specs.Exchanging.{AreHeard, AreStepped, IsAnsweredTo, IsFromNobody, MakesNamed, is_stopped}
+use Rattle.am_member.specs.Exchanging.{Answer, AreHeard, AreStepped, IsAnsweredTo, IsFromNobody, MakesNamed, is_stopped}
 use Rattle.am_member.specs.Lives.{AreEventsOf, AreEventsOfFrames, AreEventsOfRead, AreStepsOf, AreStepsOfAll, AreTurns, IsTurn, Turn, listed, standings_after}
 
 -- steps behind others
@@ -186,17 +185,17 @@ meant_steps (Ok event) now stopped old answered new comes =
     whole_steps now (event ∷ []) stopped old new (step_before now event [] comes.0 old new new comes.1 (none_at now new new refl))
 meant_steps (Err refusal) now stopped old answered new comes = whole_steps now [] stopped old new (none_at now old new comes.same)
 
-read_steps : (read : Read) (bits now : ℕ) (stopped : Bool) (old new : InstanceState) (exchanged : Exchanged) → IsAnsweredTo read bits now old new exchanged →
+read_steps : (read : Read) (bits now : ℕ) (stopped : Bool) (old new : InstanceState) (answer : Answer) → IsAnsweredTo read bits now old new answer →
     ReadSteps read bits now stopped old new
-read_steps (Whole request) bits now stopped old new exchanged answer = record {
-  asked = listed answer.1.0;
-  are = (answer.1.0, answer.1.1, refl);
-  steps = meant_steps answer.1.0 now stopped old answer.0 new answer.1.2;
+read_steps (Whole request) bits now stopped old new answer done = record {
+  asked = listed done.1.0;
+  are = (done.1.0, done.1.1, refl);
+  steps = meant_steps done.1.0 now stopped old done.0 new done.1.2;
 }
-read_steps (Refused refusal) bits now stopped old new exchanged answer =
-    record { asked = []; are = refl; steps = whole_steps now [] stopped old new (none_at now old new answer.1.same) }
-read_steps More bits now stopped old new exchanged answer =
-    record { asked = []; are = refl; steps = whole_steps now [] stopped old new (none_at now old new answer.same) }
+read_steps (Refused refusal) bits now stopped old new answer done =
+    record { asked = []; are = refl; steps = whole_steps now [] stopped old new (none_at now old new done.1.same) }
+read_steps More bits now stopped old new answer done =
+    record { asked = []; are = refl; steps = whole_steps now [] stopped old new (none_at now old new done.same) }
 
 -- ---- a turn
 

@@ -19,8 +19,7 @@ use Rattle.am_api_silences.specs.Replies.{IsReplyBytes, Says}
 use Rattle.am_api_silences.specs.declared.answering.Answered.{Answered}
 use Rattle.am_api_silences.specs.declared.replies.ReplyBytes.{ReplyBytes}
 use Rattle.am_api_silences.specs.declared.replies.ReplyBytes.TheVariants.{Own, Fixed}
-use Rattle.am_member.specs.declared.answering.Exchanged.{Exchanged}
-use Rattle.am_member.specs.Exchanging.{IsAnsweredTo, IsReplied}
+use Rattle.am_member.specs.Exchanging.{Answer, IsAnsweredTo, IsReplied}
 use Rattle.am_http.specs.declared.request.Read.TheVariants.{Whole}
 use Rattle.am_member.specs.Lives.{IsBareAnswer, IsBareBytes, RepliesBare}
 
@@ -57,12 +56,12 @@ comes_bare silences log stand new (Ok event) now answered sets comes = λ asks. 
 comes_bare silences log stand new (Err refusal) now answered sets comes = comes.says
 
 -- the answer to a request
-pub answer_bare : (silences : List Mesh) (log : List LogMesh) (stand new : InstanceState) (request : Request) (bits now : ℕ) (exchanged : Exchanged) →
-    RepliesAsSets silences log stand → IsAnsweredTo (Whole request) bits now stand new exchanged → IsBareAnswer silences log request bits now exchanged
-answer_bare silences log stand new request bits now exchanged sets answer = record {
-  reply = answer.0.reply;
-  is = answer.2.reply;
-  meant = answer.1.0;
-  means = answer.1.1;
-  replied = comes_bare silences log stand new answer.1.0 now answer.0 sets answer.1.2;
+pub answer_bare : (silences : List Mesh) (log : List LogMesh) (stand new : InstanceState) (request : Request) (bits now : ℕ) (answer : Answer) →
+    RepliesAsSets silences log stand → IsAnsweredTo (Whole request) bits now stand new answer → IsBareAnswer silences log request bits now answer
+answer_bare silences log stand new request bits now answer sets done = record {
+  reply = done.0.reply;
+  is = done.2.reply;
+  meant = done.1.0;
+  means = done.1.1;
+  replied = comes_bare silences log stand new done.1.0 now done.0 sets done.1.2;
 }

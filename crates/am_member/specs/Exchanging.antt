@@ -1,8 +1,12 @@
 -- What comes of what a connection said: the answer to its request, or the steps of its frames.
 use Rattle.std.specs.Prelude.{◌≡◌, ◌≢◌, ◌⊎◌, ℕ, Bool, true, false, List, [], ◌∷◌, Option, None, Some, option_map, Result, Ok, Err, ⊤}
 use Rattle.am_api_silences.specs.declared.answering.Answered.{Answered}
-use Rattle.am_api_silences.specs.Answers.{sent_with}
+use Rattle.am_api_silences.specs.declared.answering.Begun.{Begun}
+use Rattle.am_api_silences.specs.declared.making.Making.{Making}
+use Rattle.am_api_silences.specs.declared.replies.ReplyBytes.{ReplyBytes}
+use Rattle.am_api_silences.specs.Answers.{sent_with, with_reply as answered_with}
 use Rattle.am_api_silences.specs.Events.{IsCall}
+use Rattle.am_api_silences.specs.Making.{IsMadeOf}
 use Rattle.am_api_silences.specs.Serving.{IsAnswerTo}
 use Rattle.am_gossip.specs.declared.frame.Frame.{Frame}
 use Rattle.am_http.specs.declared.cause.Cause.{Cause}
@@ -16,30 +20,56 @@ use Rattle.am_session.specs.declared.fault.SessionFault.{SessionFault}
 use Rattle.am_session.specs.declared.fault.SessionFault.TheVariants as session_faults
 use Rattle.am_session.specs.Sessions.{Spoken, Standing, name_of, over}
 use Rattle.am_member.specs.declared.answering.Exchanged.{Exchanged}
+use Rattle.am_member.specs.declared.ended.Ended.{Ended}
 use Rattle.am_member.specs.declared.fault.Fault.{Fault}
 use Rattle.am_member.specs.declared.fault.Fault.TheVariants.{TooLarge, Frame as InFrame, UnknownName, Step}
 use Rattle.am_member.specs.Incoming.{Effects, IsOnlyPeerOf, IsPeerOf, MakesAll, StopsAt, effects_of, no_effects}
 
+-- ---- what comes of an exchange
+
+-- What came of what a connection said, once its reply is whole: the reply, where a request was answered, and what its steps were.
+pub record Answer : Type 0 where
+  pub reply : Option ReplyBytes
+  pub ended : Ended
+
+-- what a reply that is being made is finished with, where there is one
+abbrev pub IsFinished : Option Making → Option ReplyBytes → Type 0
+IsFinished None None = ⊤
+IsFinished (Some making) (Some reply) = IsMadeOf making reply
+IsFinished _ _ = ⊥
+
+-- what comes of an exchange with this reply
+abbrev pub with_reply : Exchanged → Option ReplyBytes → Answer
+with_reply exchanged reply = record { reply = reply; ended = exchanged.ended }
+
+-- whatever its reply is finished with, such an answer comes of an exchange
+abbrev pub Comes : (Answer → Type 0) → Exchanged → Type 0
+Comes IsSuch exchanged = (reply : Option ReplyBytes) → IsFinished exchanged.reply reply → IsSuch (with_reply exchanged reply)
+
 -- ---- a request
 
 -- nothing was answered, and no step was made
-pub record IsUntouched (old new : InstanceState) (exchanged : Exchanged) : Type 0 where
+pub record IsUntouched (old new : InstanceState) (answer : Answer) : Type 0 where
   pub same : new ≡ old
-  pub reply : exchanged.reply ≡ None
-  pub nothing : effects_of exchanged.ended ≡ no_effects
-  pub no_fault : exchanged.ended.fault ≡ None
+  pub reply : answer.reply ≡ None
+  pub nothing : effects_of answer.ended ≡ no_effects
+  pub no_fault : answer.ended.fault ≡ None
 
 -- an answer is handed on as it is, its reply and its frames; no Tick was among its steps
-pub record IsReplied (answered : Answered) (exchanged : Exchanged) : Type 0 where
-  pub reply : exchanged.reply ≡ Some answered.reply
-  pub effects : effects_of exchanged.ended ≡ record { sent = sent_with answered; ticked = false }
-  pub no_fault : exchanged.ended.fault ≡ None
+pub record IsReplied (answered : Answered) (answer : Answer) : Type 0 where
+  pub reply : answer.reply ≡ Some answered.reply
+  pub effects : effects_of answer.ended ≡ record { sent = sent_with answered; ticked = false }
+  pub no_fault : answer.ended.fault ≡ None
+
+-- so is one that is begun, with what its reply is finished with
+abbrev pub IsHandedOn : Begun → Answer → Type 0
+IsHandedOn begun answer = (reply : ReplyBytes) × IsMadeOf begun.making reply × IsReplied (answered_with begun reply) answer
 
 -- what was read is answered; nothing is where it decides nothing yet
-abbrev pub IsAnsweredTo : Read → ℕ → ℕ → InstanceState → InstanceState → Exchanged → Type 0
-IsAnsweredTo More bits now old new exchanged = IsUntouched old new exchanged
-IsAnsweredTo read bits now old new exchanged =
-    (answered : Answered) × IsAnswerTo read old bits now answered new × IsReplied answered exchanged
+abbrev pub IsAnsweredTo : Read → ℕ → ℕ → InstanceState → InstanceState → Answer → Type 0
+IsAnsweredTo More bits now old new answer = IsUntouched old new answer
+IsAnsweredTo read bits now old new answer =
+    (answered : Answered) × IsAnswerTo read old bits now answered new × IsReplied answered answer
 
 -- ---- frames
 
@@ -85,10 +115,10 @@ AreHeard name now frames fault old new effects told =
 
 -- What comes of what a connection with this name said: of a request its answer, else the steps of the frames. (A session never
 -- says both.)
-pub record IsExchanged (name : Option (List ℕ)) (bits now : ℕ) (said : Spoken) (old new : InstanceState) (exchanged : Exchanged) : Type 0 where
-  pub asked : (read : Read) → said.request ≡ Some read → IsAnsweredTo read bits now old new exchanged
+pub record IsExchanged (name : Option (List ℕ)) (bits now : ℕ) (said : Spoken) (old new : InstanceState) (answer : Answer) : Type 0 where
+  pub asked : (read : Read) → said.request ≡ Some read → IsAnsweredTo read bits now old new answer
   pub heard : said.request ≡ None →
-      (exchanged.reply ≡ None) × AreHeard name now said.frames said.fault old new (effects_of exchanged.ended) exchanged.ended.fault
+      (answer.reply ≡ None) × AreHeard name now said.frames said.fault old new (effects_of answer.ended) answer.ended.fault
 
 -- a connection is not heard on whose peer is unknown, or of which a step was refused
 abbrev pub is_stopped : Option Fault → Bool

@@ -26,8 +26,7 @@ use Rattle.am_api_silences.specs.Replies.{IsReplyBytes, Says, line_bytes, memory
 use Rattle.am_api_silences.specs.Table.{clock_line}
 use Rattle.am_api_silences.specs.declared.replies.ReplyBytes.{ReplyBytes}
 use Rattle.am_session.specs.Sessions.{Feeds, Says as SaysPiece, SaysEnd, Spoken, Standing, and_then, name_of, nothing, over}
-use Rattle.am_member.specs.declared.answering.Exchanged.{Exchanged}
-use Rattle.am_member.specs.Exchanging.{IsExchanged, IsFromNobody, IsSender, is_stopped, left_at}
+use Rattle.am_member.specs.Exchanging.{Answer, IsExchanged, IsFromNobody, IsSender, is_stopped, left_at}
 
 -- what came of a connection: a piece that there was memory for, any piece, or the end of its input
 pub data Came : Type 0 where
@@ -48,7 +47,7 @@ Tells old (Fed piece) said new = Feeds old piece said new
 Tells old AtEnd said new = SaysEnd old said × (new ≡ over (name_of old))
 
 -- A turn of a member: something came of a connection, at a moment and with random bits; what it said and how far the connection
--- had come with it, what the member answered, and the instance as it left it.
+-- had come with it, what the member answered, with the reply that its making was finished with, and the instance as it left it.
 pub record Turn : Type 0 where
   pub connection : ℕ
   pub came : Came
@@ -56,7 +55,7 @@ pub record Turn : Type 0 where
   pub bits : ℕ
   pub said : Spoken
   pub heard : Standing
-  pub answer : Exchanged
+  pub answer : Answer
   pub left : InstanceState
 
 -- what came is told by the connection's own session, and answered as the contract of `exchange` says
@@ -167,7 +166,7 @@ RepliesBare silences log (Ok event) now reply = asks_shown event ≡ true → Sa
 RepliesBare silences log (Err refusal) now reply = Says (λ bytes. bytes ≡ line_bytes (line_seen refusal)) reply
 
 -- the reply to a request, whatever it means
-pub record IsBareAnswer (silences : List Mesh) (log : List LogMesh) (request : Request) (bits now : ℕ) (answer : Exchanged) : Type 0 where
+pub record IsBareAnswer (silences : List Mesh) (log : List LogMesh) (request : Request) (bits now : ℕ) (answer : Answer) : Type 0 where
   pub reply : ReplyBytes
   pub is : answer.reply ≡ Some reply
   pub meant : Result Event Refusal

@@ -1,16 +1,16 @@
 //! What comes of what a connection said, piece by piece.
 
-ghost use Rattle.std.specs.Prelude.{◌≡◌, option_map};
+ghost use Rattle.std.specs.Prelude.{◌≡◌, None, option_map};
 ghost use Rattle.std.specs.Option.{option_copied};
 ghost use Rattle.am_session.specs.Sessions.{name_of, spoken};
-ghost use Rattle.am_member.specs.Exchanging.{AreHeard, AreStepped, IsAnsweredTo, IsDear, IsExchanged, IsReplied, fault_heard, is_list, left_at};
+ghost use Rattle.am_member.specs.Exchanging.{AreHeard, AreStepped, Comes, IsAnsweredTo, IsDear, IsExchanged, IsHandedOn, fault_heard, is_list, left_at};
 ghost use Rattle.am_member.specs.Incoming.{effects_of};
 
 use crate::ended::Ended;
 use crate::fault::Fault;
 use crate::greeting::peer_named;
 use crate::steps::make_steps;
-use am_api_silences::{Answered, ReplyBytes, answer, turn_away};
+use am_api_silences::{Begun, Making, begin_answer, turn_away};
 use am_gossip::Frame;
 use am_http::{Call, Cause, Read, call_of};
 use am_instance::Instance;
@@ -21,23 +21,24 @@ use std::alloc::Global;
 /// What came of what a connection said.
 #[derive(Drop)]
 pub struct Exchanged {
-    /// The whole reply, where a request was answered.
-    pub reply: Option<ReplyBytes>,
+    /// The reply, where a request was answered. That of a list is still to be written.
+    pub reply: Option<Making>,
     /// What the steps send, whether a Tick was among them, and why no more is heard of the connection.
     pub ended: Ended,
 }
 
 /// Hands on an answer.
-fn replied(answered: Answered) -> Exchanged
-    ensures { IsReplied answered result }
+fn replied(begun: Begun) -> Exchanged
+    ensures handed { Comes (IsHandedOn begun) result }
+    ensures no_fault { result.ended.fault ≡ None }
 {
-    let Answered {
-        reply,
+    let Begun {
+        making,
         frames,
         unsent,
-    } = answered;
+    } = begun;
     Exchanged {
-        reply: Some(reply),
+        reply: Some(making),
         ended: Ended {
             frames,
             unsent,
@@ -55,13 +56,14 @@ fn reply_to(
     bits: u128,
     now: Moment,
 ) -> Exchanged
-    ensures { IsAnsweredTo read bits now instance.old instance.new result }
+    ensures answered { Comes (IsAnsweredTo read bits now instance.old instance.new) result }
+    ensures no_fault { result.ended.fault ≡ None }
 {
     match read {
-        Read::Whole(request) => replied(answer(alloc, instance, &request, bits, now)),
+        Read::Whole(request) => replied(begin_answer(alloc, instance, &request, bits, now)),
         Read::Refused(refusal) => {
             let (_, answered) = turn_away(alloc, &refusal);
-            replied(answered)
+            replied(Begun::whole(answered))
         }
         Read::More => Exchanged {
             reply: None,
@@ -137,7 +139,8 @@ fn hear(
 }
 
 /// Answers what a connection said: a request by a step at `now` and a reply, frames by a step each at `now`. `bits` are
-/// random. `session` is the connection's own, by whose greeting the frames have their sender.
+/// random. `session` is the connection's own, by whose greeting the frames have their sender. The reply of a list is written
+/// afterwards, a stretch at a time: whatever it is finished with, it tells of the instance as it was in that step.
 ///
 /// No more is heard of the connection where no peer has that name, which is told once the name came, or a step is refused;
 /// the steps before it stand. Where nothing was said, nothing else changes.
@@ -149,7 +152,7 @@ pub fn exchange(
     bits: u128,
     now: Moment,
 ) -> Exchanged
-    ensures exchanged { IsExchanged (name_of session.old) bits now (spoken said) instance.old instance.new result }
+    ensures exchanged { Comes (IsExchanged (name_of session.old) bits now (spoken said) instance.old instance.new) result }
     ensures session { session.new ≡ left_at result.ended.fault session.old }
 {
     let Said {
