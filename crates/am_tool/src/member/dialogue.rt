@@ -3,18 +3,23 @@
 ghost use Rattle.std.specs.Prelude.{◌≡◌, ◌≤◌, drop, length};
 ghost use Rattle.am_api_silences.specs.Replies.{bytes_of};
 
-use am_api_silences::{Read, ReplyBytes};
+use am_api_silences::{Making, Read, ReplyBytes};
 use am_gossip::Frame;
 use am_member::is_dear;
 use am_session::{Said, Session};
 use std::alloc::Global;
 
-/// A connection, what it said that waits to be answered, and the reply that goes out.
+/// How many silences of a list are written in a turn of the loop.
+const STRETCH: usize = 512;
+
+/// A connection, what it said that waits to be answered, and the reply that is being made or goes out.
 #[derive(Drop)]
 pub struct Dialogue {
     pub session: Session,
     /// What was said and waits: for its turn, or until a peer has answered the first pull.
     pub waiting: Option<Said>,
+    /// The list that is being written, once its step was made.
+    pub making: Option<Making>,
     pub reply: ReplyBytes,
     /// How many bytes of the reply went out.
     pub written: usize,
@@ -26,6 +31,7 @@ impl Dialogue {
         Dialogue {
             session: Session::new(alloc),
             waiting: None,
+            making: None,
             reply: ReplyBytes::Fixed(&[]),
             written: 0,
         }
@@ -66,11 +72,30 @@ impl Dialogue {
         Some(said)
     }
 
-    /// Has a reply go out, where there is one.
-    pub fn reply_with(&mut self, reply: Option<ReplyBytes>) {
-        if let Some(reply) = reply {
-            self.reply = reply;
+    /// Has a reply go out, where there is one. A list waits until it is written.
+    pub fn reply_with(&mut self, alloc: Global, reply: Option<Making>) {
+        let Some(making) = reply else {
+            return;
+        };
+        if making.is_whole() {
+            self.reply = making.finish(alloc);
+        } else {
+            self.making = Some(making);
         }
+    }
+
+    /// Writes a stretch more of a list. Where none is left it goes out.
+    pub fn go_on(&mut self, alloc: Global, making: Making) {
+        if making.is_whole() {
+            self.reply = making.finish(alloc);
+        } else {
+            self.making = Some(making.go_on(STRETCH));
+        }
+    }
+
+    /// Whether something waits for its turn.
+    pub fn waits(&self) -> bool {
+        self.waiting.is_some() || self.making.is_some()
     }
 
     /// What is still to be written.

@@ -61,7 +61,7 @@ impl Member<'_> {
         self.follow(ended);
     }
 
-    /// Makes the steps of what was said, and has the reply go out.
+    /// Makes the steps of what was said, and has the reply go out, or wait until it is written.
     fn make_steps(&mut self, dialogue: &mut Dialogue, said: Said) -> Ended {
         let bits = self.random_bits();
         let now = next_moment(self.rt, self.instance.last());
@@ -75,7 +75,7 @@ impl Member<'_> {
             bits,
             now,
         );
-        dialogue.reply_with(reply);
+        dialogue.reply_with(alloc, reply);
         ended
     }
 
@@ -138,7 +138,7 @@ impl Service for Member<'_> {
     }
 
     fn waits(&self, session: &Dialogue) -> bool {
-        session.waiting.is_some()
+        session.waits()
     }
 
     fn may_resume(&self) -> bool {
@@ -146,7 +146,9 @@ impl Service for Member<'_> {
     }
 
     fn resume(&mut self, session: &mut Dialogue) {
-        if let Some(said) = session.waiting.take() {
+        if let Some(making) = session.making.take() {
+            session.go_on(self.rt.alloc(), making);
+        } else if let Some(said) = session.waiting.take() {
             self.answer(session, said);
         }
     }
