@@ -175,24 +175,54 @@ def test_pulls(folder):
     alone.kill()
 
 
-def test_held_push(folder):
-    """A Push isn't answered before the first pull is over."""
-    (port,) = free_ports(1)
+def asked_of(peer, count):
+    """The kinds of the first frames of so many connections that come to a peer."""
+    kinds = []
+    while len(kinds) < count:
+        with peer.accept()[0] as stream:
+            rest = received(stream)[len(greeting("h")) :]
+        kinds += [rest[0]] if rest else []
+    return kinds
+
+
+def test_unanswered_push(folder):
+    """A Push isn't answered before the first pull is over. That of one peer of two doesn't end it, as a Pull does."""
+    port, nobody = free_ports(2)
     with socket.create_server(("127.0.0.1", 0)) as peer:
         peer.settimeout(PATIENCE)
-        place = peer.getsockname()[1]
-        member = Served("h", port, [("p", place)], folder, ["--pull-first", "--pull-first-limit", "3"])
+        peers = [("p", peer.getsockname()[1]), ("q", nobody)]
+        member = Served("h", port, peers, folder, ["--pull-first", "--pull-first-limit", "3"])
         member.start()
         begun = time.monotonic()
         member.send(greeting("p") + EMPTY_PUSH)
-        kinds = []
-        while 3 not in kinds and len(kinds) < 50:
-            with peer.accept()[0] as stream:
-                data = received(stream)
-            rest = data[len(greeting("h")) :]
-            kinds += [rest[0]] if rest else []
-        check("it asks before it answers", kinds[0] == 2 and kinds[-1] == 3, kinds)
-        check("and answers when it waits no more", time.monotonic() - begun > 2)
+        compare("it asks, and answers no Push", asked_of(peer, 3), [2, 2, 2])
+        compare("a request is answered when it waits no more", comments(member), [])
+        check("which is at the limit", time.monotonic() - begun > 2 and "am_tool: NoPull" in member.lines, member.lines)
+        member.send(greeting("p") + EMPTY_PUSH)
+        compare("then it answers a Push", asked_of(peer, 1), [3])
+        member.kill()
+
+
+def test_first_start(folder):
+    """Members that all start at once and pull first wait for nobody else: each has what all had once it answers."""
+    ports = dict(zip("abc", free_ports(3)))
+    started = []
+    for name in ports:
+        peers = [(peer, ports[peer]) for peer in ports if peer != name]
+        before = Served(name, ports[name], peers, folder, ["--stop-at-input-end"])
+        before.start(stdin=subprocess.PIPE)
+        compare("a post", post(before, f"of {name}"), 200)
+        before.process.stdin.close()
+        before.end()
+        started.append(Served(name, ports[name], peers, folder, ["--pull-first", "--time-limit", "20"]))
+    begun = time.monotonic()
+    for member in started:
+        member.start()
+    for member in started:
+        compare(f"the first answer of {member.name}", comments(member), ["of a", "of b", "of c"])
+    check("none waited for the limit", time.monotonic() - begun < 20)
+    for member in started:
+        check("so none tells of it", "am_tool: NoPull" not in member.lines, member.lines)
         member.kill()
 
 
@@ -294,7 +324,8 @@ def main():
             test_saves,
             test_ticks,
             test_pulls,
-            test_held_push,
+            test_unanswered_push,
+            test_first_start,
             test_stops,
             test_input,
             test_stop_under_way,

@@ -13,6 +13,7 @@ use crate::words::Options;
 use am_gossip::Frame;
 use am_instance::{Event, Instance, Outcome, Place, Unsent};
 use am_member::{Ended, Fault as ConnectionFault, next_moment, save_file};
+use dialogue::is_pull;
 use duties::Duties;
 use rand::rngs::StdRng;
 use rand_core::Rng;
@@ -31,10 +32,19 @@ pub struct Member<'a> {
     /// The frames that wait to be handed out, each with the place of its peer.
     queue: Vec<(Place, Frame)>,
     duties: Duties,
+    /// The peers that have not pushed all they have since the start.
+    awaited: Vec<Place>,
     /// Something may have changed since the last save.
     is_changed: bool,
     /// It is to stop.
     stops: bool,
+}
+
+/// The frames but those that answer a Push.
+fn without_pulls(frames: Vec<(Place, Frame)>) -> Vec<(Place, Frame)> {
+    let mut frames = frames;
+    frames.retain(|queued| !is_pull(&queued.1));
+    frames
 }
 
 impl Member<'_> {
@@ -83,7 +93,11 @@ impl Member<'_> {
         if ticked {
             self.save();
         }
-        self.queue_frames(frames);
+        self.queue_frames(if self.duties.waits_for_pull() {
+            without_pulls(frames)
+        } else {
+            frames
+        });
     }
 
     /// What follows a step that the member made by itself.

@@ -16,7 +16,7 @@ const STRETCH: usize = 512;
 #[derive(Drop)]
 pub struct Dialogue {
     pub session: Session,
-    /// What was said and waits: for its turn, or until a peer has answered the first pull.
+    /// A request that waits: for its turn, or until the first pull is over.
     pub waiting: Option<Said>,
     /// The list that is being written, once its step was made.
     pub making: Option<Making>,
@@ -37,38 +37,12 @@ impl Dialogue {
         }
     }
 
-    /// Keeps of what was said what has to wait, and gives the rest: lists wait for their turn, and where a first pull is
-    /// waited for, so do all requests, and frames from the first Push on.
+    /// Keeps a request that has to wait, and gives what hasn't: lists wait for their turn, and all requests for the first pull.
     pub fn hold(&mut self, said: Said, waits_for_pull: bool) -> Option<Said> {
-        if let Some(waiting) = &mut self.waiting {
-            add(waiting, said);
-            return None;
-        }
         if must_wait(&said, waits_for_pull) {
             self.waiting = Some(said);
             return None;
         }
-        if !waits_for_pull {
-            return Some(said);
-        }
-        self.hold_from_push(said)
-    }
-
-    /// Keeps frames from the first Push on.
-    fn hold_from_push(&mut self, said: Said) -> Option<Said> {
-        let mut said = said;
-        let Some(place) = said.frames.iter().position(is_push) else {
-            return Some(said);
-        };
-        let Ok(rest) = said.frames.split_off(place) else {
-            return Some(said);
-        };
-        self.waiting = Some(Said {
-            frames: rest,
-            request: None,
-            fault: said.fault,
-        });
-        said.fault = None;
         Some(said)
     }
 
@@ -120,10 +94,6 @@ impl Dialogue {
     }
 }
 
-fn is_push(frame: &Frame) -> bool {
-    matches!(frame, Frame::Push(_))
-}
-
 /// Whether a request has to wait.
 fn must_wait(said: &Said, waits_for_pull: bool) -> bool {
     match &said.request {
@@ -132,29 +102,29 @@ fn must_wait(said: &Said, waits_for_pull: bool) -> bool {
     }
 }
 
-/// Adds what was said behind what waits.
-fn add(waiting: &mut Said, said: Said) {
-    let Said { frames, fault, .. } = said;
-    let mut frames = frames;
-    if waiting.fault.is_none() {
-        waiting.fault = fault;
-    }
-    let _ = waiting.frames.append(&mut frames);
-}
-
 /// Whether nothing was said.
 pub fn is_nothing(said: &Said) -> bool {
     said.frames.is_empty() && said.request.is_none() && said.fault.is_none()
 }
 
-/// Whether a frame brings all that a peer has.
-fn is_pull(frame: &Frame) -> bool {
+/// Whether a frame brings all that a peer has, as it was asked for.
+pub fn is_pull(frame: &Frame) -> bool {
     matches!(frame, Frame::Pull(_))
 }
 
-/// Whether all that a peer has is among what was said.
+/// Whether a frame brings all that a peer has, which asks for as much.
+fn is_push(frame: &Frame) -> bool {
+    matches!(frame, Frame::Push(_))
+}
+
+/// Whether a Pull is among what was said.
 pub fn has_pull(said: &Said) -> bool {
     said.frames.iter().any(is_pull)
+}
+
+/// Whether a Push is among what was said.
+pub fn has_push(said: &Said) -> bool {
+    said.frames.iter().any(is_push)
 }
 
 /// Whether what was said may change what the member holds.

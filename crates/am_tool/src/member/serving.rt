@@ -4,7 +4,7 @@ ghost use Rattle.std.specs.Prelude.{drop, ⊤};
 ghost use Rattle.am_api_silences.specs.Replies.{bytes_of};
 
 use super::Member;
-use super::dialogue::{Dialogue, has_pull, is_nothing, may_change};
+use super::dialogue::{Dialogue, has_pull, has_push, is_nothing, may_change};
 use crate::fault::Fault;
 use am_gossip::{Frame, append_frame};
 use am_member::{
@@ -53,10 +53,14 @@ impl Member<'_> {
             return;
         }
         let pulled = has_pull(&said);
+        let pushed = has_push(&said);
         self.is_changed |= may_change(&said);
         let ended = self.make_steps(dialogue, said);
-        if pulled && ended.fault.is_none() {
-            self.end_first_pull();
+        if ended.fault.is_none() && self.duties.waits_for_pull() {
+            let all = pushed && self.has_all_with(dialogue.session.name());
+            if pulled || all {
+                self.end_first_pull();
+            }
         }
         self.follow(ended);
     }
@@ -79,7 +83,23 @@ impl Member<'_> {
         ended
     }
 
-    /// A peer has answered, or is waited for no more.
+    /// Whether each peer has pushed all that it has, now that the one of this name did.
+    fn has_all_with(&mut self, name: Option<&str>) -> bool {
+        let Some(name) = name else {
+            return false;
+        };
+        let place = self.instance.config().place_named(name);
+        if let Some(at) = self
+            .awaited
+            .iter()
+            .position(|awaited| Some(*awaited) == place)
+        {
+            self.awaited.swap_remove(at);
+        }
+        self.awaited.is_empty()
+    }
+
+    /// What all peers have is here.
     fn end_first_pull(&mut self) {
         if let Ok(now) = Instant::now(self.rt) {
             self.duties.end_first_pull(self.options, now);

@@ -5,7 +5,7 @@ use super::started::Started;
 use super::{Member, signals, times};
 use crate::fault::Fault;
 use crate::words::Options;
-use am_instance::{Config, ConfigError, Instance};
+use am_instance::{Config, ConfigError, Instance, Place};
 use am_member::{Peer, load_file, next_moment, send};
 use am_reactor::{Limits, listen};
 use am_version_order::Moment;
@@ -86,6 +86,9 @@ fn member<'a>(rt: &'a HostRuntime, options: &'a Options<'a>) -> Result<Member<'a
     let Ok(ports) = ports(rt.alloc(), &config, &options.peers) else {
         return Err(Fault::Config(ConfigError::Memory));
     };
+    let Ok(awaited) = peer_places(rt.alloc(), &ports) else {
+        return Err(Fault::Config(ConfigError::Memory));
+    };
     let instance = instance(rt, config, options)?;
     let random = random(rt)?;
     let duties = match Instant::now(rt) {
@@ -100,6 +103,7 @@ fn member<'a>(rt: &'a HostRuntime, options: &'a Options<'a>) -> Result<Member<'a
         random,
         queue: Vec::new(rt.alloc()),
         duties,
+        awaited,
         is_changed: false,
         stops: false,
     })
@@ -140,6 +144,17 @@ fn ports(alloc: Global, config: &Config, peers: &[Peer<'_>]) -> Result<Vec<u16>,
         ports.push(peer.map_or(0, |peer| peer.port))?;
     }
     Ok(ports)
+}
+
+/// The places of the peers: those at which a port is known.
+fn peer_places(alloc: Global, ports: &[u16]) -> Result<Vec<Place>, AllocError> {
+    let mut places = Vec::with_capacity(alloc, ports.len())?;
+    for (place, port) in ports.iter().enumerate() {
+        if *port > 0 {
+            places.push(place as Place)?;
+        }
+    }
+    Ok(places)
 }
 
 /// The instance that holds what its files hold.
