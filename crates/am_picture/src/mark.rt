@@ -1,7 +1,6 @@
 //! What a line of a schedule did.
 
 use crate::refusal::Refusal;
-use am_cluster::ClusterError;
 use am_dedup::Reason;
 use am_instance::Place;
 use am_version_order::Moment;
@@ -92,6 +91,6 @@ pub struct Mark {
 impl Mark {
     /// Whether the frame that it names flies.
     pub fn flies(&self) -> bool {
-        self.answer != Answer::Refused(Refusal::Step(ClusterError::NoFrame))
+        self.answer != Answer::Refused(Refusal::NoFrame)
     }
 }

@@ -127,7 +127,7 @@ fn append_mark_title(sheet: &Sheet<'_>, out: &mut String, mark: &Mark) -> Result
     write!(out, "<title>line {line}: ")?;
     append_escaped(sheet.alloc, out, sheet.line(line))?;
     if let Answer::Refused(refusal) = mark.answer {
-        write!(out, "\nrefused: {}", refusal.name())?;
+        write!(out, "\nrefused: {refusal:?}")?;
     }
     out.push_str("</title>")
 }

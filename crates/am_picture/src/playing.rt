@@ -82,7 +82,7 @@ fn mark_of(cluster: &mut Cluster, line: &Line, number: u64) -> Result<Mark, Allo
             let answer = match cluster.settle(*now, number) {
                 Ok(()) => Answer::Nothing,
                 Err(SettleError::Memory) => return Err(AllocError),
-                Err(error) => Answer::Refused(Refusal::Settle(error)),
+                Err(error) => Answer::Refused(Refusal::from(error)),
             };
             Ok(plain_mark(number, Verb::Settle, Some(*now), answer))
         }
@@ -100,7 +100,7 @@ fn play_step(cluster: &mut Cluster, step: &Step, number: u64) -> Result<Mark, Al
     mark.answer = match cluster.step(step, number) {
         Ok(reply) => answer_of(&reply),
         Err(ClusterError::Memory) => return Err(AllocError),
-        Err(error) => Answer::Refused(Refusal::Step(error)),
+        Err(error) => Answer::Refused(Refusal::from(error)),
     };
     Ok(mark)
 }
@@ -185,7 +185,7 @@ fn answer_of(reply: &Reply) -> Answer {
         Reply::Muted(mutes) => yes_or_no(!mutes.ids.as_slice().is_empty()),
         Reply::Decided(Decision::Skip) => Answer::Skip,
         Reply::Decided(Decision::Notify(reason)) => Answer::Notify(*reason),
-        Reply::Refused(error) => Answer::Refused(Refusal::Silence(*error)),
+        Reply::Refused(error) => Answer::Refused(Refusal::from(*error)),
         _ => Answer::Nothing,
     }
 }

@@ -3,57 +3,66 @@
 use am_cluster::{ClusterError, SettleError};
 use am_silence::SilenceError;
 
-/// Why a line was refused: by the cluster as a step or a settle, or by a member in its reply.
+/// The kind of a refusal, as it is printed of a schedule that is played.
 #[derive(Clone, Copy, Debug, PartialEq, Eq)]
 pub enum Refusal {
-    Step(ClusterError),
-    Settle(SettleError),
-    Silence(SilenceError),
+    NotFound,
+    NoMatcher,
+    EmptyName,
+    BadPattern,
+    AllMatchEmpty,
+    EndNotAfterStart,
+    EndInPast,
+    AlreadyExpired,
+    Newer,
+    IdInUse,
+    TooLarge,
+    Memory,
+    MomentBack,
+    UnknownPeer,
+    Stopped,
+    Running,
+    NoFrame,
 }
 
-impl Refusal {
-    /// Its kind, as it is printed of a schedule that is played.
-    pub fn name(self) -> &'static str {
-        match self {
-            Refusal::Step(error) => step_name(error),
-            Refusal::Settle(error) => settle_name(error),
-            Refusal::Silence(error) => silence_name(error),
+impl From<ClusterError> for Refusal {
+    fn from(error: ClusterError) -> Refusal {
+        match error {
+            ClusterError::NoFrame => Refusal::NoFrame,
+            ClusterError::Running => Refusal::Running,
+            ClusterError::Stopped => Refusal::Stopped,
+            ClusterError::MomentBack { .. } => Refusal::MomentBack,
+            ClusterError::UnknownPeer => Refusal::UnknownPeer,
+            ClusterError::Memory => Refusal::Memory,
         }
     }
 }
 
-fn step_name(error: ClusterError) -> &'static str {
-    match error {
-        ClusterError::NoFrame => "NoFrame",
-        ClusterError::Running => "Running",
-        ClusterError::Stopped => "Stopped",
-        ClusterError::MomentBack { .. } => "MomentBack",
-        ClusterError::UnknownPeer => "UnknownPeer",
-        ClusterError::Memory => "Memory",
+impl From<SettleError> for Refusal {
+    fn from(error: SettleError) -> Refusal {
+        match error {
+            SettleError::Stopped => Refusal::Stopped,
+            SettleError::MomentBack => Refusal::MomentBack,
+            SettleError::Memory => Refusal::Memory,
+        }
     }
 }
 
-fn settle_name(error: SettleError) -> &'static str {
-    match error {
-        SettleError::Stopped => "Stopped",
-        SettleError::MomentBack => "MomentBack",
-        SettleError::Memory => "Memory",
-    }
-}
-
-fn silence_name(error: SilenceError) -> &'static str {
-    match error {
-        SilenceError::NotFound => "NotFound",
-        SilenceError::NoMatcher => "NoMatcher",
-        SilenceError::EmptyName => "EmptyName",
-        SilenceError::BadPattern => "BadPattern",
-        SilenceError::AllMatchEmpty => "AllMatchEmpty",
-        SilenceError::EndNotAfterStart => "EndNotAfterStart",
-        SilenceError::EndInPast => "EndInPast",
-        SilenceError::AlreadyExpired => "AlreadyExpired",
-        SilenceError::Newer { .. } => "Newer",
-        SilenceError::IdInUse => "IdInUse",
-        SilenceError::TooLarge => "TooLarge",
-        SilenceError::Memory => "Memory",
+impl From<SilenceError> for Refusal {
+    fn from(error: SilenceError) -> Refusal {
+        match error {
+            SilenceError::NotFound => Refusal::NotFound,
+            SilenceError::NoMatcher => Refusal::NoMatcher,
+            SilenceError::EmptyName => Refusal::EmptyName,
+            SilenceError::BadPattern => Refusal::BadPattern,
+            SilenceError::AllMatchEmpty => Refusal::AllMatchEmpty,
+            SilenceError::EndNotAfterStart => Refusal::EndNotAfterStart,
+            SilenceError::EndInPast => Refusal::EndInPast,
+            SilenceError::AlreadyExpired => Refusal::AlreadyExpired,
+            SilenceError::Newer { .. } => Refusal::Newer,
+            SilenceError::IdInUse => Refusal::IdInUse,
+            SilenceError::TooLarge => Refusal::TooLarge,
+            SilenceError::Memory => Refusal::Memory,
+        }
     }
 }
