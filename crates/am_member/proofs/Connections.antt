@@ -8,8 +8,9 @@ use Rattle.am_session.specs.Sessions.{Says, SaysAll, Spoken, Standing, fresh}
 use Rattle.am_member.specs.declared.fault.Fault.{Fault}
 use Rattle.am_member.specs.declared.fault.Fault.TheVariants.{Read, Write, TooLarge, Frame as InFrame, UnknownName, Step}
 use Rattle.am_member.specs.Exchanging.{is_stopped, left_at}
-use Rattle.am_member.specs.Lives.{AreTurns, Came, IsHeardOut, IsTurn, Tells, Turn, bytes_in, bytes_of, said_in, standings_after, standings_in, turns_of}
+use Rattle.am_member.specs.Lives.{Came, Deed, IsHeardOut, IsLife, IsTurn, Tells, Turn, bytes_in, bytes_of, said_in, standings_after, standings_in, turns_of}
 use Rattle.am_member.specs.Lives.Came.{Heard, Fed, AtEnd}
+use Rattle.am_member.specs.Lives.Deed.{Served, Own}
 
 -- the bytes of each turn
 abbrev pub pieces_of : List Turn → List (List ℕ)
@@ -52,22 +53,23 @@ one_before true standing own final old turn rest same done on all = (
 one_before false standing own final old turn rest same done on all = on all
 
 -- what a connection said in all its turns
-heard_all : (standings : ℕ → Standing) (start new : InstanceState) (turns : List Turn) (connection : ℕ) → AreTurns standings start turns new →
-    AllByRecursion IsHeardOut (turns_of connection turns) →
-    SaysAll (standings connection) (pieces_of (turns_of connection turns)) (said_in (turns_of connection turns)) (standings_in standings turns connection)
+heard_all : (standings : ℕ → Standing) (start new : InstanceState) (deeds : List Deed) (connection : ℕ) → IsLife standings start deeds new →
+    AllByRecursion IsHeardOut (turns_of connection deeds) →
+    SaysAll (standings connection) (pieces_of (turns_of connection deeds)) (said_in (turns_of connection deeds)) (standings_in standings deeds connection)
 heard_all standings start new [] connection life all = (refl, refl)
-heard_all standings start new (turn ∷ turns) connection life all =
-    one_before (connection == turn.connection) (standings connection) (standings turn.connection) (standings_in standings (turn ∷ turns) connection)
-    start turn (turns_of connection turns) (λ is. ap standings (eqb-true connection turn.connection is)) life.0
-    (λ others. heard_all (standings_after standings turn) turn.left new turns connection life.1 others) all
+heard_all standings start new (Served turn ∷ deeds) connection life all =
+    one_before (connection == turn.connection) (standings connection) (standings turn.connection) (standings_in standings (Served turn ∷ deeds) connection)
+    start turn (turns_of connection deeds) (λ is. ap standings (eqb-true connection turn.connection is)) life.0
+    (λ others. heard_all (standings_after standings turn) turn.left new deeds connection life.1 others) all
+heard_all standings start new (Own step ∷ deeds) connection life all = heard_all standings step.left new deeds connection life.1 all
 
 -- from the first byte on
-pub heard_from_fresh : (standings : ℕ → Standing) (start new : InstanceState) (turns : List Turn) (connection : ℕ) → AreTurns standings start turns new →
-    standings connection ≡ fresh → AllByRecursion IsHeardOut (turns_of connection turns) →
-    SaysAll fresh (pieces_of (turns_of connection turns)) (said_in (turns_of connection turns)) (standings_in standings turns connection)
-heard_from_fresh standings start new turns connection life first all =
-    subst (λ (s : Standing). SaysAll s (pieces_of (turns_of connection turns)) (said_in (turns_of connection turns)) (standings_in standings turns connection)) first
-    (heard_all standings start new turns connection life all)
+pub heard_from_fresh : (standings : ℕ → Standing) (start new : InstanceState) (deeds : List Deed) (connection : ℕ) → IsLife standings start deeds new →
+    standings connection ≡ fresh → AllByRecursion IsHeardOut (turns_of connection deeds) →
+    SaysAll fresh (pieces_of (turns_of connection deeds)) (said_in (turns_of connection deeds)) (standings_in standings deeds connection)
+heard_from_fresh standings start new deeds connection life first all =
+    subst (λ (s : Standing). SaysAll s (pieces_of (turns_of connection deeds)) (said_in (turns_of connection deeds)) (standings_in standings deeds connection)) first
+    (heard_all standings start new deeds connection life all)
 
 pub as_bytes : (turns : List Turn) (said : Spoken) (new : Standing) → Says fresh (flat_map (λ piece. piece) (pieces_of turns)) said new → Says fresh (bytes_in turns) said new
 as_bytes turns said new says = subst (λ (bytes : List ℕ). Says fresh bytes said new) (joined turns) says

@@ -22,7 +22,8 @@ use Rattle.am_member.specs.declared.fault.Fault.{Fault}
 use Rattle.am_member.specs.declared.fault.Fault.TheVariants.{Read as InRead, Write, TooLarge, Frame as InFrame, UnknownName, Step}
 use Rattle.am_member.specs.Incoming.{Effects, MakesAll, StopsAt, effects_of, no_effects}
 use Rattle.am_member.specs.Exchanging.{Answer, AreHeard, AreStepped, IsAnsweredTo, IsFromNobody, MakesNamed, is_stopped}
-use Rattle.am_member.specs.Lives.{AreEventsOf, AreEventsOfFrames, AreEventsOfRead, AreStepsOf, AreStepsOfAll, AreTurns, IsTurn, Turn, listed, standings_after}
+use Rattle.am_member.specs.Lives.{AreEventsOf, AreEventsOfFrames, AreEventsOfRead, AreStepsOf, AreStepsOfAll, Deed, IsLife, IsTurn, Turn, listed, standings_after}
+use Rattle.am_member.specs.Lives.Deed.{Served, Own}
 
 -- steps behind others
 pub made_append : (old mid new : InstanceState) (steps others : List Happened) → AreMade old steps mid → AreMade mid others new → AreMade old (steps ++ others) new
@@ -245,14 +246,16 @@ turn_by standing old turn None is done =
 pub turn_steps : (standing : Standing) (old : InstanceState) (turn : Turn) → IsTurn standing old turn → (steps : List Happened) × AreStepsOf old turn steps
 turn_steps standing old turn done = turn_by standing old turn turn.said.request refl done
 
--- all turns
-pub life_steps : (standings : ℕ → Standing) (start new : InstanceState) (turns : List Turn) → AreTurns standings start turns new →
-    (steps : List Happened) × AreStepsOfAll start turns steps × AreMade start steps new
+-- all deeds
+pub life_steps : (standings : ℕ → Standing) (start new : InstanceState) (deeds : List Deed) → IsLife standings start deeds new →
+    (steps : List Happened) × AreStepsOfAll start deeds steps × AreMade start steps new
 life_steps standings start new [] same = ([], refl, same)
-life_steps standings start new (turn ∷ turns) life =
+life_steps standings start new (Served turn ∷ deeds) life =
     let own = turn_steps (standings turn.connection) start turn life.0 in
-    let others = life_steps (standings_after standings turn) turn.left new turns life.1 in (
+    let others = life_steps (standings_after standings turn) turn.left new deeds life.1 in (
       own.0 ++ others.0,
       (own.0, others.0, own.1, others.1, refl),
       made_append start turn.left new own.0 others.0 own.1.made others.2,
     )
+life_steps standings start new (Own step ∷ deeds) life =
+    let others = life_steps standings step.left new deeds life.1 in (step ∷ others.0, (others.0, others.1, refl), (life.0.silences, life.0.log, others.2))

@@ -1,5 +1,5 @@
 -- A member's life: what came of its connections, in any interleaving, and what it answered.
-use Rattle.std.specs.Prelude.{◌≡◌, ◌⊎◌, ◌==◌, ◌≤◌, ℕ, Bool, true, false, List, [], ◌∷◌, ◌++◌, map, filter, ⊤, Option, None, Some, Result, Ok, Err, if◌then◌else◌}
+use Rattle.std.specs.Prelude.{◌≡◌, ◌⊎◌, ◌==◌, ◌≤◌, ℕ, Bool, true, false, List, [], ◌∷◌, ◌++◌, map, ⊤, Option, None, Some, Result, Ok, Err, if◌then◌else◌}
 use Rattle.std.specs.List.{AllByRecursion, flat_map}
 use Rattle.am_silence.specs.Mesh.{Mesh, mesh_version}
 use Rattle.am_nflog.specs.Mesh.{Mesh as LogMesh, mesh_version as entry_version}
@@ -17,6 +17,7 @@ use Rattle.am_instance.specs.Configs.{Settings}
 use Rattle.am_instance.specs.Deliveries.{to_silences, to_log}
 use Rattle.am_instance.specs.InstanceStates.{InstanceState}
 use Rattle.am_instance.specs.Laws.{AreMade, Happened, all_entries, all_silences, run_events}
+use Rattle.am_instance.specs.OneStep.{IsStep}
 use Rattle.am_instance.specs.Replies.{silence_in_view, entry_in_view}
 use Rattle.am_instance.specs.declared.event.Event.{Event}
 use Rattle.am_instance.specs.declared.event.Event.TheVariants as events
@@ -68,17 +69,27 @@ abbrev pub standings_after : (ℕ → Standing) → Turn → ℕ → Standing
 standings_after standings turn = λ connection.
     if connection == turn.connection then left_at turn.answer.ended.fault turn.heard else standings connection
 
--- Turns one after the other, of any connections: each goes on from where its own connection and the instance stand.
-abbrev pub AreTurns : (ℕ → Standing) → InstanceState → List Turn → InstanceState → Type 0
-AreTurns standings old [] new = new ≡ old
-AreTurns standings old (turn ∷ turns) new =
-    IsTurn (standings turn.connection) old turn × AreTurns (standings_after standings turn) turn.left turns new
+-- what a member does: a turn of a connection; or a step by itself, as a Tick or a pull from a peer, that no connection asks for
+pub data Deed : Type 0 where
+  Served : Turn → Deed
+  Own : Happened → Deed
+
+-- A member's life: its deeds one after the other. A turn goes on from where its own connection and the instance stand, and a step
+-- by itself from where the instance stands.
+abbrev pub IsLife : (ℕ → Standing) → InstanceState → List Deed → InstanceState → Type 0
+IsLife standings old [] new = new ≡ old
+IsLife standings old (Served turn ∷ deeds) new =
+    IsTurn (standings turn.connection) old turn × IsLife (standings_after standings turn) turn.left deeds new
+IsLife standings old (Own step ∷ deeds) new = IsStep old step.event step.now step.answer step.left × IsLife standings step.left deeds new
 
 -- ---- each connection by itself
 
--- the turns of one connection
-abbrev pub turns_of : ℕ → List Turn → List Turn
-turns_of connection turns = filter (λ turn. connection == turn.connection) turns
+-- the turns of one connection in a life
+abbrev pub turns_of : ℕ → List Deed → List Turn
+turns_of connection [] = []
+turns_of connection (Served turn ∷ deeds) =
+    if connection == turn.connection then turn ∷ turns_of connection deeds else turns_of connection deeds
+turns_of connection (Own step ∷ deeds) = turns_of connection deeds
 
 -- the bytes that came in turns
 abbrev pub bytes_in : List Turn → List ℕ
@@ -89,10 +100,11 @@ abbrev pub said_in : List Turn → Spoken
 said_in [] = nothing
 said_in (turn ∷ turns) = and_then turn.said (said_in turns)
 
--- where turns leave the connections
-abbrev pub standings_in : (ℕ → Standing) → List Turn → ℕ → Standing
+-- where a life leaves the connections
+abbrev pub standings_in : (ℕ → Standing) → List Deed → ℕ → Standing
 standings_in standings [] = standings
-standings_in standings (turn ∷ turns) = standings_in (standings_after standings turn) turns
+standings_in standings (Served turn ∷ deeds) = standings_in (standings_after standings turn) deeds
+standings_in standings (Own step ∷ deeds) = standings_in standings deeds
 
 -- a piece came that there was memory for, and the member heard on: its peer is known, and no step was refused
 pub record IsHeardOut (turn : Turn) : Type 0 where
@@ -133,11 +145,13 @@ pub record AreStepsOf (old : InstanceState) (turn : Turn) (steps : List Happened
   pub moments : AllByRecursion (λ step. step.now ≡ turn.now) steps
   pub made : AreMade old steps turn.left
 
--- the steps of turns, in the order of the turns
-abbrev pub AreStepsOfAll : InstanceState → List Turn → List Happened → Type 0
+-- the steps of a life, in the order of its deeds
+abbrev pub AreStepsOfAll : InstanceState → List Deed → List Happened → Type 0
 AreStepsOfAll old [] steps = steps ≡ []
-AreStepsOfAll old (turn ∷ turns) steps =
-    (own : List Happened) × (others : List Happened) × AreStepsOf old turn own × AreStepsOfAll turn.left turns others × (steps ≡ own ++ others)
+AreStepsOfAll old (Served turn ∷ deeds) steps =
+    (own : List Happened) × (others : List Happened) × AreStepsOf old turn own × AreStepsOfAll turn.left deeds others × (steps ≡ own ++ others)
+AreStepsOfAll old (Own step ∷ deeds) steps =
+    (others : List Happened) × AreStepsOfAll step.left deeds others × (steps ≡ step ∷ others)
 
 -- ---- what is shown and replied
 

@@ -8,7 +8,7 @@ ghost use Rattle.am_instance.specs.Configs.{AreMembers};
 ghost use Rattle.am_instance.specs.InstanceStates.{InstanceState};
 ghost use Rattle.am_instance.specs.Laws.{AreMade, Happened, HasMaps, all_entries, all_silences};
 ghost use Rattle.am_session.specs.Sessions.{Says, Standing, fresh};
-ghost use Rattle.am_member.specs.Lives.{AreCalm, AreStepsOfAll, AreTurns, IsBareAnswer, IsHeardOut, IsTurn, ShowsBareSets, Turn};
+ghost use Rattle.am_member.specs.Lives.{AreCalm, AreStepsOfAll, Deed, IsBareAnswer, IsHeardOut, IsLife, IsTurn, ShowsBareSets, Turn};
 ghost use Rattle.am_member.specs.Lives.{bytes_in, said_in, standings_in, turns_of};
 ghost use Rattle.am_member.specs.Outgoing.{is_name};
 
@@ -22,26 +22,26 @@ pub fn names_of_members_are_sent()
 
 /// What a connection said is what all its bytes say, whatever came of other connections between them.
 pub fn connections_say_what_their_bytes_say()
-    ensures { (standings : ℕ → Standing) (start new : InstanceState) (turns : List Turn) (connection : ℕ) →
-        AreTurns standings start turns new → standings connection ≡ fresh → AllByRecursion IsHeardOut (turns_of connection turns) →
-        Says fresh (bytes_in (turns_of connection turns)) (said_in (turns_of connection turns)) (standings_in standings turns connection) }
+    ensures { (standings : ℕ → Standing) (start new : InstanceState) (deeds : List Deed) (connection : ℕ) →
+        IsLife standings start deeds new → standings connection ≡ fresh → AllByRecursion IsHeardOut (turns_of connection deeds) →
+        Says fresh (bytes_in (turns_of connection deeds)) (said_in (turns_of connection deeds)) (standings_in standings deeds connection) }
 {
     pieces_are_their_bytes();
 }
 
-/// The turns of a member, of any connections in any interleaving, are steps of its instance, one after the other: their events
-/// are those of what was said, in the order of the turns, each at the moment of its turn.
+/// A member's life is steps of its instance, one after the other: the turns of any connections in any interleaving, whose events
+/// are those of what was said, each at the moment of its turn; and between them the steps that the member made by itself.
 pub fn lives_are_steps()
-    ensures { (standings : ℕ → Standing) (start new : InstanceState) (turns : List Turn) → AreTurns standings start turns new →
-        (steps : List Happened) × AreStepsOfAll start turns steps × AreMade start steps new }
+    ensures { (standings : ℕ → Standing) (start new : InstanceState) (deeds : List Deed) → IsLife standings start deeds new →
+        (steps : List Happened) × AreStepsOfAll start deeds steps × AreMade start steps new }
 {}
 
 /// So what a member shows, from the last of its steps on, is what the bare sets show of all versions that it began with or that
-/// were delivered to it by requests and peers, for each map that the steps were calm for.
+/// were delivered to it by requests and peers, for each map that the steps were calm for; its Ticks are among the steps.
 pub fn lives_show_the_bare_sets()
-    ensures { (standings : ℕ → Standing) (start new : InstanceState) (turns : List Turn) → HasMaps start →
-        AreTurns standings start turns new →
-        (steps : List Happened) × AreStepsOfAll start turns steps × ShowsBareSets start steps new }
+    ensures { (standings : ℕ → Standing) (start new : InstanceState) (deeds : List Deed) → HasMaps start →
+        IsLife standings start deeds new →
+        (steps : List Happened) × AreStepsOfAll start deeds steps × ShowsBareSets start steps new }
 {
     lives_are_steps();
     steps_show_the_bare_sets();
@@ -50,10 +50,10 @@ pub fn lives_show_the_bare_sets()
 /// And the bytes that a request for a list or a silence is replied are, after calm steps, those that the bare sets give of all
 /// that came before it.
 pub fn lives_reply_as_the_bare_sets()
-    ensures { (standings : ℕ → Standing) (start stand : InstanceState) (turns : List Turn) (turn : Turn) (request : Request) →
-        HasMaps start → HasMaps stand → AreTurns standings start turns stand →
-        IsTurn (standings_in standings turns turn.connection) stand turn → turn.said.request ≡ Some (Whole request) →
-        (steps : List Happened) × AreStepsOfAll start turns steps × (AreCalm start steps →
+    ensures { (standings : ℕ → Standing) (start stand : InstanceState) (deeds : List Deed) (turn : Turn) (request : Request) →
+        HasMaps start → HasMaps stand → IsLife standings start deeds stand →
+        IsTurn (standings_in standings deeds turn.connection) stand turn → turn.said.request ≡ Some (Whole request) →
+        (steps : List Happened) × AreStepsOfAll start deeds steps × (AreCalm start steps →
         IsBareAnswer (all_silences start steps) (all_entries start steps) request turn.bits turn.now turn.answer) }
 {
     lives_are_steps();
