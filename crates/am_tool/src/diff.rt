@@ -54,13 +54,19 @@ pub fn run<'a>(rt: &'a HostRuntime, job: &DiffJob<'a>) -> u8 {
 /// Writes all differences to standard output, and answers whether there is one.
 fn compare<'a>(rt: &HostRuntime, job: &DiffJob<'a>, now: Moment) -> Result<bool, SourceFault<'a>> {
     if job.is_live() {
-        let replicas = ask_all(rt, job)?;
+        let replicas = match ask_all(rt, job) {
+            Ok(replicas) => replicas,
+            Err(fault) => return Err(fault),
+        };
         return match compare_shown(rt, job.form, now, &replicas) {
             Ok(found) => Ok(found),
             Err(error) => Err(unnamed(error)),
         };
     }
-    let mut inputs = open_all(rt, &job.sources)?;
+    let mut inputs = match open_all(rt, &job.sources) {
+        Ok(inputs) => inputs,
+        Err(fault) => return Err(fault),
+    };
     match compare_rows(rt, job, now, &mut inputs) {
         Ok(found) => Ok(found),
         Err(error) => Err(named(job, error)),

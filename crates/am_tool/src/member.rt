@@ -40,10 +40,12 @@ pub struct Member<'a> {
     stops: bool,
 }
 
-/// The frames but those that answer a Push.
-fn without_pulls(frames: Vec<(Place, Frame)>) -> Vec<(Place, Frame)> {
+/// The frames that go out: no Push is answered where the first pull is waited for.
+fn sendable(frames: Vec<(Place, Frame)>, waits_for_pull: bool) -> Vec<(Place, Frame)> {
     let mut frames = frames;
-    frames.retain(|queued| !is_pull(&queued.1));
+    if waits_for_pull {
+        frames.retain(|queued| !is_pull(&queued.1));
+    }
     frames
 }
 
@@ -93,11 +95,8 @@ impl Member<'_> {
         if ticked {
             self.save();
         }
-        self.queue_frames(if self.duties.waits_for_pull() {
-            without_pulls(frames)
-        } else {
-            frames
-        });
+        let waits_for_pull = self.duties.waits_for_pull();
+        self.queue_frames(sendable(frames, waits_for_pull));
     }
 
     /// What follows a step that the member made by itself.
