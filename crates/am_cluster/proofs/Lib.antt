@@ -17,3 +17,5 @@ pub mod Lent
 pub mod Turned
 pub mod Admitted
 pub mod Settled
+pub mod OneOfBoth
+pub mod Asking

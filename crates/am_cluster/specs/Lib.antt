@@ -16,3 +16,6 @@ pub mod Losing
 pub mod Delivering
 pub mod Steps
 pub mod Settling
+pub mod Replicas
+pub mod Shown
+pub mod Questions

@@ -7,6 +7,7 @@ mod error;
 mod events;
 mod flight;
 pub mod journal;
+pub mod laws;
 mod lives;
 mod losing;
 mod member;

@@ -6,3 +6,7 @@ pub mod Growing
 pub mod Unique
 pub mod Ids
 pub mod Answering
+pub mod Seen
+pub mod Decided
+pub mod Cuts
+pub mod Asked

@@ -7,3 +7,5 @@ pub mod Receiving
 pub mod Paths
 pub mod Queries
 pub mod Replies
+pub mod Sessions
+pub mod States

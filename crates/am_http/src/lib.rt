@@ -12,6 +12,7 @@ mod refusal;
 mod replies;
 mod request;
 mod routes;
+pub mod session;
 mod standing;
 
 pub use cause::{Cause, Resource};

@@ -4,7 +4,7 @@ use Rattle.std.proofs.lemmas.Bool.{eqb-true}
 use Rattle.std.specs.Prelude.{◌==◌, if◌then◌else◌}
 use Rattle.std.specs.List.{AllByRecursion, flat_map}
 use Rattle.am_instance.specs.InstanceStates.{InstanceState}
-use Rattle.am_session.specs.Sessions.{Says, SaysAll, Spoken, Standing, fresh}
+use Rattle.am_http.specs.Sessions.{Says, SaysAll, Spoken, Standing, fresh}
 use Rattle.am_member.specs.declared.fault.Fault.{Fault}
 use Rattle.am_member.specs.declared.fault.Fault.TheVariants.{Read, Write, TooLarge, Frame as InFrame, UnknownName, Step}
 use Rattle.am_member.specs.Exchanging.{is_stopped, left_at}

@@ -10,9 +10,9 @@ use Rattle.am_http.specs.declared.request.Read.{Read}
 use Rattle.am_http.specs.declared.request.Read.TheVariants.{More, Whole, Refused}
 use Rattle.am_http.specs.declared.request.Request.{Request}
 use Rattle.am_instance.specs.InstanceStates.{InstanceState}
-use Rattle.am_session.specs.declared.fault.SessionFault.{SessionFault}
-use Rattle.am_session.specs.declared.fault.SessionFault.TheVariants as session_faults
-use Rattle.am_session.specs.Sessions.{Standing, name_of, over}
+use Rattle.am_http.specs.declared.session.fault.SessionFault.{SessionFault}
+use Rattle.am_http.specs.declared.session.fault.SessionFault.TheVariants as session_faults
+use Rattle.am_http.specs.Sessions.{Standing, name_of, over}
 use Rattle.am_member.specs.declared.answering.Exchanged.{Exchanged}
 use Rattle.am_member.specs.declared.fault.Fault.{Fault}
 use Rattle.am_member.specs.declared.fault.Fault.TheVariants.{Read as InRead, Write, TooLarge, Frame as InFrame, UnknownName, Step}

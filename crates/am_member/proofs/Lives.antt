@@ -16,8 +16,8 @@ use Rattle.am_instance.specs.declared.event.Event.TheVariants as events
 use Rattle.am_instance.specs.declared.reply.Outcome.{Outcome}
 use Rattle.am_api_silences.specs.Answers.{ComesOf}
 use Rattle.am_api_silences.specs.declared.answering.Answered.{Answered}
-use Rattle.am_session.specs.declared.fault.SessionFault.{SessionFault}
-use Rattle.am_session.specs.Sessions.{Standing, name_of}
+use Rattle.am_http.specs.declared.session.fault.SessionFault.{SessionFault}
+use Rattle.am_http.specs.Sessions.{Standing, name_of}
 use Rattle.am_member.specs.declared.fault.Fault.{Fault}
 use Rattle.am_member.specs.declared.fault.Fault.TheVariants.{Read as InRead, Write, TooLarge, Frame as InFrame, UnknownName, Step}
 use Rattle.am_member.specs.Incoming.{Effects, MakesAll, StopsAt, effects_of, no_effects}

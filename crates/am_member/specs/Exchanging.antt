@@ -16,9 +16,9 @@ use Rattle.am_http.specs.declared.routes.Call.{Call}
 use Rattle.am_http.specs.declared.routes.Call.TheVariants.{List as ListCall}
 use Rattle.am_instance.specs.Configs.{Settings}
 use Rattle.am_instance.specs.InstanceStates.{InstanceState}
-use Rattle.am_session.specs.declared.fault.SessionFault.{SessionFault}
-use Rattle.am_session.specs.declared.fault.SessionFault.TheVariants as session_faults
-use Rattle.am_session.specs.Sessions.{Spoken, Standing, name_of, over}
+use Rattle.am_http.specs.declared.session.fault.SessionFault.{SessionFault}
+use Rattle.am_http.specs.declared.session.fault.SessionFault.TheVariants as session_faults
+use Rattle.am_http.specs.Sessions.{Spoken, Standing, name_of, over}
 use Rattle.am_member.specs.declared.answering.Exchanged.{Exchanged}
 use Rattle.am_member.specs.declared.ended.Ended.{Ended}
 use Rattle.am_member.specs.declared.fault.Fault.{Fault}

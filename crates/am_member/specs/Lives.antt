@@ -26,7 +26,7 @@ use Rattle.am_api_silences.specs.Events.{IsEventOf}
 use Rattle.am_api_silences.specs.Replies.{IsReplyBytes, Says, line_bytes, memory_bytes}
 use Rattle.am_api_silences.specs.Table.{clock_line}
 use Rattle.am_api_silences.specs.declared.replies.ReplyBytes.{ReplyBytes}
-use Rattle.am_session.specs.Sessions.{Feeds, Says as SaysPiece, SaysEnd, Spoken, Standing, and_then, name_of, nothing, over}
+use Rattle.am_http.specs.Sessions.{Feeds, Says as SaysPiece, SaysEnd, Spoken, Standing, and_then, name_of, nothing, over}
 use Rattle.am_member.specs.Exchanging.{Answer, IsExchanged, IsFromNobody, IsSender, is_stopped, left_at}
 
 -- what came of a connection: a piece that there was memory for, any piece, or the end of its input

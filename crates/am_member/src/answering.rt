@@ -2,7 +2,7 @@
 
 ghost use Rattle.std.specs.Prelude.{◌≡◌, None, option_map};
 ghost use Rattle.std.specs.Option.{option_copied};
-ghost use Rattle.am_session.specs.Sessions.{name_of, spoken};
+ghost use Rattle.am_http.specs.Sessions.{name_of, spoken};
 ghost use Rattle.am_member.specs.Exchanging.{AreHeard, AreStepped, Comes, IsAnsweredTo, IsDear, IsExchanged, IsHandedOn, fault_heard, is_list, left_at};
 ghost use Rattle.am_member.specs.Incoming.{effects_of};
 
@@ -12,9 +12,9 @@ use crate::greeting::peer_named;
 use crate::steps::make_steps;
 use am_api_silences::{Begun, Making, begin_answer, turn_away};
 use am_gossip::Frame;
+use am_http::session::{Said, Session, SessionFault};
 use am_http::{Call, Cause, Read, call_of};
 use am_instance::Instance;
-use am_session::{Said, Session, SessionFault};
 use am_version_order::Moment;
 use std::alloc::Global;
 

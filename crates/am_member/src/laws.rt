@@ -7,13 +7,13 @@ ghost use Rattle.am_http.specs.declared.request.Request.{Request};
 ghost use Rattle.am_instance.specs.Configs.{AreMembers};
 ghost use Rattle.am_instance.specs.InstanceStates.{InstanceState};
 ghost use Rattle.am_instance.specs.Laws.{AreMade, Happened, HasMaps, all_entries, all_silences};
-ghost use Rattle.am_session.specs.Sessions.{Says, Standing, fresh};
+ghost use Rattle.am_http.specs.Sessions.{Says, Standing, fresh};
 ghost use Rattle.am_member.specs.Lives.{AreCalm, AreStepsOfAll, Deed, IsBareAnswer, IsHeardOut, IsLife, IsTurn, ShowsBareSets, Turn};
 ghost use Rattle.am_member.specs.Lives.{bytes_in, said_in, standings_in, turns_of};
 ghost use Rattle.am_member.specs.Outgoing.{is_name};
 
+use am_http::session::laws::pieces_are_their_bytes;
 use am_instance::laws::{calm_steps_reply_as_the_bare_sets, steps_show_the_bare_sets};
-use am_session::laws::pieces_are_their_bytes;
 
 /// A member's name is one that a greeting may have: what a member sends is never refused for its own name.
 pub fn names_of_members_are_sent()

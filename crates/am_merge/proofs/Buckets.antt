@@ -12,10 +12,10 @@ use Rattle.std.specs.Cmp.{IsTotalOrder}
 use Rattle.std.specs.Cmp.Lexicographic.{slice_cmp, options_total}
 use Rattle.std.proofs.lemmas.Cmp.{nat_cmp_total, nat_list_cmp_total, on_total, then_total, ranked}
 use Rattle.std.proofs.lemmas.Map.Lookups.{exact_bytes}
-use Rattle.am_blocks.specs.declared.cursor.Cursor.{Cursor}
-use Rattle.am_blocks.specs.Rows.{Rows, entries}
-use Rattle.am_blocks.specs.Cursors.{place}
-use Rattle.am_blocks.specs.Searches.{IsRising, IsFound, IsMissing}
+use Rattle.am_merge.specs.declared.blocks.cursor.Cursor.{Cursor}
+use Rattle.am_merge.specs.Rows.{Rows, entries}
+use Rattle.am_merge.specs.Cursors.{place}
+use Rattle.am_merge.specs.Searches.{IsRising, IsFound, IsMissing}
 use Rattle.am_version_order.specs.Versions.{Version}
 use Rattle.am_merge.specs.Maps.{IsMap}
 use Rattle.am_merge.specs.Places.{IsGapFor}

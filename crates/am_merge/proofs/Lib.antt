@@ -1,3 +1,7 @@
+pub mod Gaps
+pub mod Joined
+pub mod Places
+pub mod Risings
 pub mod Keys
 pub mod Puts
 pub mod Joins

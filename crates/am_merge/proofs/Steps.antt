@@ -10,9 +10,9 @@ use Rattle.std.specs.Ordering.{is_lt, eq_by_cmp}
 use Rattle.std.proofs.lemmas.List.Edits.{length-insert, length-remove}
 use Rattle.std.specs.declared.cmp.Ordering.{Ordering}
 use Rattle.slab.specs.Slab.{Slab, get, slab_len, Updates}
-use Rattle.am_blocks.specs.declared.cursor.Cursor.{Cursor}
-use Rattle.am_blocks.specs.Rows.{Rows, joined, entries, HasRoom}
-use Rattle.am_blocks.specs.Cursors.{IsItem, place, place_in, block_at}
+use Rattle.am_merge.specs.declared.blocks.cursor.Cursor.{Cursor}
+use Rattle.am_merge.specs.Rows.{Rows, joined, entries, HasRoom}
+use Rattle.am_merge.specs.Cursors.{IsItem, place, place_in, block_at}
 use Rattle.am_version_order.specs.Versions.{Version, is_below, rank_cmp}
 use Rattle.am_merge.specs.Maps.{IsMap, at, replaces, greater_of, is_above}
 use Rattle.am_merge.specs.Takings.{IsPut, new_keys, new_versions}

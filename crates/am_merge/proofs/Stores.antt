@@ -11,11 +11,11 @@ use Rattle.std.specs.Ordering.{nat_cmp, ordering_then}
 use Rattle.std.specs.Cmp.{IsTotalOrder}
 use Rattle.std.proofs.lemmas.Cmp.{nat_cmp_total, on_total, then_total, ranked}
 use Rattle.slab.specs.Slab.{Slab, get, Updates}
-use Rattle.am_blocks.specs.declared.cursor.Cursor.{Cursor}
-use Rattle.am_blocks.specs.Rows.{Rows, joined, entries}
-use Rattle.am_blocks.specs.Cursors.{IsItem, IsWithin, place}
-use Rattle.am_blocks.specs.Searches.{IsRising, IsFound, IsMissing}
-use Rattle.am_blocks.proofs.Joins.{length_around, place_inside, block_inside}
+use Rattle.am_merge.specs.declared.blocks.cursor.Cursor.{Cursor}
+use Rattle.am_merge.specs.Rows.{Rows, joined, entries}
+use Rattle.am_merge.specs.Cursors.{IsItem, IsWithin, place}
+use Rattle.am_merge.specs.Searches.{IsRising, IsFound, IsMissing}
+use Rattle.am_merge.proofs.Joined.{length_around, place_inside, block_inside}
 use Rattle.am_version_order.specs.Versions.{Version}
 use Rattle.am_merge.specs.Maps.{IsMap}
 use Rattle.am_merge.specs.Places.{IsPlaceOf, IsGapFor}

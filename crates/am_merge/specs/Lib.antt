@@ -1,3 +1,7 @@
+pub mod Cuts
+pub mod Rows
+pub mod Searches
+pub mod Cursors
 pub mod Buckets
 pub mod Entries
 pub mod Indexes

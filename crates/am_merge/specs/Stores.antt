@@ -4,9 +4,9 @@ use Rattle.std.specs.Prelude.{◌≡◌, ◌≢◌, ℕ, List, ◌∷◌, ◌++�
 use Rattle.std.specs.List.{HoldsAt}
 use Rattle.std.specs.declared.cmp.Ordering.{Ordering}
 use Rattle.slab.specs.Slab.{Slab, get, slab_len, HasRoomFor}
-use Rattle.am_blocks.specs.declared.cursor.Cursor.{Cursor}
-use Rattle.am_blocks.specs.Rows.{Rows, entries, HasRoom}
-use Rattle.am_blocks.specs.Cursors.{IsItem, IsWithin, place}
+use Rattle.am_merge.specs.declared.blocks.cursor.Cursor.{Cursor}
+use Rattle.am_merge.specs.Rows.{Rows, entries, HasRoom}
+use Rattle.am_merge.specs.Cursors.{IsItem, IsWithin, place}
 use Rattle.am_version_order.specs.Versions.{Version, is_live}
 use Rattle.am_merge.specs.Maps.{IsMap}
 use Rattle.am_merge.specs.Places.{IsPlaceOf, IsGapFor}

@@ -5,15 +5,15 @@ ghost use Rattle.std.specs.Prelude.{IfSome, IfNone, IsOk, OnOk, OnErr, IsTrue, I
 ghost use Rattle.std.specs.Prelude.{slice_set};
 ghost use Rattle.am_merge.specs.Maps.{IsMap, IsJoin, HasTwice, replaces, swept};
 ghost use Rattle.am_merge.specs.Stores.{versions, HasRooms, IsStore, IsKeyCursor, IsGapCursor, IsExpiredAt};
-ghost use Rattle.am_blocks.specs.Cursors.{place};
+ghost use Rattle.am_merge.specs.Cursors.{place};
 ghost use Rattle.am_merge.specs.Takings.{IsPut, new_keys, new_versions, taken_by};
 
+use crate::blocks::Cursor;
 use crate::held::{MergeError, Taken};
 use crate::iter::walk_store;
 use crate::store::{
     Store, add, drop_at, empty_store, find, replace, reserve, reserve_over, version_at,
 };
-use am_blocks::Cursor;
 use am_version_order::{Moment, Version};
 use std::alloc::{AllocError, Global};
 

@@ -7,7 +7,7 @@ ghost use Rattle.am_merge.specs.Buckets.{number_of, bytes_order, front_order};
 ghost use Rattle.am_merge.specs.Entries.{tie_of, key_order, expiry_order};
 ghost use Rattle.slab.specs.Slab.{get};
 
-use am_blocks::Probe;
+use crate::blocks::Probe;
 use am_version_order::{Moment, Version};
 use slab::Slab;
 use std::cmp::Ordering;

@@ -5,9 +5,9 @@ ghost use Rattle.std.specs.Iterator.{YieldsFirstRef, item_count};
 ghost use Rattle.am_merge.specs.Maps.{in_bucket};
 ghost use Rattle.am_merge.specs.Stores.{versions, IsStore};
 
+use crate::blocks::Walk;
 use crate::entry::{BucketEntry, KeyEntry};
 use crate::store::{Store, bucket_front};
-use am_blocks::Walk;
 use am_version_order::Version;
 use slab::Slab;
 use std::marker::Model;

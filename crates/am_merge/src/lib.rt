@@ -1,6 +1,7 @@
-//! The greatest version of each key.
+//! The greatest version of each key; and lists in blocks, on which its indexes stand.
 #![tactic(auto)]
 
+pub mod blocks;
 mod changes;
 mod entry;
 mod held;

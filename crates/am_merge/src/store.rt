@@ -3,9 +3,9 @@
 ghost use Rattle.std.specs.Prelude.{◌≡◌, ℕ, ◌+◌, [], IfOk, IfErr, IsOk, OnOk, Some, None, slice_index_or, slice_set, insert};
 ghost use Rattle.std.specs.List.{HoldsAt};
 ghost use Rattle.slab.specs.Slab.{get, slab_len, HasRoomFor, Updates};
-ghost use Rattle.am_blocks.specs.Rows.{entries, HasRoom};
-ghost use Rattle.am_blocks.specs.Searches.{IsFound, IsMissing};
-ghost use Rattle.am_blocks.specs.Cursors.{IsItem, IsWithin, place};
+ghost use Rattle.am_merge.specs.Rows.{entries, HasRoom};
+ghost use Rattle.am_merge.specs.Searches.{IsFound, IsMissing};
+ghost use Rattle.am_merge.specs.Cursors.{IsItem, IsWithin, place};
 ghost use Rattle.am_merge.specs.Entries.{key_slot, expiry_slot, by_time, time_cmp, with_slots};
 ghost use Rattle.am_merge.specs.Buckets.{bucket_slot, bucket_entry, bucket_order, bucket_cmp, by_bucket, number_of};
 ghost use Rattle.am_merge.specs.Indexes.{filed};
@@ -13,11 +13,11 @@ ghost use Rattle.am_merge.specs.Places.{IsGapFor};
 ghost use Rattle.am_merge.specs.Stores.{versions, HasRooms, HasRoomOver, IsSame, IsStore, IsAbsent, IsBucketIndex};
 ghost use Rattle.am_merge.specs.Stores.{IsExpiryIndex, IsKeyCursor, IsGapCursor, IsSlotAt, IsWithout, HasSlot};
 
+use crate::blocks::{Blocks, Cursor};
 use crate::entry::{
     BucketEntry, BucketProbe, ExpiryEntry, ExpiryProbe, FrontHint, FrontProbe, KeyEntry, KeyProbe,
     NumberHint, bucket_number,
 };
-use am_blocks::{Blocks, Cursor};
 use am_version_order::{Moment, Version};
 use slab::Slab;
 use std::alloc::{AllocError, Global};

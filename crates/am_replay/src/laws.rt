@@ -11,7 +11,7 @@ ghost use Rattle.am_schedule.specs.declared.step.Event.{Event as LineEvent};
 ghost use Rattle.am_told.specs.Views.{view_text};
 ghost use Rattle.am_replay.specs.Texts.{reply_text};
 
-pub use am_cluster_laws::{
+pub use am_cluster::laws::{
     first_is_told_after_a_spread, first_is_told_exactly, first_is_told_where_old_ones_ended,
     members_agree_on_what_is_old, members_reply_as_the_bare_sets, members_show_the_bare_sets,
     members_with_equal_sets_mute_alike, members_with_equal_sets_reply_alike,

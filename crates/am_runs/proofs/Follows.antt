@@ -5,7 +5,7 @@ use Rattle.std.specs.declared.cmp.Ordering.{Ordering}
 use Rattle.std.proofs.lemmas.Bool.{eq-eqb, eqb-true, false≢true}
 use Rattle.std.proofs.lemmas.List.{map-append}
 use Rattle.std.proofs.lemmas.Option.{slice_get_within, slice_get-get_or}
-use Rattle.am_blocks.specs.Rows.{entries}
+use Rattle.am_merge.specs.Rows.{entries}
 use Rattle.am_version_order.specs.Versions.{Version}
 use Rattle.am_merge.specs.Indexes.{IsIndex, filed}
 use Rattle.am_merge.specs.Maps.{IsMap}

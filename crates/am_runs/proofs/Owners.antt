@@ -11,10 +11,10 @@ use Rattle.std.proofs.lemmas.Bool.{eqb-true, eq-eqb, cases_eq, cases_lt, falseâ‰
 use Rattle.std.proofs.lemmas.Option.{slice_get_within, get_or_from_slice_get, slice_get_past, slice_get-get_or}
 use Rattle.std.proofs.Math.ListN.{length-set}
 use Rattle.std.proofs.lemmas.List.{take_more}
-use Rattle.am_blocks.specs.declared.cursor.Cursor.{Cursor}
-use Rattle.am_blocks.specs.Rows.{Rows, entries}
-use Rattle.am_blocks.specs.Cursors.{place}
-use Rattle.am_blocks.specs.Searches.{IsRising, IsFound, IsMissing}
+use Rattle.am_merge.specs.declared.blocks.cursor.Cursor.{Cursor}
+use Rattle.am_merge.specs.Rows.{Rows, entries}
+use Rattle.am_merge.specs.Cursors.{place}
+use Rattle.am_merge.specs.Searches.{IsRising, IsFound, IsMissing}
 use Rattle.am_version_order.specs.Versions.{Version}
 use Rattle.am_merge.specs.Indexes.{Changes, filed}
 use Rattle.am_merge.specs.Maps.{IsMap, greater_of, at}

@@ -6,7 +6,7 @@ use Rattle.std.specs.Option.{option_map}
 use Rattle.std.specs.declared.cmp.Ordering.{Ordering}
 use Rattle.std.specs.declared.cmp.Ordering.TheVariants.{Less}
 use Rattle.std.specs.Ordering.{nat_cmp, ordering_then}
-use Rattle.am_blocks.specs.Rows.{entries, HasRoom}
+use Rattle.am_merge.specs.Rows.{entries, HasRoom}
 use Rattle.am_version_order.specs.Versions.{Version}
 use Rattle.am_merge.specs.Indexes.{IsIndex, filed}
 use Rattle.am_merge.specs.Maps.{IsMap, greater_of, at}

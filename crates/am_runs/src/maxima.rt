@@ -2,8 +2,8 @@
 
 ghost use Rattle.std.specs.Prelude.{◌≡◌, ℕ, ◌+◌, [], Some, None, map, length, slice_get, true, IsTrue, ◌↔◌, IfOk, IfErr, OnOk};
 ghost use Rattle.std.specs.Option.{option_map, option_copied};
-ghost use Rattle.am_blocks.specs.Rows.{entries};
-ghost use Rattle.am_blocks.specs.Cursors.{IsWithin, place};
+ghost use Rattle.am_merge.specs.Rows.{entries};
+ghost use Rattle.am_merge.specs.Cursors.{IsWithin, place};
 ghost use Rattle.am_merge.specs.Indexes.{filed};
 ghost use Rattle.am_merge.specs.Maps.{greater_of};
 ghost use Rattle.am_merge.specs.Places.{IsGapFor};
@@ -18,7 +18,7 @@ use crate::calm::{in_time, is_below};
 use crate::position::{Position, placed, version_at};
 use crate::step::Step;
 use crate::trails::{Trails, add_cell};
-use am_blocks::{Blocks, Cursor, Probe};
+use am_merge::blocks::{Blocks, Cursor, Probe};
 use am_version_order::{Moment, Version};
 use std::alloc::{AllocError, Global};
 use std::cmp::Ordering;

@@ -3,10 +3,10 @@
 ghost use Rattle.std.specs.Prelude.{◌<◌};
 ghost use Rattle.std.specs.List.{AllPairs};
 ghost use Rattle.std.specs.Ordering.{nat_cmp};
-ghost use Rattle.am_blocks.specs.Rows.{entries};
+ghost use Rattle.am_merge.specs.Rows.{entries};
 
 use crate::notes::mixed;
-use am_blocks::{Blocks, Cursor, Probe, Walk};
+use am_merge::blocks::{Blocks, Cursor, Probe, Walk};
 use std::alloc::{AllocError, Global};
 use std::cmp::Ordering;
 

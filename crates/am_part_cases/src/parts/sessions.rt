@@ -5,7 +5,7 @@ use crate::parts::frames::print_frame;
 use crate::parts::requests::print_read;
 use am_gossip::FrameError;
 use am_http::Read;
-use am_session::{Said, Session, SessionFault};
+use am_http::session::{Said, Session, SessionFault};
 use std::alloc::Global;
 
 /// What a piece said, and how the session stood then.

@@ -5,8 +5,8 @@ ghost use Rattle.am_api_silences.specs.Replies.{bytes_of};
 
 use am_api_silences::{Making, Read, ReplyBytes};
 use am_gossip::Frame;
+use am_http::session::{Said, Session};
 use am_member::is_dear;
-use am_session::{Said, Session};
 use std::alloc::Global;
 
 /// How many silences of a list are written in a turn of the loop.

@@ -3,18 +3,18 @@
 ghost use Rattle.std.specs.Prelude.{drop, ⊤};
 ghost use Rattle.am_api_silences.specs.Replies.{bytes_of};
 
-use super::Member;
-use super::dialogue::{Dialogue, has_pull, has_push, is_nothing, may_change};
 use crate::fault::Fault;
 use am_gossip::{Frame, append_frame};
+use am_http::session::Said;
 use am_member::{
     Ended, Exchanged, Fault as ConnectionFault, Parted, exchange, next_moment, part_frames,
 };
 use am_reactor::{Broken, Failure, LinkFault, Outgoing, Service, Wake};
-use am_session::Said;
 use std::alloc::{AllocError, Global};
 use std::io::ErrorKind;
 use std::time::Instant;
+use super::Member;
+use super::dialogue::{Dialogue, has_pull, has_push, is_nothing, may_change};
 
 /// The bytes of frames.
 fn text_of(alloc: Global, frames: &[Frame]) -> Result<Vec<u8>, AllocError> {

@@ -1,7 +1,7 @@
 use Rattle.std.proofs.Common.{sym, ◌∙◌}
 use Rattle.slab.specs.Slab.{get}
-use Rattle.am_blocks.specs.Rows.{entries}
-use Rattle.am_blocks.specs.Cursors.{place}
+use Rattle.am_merge.specs.Rows.{entries}
+use Rattle.am_merge.specs.Cursors.{place}
 use Rattle.am_merge.specs.Stores.{versions}
 use Rattle.am_merge.proofs.Keys.{key_order}
 use Rattle.am_merge.proofs.Stores.{versions_length}

@@ -1,6 +1,6 @@
 use Rattle.std.proofs.Common.{◌≡◌, true, sym, ◌∙◌, rules}
 use Rattle.slab.specs.Slab.{get}
-use Rattle.am_blocks.specs.Rows.{entries}
+use Rattle.am_merge.specs.Rows.{entries}
 use Rattle.am_version_order.specs.Versions.{is_live}
 use Rattle.am_merge.specs.Stores.{versions}
 use Rattle.am_merge.proofs.Firsts.{swept_all, live_from, expired_from, first_least, first_named, none_first, each_version, if_none}

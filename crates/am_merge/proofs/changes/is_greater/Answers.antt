@@ -1,6 +1,6 @@
 use Rattle.std.proofs.Common.{ap, ◌∙◌}
 use Rattle.std.specs.Ordering.{is_lt}
-use Rattle.am_blocks.specs.Cursors.{place}
+use Rattle.am_merge.specs.Cursors.{place}
 use Rattle.am_merge.specs.Stores.{versions}
 use Rattle.am_merge.proofs.Keys.{key_order}
 use Rattle.am_merge.proofs.Steps.{judged}

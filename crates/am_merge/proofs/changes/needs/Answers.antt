@@ -1,5 +1,5 @@
 use Rattle.std.proofs.Common.{sym, subst, true}
-use Rattle.am_blocks.specs.Cursors.{place}
+use Rattle.am_merge.specs.Cursors.{place}
 use Rattle.am_merge.specs.Stores.{versions}
 use Rattle.am_merge.specs.Places.{IsPlaceOf, IsGapFor}
 use Rattle.am_merge.proofs.Keys.{key_order}

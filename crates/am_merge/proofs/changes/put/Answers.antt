@@ -1,6 +1,6 @@
 use Rattle.std.proofs.Common.{◌+◌, true, sym, ◌∙◌, subst, arith}
 use Rattle.std.specs.Prelude.{IsOk}
-use Rattle.am_blocks.specs.Cursors.{place}
+use Rattle.am_merge.specs.Cursors.{place}
 use Rattle.am_merge.specs.Places.{IsGapFor}
 use Rattle.am_merge.specs.Stores.{versions}
 use Rattle.am_merge.specs.Takings.{new_keys, new_versions}

@@ -1,6 +1,6 @@
 use Rattle.std.proofs.Common.{◌≡◌, ◌+◌, sym, ◌∙◌, subst}
 use Rattle.std.specs.Prelude.{insert}
-use Rattle.am_blocks.specs.Cursors.{place, place_in}
+use Rattle.am_merge.specs.Cursors.{place, place_in}
 use Rattle.am_merge.specs.Stores.{versions}
 use Rattle.am_merge.specs.Takings.{IsPut}
 use Rattle.am_merge.proofs.Keys.{key_order}

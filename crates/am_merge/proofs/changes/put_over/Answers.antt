@@ -1,5 +1,5 @@
 use Rattle.std.proofs.Common.{◌+◌, set, sym, ◌∙◌, subst}
-use Rattle.am_blocks.specs.Cursors.{place_in}
+use Rattle.am_merge.specs.Cursors.{place_in}
 use Rattle.am_merge.specs.Stores.{versions}
 use Rattle.am_merge.specs.Takings.{IsPut}
 use Rattle.am_merge.proofs.changes.put_over.Goals as goal

@@ -1,7 +1,7 @@
 use Rattle.std.proofs.Common.{◌+◌, refl, sym, ap, ◌∙◌, subst, arith}
 use Rattle.std.specs.Prelude.{insert}
-use Rattle.am_blocks.specs.Rows.{entries, HasRoom}
-use Rattle.am_blocks.specs.Cursors.{place}
+use Rattle.am_merge.specs.Rows.{entries, HasRoom}
+use Rattle.am_merge.specs.Cursors.{place}
 use Rattle.am_merge.specs.Entries.{key_entry}
 use Rattle.am_merge.specs.declared.entry.BucketEntry.{BucketEntry}
 use Rattle.am_merge.proofs.Keys.{key_order as order_of_keys}

@@ -1,5 +1,5 @@
 use Rattle.slab.specs.Slab.{get}
-use Rattle.am_blocks.specs.Rows.{entries}
+use Rattle.am_merge.specs.Rows.{entries}
 use Rattle.am_merge.proofs.Keys.{key_order as order_of_keys}
 use Rattle.am_merge.proofs.Buckets.{front_rising, front_missed, front_never_met}
 use Rattle.am_merge.proofs.store.bucket_front.Goals as goal

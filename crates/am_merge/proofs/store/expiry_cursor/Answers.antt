@@ -1,7 +1,7 @@
 use Rattle.std.proofs.Common.{subst}
 use Rattle.slab.specs.Slab.{get}
-use Rattle.am_blocks.specs.Rows.{entries}
-use Rattle.am_blocks.specs.Searches.{IsMissing}
+use Rattle.am_merge.specs.Rows.{entries}
+use Rattle.am_merge.specs.Searches.{IsMissing}
 use Rattle.am_merge.specs.Entries.{expiry_order}
 use Rattle.am_merge.proofs.Stores.{expiry_rising, expiry_never_missed}
 use Rattle.am_merge.proofs.store.expiry_cursor.Goals as goal

@@ -1,5 +1,5 @@
 use Rattle.slab.specs.Slab.{get}
-use Rattle.am_blocks.specs.Rows.{entries}
+use Rattle.am_merge.specs.Rows.{entries}
 use Rattle.am_merge.proofs.Stores.{expiry_rising, expiry_never_met, expiry_missed}
 use Rattle.am_merge.proofs.store.expiry_gap.Goals as goal
 

@@ -1,6 +1,6 @@
 use Rattle.slab.specs.Slab.{get}
-use Rattle.am_blocks.specs.Rows.{entries}
-use Rattle.am_blocks.specs.Searches.{IsFound, IsMissing}
+use Rattle.am_merge.specs.Rows.{entries}
+use Rattle.am_merge.specs.Searches.{IsFound, IsMissing}
 use Rattle.am_merge.specs.Entries.{key_order}
 use Rattle.am_merge.specs.Stores.{IsKeyCursor, IsGapCursor}
 use Rattle.am_merge.proofs.Keys.{key_order as order_of_keys}

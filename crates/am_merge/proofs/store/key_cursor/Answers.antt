@@ -1,7 +1,7 @@
 use Rattle.std.proofs.Common.{ap, ◌∙◌, subst}
 use Rattle.slab.specs.Slab.{get}
-use Rattle.am_blocks.specs.Rows.{entries}
-use Rattle.am_blocks.specs.Searches.{IsFound, IsMissing}
+use Rattle.am_merge.specs.Rows.{entries}
+use Rattle.am_merge.specs.Searches.{IsFound, IsMissing}
 use Rattle.am_merge.specs.Entries.{key_order}
 use Rattle.am_merge.proofs.Keys.{key_order as order_of_keys}
 use Rattle.am_merge.proofs.Stores.{key_rising, key_never_missed, key_met_own}

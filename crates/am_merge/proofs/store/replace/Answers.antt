@@ -4,8 +4,8 @@ use Rattle.std.proofs.lemmas.List.{get_or_default}
 use Rattle.std.proofs.lemmas.Option.{get_or_from_slice_get}
 use Rattle.std.proofs.lemmas.Slice.Eq.{bytes_eq-Decides}
 use Rattle.slab.specs.Slab.{get}
-use Rattle.am_blocks.specs.Rows.{entries}
-use Rattle.am_blocks.specs.Cursors.{place}
+use Rattle.am_merge.specs.Rows.{entries}
+use Rattle.am_merge.specs.Cursors.{place}
 use Rattle.am_merge.specs.Entries.{key_slot}
 use Rattle.am_merge.specs.Stores.{versions}
 use Rattle.am_merge.proofs.Keys.{key_order as order_of_keys}

@@ -1,6 +1,6 @@
 use Rattle.std.proofs.Common.{◌+◌, Some, refl, sym, ◌∙◌, subst, arith}
 use Rattle.slab.specs.Slab.{Updates}
-use Rattle.am_blocks.specs.Rows.{HasRoom}
+use Rattle.am_merge.specs.Rows.{HasRoom}
 use Rattle.am_merge.proofs.Keys.{key_order as order_of_keys}
 use Rattle.am_merge.proofs.Steps.{replaced, replaced_versions, filed_put, filed_taken, taken_absent, cursor_key}
 use Rattle.am_merge.proofs.store.replace_across.Goals as goal

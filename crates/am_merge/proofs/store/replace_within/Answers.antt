@@ -1,6 +1,6 @@
 use Rattle.std.proofs.Common.{◌+◌, Some, sym, ◌∙◌, subst, arith}
 use Rattle.slab.specs.Slab.{Updates}
-use Rattle.am_blocks.specs.Rows.{HasRoom}
+use Rattle.am_merge.specs.Rows.{HasRoom}
 use Rattle.am_merge.proofs.Keys.{key_order as order_of_keys}
 use Rattle.am_merge.proofs.Steps.{replaced, replaced_versions, filed_swapped, cursor_key, less_room}
 use Rattle.am_merge.proofs.store.replace_within.Goals as goal

@@ -1,8 +1,8 @@
 use Rattle.std.proofs.Common.{sym}
 use Rattle.std.proofs.lemmas.Option.{get_or_from_slice_get, slice_get_within}
 use Rattle.slab.specs.Slab.{get}
-use Rattle.am_blocks.specs.Rows.{entries}
-use Rattle.am_blocks.specs.Cursors.{place}
+use Rattle.am_merge.specs.Rows.{entries}
+use Rattle.am_merge.specs.Cursors.{place}
 use Rattle.am_merge.proofs.Keys.{key_order as order_of_keys}
 use Rattle.am_merge.proofs.Stores.{key_named_at}
 use Rattle.am_merge.proofs.store.version_at.Goals as goal

@@ -1,7 +1,7 @@
 use Rattle.std.proofs.Common.{[], ◌∷◌, Some, None, arith, ap, ◌∙◌, map, length, length-append}
 use Rattle.std.specs.Prelude.{insert}
-use Rattle.am_blocks.specs.Rows.{entries}
-use Rattle.am_blocks.specs.Cursors.{place}
+use Rattle.am_merge.specs.Rows.{entries}
+use Rattle.am_merge.specs.Cursors.{place}
 use Rattle.am_merge.proofs.Keys.{key_order}
 use Rattle.am_runs.specs.Records.{step_of}
 use Rattle.am_runs.specs.Maxima.{version_at}

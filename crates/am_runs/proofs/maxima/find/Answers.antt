@@ -1,6 +1,6 @@
 use Rattle.std.proofs.Common.{map, List, sym, subst}
-use Rattle.am_blocks.specs.Rows.{entries}
-use Rattle.am_blocks.specs.Searches.{IsFound, IsMissing, IsRising}
+use Rattle.am_merge.specs.Rows.{entries}
+use Rattle.am_merge.specs.Searches.{IsFound, IsMissing, IsRising}
 use Rattle.am_merge.proofs.Keys.{key_order}
 use Rattle.am_runs.specs.declared.maxima.Head.{Head}
 use Rattle.am_runs.specs.Records.{step_of}

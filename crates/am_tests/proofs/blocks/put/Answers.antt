@@ -3,11 +3,11 @@ use Rattle.std.specs.List.{AllPairs, insert}
 use Rattle.std.specs.Ordering.{nat_cmp}
 use Rattle.std.specs.Cmp.{ranked}
 use Rattle.std.specs.declared.cmp.Ordering.TheVariants.{Less, Greater}
-use Rattle.am_blocks.specs.declared.cursor.Cursor.{Cursor}
-use Rattle.am_blocks.specs.Rows.{Rows, entries}
-use Rattle.am_blocks.specs.Cursors.{place}
-use Rattle.am_blocks.specs.Searches.{IsMissing}
-use Rattle.am_blocks.proofs.Places.{place_within, missing_before, missing_behind, all_pairs_insert}
+use Rattle.am_merge.specs.declared.blocks.cursor.Cursor.{Cursor}
+use Rattle.am_merge.specs.Rows.{Rows, entries}
+use Rattle.am_merge.specs.Cursors.{place}
+use Rattle.am_merge.specs.Searches.{IsMissing}
+use Rattle.am_merge.proofs.Places.{place_within, missing_before, missing_behind, all_pairs_insert}
 use Rattle.am_tests.proofs.blocks.put.Goals as goal
 
 put_between : (rows : Rows ℕ) (cursor : Cursor) (number : ℕ) → AllPairs (λ x y. x < y) (entries rows) → IsMissing (λ item. nat_cmp item number) rows cursor → AllPairs (λ x y. x < y) (insert (entries rows) (place rows cursor) number)

@@ -1,8 +1,8 @@
 use Rattle.std.proofs.Common.{◌<◌}
 use Rattle.std.proofs.lemmas.List.Quantifiers.{all_pairs_remove}
-use Rattle.am_blocks.specs.Rows.{entries}
-use Rattle.am_blocks.specs.Cursors.{place}
-use Rattle.am_blocks.proofs.Places.{place_of_item}
+use Rattle.am_merge.specs.Rows.{entries}
+use Rattle.am_merge.specs.Cursors.{place}
+use Rattle.am_merge.proofs.Places.{place_of_item}
 use Rattle.am_tests.proofs.blocks.take.Goals as goal
 
 pub returns-in-Ok : goal.returns-in-Ok

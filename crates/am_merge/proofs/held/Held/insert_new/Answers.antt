@@ -1,6 +1,6 @@
 use Rattle.std.proofs.Common.{◌≡◌, true, false, sym, ap, subst}
 use Rattle.std.specs.Prelude.{is_none}
-use Rattle.am_blocks.specs.Cursors.{place}
+use Rattle.am_merge.specs.Cursors.{place}
 use Rattle.am_merge.specs.Maps.{at}
 use Rattle.am_merge.specs.Stores.{versions}
 use Rattle.am_merge.proofs.Keys.{key_order}

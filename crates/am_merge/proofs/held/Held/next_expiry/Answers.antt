@@ -1,6 +1,6 @@
 use Rattle.std.proofs.Common.{sym, ◌∙◌}
 use Rattle.slab.specs.Slab.{get}
-use Rattle.am_blocks.specs.Rows.{entries}
+use Rattle.am_merge.specs.Rows.{entries}
 use Rattle.am_merge.proofs.Firsts.{no_versions, none_first, least_found}
 use Rattle.am_merge.proofs.held.Held.next_expiry.Goals as goal
 

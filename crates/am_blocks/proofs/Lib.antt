@@ -1,4 +1,0 @@
-pub mod Gaps
-pub mod Joins
-pub mod Places
-pub mod Risings

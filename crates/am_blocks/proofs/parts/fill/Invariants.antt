@@ -1,9 +1,0 @@
-use Rattle.std.proofs.Common.{◌≡◌, vec_len}
-use Rattle.am_blocks.specs.Rows.{AreEmpty}
-use Rattle.am_blocks.proofs.parts.fill.Given as goal
-
-abbrev pub invariant-loop-made : goal.invariant-loop-made
-invariant-loop-made g l = record {
-  empty : AreEmpty l.spares.items;
-  made : vec_len l.spares ≡ l._made;
-}

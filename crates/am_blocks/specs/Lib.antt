@@ -1,4 +1,0 @@
-pub mod Cuts
-pub mod Rows
-pub mod Searches
-pub mod Cursors

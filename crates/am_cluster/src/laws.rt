@@ -1,0 +1,12 @@
+//! What holds of all members of a cluster, as it stands after any steps: laws, which do nothing.
+
+mod first;
+mod later;
+mod shown;
+
+pub use first::{first_is_told_after_a_spread, first_is_told_exactly};
+pub use later::{first_is_told_where_old_ones_ended, members_agree_on_what_is_old};
+pub use shown::{
+    members_reply_as_the_bare_sets, members_show_the_bare_sets, members_with_equal_sets_mute_alike,
+    members_with_equal_sets_reply_alike,
+};

@@ -1,0 +1,121 @@
+//! What members show.
+
+ghost use Rattle.std.specs.Prelude.{◌≡◌, ℕ, List, Option, All, Contains, true};
+ghost use Rattle.am_matcher.specs.declared.labels.Label.{Label};
+ghost use Rattle.am_matcher.specs.Mutes.{AreMuted};
+ghost use Rattle.am_silence.specs.Mesh.{IsMesh};
+ghost use Rattle.am_nflog.specs.Mesh.{IsMesh as IsLogMesh};
+ghost use Rattle.am_merge.specs.Views.{IsViewAt};
+ghost use Rattle.am_collect.specs.Events.{HaveSame};
+ghost use Rattle.am_instance.specs.declared.event.Event.{Event};
+ghost use Rattle.am_instance.specs.declared.reply.Made.{Made};
+ghost use Rattle.am_instance.specs.declared.reply.Reply.{Reply};
+ghost use Rattle.am_instance.specs.Bare.{IsBareReply, asks_shown};
+ghost use Rattle.am_instance.specs.Laws.{HasMaps, asks_views};
+ghost use Rattle.am_instance.specs.Replies.{IsReply};
+ghost use Rattle.am_cluster.specs.BothRuns.{log_run, silence_run};
+ghost use Rattle.am_cluster.specs.Lives.{OfMember};
+ghost use Rattle.am_cluster.specs.Replicas.{IsCalmBy, entries_taken, silences_taken};
+ghost use Rattle.am_cluster.specs.Shown.{ShowTheBareSet};
+
+use crate::Cluster;
+use am_instance::laws::{equal_views_mute_alike, equal_views_reply_alike, what_is_shown_replies};
+use am_instance::{Instance, Place};
+use am_nflog::MeshEntry;
+use am_runs::laws::calm_members_show_the_bare_set;
+use am_silence::MeshSilence;
+use am_version_order::Version;
+
+/// After any steps of a cluster, a member that was calm shows, at every moment from its last one on, of each identifier
+/// and of each key of the log what the bare set of all versions shows that were delivered to it.
+pub fn members_show_the_bare_sets(cluster: &Cluster)
+    ensures silences { ShowTheBareSet silence_run cluster.now }
+    ensures log { ShowTheBareSet log_run cluster.now }
+{
+    cluster.consistency();
+    calm_members_show_the_bare_set::<MeshSilence>();
+    calm_members_show_the_bare_set::<MeshEntry>();
+}
+
+/// Sets with the same versions show one version of a key, or none.
+fn equal_sets_show_one<V: Version>()
+    ensures { (set other : List V) (now : ℕ) (key : V.Key) (one two : Option V) → HaveSame set other → All V.is_value set →
+        IsViewAt V.seen set now key one → IsViewAt V.seen other now key two → one ≡ two }
+{}
+
+/// Both lists of an instance are maps.
+fn instance_has_maps(instance: &Instance)
+    ensures { HasMaps instance.now }
+{
+    instance.silences().has_values();
+    instance.log().has_values();
+}
+
+/// So are those of the member at a place.
+fn member_has_maps(cluster: &Cluster, place: Place)
+    ensures { OfMember cluster.now place (λ replica. HasMaps replica.stand) }
+{
+    if let Some(instance) = cluster.instance(place) {
+        instance_has_maps(instance);
+    }
+}
+
+/// After any steps of a cluster, a member that was calm replies to a list, a single silence, a decision, both views and the
+/// mutes of an alert, at every moment from its last one on, as the bare sets say of all versions that were delivered to it.
+pub fn members_reply_as_the_bare_sets(cluster: &Cluster, place: Place)
+    ensures { (now : ℕ) (event : Event) (reply : Reply) (made : Made) →
+        OfMember cluster.now place (λ replica. IsCalmBy cluster.now place replica now →
+        asks_shown event ≡ true → IsReply replica.stand event now reply made →
+        IsBareReply (silences_taken cluster.now place) (entries_taken cluster.now place) event now reply) }
+{
+    members_show_the_bare_sets(cluster);
+    member_has_maps(cluster, place);
+    what_is_shown_replies();
+}
+
+/// Two calm members, of one cluster or of two, to which the same versions were delivered, in any order and however often,
+/// reply alike to whatever is answered from the views alone, at every moment from the later of their last ones on.
+pub fn members_with_equal_sets_reply_alike(
+    cluster: &Cluster,
+    place: Place,
+    other: &Cluster,
+    peer: Place,
+)
+    ensures { (now : ℕ) (event : Event) (reply : Reply) (made : Made) → OfMember cluster.now place (λ one. OfMember other.now peer (λ two.
+        IsCalmBy cluster.now place one now → IsCalmBy other.now peer two now →
+        HaveSame (silences_taken cluster.now place) (silences_taken other.now peer) → All IsMesh (silences_taken cluster.now place) →
+        HaveSame (entries_taken cluster.now place) (entries_taken other.now peer) → All IsLogMesh (entries_taken cluster.now place) →
+        asks_views event ≡ true → IsReply one.stand event now reply made → IsReply two.stand event now reply made)) }
+{
+    members_show_the_bare_sets(cluster);
+    members_show_the_bare_sets(other);
+    equal_sets_show_one::<MeshSilence>();
+    equal_sets_show_one::<MeshEntry>();
+    member_has_maps(cluster, place);
+    member_has_maps(other, peer);
+    equal_views_reply_alike();
+}
+
+/// And a silence that mutes an alert at one of them mutes it at the other, if its patterns are not told as broken there.
+pub fn members_with_equal_sets_mute_alike(
+    cluster: &Cluster,
+    place: Place,
+    other: &Cluster,
+    peer: Place,
+)
+    ensures { (now : ℕ) (labels : List Label) (ids broken others broken_too : List (List ℕ)) →
+        OfMember cluster.now place (λ one. OfMember other.now peer (λ two.
+        IsCalmBy cluster.now place one now → IsCalmBy other.now peer two now →
+        HaveSame (silences_taken cluster.now place) (silences_taken other.now peer) → All IsMesh (silences_taken cluster.now place) →
+        HaveSame (entries_taken cluster.now place) (entries_taken other.now peer) → All IsLogMesh (entries_taken cluster.now place) →
+        AreMuted labels now one.stand.silences ids broken → AreMuted labels now two.stand.silences others broken_too →
+        (id : List ℕ) → Contains ids id → ¬ Contains broken_too id → Contains others id)) }
+{
+    members_show_the_bare_sets(cluster);
+    members_show_the_bare_sets(other);
+    equal_sets_show_one::<MeshSilence>();
+    equal_sets_show_one::<MeshEntry>();
+    member_has_maps(cluster, place);
+    member_has_maps(other, peer);
+    equal_views_mute_alike();
+}

@@ -1,2 +1,0 @@
-pub mod OneOfBoth
-pub mod Asking

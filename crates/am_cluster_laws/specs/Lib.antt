@@ -1,3 +1,0 @@
-pub mod Replicas
-pub mod Shown
-pub mod Firsts

@@ -1,0 +1,185 @@
+-- One connection, whose bytes come in pieces: how far it has come, and what each piece says.
+use Rattle.std.specs.Prelude.{◌≡◌, ◌⊎◌, ℕ, ◌+◌, ◌-◌, ◌<◌, ◌≤◌, false, true, List, [], ◌∷◌, ◌++◌, length, take, drop, Option, Some, None, Result, Ok, Err}
+use Rattle.std.specs.Option.{option_or}
+use Rattle.am_gossip.specs.declared.error.FrameError.{FrameError}
+use Rattle.am_gossip.specs.declared.error.FrameError.TheVariants as frame_errors
+use Rattle.am_gossip.specs.declared.frame.Frame.{Frame}
+use Rattle.am_gossip.specs.Hellos.{hello_of}
+use Rattle.am_gossip.specs.Streams.{stream_of}
+use Rattle.am_http.specs.declared.cause.Cause.TheVariants.{EndedEarly, Memory}
+use Rattle.am_http.specs.declared.refusal.Refusal.{Refusal}
+use Rattle.am_http.specs.declared.request.Read.{Read}
+use Rattle.am_http.specs.declared.request.Read.TheVariants.{More, Refused}
+use Rattle.am_http.specs.Lines.{line_seen, line_of}
+use Rattle.am_http.specs.Requests.{IsReadOf}
+use Rattle.am_http.specs.declared.session.fault.SessionFault.{SessionFault}
+use Rattle.am_http.specs.declared.session.fault.SessionFault.TheVariants.{TooLarge, Frame as InFrame}
+use Rattle.am_http.specs.declared.session.said.Said.{Said}
+
+-- How far a connection has come. No byte came; or the beginning of a request came, or of a greeting. Or a greeting of this
+-- name came, so many bytes in all, the last of which are the beginning of a frame. Or no more is heard of it, and this is
+-- the name of its greeting, where one came.
+pub data Standing : Type 0 where
+  fresh : Standing
+  asks : List ℕ → Standing
+  greets : List ℕ → Standing
+  hears : List ℕ → ℕ → List ℕ → Standing
+  over : Option (List ℕ) → Standing
+
+-- the name of the greeting, where it came
+abbrev pub name_of : Standing → Option (List ℕ)
+name_of fresh = None
+name_of (asks bytes) = None
+name_of (greets bytes) = None
+name_of (hears name count rest) = Some name
+name_of (over name) = name
+
+-- what was said: frames in their order, what was read of a request, and why no more is heard
+pub record Spoken : Type 0 where
+  pub frames : List Frame
+  pub request : Option Read
+  pub fault : Option SessionFault
+
+-- what the code returns
+abbrev pub spoken : Said → Spoken
+spoken said = record { frames = said.frames.items; request = said.request; fault = said.fault }
+
+-- frames, and why there are no more, where there is a fault
+abbrev pub heard : List Frame → Option SessionFault → Spoken
+heard frames fault = record { frames = frames; request = None; fault = fault }
+
+-- nothing was said
+abbrev pub nothing : Spoken
+nothing = heard [] None
+
+-- a request was read, or refused
+abbrev pub asked : Read → Spoken
+asked read = record { frames = []; request = Some read; fault = None }
+
+-- what two pieces say one after the other
+abbrev pub and_then : Spoken → Spoken → Spoken
+and_then first second = record {
+  frames = first.frames ++ second.frames;
+  request = option_or first.request second.request;
+  fault = option_or first.fault second.fault;
+}
+
+-- the most bytes of a connection of frames
+abbrev pub most_bytes : ℕ
+most_bytes = 134217728
+
+-- ---- a request
+
+-- the bytes that came decide nothing yet; or the request that they are is told, and no more is heard
+abbrev pub IsAsked : List ℕ → Read → Spoken → Standing → Type 0
+IsAsked bytes More said new = (said ≡ nothing) × (new ≡ asks bytes)
+IsAsked bytes read said new = (said ≡ asked read) × (new ≡ over None)
+
+-- what all the bytes of a request say that came so far
+abbrev pub Asks : List ℕ → Spoken → Standing → Type 0
+Asks bytes said new = (read : Read) × IsReadOf bytes false read × IsAsked bytes read said new
+
+-- ---- frames
+
+-- What the frames of the bytes say that were taken, behind which come those beyond the limit: the stream goes on, or it ends at
+-- a byte too many or at its fault. So many bytes came in all.
+abbrev pub IsHeard : List ℕ → ℕ → List Frame → Result (List ℕ) FrameError → List ℕ → Spoken → Standing → Type 0
+IsHeard name count frames (Ok rest) [] said new = (said ≡ heard frames None) × (new ≡ hears name count rest)
+IsHeard name count frames (Ok rest) (_ ∷ _) said new = (said ≡ heard frames (Some TooLarge)) × (new ≡ over (Some name))
+IsHeard name count frames (Err e) lost said new = (said ≡ heard frames (Some (InFrame e))) × (new ≡ over (Some name))
+
+-- What a piece of a stream says, of which the rest of a frame waits, and behind `count` bytes of the connection: as much of it
+-- is taken as a connection may have.
+abbrev pub Hears : List ℕ → ℕ → List ℕ → List ℕ → Spoken → Standing → Type 0
+Hears name count rest piece said new =
+    let took : List ℕ = take (most_bytes - count) piece in
+    IsHeard name (count + length took) (stream_of (rest ++ took)).frames (stream_of (rest ++ took)).ending (drop (most_bytes - count) piece) said new
+
+-- ---- a greeting
+
+-- the greeting isn't whole; or it is, and the bytes behind it are a piece of its stream; or it is at fault
+abbrev pub IsGreeted : List ℕ → Result (Option (List ℕ × ℕ)) FrameError → Spoken → Standing → Type 0
+IsGreeted bytes (Ok None) said new = (said ≡ nothing) × (new ≡ greets bytes)
+IsGreeted bytes (Ok (Some greeting)) said new = Hears greeting.0 greeting.1 [] (drop greeting.1 bytes) said new
+IsGreeted bytes (Err e) said new = (said ≡ heard [] (Some (InFrame e))) × (new ≡ over None)
+
+-- what all the bytes of a connection of frames say that came so far
+abbrev pub Greets : List ℕ → Spoken → Standing → Type 0
+Greets bytes said new = IsGreeted bytes (hello_of bytes) said new
+
+-- ---- a connection
+
+-- the first byte of a greeting is under 0x20, and that of a request isn't
+pub record Begins (first : ℕ) (bytes : List ℕ) (said : Spoken) (new : Standing) : Type 0 where
+  pub peer : first < 32 → Greets bytes said new
+  pub request : 32 ≤ first → Asks bytes said new
+
+-- What a piece says, where there is memory for it, and how far the connection has come then.
+abbrev pub Says : Standing → List ℕ → Spoken → Standing → Type 0
+Says fresh [] said new = (said ≡ nothing) × (new ≡ fresh)
+Says fresh (first ∷ bytes) said new = Begins first (first ∷ bytes) said new
+Says (asks bytes) piece said new = Asks (bytes ++ piece) said new
+Says (greets bytes) piece said new = Greets (bytes ++ piece) said new
+Says (hears name count rest) piece said new = Hears name count rest piece said new
+Says (over name) piece said new = (said ≡ nothing) × (new ≡ over name)
+
+-- pieces that come one after the other
+abbrev pub SaysAll : Standing → List (List ℕ) → Spoken → Standing → Type 0
+SaysAll old [] said new = (said ≡ nothing) × (new ≡ old)
+SaysAll old (piece ∷ pieces) said new =
+    (first : Spoken) × (mid : Standing) × (others : Spoken) × Says old piece first mid × SaysAll mid pieces others new
+    × (said ≡ and_then first others)
+
+-- ---- want of memory
+
+-- no more is heard
+abbrev pub IsOver : Standing → Type 0
+IsOver s = (name : Option (List ℕ)) × (s ≡ over name)
+
+-- no frame of the piece is said, but that memory ran out
+abbrev pub IsUnheard : Spoken → Type 0
+IsUnheard said = said ≡ heard [] (Some (InFrame frame_errors.Memory))
+
+-- the request is refused, since memory ran out
+abbrev pub IsTurnedAway : Spoken → Type 0
+IsTurnedAway said = (refusal : Refusal) × (said ≡ asked (Refused refusal)) × (line_seen refusal ≡ line_of Memory)
+
+-- there was no memory for the bytes of a request
+abbrev pub LacksToAsk : Spoken → Standing → Type 0
+LacksToAsk said new = IsTurnedAway said × (new ≡ over None)
+
+-- there was no memory for a greeting, or for the frames behind it
+abbrev pub LacksToGreet : Spoken → Standing → Type 0
+LacksToGreet said new = IsUnheard said × IsOver new
+
+-- by the first byte of a connection
+pub record LacksToBegin (first : ℕ) (said : Spoken) (new : Standing) : Type 0 where
+  pub peer : first < 32 → LacksToGreet said new
+  pub request : 32 ≤ first → LacksToAsk said new
+
+-- there was no memory for what a piece says: that is said, and no more is heard
+abbrev pub LacksMemory : Standing → List ℕ → Spoken → Standing → Type 0
+LacksMemory fresh [] said new = ⊥
+LacksMemory fresh (first ∷ bytes) said new = LacksToBegin first said new
+LacksMemory (asks bytes) piece said new = LacksToAsk said new
+LacksMemory (greets bytes) piece said new = LacksToGreet said new
+LacksMemory (hears name count rest) piece said new = IsUnheard said × (new ≡ over (Some name))
+LacksMemory (over name) piece said new = ⊥
+
+-- what feeding a piece says: what the piece says, or that there was no memory for it
+abbrev pub Feeds : Standing → List ℕ → Spoken → Standing → Type 0
+Feeds old piece said new = Says old piece said new ⊎ LacksMemory old piece said new
+
+-- ---- the end of the input
+
+-- the request that the bytes begin is refused, since its input ended in it
+pub record IsCutShort (bytes : List ℕ) (said : Spoken) : Type 0 where
+  pub refusal : Refusal
+  pub is : said ≡ asked (Refused refusal)
+  pub line : line_seen refusal ≡ line_of EndedEarly
+  pub read : IsReadOf bytes true (Refused refusal)
+
+-- what the end of the input says: of a request that isn't whole, that it is cut; else nothing
+abbrev pub SaysEnd : Standing → Spoken → Type 0
+SaysEnd (asks bytes) said = IsCutShort bytes said
+SaysEnd _ said = said ≡ nothing

@@ -1,0 +1,31 @@
+-- What a session holds.
+use Rattle.std.specs.Prelude.{ℕ, ◌<◌, List, [], ◌∷◌, length, Option, None, Some, string_bytes, ⊤}
+use Rattle.std.specs.Option.{IsSome, option_map}
+use Rattle.am_gossip.specs.declared.error.FrameError.{FrameError}
+use Rattle.am_gossip.specs.Streams.{rest_bytes}
+use Rattle.am_http.specs.Requests.{IsUnfinished}
+use Rattle.am_http.specs.declared.session.fault.SessionFault.{SessionFault}
+use Rattle.am_http.specs.declared.session.fault.SessionFault.TheVariants.{TooLarge, Frame as InFrame}
+use Rattle.am_http.specs.declared.session.state.State.{State}
+use Rattle.am_http.specs.declared.session.state.State.TheVariants.{Fresh, Asking, Greeting, Hearing, Over}
+use Rattle.am_http.specs.Sessions.{Standing, fresh, asks, greets, hears, over}
+
+-- how far the connection has come
+abbrev pub standing_in : State → Standing
+standing_in Fresh = fresh
+standing_in (Asking bytes) = asks bytes.items
+standing_in (Greeting bytes) = greets bytes.items
+standing_in (Hearing h) = hears (string_bytes h.name) h.count (rest_bytes h.feeder)
+standing_in (Over name) = over (option_map string_bytes name)
+
+-- a request that was begun isn't decided, and a stream that goes on had no fault
+abbrev pub IsSound : State → Type 0
+IsSound (Asking bytes) = (0 < length bytes.items) × IsUnfinished bytes.items
+IsSound (Hearing h) = IsSome h.feeder
+IsSound _ = ⊤
+
+-- why no more is heard behind a piece: its fault, or a byte beyond the limit
+abbrev pub ended_by : Option FrameError → List ℕ → Option SessionFault
+ended_by (Some e) lost = Some (InFrame e)
+ended_by None [] = None
+ended_by None (_ ∷ _) = Some TooLarge

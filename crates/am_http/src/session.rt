@@ -1,0 +1,100 @@
+//! One connection, of a person, a tool or a peer: what its bytes say as they come, piece by piece. No instance, no clock and
+//! no socket.
+
+ghost use Rattle.std.specs.Prelude.{◌≡◌, ◌↔◌, IsTrue};
+ghost use Rattle.std.specs.Option.{option_copied};
+ghost use Rattle.am_http.specs.Sessions.{Feeds, SaysEnd, fresh, name_of, over, spoken};
+
+mod asking;
+mod fault;
+mod feeding;
+mod greeting;
+mod hearing;
+pub mod laws;
+mod said;
+mod state;
+
+pub use fault::SessionFault;
+use feeding::{end_of, next_of};
+pub use said::Said;
+use state::State;
+use std::alloc::Global;
+use std::marker::Model;
+use std::mem;
+
+/// One connection, whose bytes come in pieces.
+///
+/// One whose first byte is under 0x20 begins with a peer's greeting, behind which frames come; it has at most
+/// 134,217,728 bytes. Any other is a request. Contracts see how far it has come.
+#[derive(Drop)]
+pub struct Session {
+    alloc: Global,
+    state: State,
+}
+
+impl Model for Session {
+    ghost use Rattle.am_http.specs.Sessions.{Standing};
+    ghost use Rattle.am_http.specs.States.{IsSound, standing_in};
+
+    ghost Value = { Standing };
+
+    ghost view = { λ s. standing_in s.state };
+
+    ghost invariant = { λ s. IsSound s.state };
+}
+
+impl Session {
+    /// Before the first byte. It takes no memory.
+    pub fn new(alloc: Global) -> Self
+        ensures { result ≡ fresh }
+    {
+        Session {
+            alloc,
+            state: State::Fresh,
+        }
+    }
+
+    /// Takes the next piece: what it says.
+    ///
+    /// Where the pieces are cut makes no difference. Where memory runs out, that is said, and no more is heard.
+    pub fn feed(&mut self, piece: &[u8]) -> Said
+        ensures { Feeds self.old piece.now (spoken result) self.new }
+    {
+        let state = mem::replace(&mut self.state, State::Over(None));
+        let (said, next) = next_of(self.alloc, state, piece);
+        self.state = next;
+        said
+    }
+
+    /// The input ended: a request that isn't whole is refused, and no more is heard. It takes no memory.
+    pub fn end(&mut self) -> Said
+        ensures said { SaysEnd self.old (spoken result) }
+        ensures over { self.new ≡ over (name_of self.old) }
+    {
+        let said = end_of(self.alloc, &self.state);
+        self.stop();
+        said
+    }
+
+    /// No more is heard.
+    pub fn stop(&mut self)
+        ensures { self.new ≡ over (name_of self.old) }
+    {
+        let state = mem::replace(&mut self.state, State::Over(None));
+        self.state = State::Over(state.into_name());
+    }
+
+    /// Whether no more is heard.
+    pub fn is_over(&self) -> bool
+        ensures { IsTrue result ↔ (self.now ≡ over (name_of self.now)) }
+    {
+        matches!(self.state, State::Over(_))
+    }
+
+    /// The name of the greeting, where it came.
+    pub fn name(&self) -> Option<&str>
+        ensures { option_copied result ≡ name_of self.now }
+    {
+        self.state.name()
+    }
+}

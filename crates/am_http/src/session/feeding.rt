@@ -1,0 +1,53 @@
+//! What comes of a session with the next piece, and at the end of its input.
+
+ghost use Rattle.std.specs.Prelude.{◌≡◌};
+ghost use Rattle.am_http.specs.Sessions.{Feeds, SaysEnd, fresh, spoken};
+ghost use Rattle.am_http.specs.States.{IsSound, standing_in};
+
+use crate::session::asking::{ask_on, cut_short};
+use crate::session::greeting::greet_on;
+use crate::session::hearing::hear;
+use crate::session::said::Said;
+use crate::session::state::State;
+use std::alloc::Global;
+
+/// The first byte of a request is no less; a greeting's is.
+const LEAST_OF_REQUESTS: u8 = 0x20;
+
+/// What the first piece says.
+fn begin(alloc: Global, piece: &[u8]) -> (Said, State)
+    ensures says { Feeds fresh piece.now (spoken result.0) (standing_in result.1) }
+    ensures sound { IsSound result.1 }
+{
+    match piece.first() {
+        None => (Said::nothing(alloc), State::Fresh),
+        Some(first) if *first < LEAST_OF_REQUESTS => greet_on(alloc, Vec::new(alloc), piece),
+        Some(_) => ask_on(alloc, Vec::new(alloc), piece),
+    }
+}
+
+/// What the next piece says.
+pub fn next_of(alloc: Global, state: State, piece: &[u8]) -> (Said, State)
+    requires { IsSound state }
+    ensures says { Feeds (standing_in state) piece.now (spoken result.0) (standing_in result.1) }
+    ensures sound { IsSound result.1 }
+{
+    match state {
+        State::Fresh => begin(alloc, piece),
+        State::Asking(bytes) => ask_on(alloc, bytes, piece),
+        State::Greeting(bytes) => greet_on(alloc, bytes, piece),
+        State::Hearing(hearing) => hear(alloc, hearing, piece),
+        State::Over(name) => (Said::nothing(alloc), State::Over(name)),
+    }
+}
+
+/// What the end of the input says.
+pub fn end_of(alloc: Global, state: &State) -> Said
+    requires { IsSound state.now }
+    ensures { SaysEnd (standing_in state.now) (spoken result) }
+{
+    match state {
+        State::Asking(bytes) => cut_short(alloc, bytes),
+        _ => Said::nothing(alloc),
+    }
+}

@@ -1,0 +1,82 @@
+//! The greeting that a connection of frames begins with.
+
+ghost use Rattle.std.specs.Prelude.{◌≡◌, ◌⊎◌, ◌++◌, [], None, Ok};
+ghost use Rattle.am_gossip.specs.Hellos.{hello_of};
+ghost use Rattle.am_http.specs.Sessions.{Greets, Hears, LacksToGreet, spoken};
+ghost use Rattle.am_http.specs.States.{IsSound, standing_in};
+
+use crate::session::hearing::hear;
+use crate::session::said::Said;
+use crate::session::state::{Hearing, State};
+use am_gossip::{Feeder, FrameError, read_hello};
+use std::alloc::Global;
+
+/// There is no memory for a greeting.
+fn unheard(alloc: Global) -> (Said, State)
+    ensures says { LacksToGreet (spoken result.0) (standing_in result.1) }
+    ensures sound { IsSound result.1 }
+{
+    (Said::failed(alloc, FrameError::Memory), State::Over(None))
+}
+
+/// What the bytes say behind a greeting of this name and length.
+fn greeted(alloc: Global, name: &str, len: usize, piece: &[u8]) -> (Said, State)
+    ensures says { Hears name.now len [] piece.now (spoken result.0) (standing_in result.1)
+        ⊎ LacksToGreet (spoken result.0) (standing_in result.1) }
+    ensures sound { IsSound result.1 }
+{
+    let Ok(name) = String::from_str(alloc, name) else {
+        return unheard(alloc);
+    };
+    let hearing = Hearing {
+        name,
+        count: len,
+        feeder: Feeder::new(alloc),
+    };
+    hear(alloc, hearing, piece)
+}
+
+/// The bytes of a greeting that isn't whole wait.
+fn wait(alloc: Global, bytes: &[u8]) -> (Said, State)
+    requires { hello_of bytes.now ≡ Ok None }
+    ensures says { Greets bytes.now (spoken result.0) (standing_in result.1)
+        ⊎ LacksToGreet (spoken result.0) (standing_in result.1) }
+    ensures sound { IsSound result.1 }
+{
+    match bytes.to_vec(alloc) {
+        Ok(bytes) => (Said::nothing(alloc), State::Greeting(bytes)),
+        Err(_) => unheard(alloc),
+    }
+}
+
+/// What all the bytes say that came of a connection of frames.
+fn greet(alloc: Global, bytes: &[u8]) -> (Said, State)
+    ensures says { Greets bytes.now (spoken result.0) (standing_in result.1)
+        ⊎ LacksToGreet (spoken result.0) (standing_in result.1) }
+    ensures sound { IsSound result.1 }
+{
+    match read_hello(bytes) {
+        Ok(Some((name, len))) => {
+            let (_, behind) = bytes.split_at(len);
+            greeted(alloc, name, len, behind)
+        }
+        Ok(None) => wait(alloc, bytes),
+        Err(e) => (Said::failed(alloc, e), State::Over(None)),
+    }
+}
+
+/// What a piece says behind the bytes that came of a greeting. The piece is copied only where the greeting was cut.
+pub fn greet_on(alloc: Global, bytes: Vec<u8>, piece: &[u8]) -> (Said, State)
+    ensures says { Greets (bytes.items ++ piece.now) (spoken result.0) (standing_in result.1)
+        ⊎ LacksToGreet (spoken result.0) (standing_in result.1) }
+    ensures sound { IsSound result.1 }
+{
+    if bytes.is_empty() {
+        return greet(alloc, piece);
+    }
+    let mut bytes = bytes;
+    match bytes.extend_from_slice(piece) {
+        Ok(()) => greet(alloc, &bytes),
+        Err(_) => unheard(alloc),
+    }
+}

@@ -1,0 +1,57 @@
+//! What a session holds.
+
+ghost use Rattle.std.specs.Prelude.{◌≡◌, string_bytes};
+ghost use Rattle.std.specs.Option.{option_copied, option_map};
+ghost use Rattle.am_http.specs.Sessions.{name_of};
+ghost use Rattle.am_http.specs.States.{standing_in};
+
+use am_gossip::Feeder;
+
+/// The frames of a peer's connection.
+#[derive(Drop)]
+pub struct Hearing {
+    /// The name of its greeting.
+    pub name: String,
+    /// How many bytes of it came.
+    pub count: usize,
+    /// The reader of the stream behind the greeting.
+    pub feeder: Feeder,
+}
+
+/// What a session holds of its connection.
+#[derive(Drop)]
+pub enum State {
+    /// No byte came.
+    Fresh,
+    /// The bytes of a request that came.
+    Asking(Vec<u8>),
+    /// The bytes of a greeting that came.
+    Greeting(Vec<u8>),
+    Hearing(Hearing),
+    /// No more is heard. The name of the greeting, where it came.
+    Over(Option<String>),
+}
+
+impl State {
+    /// The name of the greeting, where it came.
+    pub fn name(&self) -> Option<&str>
+        ensures { option_copied result ≡ name_of (standing_in self.now) }
+    {
+        match self {
+            State::Hearing(hearing) => Some(hearing.name.as_str()),
+            State::Over(Some(name)) => Some(name.as_str()),
+            _ => None,
+        }
+    }
+
+    /// The name of the greeting, where it came.
+    pub fn into_name(self) -> Option<String>
+        ensures { option_map string_bytes result ≡ name_of (standing_in self) }
+    {
+        match self {
+            State::Hearing(hearing) => Some(hearing.name),
+            State::Over(name) => name,
+            _ => None,
+        }
+    }
+}

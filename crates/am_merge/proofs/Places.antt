@@ -1,0 +1,113 @@
+-- What cursors and searches say of a list's items.
+use Rattle.std.proofs.Common.{◌≡◌, ◌≢◌, ◌⊎◌, ℕ, ◌+◌, ◌-◌, ◌<◌, ◌≤◌, suc, zero, List, [], ◌∷◌, ◌++◌, length, take, drop, get_or, slice_get, Some, inl, inr, sym, ap, ◌∙◌, arith}
+use Rattle.std.specs.List.{All, AllPairs, insert}
+use Rattle.std.specs.declared.cmp.Ordering.{Ordering}
+use Rattle.std.specs.declared.cmp.Ordering.TheVariants.{Less, Equal, Greater}
+use Rattle.std.proofs.lemmas.Bool.{cases_lt}
+use Rattle.std.proofs.lemmas.List.{take-append-drop, drop_more, take_all, get_or_past, get_or-take, get_or-drop, length-take-le, length-drop}
+use Rattle.std.proofs.lemmas.List.Edits.{get_or-insert_below, get_or-insert_at, get_or-insert_above, length-insert}
+use Rattle.std.proofs.lemmas.List.Elements.{All-append, All-weaker}
+use Rattle.std.proofs.lemmas.Option.{get_or_from_slice_get, slice_get_within}
+use Rattle.am_merge.specs.declared.blocks.cursor.Cursor.{Cursor}
+use Rattle.am_merge.specs.Rows.{Rows, entries, joined}
+use Rattle.am_merge.specs.Cursors.{IsItem, IsWithin, place}
+use Rattle.am_merge.specs.Searches.{IsRising, IsFound, IsMissing}
+use Rattle.am_merge.proofs.Joined.{block_inside, place_inside, length_around}
+
+module _ {T : Type 0} where
+  -- the place of an item is one of the list
+  pub place_of_item : (rows : Rows T) (cursor : Cursor) → IsItem rows cursor → place rows cursor < length (entries rows)
+  place_of_item rows cursor item = place_inside rows.blocks cursor.block cursor.offset (block_inside rows.blocks cursor.block cursor.offset item.offset) item.offset
+
+  -- a place within the blocks is within the list
+  pub place_within : (rows : Rows T) (cursor : Cursor) → IsWithin rows cursor → place rows cursor ≤ length (entries rows)
+  place_within rows cursor within =
+      elim (cases_lt cursor.block (length rows.blocks)) [
+        | inl inside ↦ let sizes = length_around rows.blocks cursor.block inside in let offset = within.offset in omega arith
+        | inr past ↦
+            let whole = ap (λ blocks. length (joined blocks)) (take_all cursor.block rows.blocks past) in
+            let none = ap length (get_or_past rows.blocks cursor.block [] past) in
+            let offset = within.offset in
+            omega arith
+      ]
+
+  -- a place that was read is split off
+  pub items_around : (items : List T) (n : ℕ) (item : T) → slice_get items n ≡ Some item → items ≡ take n items ++ item ∷ drop (n + 1) items
+  items_around items n item at =
+      let inside : n < length items = slice_get_within items n item at in
+      sym (take-append-drop n items) ∙ ap (λ xs. take n items ++ xs) (drop_more items n item inside ∙ ap (λ x. x ∷ drop (n + 1) items) (get_or_from_slice_get items n item item at))
+
+  get_insert_above : (items : List T) (n : ℕ) (item d : T) (k : ℕ) → n ≤ length items → n < k → get_or (insert items n item) k d ≡ get_or items (k - 1) d
+  get_insert_above items n item d k within above =
+      let next : k ≡ k - 1 + 1 = omega arith in
+      ap (λ m. get_or (insert items n item) m d) next ∙ get_or-insert_above items n item d (k - 1) (omega arith) within
+
+  -- a relation of each item and each later one stays when an item comes in that has it to those around it
+  pub all_pairs_insert : (R : T → T → Type 0) (items : List T) (n : ℕ) (item : T) → n ≤ length items → AllPairs R items → ((k : ℕ) (d : T) → k < n → R (get_or items k d) item) → ((k : ℕ) (d : T) → n ≤ k → k < length items → R item (get_or items k d)) → AllPairs R (insert items n item)
+  all_pairs_insert R items n item within pairs before behind i j d less inside =
+      let size = length-insert items n item within in
+      elim (cases_lt j n) [
+        | inl low ↦ rw (get_or-insert_below items n item d i (omega arith) within, get_or-insert_below items n item d j low within) (pairs i j d less (omega arith))
+        | inr not_low ↦ elim (cases_lt n j) [
+          | inr at ↦
+              let same : j ≡ n = omega arith in
+              rw (same, get_or-insert_below items n item d i (omega arith) within, get_or-insert_at items n item d within) (before i d (omega arith))
+          | inl high ↦
+              rw (get_insert_above items n item d j within high)
+              (elim (cases_lt i n) [
+                | inl low ↦ rw (get_or-insert_below items n item d i low within) (pairs i (j - 1) d (omega arith) (omega arith))
+                | inr not_low ↦ elim (cases_lt n i) [
+                  | inr at ↦ let same : i ≡ n = omega arith in rw (same, get_or-insert_at items n item d within) (behind (j - 1) d (omega arith) (omega arith))
+                  | inl above ↦ rw (get_insert_above items n item d i within above) (pairs (i - 1) (j - 1) d (omega arith) (omega arith))
+                ]
+              ])
+        ]
+      ]
+
+module _ {T : Type 0} (order : T → Ordering) where
+  -- what a search found is equal to what was looked for
+  pub found_equal : (rows : Rows T) (cursor : Cursor) (item : T) → IsFound order rows cursor → slice_get (entries rows) (place rows cursor) ≡ Some item → order item ≡ Equal
+  found_equal rows cursor item found at = ap order (sym (get_or_from_slice_get (entries rows) (place rows cursor) item item at)) ∙ found.equal item
+
+  less_apart : (x : T) → order x ≡ Less → order x ≢ Equal
+  less_apart x less equal = cc
+
+  greater_apart : (x : T) → order x ≡ Greater → order x ≢ Equal
+  greater_apart x greater equal = cc
+
+  -- where nothing was found, no item is equal to what was looked for
+  pub missing_apart : (rows : Rows T) (cursor : Cursor) → IsMissing order rows cursor → All (λ x. order x ≢ Equal) (entries rows)
+  missing_apart rows cursor missing =
+      let front = take (place rows cursor) (entries rows) in
+      let back = drop (place rows cursor) (entries rows) in
+      rw (← take-append-drop (place rows cursor) (entries rows))
+      (All-append (λ x. order x ≢ Equal) front back
+      (All-weaker (λ x. order x ≡ Less) (λ x. order x ≢ Equal) less_apart front missing.before)
+      (All-weaker (λ x. order x ≡ Greater) (λ x. order x ≢ Equal) greater_apart back missing.behind))
+
+  -- what stands before the place of what is missing, and what stands from there on
+  pub missing_before : (rows : Rows T) (cursor : Cursor) → IsMissing order rows cursor → (k : ℕ) (d : T) → k < place rows cursor → order (get_or (entries rows) k d) ≡ Less
+  missing_before rows cursor missing k d less =
+      let within = place_within rows cursor missing.within in
+      let size : length (take (place rows cursor) (entries rows)) ≡ place rows cursor = length-take-le (place rows cursor) (entries rows) within in
+      rw (← get_or-take (place rows cursor) (entries rows) k d less) (missing.before k d (omega arith))
+
+  pub missing_behind : (rows : Rows T) (cursor : Cursor) → IsMissing order rows cursor → (k : ℕ) (d : T) → place rows cursor ≤ k → k < length (entries rows) → order (get_or (entries rows) k d) ≡ Greater
+  missing_behind rows cursor missing k d from inside =
+      let size = length-drop (place rows cursor) (entries rows) in
+      let there : place rows cursor + (k - place rows cursor) ≡ k = omega arith in
+      let found = missing.behind (k - place rows cursor) d (omega arith) in
+      ap (λ m. order (get_or (entries rows) m d)) (sym there) ∙ ap order (sym (get_or-drop (place rows cursor) (entries rows) (k - place rows cursor) d)) ∙ found
+
+  -- items rise where of any two in a relation the first is before what is looked for or the second behind it
+  pub rising_pairs : (R : T → T → Type 0) → ((x y : T) → R x y → (order x ≡ Less) ⊎ (order y ≡ Greater)) → (items : List T) → AllPairs R items → IsRising order items
+  rising_pairs R parts items pairs i j d less inside = parts (get_or items i d) (get_or items j d) (pairs i j d less inside)
+
+  pub rising_nil : IsRising order []
+  rising_nil i j d less inside = absurd (omega arith)
+
+  -- items rise where the first of them does against each other and those rise
+  pub rising_cons : (x : T) (items : List T) → All (λ y. (order x ≡ Less) ⊎ (order y ≡ Greater)) items → IsRising order items → IsRising order (x ∷ items)
+  rising_cons x items first rising i zero d less inside = absurd (omega arith)
+  rising_cons x items first rising zero (suc j) d less inside = first j d (omega arith)
+  rising_cons x items first rising (suc i) (suc j) d less inside = rising i j d (omega arith) (omega arith)

@@ -1,4 +1,0 @@
-pub mod Seen
-pub mod Decided
-pub mod Cuts
-pub mod Asked

@@ -1,5 +1,0 @@
-use Rattle.am_session.proofs.Cuts.{pieces_join}
-use Rattle.am_session.proofs.laws.pieces_are_their_bytes.Goals as goal
-
-pub returns : goal.returns
-returns c = pieces_join
