@@ -7,7 +7,7 @@ use Rattle.serde_json.specs.Written.{compact_text}
 use Rattle.am_silence.specs.Mesh.{Mesh}
 use Rattle.am_silence.specs.declared.state.State.{State}
 use Rattle.am_silence_json.specs.Gettables.{IsGettable, AreGettable, posted_data}
-use Rattle.am_http.specs.Lines.{Line, line_seen}
+use Rattle.am_http.specs.Lines.{RefusalLine, line_seen}
 use Rattle.am_http.specs.Replies.{reply_bytes}
 use Rattle.am_http.specs.declared.refusal.Refusal.{Refusal}
 use Rattle.am_instance.specs.declared.reply.Reply.{Reply}
@@ -21,7 +21,7 @@ abbrev pub good_bytes : List ℕ → List ℕ
 good_bytes body = reply_bytes 200 None body
 
 -- the reply of a line of the table of statuses: its text as a string of JSON
-abbrev pub line_bytes : Line → List ℕ
+abbrev pub line_bytes : RefusalLine → List ℕ
 line_bytes line = reply_bytes line.status line.allow (compact_text (string line.text))
 
 -- the bytes of the reply that lists these silences

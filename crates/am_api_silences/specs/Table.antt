@@ -2,10 +2,10 @@
 use Rattle.std.specs.Prelude.{codes}
 use Rattle.am_silence.specs.declared.error.SilenceError.{SilenceError}
 use Rattle.am_silence.specs.declared.error.SilenceError.TheVariants as errors
-use Rattle.am_http.specs.Lines.{Line, line}
+use Rattle.am_http.specs.Lines.{RefusalLine, line}
 
 -- a request that is refused (status codes of RFC 9110, section 15)
-abbrev pub refused_line : SilenceError → Line
+abbrev pub refused_line : SilenceError → RefusalLine
 refused_line errors.NotFound = line 404 (codes "silence not found")
 refused_line errors.NoMatcher = line 400 (codes "no matcher")
 refused_line errors.EmptyName = line 400 (codes "empty label name")
@@ -20,9 +20,9 @@ refused_line errors.TooLarge = line 500 (codes "silence too large")
 refused_line errors.Memory = line 500 (codes "out of memory")
 
 -- the moment is before that of the last event
-abbrev pub clock_line : Line
+abbrev pub clock_line : RefusalLine
 clock_line = line 500 (codes "clock ran back")
 
 -- a growth was refused
-abbrev pub memory_line : Line
+abbrev pub memory_line : RefusalLine
 memory_line = line 500 (codes "out of memory")

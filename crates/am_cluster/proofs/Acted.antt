@@ -22,7 +22,7 @@ use Rattle.am_instance.specs.InstanceStates.{InstanceState}
 use Rattle.am_instance.specs.Steps.{brought, delivers, fault_of}
 use Rattle.am_instance.specs.OneStep.{IsStep}
 use Rattle.am_runs.specs.declared.step.Source.{Source}
-use Rattle.am_runs.specs.Steps.{Step}
+use Rattle.am_runs.specs.Steps.{RunStep}
 use Rattle.am_steps.specs.BothStates.{StateOf}
 use Rattle.am_steps.specs.Contents.{IsValue}
 use Rattle.am_steps.specs.Recorded.{AreInFlight, AreValues}
@@ -143,7 +143,7 @@ all_fly_from settings members place frames own all sound peers =
     frames (All-contains_itself frames)
 
 -- the step of an instance, to which an event can come, can come next in a run
-pub can_be_next : {K X : Type 0} (state : StateOf K X) → StepsArePossible state → (members : ℕ) (steps : List (Step X)) (entry : Entry) (event : Event) (old new : InstanceState) (answer : Result Outcome StepError) →
+pub can_be_next : {K X : Type 0} (state : StateOf K X) → StepsArePossible state → (members : ℕ) (steps : List (RunStep X)) (entry : Entry) (event : Event) (old new : InstanceState) (answer : Result Outcome StepError) →
     CanHappenIn state members steps entry event old → IsStep old event entry.moment answer new → IfOk answer (λ outcome. AreValues event outcome new) → CanBeNext state members steps entry event answer
 can_be_next state law members steps entry event old new answer can step values = λ frames flying.
     law members entry.place entry.moment steps entry.source old new event answer frames (λ counts. can.runs) can.gone step can.from flying values

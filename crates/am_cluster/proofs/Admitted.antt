@@ -7,8 +7,8 @@ use Rattle.std.proofs.lemmas.Bool.Decides.{nat_tests}
 use Rattle.std.proofs.lemmas.List.{map_push}
 use Rattle.std.proofs.lemmas.List.Elements.{filter-append}
 use Rattle.std.proofs.lemmas.Option.{slice_get-get_or, slice_get_within}
-use Rattle.am_runs.specs.Steps.{Step}
-use Rattle.am_runs.specs.Steps.Step.{Back, Refused}
+use Rattle.am_runs.specs.Steps.{RunStep}
+use Rattle.am_runs.specs.Steps.RunStep.{Back, Refused}
 use Rattle.am_runs.specs.Members.{last_of, member_of}
 use Rattle.am_runs.proofs.Pasts.{member_of-push}
 use Rattle.am_cluster.specs.Accounts.{Account}
@@ -27,7 +27,7 @@ use Rattle.am_cluster.proofs.Tied.{same_where}
 
 module _ {X : Type 0} where
   -- they make nothing of a member
-  pub backs_idle : (members q now : ℕ) (places : List ℕ) (steps : List (Step X)) → member_of members q (steps ++ map (λ place. Back place now) places) ≡ member_of members q steps
+  pub backs_idle : (members q now : ℕ) (places : List ℕ) (steps : List (RunStep X)) → member_of members q (steps ++ map (λ place. Back place now) places) ≡ member_of members q steps
   backs_idle members q now [] steps = ap (member_of members q) (append-nil steps)
   backs_idle members q now (place ∷ places) steps =
       ap (member_of members q) (sym (append_assoc steps (Back place now ∷ []) (map (λ p. Back p now) places)))

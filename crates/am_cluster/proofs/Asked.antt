@@ -8,8 +8,8 @@ use Rattle.am_instance.specs.Configs.{Settings, place_named}
 use Rattle.am_instance.specs.Deliveries.{Delivery}
 use Rattle.am_instance.specs.Deliveries.Delivery.{OfSilence, OfEntry}
 use Rattle.am_steps.specs.Contents.{silences_in, entries_in}
-use Rattle.am_schedule.specs.declared.step.Event.{Event as LineEvent}
-use Rattle.am_schedule.specs.declared.step.Event.TheVariants as lines
+use Rattle.am_schedule.specs.declared.step.LineEvent.{LineEvent}
+use Rattle.am_schedule.specs.declared.step.LineEvent.TheVariants as lines
 use Rattle.am_schedule.specs.declared.step.Versions.{Versions}
 use Rattle.am_steps.specs.declared.asked.Asked.{Asked}
 use Rattle.am_steps.specs.Events.{Brings, IsSentBefore, asked_by, brought_by, from, pull}

@@ -10,7 +10,7 @@ use Rattle.am_silence.specs.Mesh.{Mesh}
 use Rattle.am_nflog.specs.Mesh.{Mesh as LogMesh}
 use Rattle.am_instance.specs.Configs.{HasTwice, IsEmptyName, IsLongName, Settings}
 use Rattle.am_instance.specs.InstanceStates.{InstanceState}
-use Rattle.am_runs.specs.Steps.{Step}
+use Rattle.am_runs.specs.Steps.{RunStep}
 use Rattle.am_runs.specs.Members.{member_of}
 use Rattle.am_steps.specs.BothStates.{StateOf, log_state, silence_state}
 use Rattle.am_cluster.specs.declared.flight.Flight.{Flight}
@@ -51,7 +51,7 @@ born_here replicas are = record {
   nothing : (flight : Flight) → Contains [] flight → ⊥
   nothing flight there = omega (arith, there.1)
 
-pub world_born : (replicas : List Replica) (ss : List (Step Mesh)) (ls : List (Step LogMesh)) (ns : List ℕ) (fs : List Flight) → AreUnborn replicas → ss ≡ [] → ls ≡ [] → ns ≡ [] → fs ≡ [] →
+pub world_born : (replicas : List Replica) (ss : List (RunStep Mesh)) (ls : List (RunStep LogMesh)) (ns : List ℕ) (fs : List Flight) → AreUnborn replicas → ss ≡ [] → ls ≡ [] → ns ≡ [] → fs ≡ [] →
     IsWorld (record { replicas = replicas; silences = ss; log = ls; lines = ns; flights = fs })
 world_born replicas ss ls ns fs are no_s no_l no_n no_f = rw (no_s, no_l, no_n, no_f) (born_here replicas are)
 

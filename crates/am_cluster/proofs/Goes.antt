@@ -4,7 +4,7 @@ use Rattle.std.proofs.lemmas.Bool.Decides.{eqb_tells}
 use Rattle.am_silence.specs.Mesh.{Mesh}
 use Rattle.am_nflog.specs.Mesh.{Mesh as LogMesh}
 use Rattle.am_instance.specs.InstanceStates.{kept_silences, kept_log}
-use Rattle.am_runs.specs.Steps.{Step, SentFrame, is_at, flights_by, flights_of}
+use Rattle.am_runs.specs.Steps.{RunStep, SentFrame, is_at, flights_by, flights_of}
 use Rattle.am_runs.specs.Members.{Member, stepped, member_of}
 use Rattle.am_runs.proofs.Pasts.{flights_of-push}
 use Rattle.am_steps.specs.BothStates.{log_state, silence_state}
@@ -15,10 +15,10 @@ use Rattle.am_cluster.proofs.Places.{got_before, got_set, got_other, set_length,
 use Rattle.am_cluster.proofs.Tied.{tied_elsewhere, tied_idle}
 
 -- a frame that flew still does after a step more
-still_sent : {X : Type 0} (before : List (Step X)) (s : Step X) (index : ℕ) (f : SentFrame X) → slice_get (flights_of before) index ≡ Some f → slice_get (flights_of (before ++ s ∷ [])) index ≡ Some f
+still_sent : {X : Type 0} (before : List (RunStep X)) (s : RunStep X) (index : ℕ) (f : SentFrame X) → slice_get (flights_of before) index ≡ Some f → slice_get (flights_of (before ++ s ∷ [])) index ≡ Some f
 still_sent before s index f e = subst (λ fs. slice_get fs index ≡ Some f) (sym (flights_of-push before s)) (got_before (flights_of before) (flights_by s) index f e)
 
-module _ (old : World) (s : Step Mesh) (l : Step LogMesh) (line : ℕ) where
+module _ (old : World) (s : RunStep Mesh) (l : RunStep LogMesh) (line : ℕ) where
   pub still_flying : (replicas : List Replica) (flight : Flight) → length replicas ≡ length old.replicas → IsFlying old flight →
       IsFlying (record old { replicas = replicas; silences = old.silences ++ s ∷ []; log = old.log ++ l ∷ []; lines = old.lines ++ line ∷ [] }) flight
   still_flying replicas flight same f = record {
@@ -33,7 +33,7 @@ module _ (old : World) (s : Step Mesh) (l : Step LogMesh) (line : ℕ) where
   }
 
 -- one member changes, and what is written down of it agrees
-module _ (old : World) (place : ℕ) (was will : Replica) (s : Step Mesh) (l : Step LogMesh) (line : ℕ) where
+module _ (old : World) (place : ℕ) (was will : Replica) (s : RunStep Mesh) (l : RunStep LogMesh) (line : ℕ) where
   abbrev pub changed_at : World
   changed_at = written (with_replica old place will) s l line
 
@@ -77,7 +77,7 @@ module _ (old : World) (place : ℕ) (was will : Replica) (s : Step Mesh) (l : S
         (is.members q replica (sym (got_other old.replicas place q will other.1) ∙ there))
 
 -- no member changes
-module _ (old : World) (s : Step Mesh) (l : Step LogMesh) (line : ℕ) where
+module _ (old : World) (s : RunStep Mesh) (l : RunStep LogMesh) (line : ℕ) where
   pub goes_on_idle : ((m : Member Mesh) → stepped m s ≡ m) → ((m : Member LogMesh) → stepped m l ≡ m) → IsWorld old → IsWorld (written old s l line)
   goes_on_idle idle_s idle_l is = record {
     members = λ q replica there. let m = is.members q replica there in record {

@@ -16,8 +16,8 @@ use Rattle.am_instance.specs.InstanceStates.{InstanceState}
 use Rattle.am_instance.specs.Steps.{collects, delivers}
 use Rattle.am_instance.specs.OneStep.{IsStep}
 use Rattle.am_runs.specs.declared.step.Source.{Source}
-use Rattle.am_runs.specs.Steps.{Step, flights_of, is_at}
-use Rattle.am_runs.specs.Steps.Step.{Took, Ticked}
+use Rattle.am_runs.specs.Steps.{RunStep, flights_of, is_at}
+use Rattle.am_runs.specs.Steps.RunStep.{Took, Ticked}
 use Rattle.am_runs.specs.Members.{Member, stepped, member_of, map_of}
 use Rattle.am_steps.specs.BothStates.{StateOf, log_state, silence_state}
 use Rattle.am_steps.specs.Contents.{carries}
@@ -187,7 +187,7 @@ module _ {K X : Type 0} (state : StateOf K X) (place now : ℕ) (source : Source
   not_at q apart (Err (FrameFault fault)) = refl
 
   -- the state of the member after it, where the map has gone on
-  tied_after : (members : ℕ) (before : List (Step X)) (runs : Bool) (old new : Kept X) (saved : List X) (answer : Result Outcome StepError) →
+  tied_after : (members : ℕ) (before : List (RunStep X)) (runs : Bool) (old new : Kept X) (saved : List X) (answer : Result Outcome StepError) →
       IsTied state (member_of members place before) runs old saved →
       HasGoneThrough state (stepped (member_of members place before) (event_step state place now source event answer frames)).past new →
       IsTied state (member_of members place (before ++ event_step state place now source event answer frames ∷ [])) runs new saved

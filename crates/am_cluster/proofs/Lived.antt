@@ -6,8 +6,8 @@ use Rattle.std.proofs.lemmas.Option.{slice_get-get_or}
 use Rattle.am_silence.specs.Mesh.{Mesh}
 use Rattle.am_nflog.specs.Mesh.{Mesh as LogMesh}
 use Rattle.am_instance.specs.InstanceStates.{kept_silences, kept_log}
-use Rattle.am_runs.specs.Steps.{Step}
-use Rattle.am_runs.specs.Steps.Step.{Back, Saved, Stopped, Started}
+use Rattle.am_runs.specs.Steps.{RunStep}
+use Rattle.am_runs.specs.Steps.RunStep.{Back, Saved, Stopped, Started}
 use Rattle.am_runs.specs.Members.{last_of, member_of}
 use Rattle.am_steps.specs.BothStates.{log_state, silence_state}
 use Rattle.am_cluster.specs.Worlds.{Replica, World, replica_at, with_replica, written}
@@ -55,7 +55,7 @@ module _ (w : World) (place : ℕ) (r : Replica) (line : ℕ) (is : IsWorld w) (
       (tied_here log_state (length w.replicas) place w.log (Started place now) true _ r.saved_log (own_place place) (tied_started log_state _ place now r.runs (kept_log r.stand) r.saved_log log_tied))
       refl
 
-pub same_world : (rs others : List Replica) (ss ss2 : List (Step Mesh)) (ls ls2 : List (Step LogMesh)) (ns ns2 : List ℕ) (fs : List Flight) →
+pub same_world : (rs others : List Replica) (ss ss2 : List (RunStep Mesh)) (ls ls2 : List (RunStep LogMesh)) (ns ns2 : List ℕ) (fs : List Flight) →
     rs ≡ others → ss ≡ ss2 → ls ≡ ls2 → ns ≡ ns2 →
     ◌≡◌ {A = World} (record { replicas = rs; silences = ss; log = ls; lines = ns; flights = fs }) (record { replicas = others; silences = ss2; log = ls2; lines = ns2; flights = fs })
 same_world rs others ss ss2 ls ls2 ns ns2 fs a b c d = cc
@@ -69,7 +69,7 @@ pub read_again : (replicas : List Replica) (place : ℕ) (r s : Replica) → pla
 read_again replicas place r s inside is also = some_is s r (sym (found_at replicas place s inside also) ∙ found_at replicas place r inside is)
 
 -- what a member's run tells is what the member tells
-pub runs_told : (w : World) (place : ℕ) (r : Replica) (n : ℕ) (ss : List (Step Mesh)) → IsWorld w → replica_at w place ≡ Some r → n ≡ length w.replicas → ss ≡ w.silences →
+pub runs_told : (w : World) (place : ℕ) (r : Replica) (n : ℕ) (ss : List (RunStep Mesh)) → IsWorld w → replica_at w place ≡ Some r → n ≡ length w.replicas → ss ≡ w.silences →
     (running : Bool) → r.runs ≡ running → (member_of n place ss).runs ≡ running
 runs_told w place r n ss is found members silences running runs =
     subst (λ x. (member_of x place ss).runs ≡ running) (sym members)
@@ -80,7 +80,7 @@ pub answered : (f : World → Replica → World) (w v n : World) (place : ℕ) (
 answered f w v n place r running same found runs is = for_replica (λ u replica. (replica.runs ≡ running) × (n ≡ f u replica)) w v place r same found (runs, is)
 
 -- and the member's last moment is that of its run
-pub last_told : (w : World) (place : ℕ) (r : Replica) (n : ℕ) (ss : List (Step Mesh)) → IsWorld w → replica_at w place ≡ Some r → n ≡ length w.replicas → ss ≡ w.silences → r.stand.last ≡ last_of (member_of n place ss)
+pub last_told : (w : World) (place : ℕ) (r : Replica) (n : ℕ) (ss : List (RunStep Mesh)) → IsWorld w → replica_at w place ≡ Some r → n ≡ length w.replicas → ss ≡ w.silences → r.stand.last ≡ last_of (member_of n place ss)
 last_told w place r n ss is found members silences =
     subst (λ x. r.stand.last ≡ last_of (member_of x place ss)) (sym members)
     (subst (λ x. r.stand.last ≡ last_of (member_of (length w.replicas) place x)) (sym silences) ((is.members place r found).silences.held.last))

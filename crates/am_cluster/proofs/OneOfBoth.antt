@@ -6,7 +6,7 @@ use Rattle.am_merge.specs.Views.{IsViewAt}
 use Rattle.am_instance.specs.InstanceStates.{InstanceState}
 use Rattle.am_runs.specs.Members.{last_of, map_of, member_of, set_of}
 use Rattle.am_runs.specs.Runs.{IsCalmAt, IsRun}
-use Rattle.am_runs.specs.Steps.{Step, delivered_in, moment}
+use Rattle.am_runs.specs.Steps.{RunStep, delivered_in, moment}
 use Rattle.am_runs.specs.Timely.{IsTimely}
 use Rattle.am_cluster.specs.BothRuns.{RunOf, log_run, silence_run}
 use Rattle.am_cluster.specs.Reports.{AreRuns, AreTimely, IsCalmInBoth}
@@ -48,7 +48,7 @@ module _ {K X : Type 0} {run : RunOf K X} (one : IsOneOfBoth run) where
   -- what calm members of a run show of their maps
   abbrev pub CalmOnesShow : Type 0
   CalmOnesShow =
-      (members place : ℕ) (steps : List (Step X)) (now : ℕ) (key : K) → IsCalmAt run.state.seen members place steps → last_of (member_of members place steps) ≤ now →
+      (members place : ℕ) (steps : List (RunStep X)) (now : ℕ) (key : K) → IsCalmAt run.state.seen members place steps → last_of (member_of members place steps) ≤ now →
       IsViewAt run.state.seen (set_of (member_of members place steps)) now key (if_live run.state.seen now (map_of run.state.seen run.state.cmp (member_of members place steps).past key))
 
   pub show_the_bare_set : CalmOnesShow → (world : World) → IsWorld world → ShowTheBareSet run world
@@ -60,7 +60,7 @@ module _ {K X : Type 0} {run : RunOf K X} (one : IsOneOfBoth run) where
   -- what members that run show alike of their maps
   abbrev pub ViewsAgree : (X → Type 0) → Type 0
   ViewsAgree is_value =
-      (members spread flight now : ℕ) (before rest : List (Step X)) (step : Step X) (key : K) → 0 < spread → IsRun run.state.seen run.state.cmp members (before ++ step ∷ rest) →
+      (members spread flight now : ℕ) (before rest : List (RunStep X)) (step : RunStep X) (key : K) → 0 < spread → IsRun run.state.seen run.state.cmp members (before ++ step ∷ rest) →
       IsTimely run.state.seen spread flight members (before ++ step ∷ rest) → All is_value (delivered_in (before ++ step ∷ rest)) → moment step ≡ Some now →
       All (λ v. (run.state.seen v).key ≡ key → (run.state.seen v).updated + spread ≤ now) (delivered_in (before ++ step ∷ rest)) → (place other : ℕ) →
       (member_of members place before).runs ≡ true → (member_of members other before).runs ≡ true →

@@ -12,7 +12,7 @@ use Rattle.am_instance.specs.Deliveries.{Delivery}
 use Rattle.am_instance.specs.Deliveries.Delivery.{OfSilence, OfEntry}
 use Rattle.am_instance.specs.Replies.{IsNothing, listed}
 use Rattle.am_instance.specs.Steps.{brought, collects, delivers, made_here}
-use Rattle.am_runs.specs.Steps.Step.{Took, Ticked}
+use Rattle.am_runs.specs.Steps.RunStep.{Took, Ticked}
 use Rattle.am_steps.specs.BothStates.{log_state, silence_state}
 use Rattle.am_steps.specs.Contents.{delivery_of, silences_in, entries_in}
 use Rattle.am_steps.specs.declared.carried.version.AnyVersion.{AnyVersion}

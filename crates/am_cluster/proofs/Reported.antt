@@ -7,7 +7,7 @@ use Rattle.std.proofs.Math.Nat.{min-eq_left, min-eq_right}
 use Rattle.std.proofs.Math.Seq.{take-append_seam}
 use Rattle.am_silence.specs.Mesh.{Mesh, mesh_version}
 use Rattle.am_nflog.specs.Mesh.{Mesh as LogMesh, mesh_version as entry_version}
-use Rattle.am_runs.specs.Steps.{Step, EachStep, IsFirstWithout}
+use Rattle.am_runs.specs.Steps.{RunStep, EachStep, IsFirstWithout}
 use Rattle.am_runs.specs.Runs.{IsCalmAt, IsCalmStep, IsFirstFault}
 use Rattle.am_runs.proofs.Cuts.{each_front}
 use Rattle.am_cluster.specs.Firsts.{earlier}
@@ -43,11 +43,11 @@ each_fewer P steps m n less within each =
     let front : take m (take n steps) ≡ take m steps = sym (take-append-le m (take n steps) (drop n steps) (omega (arith, long))) ∙ ap (take m) (take-append-drop n steps) in
     subst (λ all. EachStep all P) front (each_take P (take n steps) m each)
 
-module _ (members place : ℕ) (silences : List (Step Mesh)) (log : List (Step LogMesh)) where
-  abbrev One : List (Step Mesh) → Step Mesh → Type 0
+module _ (members place : ℕ) (silences : List (RunStep Mesh)) (log : List (RunStep LogMesh)) where
+  abbrev One : List (RunStep Mesh) → RunStep Mesh → Type 0
   One = IsCalmStep mesh_version members place
 
-  abbrev Other : List (Step LogMesh) → Step LogMesh → Type 0
+  abbrev Other : List (RunStep LogMesh) → RunStep LogMesh → Type 0
   Other = IsCalmStep entry_version members place
 
   lesser : (m n : ℕ) → (m ≤ n) ⊎ (n < m) → IsFirstFault mesh_version members place silences m → IsFirstFault entry_version members place log n → IsFirstUncalm members place silences log (min m n)

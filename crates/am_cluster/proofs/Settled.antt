@@ -20,7 +20,7 @@ use Rattle.am_merge.proofs.Joins.{greater_of-assoc, greater_of-comm, greater_of-
 use Rattle.am_merge.proofs.Puts.{greater_of-none}
 use Rattle.am_collect.proofs.Greatest.{first_kept}
 use Rattle.am_collect.specs.Events.{after, after_all}
-use Rattle.am_collect.specs.Events.Event.{Delivered}
+use Rattle.am_collect.specs.Events.MapEvent.{Delivered}
 use Rattle.am_gossip.specs.declared.frame.Frame.{Frame}
 use Rattle.am_instance.specs.declared.event.Event.TheVariants as events
 use Rattle.am_instance.specs.declared.error.StepError.{StepError}

@@ -9,8 +9,8 @@ use Rattle.am_instance.specs.Configs.{Settings}
 use Rattle.am_instance.specs.InstanceStates.{InstanceState}
 use Rattle.am_instance.specs.Steps.{fault_of}
 use Rattle.am_runs.specs.declared.step.Source.{Source}
-use Rattle.am_runs.specs.Steps.{Step, flights_of}
-use Rattle.am_runs.specs.Steps.Step.{Refused}
+use Rattle.am_runs.specs.Steps.{RunStep, flights_of}
+use Rattle.am_runs.specs.Steps.RunStep.{Refused}
 use Rattle.am_steps.specs.BothStates.{log_state, silence_state}
 use Rattle.am_steps.specs.Recorded.{HasSource, event_step}
 use Rattle.am_cluster.specs.Accounts.{Account}
@@ -36,7 +36,7 @@ halted w v n place r event source now line same found stopped is =
     for_replica (λ u replica. IsEvent u place replica event source now line (Err errors.Stopped) n) w v place r same found
     (inr (inl (record { stopped = stopped; error = refl; world = is })))
 
-five : (rs : List Replica) (ss ss2 : List (Step Mesh)) (ls ls2 : List (Step LogMesh)) (ns ns2 : List ℕ) (fs fs2 : List Flight) → ss ≡ ss2 → ls ≡ ls2 → ns ≡ ns2 → fs ≡ fs2 →
+five : (rs : List Replica) (ss ss2 : List (RunStep Mesh)) (ls ls2 : List (RunStep LogMesh)) (ns ns2 : List ℕ) (fs fs2 : List Flight) → ss ≡ ss2 → ls ≡ ls2 → ns ≡ ns2 → fs ≡ fs2 →
     ◌≡◌ {A = World} (record { replicas = rs; silences = ss; log = ls; lines = ns; flights = fs }) (record { replicas = rs; silences = ss2; log = ls2; lines = ns2; flights = fs2 })
 five rs ss ss2 ls ls2 ns ns2 fs fs2 a b c d = cc
 
@@ -55,7 +55,7 @@ module _ (w : World) (a : Account) (tells : Tells a w) (place now line : ℕ) (r
   entry = record { place = place; moment = now; source = source; line = line }
 
   -- the account may be read as that of the cluster
-  abbrev Ready : ℕ → List (Step Mesh) → List (Step LogMesh) → Type 0
+  abbrev Ready : ℕ → List (RunStep Mesh) → List (RunStep LogMesh) → Type 0
   Ready members silences log = CanHappen (record a { members = members; silences = silences; log = log }) entry event r.stand
 
   pub can_act : r.runs ≡ true → HasSource silence_state (length w.replicas) w.silences now event source →

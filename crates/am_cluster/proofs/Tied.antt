@@ -1,9 +1,9 @@
 -- One state of a member, as steps go on.
 use Rattle.std.proofs.Common.{◌≡◌, ℕ, Bool, true, false, cond, List, [], ◌∷◌, ◌++◌, refl, sym, ap, ◌∙◌, subst}
 use Rattle.am_collect.specs.Kept.{Kept}
-use Rattle.am_collect.specs.Events.Event.{Passed}
-use Rattle.am_runs.specs.Steps.{Step, is_at}
-use Rattle.am_runs.specs.Steps.Step.{Saved, Stopped, Started}
+use Rattle.am_collect.specs.Events.MapEvent.{Passed}
+use Rattle.am_runs.specs.Steps.{RunStep, is_at}
+use Rattle.am_runs.specs.Steps.RunStep.{Saved, Stopped, Started}
 use Rattle.am_runs.specs.Members.{Member, stepped, member_of}
 use Rattle.am_runs.proofs.Pasts.{member_of-push, last-one, map_of-append}
 use Rattle.am_steps.specs.BothStates.{StateOf}
@@ -13,7 +13,7 @@ pub same_where : {A : Type 0} (b : Bool) (m : A) → cond b m m ≡ m
 same_where true m = refl
 same_where false m = refl
 
-module _ {K X : Type 0} (state : StateOf K X) (members q : ℕ) (before : List (Step X)) (s : Step X) (runs : Bool) (kept : Kept X) (saved : List X) where
+module _ {K X : Type 0} (state : StateOf K X) (members q : ℕ) (before : List (RunStep X)) (s : RunStep X) (runs : Bool) (kept : Kept X) (saved : List X) where
   -- a step of another member changes nothing
   pub tied_elsewhere : is_at q s ≡ false → IsTied state (member_of members q before) runs kept saved → IsTied state (member_of members q (before ++ s ∷ [])) runs kept saved
   tied_elsewhere other tied =

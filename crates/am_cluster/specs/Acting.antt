@@ -9,7 +9,7 @@ use Rattle.am_instance.specs.InstanceStates.{InstanceState}
 use Rattle.am_instance.specs.Steps.{fault_of}
 use Rattle.am_instance.specs.OneStep.{IsStep}
 use Rattle.am_runs.specs.Members.{member_of}
-use Rattle.am_runs.specs.Steps.{Step}
+use Rattle.am_runs.specs.Steps.{RunStep}
 use Rattle.am_steps.specs.BothStates.{StateOf, log_state, silence_state}
 use Rattle.am_steps.specs.Recorded.{HasGoneThrough, HasSource}
 use Rattle.am_cluster.specs.Accounts.{Account}
@@ -20,7 +20,7 @@ use Rattle.am_cluster.specs.Recording.{IsRecorded}
 use Rattle.am_cluster.specs.Ties.{CanFly}
 
 -- as one of the runs tells, the member runs, its instance stands where its past leaves it, and the event can come to it
-pub record CanHappenIn {K X : Type 0} (state : StateOf K X) (members : ℕ) (steps : List (Step X)) (entry : Entry) (event : Event)
+pub record CanHappenIn {K X : Type 0} (state : StateOf K X) (members : ℕ) (steps : List (RunStep X)) (entry : Entry) (event : Event)
     (stand : InstanceState) : Type 0 where
   pub runs : (member_of members entry.place steps).runs ≡ true
   pub gone : HasGoneThrough state (member_of members entry.place steps).past (state.kept stand)

@@ -3,7 +3,7 @@ use Rattle.std.specs.Prelude.{ℕ, List}
 use Rattle.am_silence.specs.Mesh.{Mesh}
 use Rattle.am_nflog.specs.Mesh.{Mesh as LogMesh}
 use Rattle.am_nflog.specs.LogKeys.{LogKey}
-use Rattle.am_runs.specs.Steps.{Step}
+use Rattle.am_runs.specs.Steps.{RunStep}
 use Rattle.am_steps.specs.BothStates.{StateOf, log_state, silence_state}
 use Rattle.am_cluster.specs.Worlds.{Replica, World}
 
@@ -11,7 +11,7 @@ use Rattle.am_cluster.specs.Worlds.{Replica, World}
 -- saved of that beside a member.
 pub record RunOf (K X : Type 0) : Type 0 where
   pub state : StateOf K X
-  pub steps : World → List (Step X)
+  pub steps : World → List (RunStep X)
   pub saved : Replica → List X
 
 -- that of the silences

@@ -10,7 +10,7 @@ use Rattle.am_instance.specs.InstanceStates.{InstanceState}
 use Rattle.am_instance.specs.OneStep.{IsStep}
 use Rattle.am_runs.specs.declared.step.Source.{Source}
 use Rattle.am_runs.specs.declared.step.Source.TheVariants.{Lent}
-use Rattle.am_runs.specs.Steps.Step.{Refused}
+use Rattle.am_runs.specs.Steps.RunStep.{Refused}
 use Rattle.am_steps.specs.BothStates.{log_state, silence_state}
 use Rattle.am_steps.specs.Recorded.{event_step}
 use Rattle.am_cluster.specs.declared.error.ClusterError.{ClusterError}

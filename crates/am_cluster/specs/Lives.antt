@@ -1,6 +1,6 @@
 -- How a member is saved, stopped and started.
 use Rattle.std.specs.Prelude.{◌≡◌, ℕ, ◌<◌, ◌≤◌, true, false, Some, Result, Ok, Err}
-use Rattle.am_runs.specs.Steps.Step.{Back, Refused, Saved, Stopped, Started}
+use Rattle.am_runs.specs.Steps.RunStep.{Back, Refused, Saved, Stopped, Started}
 use Rattle.am_cluster.specs.declared.error.ClusterError.{ClusterError}
 use Rattle.am_cluster.specs.declared.error.ClusterError.TheVariants as errors
 use Rattle.am_cluster.specs.Worlds.{Replica, World, replica_at, with_replica, written}

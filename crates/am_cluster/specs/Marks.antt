@@ -1,11 +1,11 @@
 -- Steps in which no version came and no frame was sent.
-use Rattle.am_runs.specs.Steps.{Step}
-use Rattle.am_runs.specs.Steps.Step.{Ticked, Back, Refused, Saved, Stopped, Started}
+use Rattle.am_runs.specs.Steps.{RunStep}
+use Rattle.am_runs.specs.Steps.RunStep.{Ticked, Back, Refused, Saved, Stopped, Started}
 use Rattle.am_cluster.specs.declared.journal.mark.Mark.{Mark}
 use Rattle.am_cluster.specs.declared.journal.mark.Mark.TheVariants as marks
 
 -- what such a step is to the versions of any type
-abbrev pub step_of_mark : {X : Type 0} → Mark → Step X
+abbrev pub step_of_mark : {X : Type 0} → Mark → RunStep X
 step_of_mark (marks.Ticked place now) = Ticked place now
 step_of_mark (marks.Back place now) = Back place now
 step_of_mark (marks.Refused now) = Refused now

@@ -11,7 +11,7 @@ use Rattle.am_instance.specs.declared.reply.Reply.{Reply}
 use Rattle.am_instance.specs.Replies.{IsNothing}
 use Rattle.am_instance.specs.Steps.{brought, collects, delivers}
 use Rattle.am_runs.specs.Runs.{IsPossible}
-use Rattle.am_runs.specs.Steps.{Step, flights_of}
+use Rattle.am_runs.specs.Steps.{RunStep, flights_of}
 use Rattle.am_steps.specs.BothStates.{StateOf, log_state, silence_state}
 use Rattle.am_steps.specs.Contents.{delivery_of, silences_in, entries_in}
 use Rattle.am_steps.specs.declared.carried.version.AnyVersion.{AnyVersion}
@@ -60,7 +60,7 @@ pub record AreDelivered (event : Event) (made : Made) (versions : Delivered) : T
   pub log : versions.log.items ≡ entries_in (delivers event made)
 
 -- in one of the runs the step can come next, whichever of its frames fly
-abbrev pub CanBeNext : {K X : Type 0} → StateOf K X → ℕ → List (Step X) → Entry → Event → Result Outcome StepError → Type 0
+abbrev pub CanBeNext : {K X : Type 0} → StateOf K X → ℕ → List (RunStep X) → Entry → Event → Result Outcome StepError → Type 0
 CanBeNext state members steps entry event answer = (frames : List (ℕ × Frame)) → AreInFlight answer frames
     → IsPossible state.seen state.cmp members steps (event_step state entry.place entry.moment entry.source event answer frames)
 

@@ -3,7 +3,7 @@ use Rattle.std.specs.Prelude.{◌≡◌, ◌≤◌, ◌++◌, ◌∷◌, ℕ, Li
 use Rattle.am_silence.specs.Mesh.{Mesh}
 use Rattle.am_nflog.specs.Mesh.{Mesh as LogMesh}
 use Rattle.am_runs.specs.Members.{set_of}
-use Rattle.am_runs.specs.Steps.{Step, moment}
+use Rattle.am_runs.specs.Steps.{RunStep, moment}
 use Rattle.am_cluster.specs.BothRuns.{RunOf, log_run, silence_run}
 use Rattle.am_cluster.specs.Reports.{IsCalmInBoth}
 use Rattle.am_cluster.specs.Ties.{member_in}
@@ -29,8 +29,8 @@ pub record IsCalmBy (world : World) (place : ℕ) (replica : Replica) (now : ℕ
 
 -- one of the runs goes on with a step of this moment, and perhaps more
 pub record GoesOnIn {K X : Type 0} (run : RunOf K X) (earlier later : World) (now : ℕ) : Type 0 where
-  pub step : Step X
-  pub rest : List (Step X)
+  pub step : RunStep X
+  pub rest : List (RunStep X)
   pub parts : run.steps later ≡ run.steps earlier ++ step ∷ rest
   pub begins : moment step ≡ Some now
 

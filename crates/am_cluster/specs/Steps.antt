@@ -2,12 +2,12 @@
 use Rattle.std.specs.Prelude.{◌≡◌, ◌⊎◌, ℕ, List, Option, Some, None, Result, Ok, Err, length, option_and_then}
 use Rattle.am_silence.specs.Mesh.{Mesh}
 use Rattle.am_nflog.specs.Mesh.{Mesh as LogMesh}
-use Rattle.am_runs.specs.Steps.{Step}
+use Rattle.am_runs.specs.Steps.{RunStep}
 use Rattle.am_steps.specs.BothStates.{log_state, silence_state}
 use Rattle.am_steps.specs.Recorded.{HasSource}
 use Rattle.am_schedule.specs.declared.step.Action.{Action}
 use Rattle.am_schedule.specs.declared.step.Action.TheVariants as actions
-use Rattle.am_schedule.specs.declared.step.Event.{Event}
+use Rattle.am_schedule.specs.declared.step.LineEvent.{LineEvent}
 use Rattle.am_instance.specs.Configs.{place_named}
 use Rattle.am_instance.specs.declared.event.Event.TheVariants as events
 use Rattle.am_instance.specs.declared.reply.Reply.{Reply}
@@ -40,8 +40,8 @@ Quietly P result = (done : Result Unit ClusterError) × (result ≡ quiet done) 
 -- the versions that an event brings come from where it says, in whatever run
 abbrev pub Fits : Asked → Type 0
 Fits (asked.Event event source) = (members now : ℕ) →
-    ((before : List (Step Mesh)) → HasSource silence_state members before now event source)
-    × ((before : List (Step LogMesh)) → HasSource log_state members before now event source)
+    ((before : List (RunStep Mesh)) → HasSource silence_state members before now event source)
+    × ((before : List (RunStep LogMesh)) → HasSource log_state members before now event source)
 Fits _ = Unit {0}
 
 -- What a line asks of a member: an event; or a start; or an event with a peer that no member is, which comes as one of a place
@@ -53,7 +53,7 @@ IsAsked old place replica asked.NoMember now line result new =
     IsEvent old place replica (events.PullFrom (length old.replicas)) Made now line result new
 
 -- a member does what a line says, or there is no room for that
-abbrev pub IsDone : World → ℕ → Replica → Event → ℕ → ℕ → Result Reply ClusterError → World → Type 0
+abbrev pub IsDone : World → ℕ → Replica → LineEvent → ℕ → ℕ → Result Reply ClusterError → World → Type 0
 IsDone old place replica event now line result new =
     IsUnmade old result new ⊎ IsAsked old place replica (asked_by replica.stand.config event) now line result new
 

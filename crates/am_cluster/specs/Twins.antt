@@ -1,10 +1,10 @@
 -- Two runs that are told of the same steps, each of the versions of its own type.
 use Rattle.std.specs.Prelude.{◌≡◌, List, [], ◌∷◌, length}
-use Rattle.am_runs.specs.Steps.{Step}
-use Rattle.am_runs.specs.Steps.Step.{Took, Ticked, Back, Refused, Saved, Stopped, Started}
+use Rattle.am_runs.specs.Steps.{RunStep}
+use Rattle.am_runs.specs.Steps.RunStep.{Took, Ticked, Back, Refused, Saved, Stopped, Started}
 
 -- the steps are the same but for the versions; an event sent as many frames in both
-abbrev pub IsTwin : {X Y : Type 0} → Step X → Step Y → Type 0
+abbrev pub IsTwin : {X Y : Type 0} → RunStep X → RunStep Y → Type 0
 IsTwin (Took place now source versions frames) (Took other then origin others sent) =
     (place ≡ other) × (now ≡ then) × (source ≡ origin) × (length frames ≡ length sent)
 IsTwin (Ticked place now) (Ticked other then) = (place ≡ other) × (now ≡ then)
@@ -16,7 +16,7 @@ IsTwin (Started place now) (Started other then) = (place ≡ other) × (now ≡ 
 IsTwin _ _ = ⊥
 
 -- as many steps in both, each the twin of the one at its place
-abbrev pub AreTwins : {X Y : Type 0} → List (Step X) → List (Step Y) → Type 0
+abbrev pub AreTwins : {X Y : Type 0} → List (RunStep X) → List (RunStep Y) → Type 0
 AreTwins [] [] = Unit {0}
 AreTwins (step ∷ steps) (twin ∷ twins) = IsTwin step twin × AreTwins steps twins
 AreTwins _ _ = ⊥

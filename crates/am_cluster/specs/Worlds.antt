@@ -4,7 +4,7 @@ use Rattle.am_silence.specs.Mesh.{Mesh}
 use Rattle.am_nflog.specs.Mesh.{Mesh as LogMesh}
 use Rattle.am_gossip.specs.declared.frame.Frame.{Frame}
 use Rattle.am_instance.specs.InstanceStates.{InstanceState}
-use Rattle.am_runs.specs.Steps.{Step, flights_of}
+use Rattle.am_runs.specs.Steps.{RunStep, flights_of}
 use Rattle.am_cluster.specs.declared.flight.Flight.{Flight}
 
 -- a member: where its instance stands, whether it runs, and both maps as they were last saved, empty where nothing was
@@ -18,8 +18,8 @@ pub record Replica : Type 0 where
 -- flight by their numbers.
 pub record World : Type 0 where
   pub replicas : List Replica
-  pub silences : List (Step Mesh)
-  pub log : List (Step LogMesh)
+  pub silences : List (RunStep Mesh)
+  pub log : List (RunStep LogMesh)
   pub lines : List ℕ
   pub flights : List Flight
 
@@ -32,7 +32,7 @@ abbrev pub sendings : World → ℕ
 sendings world = length (flights_of world.silences)
 
 -- one step more is written down, with its line
-abbrev pub written : World → Step Mesh → Step LogMesh → ℕ → World
+abbrev pub written : World → RunStep Mesh → RunStep LogMesh → ℕ → World
 written world silences log line =
     record world { silences = world.silences ++ silences ∷ []; log = world.log ++ log ∷ []; lines = world.lines ++ line ∷ [] }
 

@@ -3,8 +3,8 @@ use Rattle.std.specs.Prelude.{◌≡◌, ℕ, ◌+◌, ◌<◌, ◌≤◌, List,
 use Rattle.am_silence.specs.Mesh.{Mesh}
 use Rattle.am_nflog.specs.Mesh.{Mesh as LogMesh}
 use Rattle.am_gossip.specs.declared.frame.Frame.{Frame}
-use Rattle.am_runs.specs.Steps.{Step, flights_of}
-use Rattle.am_runs.specs.Steps.Step.{Took}
+use Rattle.am_runs.specs.Steps.{RunStep, flights_of}
+use Rattle.am_runs.specs.Steps.RunStep.{Took}
 use Rattle.am_steps.specs.BothStates.{log_state, silence_state}
 use Rattle.am_steps.specs.Recorded.{sent_in}
 use Rattle.am_cluster.specs.Accounts.{Account}
@@ -14,11 +14,11 @@ use Rattle.am_cluster.specs.declared.writing.Entry.{Entry}
 use Rattle.am_cluster.specs.declared.writing.Delivered.{Delivered}
 
 -- what an event was to each state, by the versions that it delivered and the frames that it left in flight
-abbrev pub took_silences : Entry → Delivered → List (ℕ × Frame) → Step Mesh
+abbrev pub took_silences : Entry → Delivered → List (ℕ × Frame) → RunStep Mesh
 took_silences entry versions frames = Took entry.place entry.moment entry.source versions.silences.items (sent_in silence_state frames)
 
 -- the same of the log
-abbrev pub took_entries : Entry → Delivered → List (ℕ × Frame) → Step LogMesh
+abbrev pub took_entries : Entry → Delivered → List (ℕ × Frame) → RunStep LogMesh
 took_entries entry versions frames = Took entry.place entry.moment entry.source versions.log.items (sent_in log_state frames)
 
 -- what was copied of frames is what they carry

@@ -1,7 +1,7 @@
 //! How a frame in flight is delivered.
 
 ghost use Rattle.std.specs.Prelude.{◌≡◌, ◌⊎◌, IfOk, MatchOption};
-ghost use Rattle.am_runs.specs.Steps.Step.{Refused};
+ghost use Rattle.am_runs.specs.Steps.RunStep.{Refused};
 ghost use Rattle.am_cluster.specs.declared.error.ClusterError.TheVariants as errors;
 ghost use Rattle.am_cluster.specs.Delivering.{IsArrival, IsDelivery};
 ghost use Rattle.am_cluster.specs.Worlds.{written};

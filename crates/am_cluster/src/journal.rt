@@ -15,7 +15,7 @@ mod mark;
 mod report;
 
 use am_nflog::MeshEntry;
-use am_runs::{Run, Step};
+use am_runs::{Run, RunStep};
 use am_silence::MeshSilence;
 use am_version_order::{Interval, Moment};
 use laws::{marks_are_told_of_both, twins_tell_same};
@@ -140,7 +140,7 @@ impl Journal {
     }
 
     /// Writes down what a step was to the silences and to the log, and its line. It takes no memory.
-    pub fn append(&mut self, silences: Step<MeshSilence>, log: Step<MeshEntry>, line: u64)
+    pub fn append(&mut self, silences: RunStep<MeshSilence>, log: RunStep<MeshEntry>, line: u64)
         requires room { 0 < self.old.room }
         requires spare { length (delivered_by (step_of silences)) + length (delivered_by (step_of log)) ≤ self.old.spare }
         requires frames { length (flights_of self.old.silences) + length (flights_by (step_of silences)) ≤ usize.MAX }

@@ -2,7 +2,7 @@
 
 ghost use Rattle.std.specs.Prelude.{◌≡◌, ◌≤◌, ◌++◌, ℕ, List, [], false, length, map, take, Ok, Err, OnErr, OnOk};
 ghost use Rattle.am_steps.specs.Contents.{delivery_of, entries_in, silences_in};
-ghost use Rattle.am_instance.specs.declared.event.Event.{Event as Happening};
+ghost use Rattle.am_instance.specs.declared.event.Event.{Event};
 ghost use Rattle.am_instance.specs.Replies.{IsNothing, listed};
 ghost use Rattle.am_instance.specs.Steps.{collects, made_here};
 ghost use Rattle.am_runs.specs.Steps.{flights_of};
@@ -124,7 +124,7 @@ pub(crate) struct Coming {
 /// All versions that an event delivered, by state: those that it brought, or those that were made.
 fn all_delivered(coming: Coming, made: Made) -> Delivered
     requires { IsRoomFor coming.parted (length coming.versions.items) }
-    ensures { (event : Happening) → ComesWith coming event → (brings_or_makes event ≡ kinds.Brings → IsNothing made) →
+    ensures { (event : Event) → ComesWith coming event → (brings_or_makes event ≡ kinds.Brings → IsNothing made) →
         collects event ≡ false → AreDelivered event made result }
 {
     let Coming {
@@ -158,8 +158,8 @@ fn write_outcome(
     outcome: Outcome,
 ) -> Result<Reply, ClusterError>
     requires { IsRoomFor coming.parted (length coming.versions.items)
-        × (event : Happening) × ComesWith coming event × CanRecord journal.old entry.now event coming.versions.items (Ok outcome) }
-    ensures { (event : Happening) → ComesWith coming event → CanRecord journal.old entry.now event coming.versions.items (Ok outcome) →
+        × (event : Event) × ComesWith coming event × CanRecord journal.old entry.now event coming.versions.items (Ok outcome) }
+    ensures { (event : Event) → ComesWith coming event → CanRecord journal.old entry.now event coming.versions.items (Ok outcome) →
         IsRecorded journal.old flights.old.items entry.now event (Ok outcome) result journal.new flights.new.items }
 {
     let Outcome {
@@ -194,8 +194,8 @@ fn write_refusal(
     error: StepError,
 ) -> ClusterError
     requires { IsRoomFor coming.parted (length coming.versions.items)
-        × (event : Happening) × ComesWith coming event × CanRecord journal.old entry.now event coming.versions.items (Err error) }
-    ensures { (flights : List Flight) (event : Happening) → ComesWith coming event →
+        × (event : Event) × ComesWith coming event × CanRecord journal.old entry.now event coming.versions.items (Err error) }
+    ensures { (flights : List Flight) (event : Event) → ComesWith coming event →
         CanRecord journal.old entry.now event coming.versions.items (Err error) →
         IsRecorded journal.old flights entry.now event (Err error) (Err result) journal.new flights }
 {
@@ -228,8 +228,8 @@ pub(crate) fn write_answer(
     answer: Result<Outcome, StepError>,
 ) -> Result<Reply, ClusterError>
     requires { IsRoomFor coming.parted (length coming.versions.items)
-        × (event : Happening) × ComesWith coming event × CanRecord journal.old entry.now event coming.versions.items answer }
-    ensures { (event : Happening) → ComesWith coming event → CanRecord journal.old entry.now event coming.versions.items answer →
+        × (event : Event) × ComesWith coming event × CanRecord journal.old entry.now event coming.versions.items answer }
+    ensures { (event : Event) → ComesWith coming event → CanRecord journal.old entry.now event coming.versions.items answer →
         IsRecorded journal.old flights.old.items entry.now event answer result journal.new flights.new.items }
 {
     match answer {

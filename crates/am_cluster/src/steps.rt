@@ -9,7 +9,7 @@ use crate::cluster::Cluster;
 use crate::error::ClusterError;
 use am_instance::{Config, Event, Reply};
 use am_runs::Source;
-use am_schedule::{Action, Event as LineEvent, Step};
+use am_schedule::{Action, LineEvent, Step};
 use am_steps::{Asked, to_event};
 use am_version_order::Moment;
 use std::alloc::AllocError;

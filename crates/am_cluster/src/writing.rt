@@ -3,7 +3,7 @@
 ghost use Rattle.std.specs.Prelude.{◌≡◌, ◌+◌, ◌-◌, ◌++◌, ◌≤◌, ℕ, List, [], length, map, vec_capacity, vec_len, IfOk, OnOk, OnErr};
 ghost use Rattle.am_gossip.specs.declared.frame.Frame.{Frame as SentFrame};
 ghost use Rattle.am_runs.specs.Records.{step_of};
-ghost use Rattle.am_runs.specs.Steps.Step.{Took};
+ghost use Rattle.am_runs.specs.Steps.RunStep.{Took};
 ghost use Rattle.am_runs.specs.Steps.{flights_of};
 ghost use Rattle.am_cluster.specs.Worlds.{sent_on};
 ghost use Rattle.am_cluster.specs.Writing.{AreSent, CanWrite, IsReady, IsWritten};
@@ -14,7 +14,7 @@ use crate::sending::{Sent, send_off, sent_in};
 use am_gossip::Frame;
 use am_instance::Place;
 use am_nflog::MeshEntry;
-use am_runs::{Source, Step};
+use am_runs::{RunStep, Source};
 use am_silence::MeshSilence;
 use am_version_order::Moment;
 use std::alloc::{AllocError, Global};
@@ -36,11 +36,11 @@ pub(crate) struct Delivered {
 }
 
 /// What an event was to the versions of one state.
-fn took<V>(entry: &Entry, versions: Vec<V>, frames: Vec<Vec<V>>) -> Step<V>
+fn took<V>(entry: &Entry, versions: Vec<V>, frames: Vec<Vec<V>>) -> RunStep<V>
     ensures { step_of result
         ≡ Took entry.now.place entry.now.moment entry.now.source versions.items (map (λ frame. frame.items) frames.items) }
 {
-    Step::Took {
+    RunStep::Took {
         place: entry.place,
         now: entry.moment,
         source: entry.source,

@@ -10,8 +10,8 @@ use Rattle.am_merge.specs.Maps.{greater_of, if_live, IsMap, at}
 use Rattle.am_merge.specs.Views.{IsViewAt}
 use Rattle.am_merge.proofs.Keys.{IsKeyOrder, same_key}
 use Rattle.am_merge.proofs.Puts.{greater_of-none}
-use Rattle.am_collect.specs.Events.{Event, Events, taken, collections, delivered, collected, last_moment, after, after_all}
-use Rattle.am_collect.specs.Events.Event.{Delivered, Collected, Passed}
+use Rattle.am_collect.specs.Events.{MapEvent, Events, taken, collections, delivered, collected, last_moment, after, after_all}
+use Rattle.am_collect.specs.Events.MapEvent.{Delivered, Collected, Passed}
 use Rattle.am_collect.specs.Calm.{IsCalm, IsCalmAt, IsInTime}
 use Rattle.am_collect.proofs.Greatest.{greatest, greatest-push, greatest-Some, greatest-best, greatest_in_view, at-greatest}
 use Rattle.am_collect.proofs.Fits.{Fits, IsReached, IsUpTo, fits_later, fits_take, fits_collect, fits_view}
@@ -22,12 +22,12 @@ module _ {X : Type 0} where
   last_moment-append from [] events = refl
   last_moment-append from (e ∷ past) events = last_moment-append e.1 past events
 
-  taken-push : (start : List X) (past : Events X) (e : Event X × ℕ) → taken start (past ++ e ∷ []) ≡ taken start past ++ delivered e.0
+  taken-push : (start : List X) (past : Events X) (e : MapEvent X × ℕ) → taken start (past ++ e ∷ []) ≡ taken start past ++ delivered e.0
   taken-push start past e =
       ap (λ vs. start ++ vs) (flat_map-append (λ f. delivered f.0) past (e ∷ []) ∙ ap (λ vs. flat_map (λ f. delivered f.0) past ++ vs) (append-nil (delivered e.0)))
       ∙ sym (append_assoc start (flat_map (λ f. delivered f.0) past) (delivered e.0))
 
-  collections-push : (past : Events X) (e : Event X × ℕ) → collections (past ++ e ∷ []) ≡ collections past ++ collected e.0 e.1
+  collections-push : (past : Events X) (e : MapEvent X × ℕ) → collections (past ++ e ∷ []) ≡ collections past ++ collected e.0 e.1
   collections-push past e = flat_map-append (λ f. collected f.0 f.1) past (e ∷ []) ∙ ap (λ ms. collections past ++ ms) (append-nil (collected e.0 e.1))
 
 upto_more : (moments : List ℕ) (now : ℕ) → IsUpTo moments now → IsUpTo (moments ++ now ∷ []) now
@@ -61,7 +61,7 @@ module _ {K X : Type 0} (seen : X → Version K) (cmp : K → K → Ordering) (k
       (fits_later seen held (greatest seen cmp set key) moments last now forward sound.fits)
 
   -- an event keeps it sound
-  sound_event : (set : List X) (moments : List ℕ) (last now : ℕ) (event : Event X) (map : K → Option X) → last ≤ now → IsInTime seen set moments event now → IsSound set moments last (map key) → IsSound (set ++ delivered event) (moments ++ collected event now) now (after seen cmp map event now key)
+  sound_event : (set : List X) (moments : List ℕ) (last now : ℕ) (event : MapEvent X) (map : K → Option X) → last ≤ now → IsInTime seen set moments event now → IsSound set moments last (map key) → IsSound (set ++ delivered event) (moments ++ collected event now) now (after seen cmp map event now key)
   sound_event set moments last now (Delivered v) map forward calm sound =
       rw (append-nil moments)
       record {
@@ -80,7 +80,7 @@ module _ {K X : Type 0} (seen : X → Version K) (cmp : K → K → Ordering) (k
     abbrev IsSoundAfter : Events X → Option X → Type 0
     IsSoundAfter past held = IsSound (taken start past) (collections past) (last_moment from past) held
 
-    sound_next : (past : Events X) (e : Event X × ℕ) (map : K → Option X) → IsCalmAt seen start from past e.0 e.1 → IsSoundAfter past (map key) → IsSoundAfter (past ++ e ∷ []) (after seen cmp map e.0 e.1 key)
+    sound_next : (past : Events X) (e : MapEvent X × ℕ) (map : K → Option X) → IsCalmAt seen start from past e.0 e.1 → IsSoundAfter past (map key) → IsSoundAfter (past ++ e ∷ []) (after seen cmp map e.0 e.1 key)
     sound_next past e map calm sound =
         rw (taken-push start past e, collections-push past e, last_moment-append from past (e ∷ []))
         (sound_event (taken start past) (collections past) (last_moment from past) e.1 e.0 map calm.forward calm.in_time sound)

@@ -3,8 +3,8 @@
 use Rattle.std.specs.Prelude.{◌≡◌, ℕ, ◌<◌, ◌≤◌, true, List, ◌∷◌, ◌++◌, All}
 use Rattle.am_version_order.specs.Versions.{Version, is_below, IsLive}
 use Rattle.am_merge.specs.Views.{IsBest}
-use Rattle.am_collect.specs.Events.{Event, Events, taken, collections, last_moment}
-use Rattle.am_collect.specs.Events.Event.{Delivered, Collected, Passed}
+use Rattle.am_collect.specs.Events.{MapEvent, Events, taken, collections, last_moment}
+use Rattle.am_collect.specs.Events.MapEvent.{Delivered, Collected, Passed}
 
 module _ {K X : Type 0} (seen : X → Version K) where
   -- of what was taken with the key of v, the greatest is this one, and it is greater than v
@@ -14,18 +14,18 @@ module _ {K X : Type 0} (seen : X → Version K) where
     pub above : is_below (seen v) (seen greatest) ≡ true
 
   -- where a live version comes after a greater one, each collection so far came before the greatest one's expiry
-  abbrev pub IsInTime : List X → List ℕ → Event X → ℕ → Type 0
+  abbrev pub IsInTime : List X → List ℕ → MapEvent X → ℕ → Type 0
   IsInTime set collections (Delivered v) now =
       IsLive now (seen v) → (greatest : X) → IsOvertaken set v greatest → All (λ moment. moment < (seen greatest).expires) collections
   IsInTime set collections Collected now = Unit {0}
   IsInTime set collections Passed now = Unit {0}
 
   -- an event, after those before it
-  pub record IsCalmAt (start : List X) (from : ℕ) (before : Events X) (event : Event X) (now : ℕ) : Type 0 where
+  pub record IsCalmAt (start : List X) (from : ℕ) (before : Events X) (event : MapEvent X) (now : ℕ) : Type 0 where
     pub forward : last_moment from before ≤ now
     pub in_time : IsInTime (taken start before) (collections before) event now
 
   -- each event is calm after those before it
   abbrev pub IsCalm : List X → ℕ → Events X → Type 0
-  IsCalm start from events = (before : Events X) (e : Event X × ℕ) (rest : Events X) → before ++ e ∷ rest ≡ events
+  IsCalm start from events = (before : Events X) (e : MapEvent X × ℕ) (rest : Events X) → before ++ e ∷ rest ≡ events
       → IsCalmAt start from before e.0 e.1

@@ -7,26 +7,26 @@ use Rattle.am_version_order.specs.Versions.{Version}
 use Rattle.am_merge.specs.Maps.{greater_of, if_live, at}
 
 -- what happens to a map
-pub data Event (X : Type 0) : Type 0 where
+pub data MapEvent (X : Type 0) : Type 0 where
   -- a version is taken, live or not
-  Delivered : (version : X) → Event X
+  Delivered : (version : X) → MapEvent X
   -- each version that isn't live is dropped
-  Collected : Event X
+  Collected : MapEvent X
   -- nothing but the moment
-  Passed : Event X
+  Passed : MapEvent X
 
 -- events in the order in which they happened, each with its moment
 abbrev pub Events : Type 0 → Type 0
-Events X = List (Event X × ℕ)
+Events X = List (MapEvent X × ℕ)
 
 -- the versions that an event delivers
-abbrev pub delivered : {X : Type 0} → Event X → List X
+abbrev pub delivered : {X : Type 0} → MapEvent X → List X
 delivered (Delivered v) = v ∷ []
 delivered Collected = []
 delivered Passed = []
 
 -- the moments at which an event collects
-abbrev pub collected : {X : Type 0} → Event X → ℕ → List ℕ
+abbrev pub collected : {X : Type 0} → MapEvent X → ℕ → List ℕ
 collected (Delivered v) now = []
 collected Collected now = now ∷ []
 collected Passed now = []
@@ -56,7 +56,7 @@ MoveForward from (e ∷ events) = (from ≤ e.1) × MoveForward e.1 events
 -- a map is here the function from a key to the version that it has
 module _ {K X : Type 0} (seen : X → Version K) (cmp : K → K → Ordering) where
   -- the map after an event: joined with what is delivered, or swept
-  abbrev pub after : (K → Option X) → Event X → ℕ → K → Option X
+  abbrev pub after : (K → Option X) → MapEvent X → ℕ → K → Option X
   after map (Delivered v) now key = greater_of seen (map key) (at seen cmp (v ∷ []) key)
   after map Collected now key = if_live seen now (map key)
   after map Passed now key = map key

@@ -13,12 +13,12 @@ use Rattle.am_collect.specs.declared.keeper.Stepped.TheVariants.{Took, Swept}
 use Rattle.am_collect.specs.declared.keeper.KeeperError.{KeeperError}
 use Rattle.am_collect.specs.declared.keeper.KeeperError.TheVariants.{MomentBack, DuplicateKey, Memory}
 use Rattle.am_collect.specs.Kept.{Kept}
-use Rattle.am_collect.specs.Events.{Event, Events, taken, after_all, last_moment, MoveForward}
-use Rattle.am_collect.specs.Events.Event.{Delivered, Collected}
+use Rattle.am_collect.specs.Events.{MapEvent, Events, taken, after_all, last_moment, MoveForward}
+use Rattle.am_collect.specs.Events.MapEvent.{Delivered, Collected}
 use Rattle.am_collect.specs.Calm.{IsCalm}
 
 -- the event that a step is
-abbrev pub event_of : {X : Type 0} → Step X → Event X
+abbrev pub event_of : {X : Type 0} → Step X → MapEvent X
 event_of (Take v) = Delivered v
 event_of Collect = Collected
 

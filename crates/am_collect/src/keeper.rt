@@ -5,7 +5,7 @@ ghost use Rattle.std.specs.Prelude.{IsOkUnless, IsPermutation};
 ghost use Rattle.std.specs.Option.{option_copied};
 ghost use Rattle.am_merge.specs.Maps.{IsMap, HasTwice, swept};
 ghost use Rattle.am_merge.specs.Takings.{IsTaking, AreTakings};
-ghost use Rattle.am_collect.specs.Events.Event.{Delivered, Collected};
+ghost use Rattle.am_collect.specs.Events.MapEvent.{Delivered, Collected};
 
 use am_merge::{FromVersionsError, Held, Taken};
 use am_version_order::{Moment, Version};

@@ -12,17 +12,17 @@ use Rattle.am_http.specs.declared.cause.Resource.{Resource}
 use Rattle.am_http.specs.declared.cause.Resource.TheVariants.{Silences, Silence}
 
 -- a status, what is said, and the methods that there are where another was asked for
-pub record Line : Type 0 where
+pub record RefusalLine : Type 0 where
   pub status : ℕ
   pub text : List ℕ
   pub allow : Option (List ℕ)
 
 -- a refusal's line, without where its texts lie in memory
-abbrev pub line_seen : Refusal → Line
+abbrev pub line_seen : Refusal → RefusalLine
 line_seen refusal = record { status = refusal.status; text = refusal.text.now; allow = option_copied refusal.allow }
 
 -- a line without methods
-abbrev pub line : ℕ → List ℕ → Line
+abbrev pub line : ℕ → List ℕ → RefusalLine
 line status text = record { status = status; text = text; allow = None }
 
 -- the methods of what a path names
@@ -40,7 +40,7 @@ bad_key CreatedBy = codes "bad silence: createdBy"
 bad_key Comment = codes "bad silence: comment"
 
 -- the table, in the order in which its lines are tested (status codes of RFC 9110, section 15, and RFC 6585)
-abbrev pub line_of : Cause → Line
+abbrev pub line_of : Cause → RefusalLine
 line_of HeadTooLarge = line 431 (codes "head too large")
 line_of BadHead = line 400 (codes "bad request head")
 line_of TransferEncoding = line 501 (codes "transfer-encoding not supported")

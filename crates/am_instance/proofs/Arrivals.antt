@@ -10,7 +10,7 @@ use Rattle.am_nflog.specs.Mesh.{Mesh as LogMesh, mesh_version as entry_version}
 use Rattle.am_nflog.specs.Keys.{key_cmp}
 use Rattle.am_nflog.specs.LogKeys.{LogKey}
 use Rattle.am_collect.specs.Events.{after, after_all}
-use Rattle.am_collect.specs.Events.Event.{Delivered}
+use Rattle.am_collect.specs.Events.MapEvent.{Delivered}
 use Rattle.am_instance.specs.Deliveries.{Delivery, before_fault, first_fault, to_silences, to_log}
 use Rattle.am_instance.specs.Deliveries.Delivery.{OfSilence, OfEntry}
 use Rattle.am_instance.specs.InstanceStates.{InstanceState, silence_at, entry_at}

@@ -13,7 +13,7 @@ use Rattle.am_nflog.specs.LogKeys.{LogKey}
 use Rattle.am_gossip.specs.declared.frame.Part.{Part}
 use Rattle.am_gossip.specs.declared.frame.StateKey.TheVariants.{Sil, Nfl}
 use Rattle.am_collect.specs.Events.{after, after_all}
-use Rattle.am_collect.specs.Events.Event.{Delivered}
+use Rattle.am_collect.specs.Events.MapEvent.{Delivered}
 use Rattle.am_instance.specs.Deliveries.{read_as, before_fault, first_fault, rows_of}
 use Rattle.am_instance.specs.Deliveries.Delivery.{OfSilence, OfEntry}
 use Rattle.am_instance.specs.InstanceStates.{InstanceState, silence_at, entry_at}

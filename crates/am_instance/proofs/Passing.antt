@@ -7,8 +7,8 @@ use Rattle.am_silence.specs.Mesh.{Mesh, mesh_version}
 use Rattle.am_nflog.specs.Mesh.{Mesh as LogMesh, mesh_version as entry_version}
 use Rattle.am_nflog.specs.Keys.{key_cmp}
 use Rattle.am_merge.specs.Maps.{at}
-use Rattle.am_collect.specs.Events.{Event as MapEvent, MoveForward, last_moment}
-use Rattle.am_collect.specs.Events.Event.{Collected}
+use Rattle.am_collect.specs.Events.{MapEvent, MoveForward, last_moment}
+use Rattle.am_collect.specs.Events.MapEvent.{Collected}
 use Rattle.am_collect.specs.Kept.{Kept}
 use Rattle.am_instance.specs.declared.event.Event.{Event}
 use Rattle.am_instance.specs.declared.error.StepError.{StepError}

@@ -7,7 +7,7 @@ use Rattle.std.specs.declared.cmp.Ordering.{Ordering}
 use Rattle.am_version_order.specs.Versions.{Version}
 use Rattle.am_merge.specs.Maps.{at}
 use Rattle.am_collect.specs.Events.{Events, after, after_all}
-use Rattle.am_collect.specs.Events.Event.{Delivered}
+use Rattle.am_collect.specs.Events.MapEvent.{Delivered}
 use Rattle.am_gossip.specs.declared.frame.Frame.{Frame}
 use Rattle.am_instance.specs.Deliveries.{before_fault, first_fault}
 use Rattle.am_instance.specs.Changes.{changes, only_if, changed, takings, IsStoppedRow}

@@ -4,8 +4,8 @@ use Rattle.std.specs.Prelude.{Option, Some, None, Ok, Err, if◌then◌else◌}
 use Rattle.std.specs.Ordering.{nat_cmp}
 use Rattle.std.specs.Cmp.Lexicographic.{slice_cmp}
 use Rattle.am_nflog.specs.Keys.{key_cmp}
-use Rattle.am_collect.specs.Events.{Event as MapEvent, after_all}
-use Rattle.am_collect.specs.Events.Event.{Collected}
+use Rattle.am_collect.specs.Events.{MapEvent, after_all}
+use Rattle.am_collect.specs.Events.MapEvent.{Collected}
 use Rattle.am_instance.specs.declared.error.StepError.{StepError}
 use Rattle.am_silence.specs.Mesh.{Mesh, mesh_version}
 use Rattle.am_nflog.specs.Mesh.{Mesh as LogMesh, mesh_version as entry_version}

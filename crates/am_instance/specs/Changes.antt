@@ -11,7 +11,7 @@ use Rattle.am_nflog.specs.Keys.{key_cmp}
 use Rattle.am_nflog.specs.LogKeys.{LogKey}
 use Rattle.am_merge.specs.Maps.{is_above, at}
 use Rattle.am_collect.specs.Events.{Events, after, after_all}
-use Rattle.am_collect.specs.Events.Event.{Delivered}
+use Rattle.am_collect.specs.Events.MapEvent.{Delivered}
 use Rattle.am_instance.specs.Deliveries.{Delivery, to_silences, to_log}
 use Rattle.am_instance.specs.Deliveries.Delivery.{OfSilence, OfEntry}
 

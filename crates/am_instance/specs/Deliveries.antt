@@ -11,8 +11,8 @@ use Rattle.am_gossip.specs.declared.frame.Part.{Part}
 use Rattle.am_gossip.specs.declared.frame.Frame.{Frame}
 use Rattle.am_gossip.specs.declared.frame.Frame.TheVariants.{Delta, Push, Pull, Tick}
 use Rattle.am_gossip.specs.declared.frame.StateKey.TheVariants.{Sil, Nfl}
-use Rattle.am_collect.specs.Events.{Event, Events}
-use Rattle.am_collect.specs.Events.Event.{Delivered, Passed}
+use Rattle.am_collect.specs.Events.{MapEvent, Events}
+use Rattle.am_collect.specs.Events.MapEvent.{Delivered, Passed}
 
 -- a version of one of the states
 pub data Delivery : Type 0 where
@@ -20,17 +20,17 @@ pub data Delivery : Type 0 where
   OfEntry : (version : LogMesh) → Delivery
 
 -- what it is to the map of silences: a version of the other state is but a moment
-abbrev pub to_silences : Delivery → Event Mesh
+abbrev pub to_silences : Delivery → MapEvent Mesh
 to_silences (OfSilence v) = Delivered v
 to_silences (OfEntry e) = Passed
 
 -- what it is to the log
-abbrev pub to_log : Delivery → Event LogMesh
+abbrev pub to_log : Delivery → MapEvent LogMesh
 to_log (OfSilence v) = Passed
 to_log (OfEntry e) = Delivered e
 
 -- what is delivered at a moment, as events of a map: the moment passes, then one version comes after the other
-abbrev pub events_at : {X : Type 0} → (Delivery → Event X) → ℕ → List Delivery → Events X
+abbrev pub events_at : {X : Type 0} → (Delivery → MapEvent X) → ℕ → List Delivery → Events X
 events_at of_delivery now ds = (Passed, now) ∷ map (λ d. (of_delivery d, now)) ds
 
 -- ---- the rows of a frame

@@ -9,7 +9,7 @@ use Rattle.am_nflog.specs.Keys.{key_cmp}
 use Rattle.am_nflog.specs.LogKeys.{LogKey}
 use Rattle.am_gossip.specs.Streams.{Stream}
 use Rattle.am_merge.specs.Maps.{IsMap}
-use Rattle.am_collect.specs.Events.{Event as MapEvent, Events, taken}
+use Rattle.am_collect.specs.Events.{MapEvent, Events, taken}
 use Rattle.am_collect.specs.Calm.{IsCalm}
 use Rattle.am_instance.specs.declared.event.Event.{Event}
 use Rattle.am_instance.specs.declared.event.Event.TheVariants as events

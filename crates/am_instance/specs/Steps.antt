@@ -19,8 +19,8 @@ use Rattle.am_gossip.specs.declared.error.FrameError.TheVariants as frame_errors
 use Rattle.am_gossip.specs.declared.frame.Frame.{Frame as GossipFrame}
 use Rattle.am_gossip.specs.declared.frame.Frame.TheVariants as frames
 use Rattle.am_gossip.specs.Answers.{frame_fault}
-use Rattle.am_collect.specs.Events.{Event as MapEvent, Events, after_all}
-use Rattle.am_collect.specs.Events.Event.{Collected}
+use Rattle.am_collect.specs.Events.{MapEvent, Events, after_all}
+use Rattle.am_collect.specs.Events.MapEvent.{Collected}
 use Rattle.am_instance.specs.declared.event.Event.{Event}
 use Rattle.am_instance.specs.declared.event.Event.TheVariants as events
 use Rattle.am_instance.specs.declared.event.Request.TheVariants as requests

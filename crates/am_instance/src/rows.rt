@@ -6,7 +6,7 @@ ghost use Rattle.am_wire.specs.Inputs.{messages_of};
 ghost use Rattle.am_wire.specs.declared.error.WireError.TheVariants as wire_errors;
 ghost use Rattle.am_merge.specs.Maps.{at, is_above};
 ghost use Rattle.am_collect.specs.Events.{after, after_all};
-ghost use Rattle.am_collect.specs.Events.Event.{Delivered};
+ghost use Rattle.am_collect.specs.Events.MapEvent.{Delivered};
 ghost use Rattle.am_instance.specs.Configs.{places_but};
 ghost use Rattle.am_instance.specs.Deliveries.{before_fault, first_fault};
 ghost use Rattle.am_instance.specs.Changes.{IsStoppedRow, changed, changes, only_if, takings};

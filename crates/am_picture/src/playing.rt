@@ -6,7 +6,7 @@ use crate::scene::Scene;
 use am_cluster::{Cluster, ClusterError, Flight, SettleError};
 use am_dedup::Decision;
 use am_instance::{Place, Reply};
-use am_schedule::{Action, Event, Line, Schedule, Step, Word};
+use am_schedule::{Action, Line, LineEvent, Schedule, Step, Word};
 use am_version_order::Moment;
 use am_wire::Text;
 use std::alloc::{AllocError, Global};
@@ -145,25 +145,25 @@ fn mark_of_action(cluster: &Cluster, action: &Action, line: u64) -> Mark {
     }
 }
 
-fn verb_of(event: &Event) -> Verb {
+fn verb_of(event: &LineEvent) -> Verb {
     match event {
-        Event::From { .. } => Verb::From,
-        Event::Post(_) => Verb::Post,
-        Event::Expire { .. } => Verb::Expire,
-        Event::Notified(_) => Verb::Notified,
-        Event::Decide { .. } => Verb::Decide,
-        Event::Mutes { .. } => Verb::Mutes,
-        Event::Show => Verb::Show,
-        Event::Tick => Verb::Tick,
-        Event::Pull { .. } => Verb::Pull,
-        Event::Start => Verb::Start,
+        LineEvent::From { .. } => Verb::From,
+        LineEvent::Post(_) => Verb::Post,
+        LineEvent::Expire { .. } => Verb::Expire,
+        LineEvent::Notified(_) => Verb::Notified,
+        LineEvent::Decide { .. } => Verb::Decide,
+        LineEvent::Mutes { .. } => Verb::Mutes,
+        LineEvent::Show => Verb::Show,
+        LineEvent::Tick => Verb::Tick,
+        LineEvent::Pull { .. } => Verb::Pull,
+        LineEvent::Start => Verb::Start,
     }
 }
 
 /// The peer from which a frame comes by itself.
-fn peer_of(cluster: &Cluster, event: &Event) -> Option<Place> {
+fn peer_of(cluster: &Cluster, event: &LineEvent) -> Option<Place> {
     match event {
-        Event::From { peer, .. } => place_of(cluster, peer.as_str()),
+        LineEvent::From { peer, .. } => place_of(cluster, peer.as_str()),
         _ => None,
     }
 }

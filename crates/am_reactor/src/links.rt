@@ -5,9 +5,9 @@ ghost use Rattle.am_reactor.specs.Links.{KeepsLinks, Opens, link_to};
 
 use crate::connection::Pace;
 use crate::fault::LinkFault;
-use crate::line::Line;
 use crate::link::Link;
 use crate::outbox::Progress;
+use crate::queue::Queue;
 use crate::service::{Outgoing, Service};
 use crate::source::Source;
 use mio::{Interest, Registry};
@@ -27,9 +27,9 @@ pub struct Links {
     /// The most bytes of one link.
     most: usize,
     /// The peers of those that are open, in the order in which their time is over.
-    by_end: Line,
+    by_end: Queue,
     /// Those for which there is more to do at once.
-    busy: Line,
+    busy: Queue,
 }
 
 impl Links {
@@ -58,8 +58,8 @@ impl Links {
             ports: Vec::from_slice(alloc, ports)?,
             open,
             most,
-            by_end: Line::new(alloc, count)?,
-            busy: Line::new(alloc, count)?,
+            by_end: Queue::new(alloc, count)?,
+            busy: Queue::new(alloc, count)?,
         })
     }
 

@@ -11,7 +11,7 @@ use Rattle.am_instance.specs.declared.event.Event.TheVariants as events
 use Rattle.am_instance.specs.declared.reply.Made.{Made}
 use Rattle.am_instance.specs.declared.reply.Reply.{Reply}
 use Rattle.am_instance.specs.declared.reply.Reply.TheVariants as replies
-use Rattle.am_schedule.specs.declared.step.Event.{Event}
+use Rattle.am_schedule.specs.declared.step.LineEvent.{LineEvent}
 use Rattle.am_told.specs.Views.{entry_line, shown_text, shows_line, silence_line, state_lines, view_text}
 use Rattle.am_replay.specs.Texts.{reply_text}
 
@@ -33,7 +33,7 @@ in_view name now silences log =
     (flat_map-map (λ shown. silence_line name shown.0 shown.1) (with_state now) live))
 
 -- the reply to a Show, printed
-pub show_text : (stand : InstanceState) (name : List ℕ) (event : Event) (now : ℕ) (reply : Reply) (made : Made) →
+pub show_text : (stand : InstanceState) (name : List ℕ) (event : LineEvent) (now : ℕ) (reply : Reply) (made : Made) →
     IsReply stand events.Show now reply made → reply_text name event reply ≡ view_text (Some name) now stand.silences stand.log
 show_text stand name event now (replies.Shown silences log) made said =
     ap₂ (shown_text (Some name)) said.0.0 said.0.1 ∙ in_view (Some name) now stand.silences stand.log

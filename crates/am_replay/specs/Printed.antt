@@ -12,8 +12,8 @@ use Rattle.am_told.specs.Lists.{texts_word}
 use Rattle.am_told.specs.Views.{owner_words}
 use Rattle.am_replay.specs.declared.refusal.Refusal.{Refusal}
 use Rattle.am_replay.specs.declared.refusal.Refusal.TheVariants as refusals
-use Rattle.am_replay.specs.declared.line.Line.{Line}
-use Rattle.am_replay.specs.declared.line.Line.TheVariants as lines
+use Rattle.am_replay.specs.declared.line.OutputLine.{OutputLine}
+use Rattle.am_replay.specs.declared.line.OutputLine.TheVariants as lines
 
 -- the word of an answer
 abbrev pub yes_or_no : Bool → List ℕ
@@ -57,7 +57,7 @@ refusal_word refusals.Running = codes "Running"
 refusal_word refusals.NoFrame = codes "NoFrame"
 
 -- what is printed in a line
-unfoldable pub line_text : Line → List ℕ
+unfoldable pub line_text : OutputLine → List ℕ
 line_text (lines.Posted name id) = word_of name.now ++ codes " posted " ++ word_of id.now
 line_text (lines.Expired name id) = word_of name.now ++ codes " expired " ++ word_of id.now
 line_text (lines.Logged name changed) = word_of name.now ++ codes " logged " ++ yes_or_no changed

@@ -2,7 +2,7 @@
 use Rattle.std.specs.Prelude.{◌≡◌, ℕ, ◌+◌, List, [], ◌∷◌, ◌++◌, length, Option, Some, None, MatchOption}
 use Rattle.am_cluster.specs.Reports.{IsCalmInBoth, IsLineOfFault}
 use Rattle.am_cluster.specs.Worlds.{World}
-use Rattle.am_replay.specs.declared.line.Line.TheVariants as lines
+use Rattle.am_replay.specs.declared.line.OutputLine.TheVariants as lines
 use Rattle.am_replay.specs.Members.{names_of}
 use Rattle.am_replay.specs.Texts.{lent, told}
 

@@ -7,8 +7,8 @@ use Rattle.am_instance.specs.declared.reply.Reply.{Reply}
 use Rattle.am_instance.specs.declared.reply.Reply.TheVariants as replies
 use Rattle.am_schedule.specs.declared.step.Action.{Action}
 use Rattle.am_schedule.specs.declared.step.Action.TheVariants as actions
-use Rattle.am_schedule.specs.declared.step.Event.{Event}
-use Rattle.am_schedule.specs.declared.step.Event.TheVariants as events
+use Rattle.am_schedule.specs.declared.step.LineEvent.{LineEvent}
+use Rattle.am_schedule.specs.declared.step.LineEvent.TheVariants as events
 use Rattle.am_cluster.specs.declared.error.ClusterError.{ClusterError}
 use Rattle.am_cluster.specs.declared.error.ClusterError.TheVariants as errors
 use Rattle.am_cluster.specs.declared.error.SettleError.{SettleError}
@@ -16,8 +16,8 @@ use Rattle.am_cluster.specs.declared.error.SettleError.TheVariants as settle_err
 use Rattle.am_cluster.specs.declared.flight.Flight.{Flight}
 use Rattle.am_cluster.specs.Worlds.{World}
 use Rattle.am_told.specs.Views.{shown_text}
-use Rattle.am_replay.specs.declared.line.Line.{Line}
-use Rattle.am_replay.specs.declared.line.Line.TheVariants as lines
+use Rattle.am_replay.specs.declared.line.OutputLine.{OutputLine}
+use Rattle.am_replay.specs.declared.line.OutputLine.TheVariants as lines
 use Rattle.am_replay.specs.declared.refusal.Refusal.{Refusal}
 use Rattle.am_replay.specs.declared.refusal.Refusal.TheVariants as refusals
 use Rattle.am_replay.specs.Printed.{line_text}
@@ -29,13 +29,13 @@ abbrev pub lent : {A : Type 0} → A → Bor A
 lent x = record { ref_ptr = (0, 0); now = x }
 
 -- a line and its end
-abbrev pub told : Line → List ℕ
+abbrev pub told : OutputLine → List ℕ
 told line = line_text line ++ codes "\n"
 
 -- ---- what a member answers
 
 -- a silence was ended
-abbrev pub ended_text : List ℕ → Event → List ℕ
+abbrev pub ended_text : List ℕ → LineEvent → List ℕ
 ended_text name (events.Expire id) = told (lines.Expired (lent name) (lent id))
 ended_text name _ = []
 
@@ -44,7 +44,7 @@ abbrev pub muted_text : List ℕ → Mutes → List ℕ
 muted_text name mutes = told (lines.Muted (lent name) (lent mutes.ids) (lent mutes.broken))
 
 -- what is printed of the reply of the member of that name
-abbrev pub reply_text : List ℕ → Event → Reply → List ℕ
+abbrev pub reply_text : List ℕ → LineEvent → Reply → List ℕ
 reply_text name event (replies.Posted id) = told (lines.Posted (lent name) (lent id))
 reply_text name event replies.Deleted = ended_text name event
 reply_text name event (replies.Refused error) = told (lines.Refused (Some (lent name)) (silence_refusal error))

@@ -4,7 +4,7 @@ ghost use Rattle.std.specs.Prelude.{◌≡◌, ◌++◌, OnOk, string_bytes};
 ghost use Rattle.std.specs.List.{flat_map};
 ghost use Rattle.am_replay.specs.Texts.{flight_text};
 
-use crate::line::Line;
+use crate::line::OutputLine;
 use crate::members::name_at;
 use crate::output::tell;
 use am_cluster::{Cluster, Flight};
@@ -15,7 +15,7 @@ use std::alloc::AllocError;
 fn tell_flight(out: &mut String, cluster: &Cluster, flight: &Flight) -> Result<(), AllocError>
     ensures { OnOk result (string_bytes out.new ≡ string_bytes out.old ++ flight_text cluster.now flight.now) }
 {
-    let line = Line::Frame {
+    let line = OutputLine::Frame {
         number: flight.number,
         sender: name_at(cluster, flight.sender),
         addressee: name_at(cluster, flight.addressee),

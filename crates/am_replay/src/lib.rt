@@ -20,7 +20,7 @@ pub use am_cluster::{CalmReport, Cluster, ClusterError, Flight, SettleError};
 pub use am_told::write_view;
 pub use error::ReplayError;
 pub use input::read_input;
-pub use line::{Line, append_line};
+pub use line::{OutputLine, append_line};
 pub use progress::Progress;
 pub use refusal::Refusal;
 pub use replay::{run, run_shown};

@@ -14,7 +14,7 @@ use std::fmt::{self, Display};
 
 /// A line that a player prints. Members are told by their names.
 #[derive(Clone, Copy)]
-pub enum Line<'a> {
+pub enum OutputLine<'a> {
     /// A silence was made or updated.
     Posted {
         name: &'a str,
@@ -70,7 +70,7 @@ pub enum Line<'a> {
     },
 }
 
-impl Display for Line<'_> {
+impl Display for OutputLine<'_> {
     ghost use Rattle.std.specs.Prelude.{Some};
 
     ghost output = { λ line. Some (line_text line) };
@@ -78,21 +78,21 @@ impl Display for Line<'_> {
     #[tactic(auto, unfolding(crate::specs::Printed::line_text))]
     fn fmt<W: fmt::Write>(&self, f: &mut fmt::Formatter<W>) -> fmt::Result {
         match *self {
-            Line::Posted { name, id } => write!(f, "{} posted {}", word(name), word(id)),
-            Line::Expired { name, id } => write!(f, "{} expired {}", word(name), word(id)),
-            Line::Logged { name, changed } => {
+            OutputLine::Posted { name, id } => write!(f, "{} posted {}", word(name), word(id)),
+            OutputLine::Expired { name, id } => write!(f, "{} expired {}", word(name), word(id)),
+            OutputLine::Logged { name, changed } => {
                 write!(f, "{} logged {}", word(name), yes_or_no(changed))
             }
-            Line::Decided { name, decision } => {
+            OutputLine::Decided { name, decision } => {
                 write!(f, "{} decide {}", word(name), decision_name(decision))
             }
-            Line::Muted { name, ids, broken } => {
+            OutputLine::Muted { name, ids, broken } => {
                 let (ids, broken) = (Texts(ids), Texts(broken));
                 write!(f, "{} mutes {ids} broken {broken}", word(name))
             }
-            Line::Settled => f.write_str("settled"),
-            Line::Timely { is_timely } => write!(f, "timely {}", yes_or_no(is_timely)),
-            Line::Frame {
+            OutputLine::Settled => f.write_str("settled"),
+            OutputLine::Timely { is_timely } => write!(f, "timely {}", yes_or_no(is_timely)),
+            OutputLine::Frame {
                 number,
                 sender,
                 addressee,
@@ -101,11 +101,11 @@ impl Display for Line<'_> {
                 let (sender, addressee) = (word(sender), word(addressee));
                 write!(f, "frame {number} {sender} {addressee} {}", kind_name(kind))
             }
-            Line::Refused { name, refusal } => {
+            OutputLine::Refused { name, refusal } => {
                 write!(f, "{}refused {}", Owner(name), refusal_name(refusal))
             }
-            Line::Calm { name } => write!(f, "calm {}", word(name)),
-            Line::Uncalm { name, line } => write!(f, "uncalm {} line {line}", word(name)),
+            OutputLine::Calm { name } => write!(f, "calm {}", word(name)),
+            OutputLine::Uncalm { name, line } => write!(f, "uncalm {} line {line}", word(name)),
         }
     }
 }
@@ -122,7 +122,7 @@ fn word(text: &str) -> Word<'_>
 /// # Errors
 ///
 /// [`AllocError`] where memory runs out.
-pub fn append_line(out: &mut String, line: &Line<'_>) -> Result<(), AllocError>
+pub fn append_line(out: &mut String, line: &OutputLine<'_>) -> Result<(), AllocError>
     ensures appended { OnOk result (string_bytes out.new ≡ string_bytes out.old ++ line_text line.now ++ codes "\n") }
 {
     writeln!(out, "{line}")

@@ -4,12 +4,12 @@ ghost use Rattle.std.specs.Prelude.{◌≡◌, ◌++◌, OnOk, string_bytes};
 ghost use Rattle.std.specs.Option.{option_copied};
 ghost use Rattle.am_replay.specs.Texts.{Prints, refused_text, told};
 
-use crate::line::{Line, append_line};
+use crate::line::{OutputLine, append_line};
 use crate::refusal::Refusal;
 use std::alloc::AllocError;
 
 /// Appends a line and its end.
-pub fn tell(out: &mut String, line: &Line<'_>) -> Result<(), AllocError>
+pub fn tell(out: &mut String, line: &OutputLine<'_>) -> Result<(), AllocError>
     ensures { OnOk result (string_bytes out.new ≡ string_bytes out.old ++ told line.now) }
 {
     append_line(out, line)
@@ -25,7 +25,7 @@ pub fn tell_refusal(
     ensures { OnOk result (Prints (refused_text (option_copied name.entry) refusal) (string_bytes out.old) (string_bytes out.new)) }
 {
     match refusal {
-        Some(refusal) => tell(out, &Line::Refused { name, refusal }),
+        Some(refusal) => tell(out, &OutputLine::Refused { name, refusal }),
         None => Err(AllocError),
     }
 }

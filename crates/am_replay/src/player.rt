@@ -11,7 +11,7 @@ ghost use Rattle.am_replay.specs.Texts.{Prints, settle_refusal, settle_text};
 
 use crate::error::Halt;
 use crate::flights::tell_flights;
-use crate::line::Line as OutputLine;
+use crate::line::OutputLine;
 use crate::output::{tell, tell_refusal};
 use crate::progress::Progress;
 use crate::refusal::Refusal;

@@ -5,25 +5,25 @@ ghost use Rattle.std.specs.Option.{option_copied};
 ghost use Rattle.am_replay.specs.Texts.{Prints, answer_text, ended_text, muted_text, owner_of, refused_text};
 ghost use Rattle.am_replay.specs.Texts.{reply_text, step_refusal};
 
-use crate::line::Line;
+use crate::line::OutputLine;
 use crate::output::{tell, tell_refusal};
 use crate::refusal::Refusal;
 use am_cluster::ClusterError;
 use am_instance::Reply;
 use am_matcher::Mutes;
-use am_schedule::{Action, Event};
+use am_schedule::{Action, LineEvent};
 use am_told::append_shown;
 use std::alloc::AllocError;
 
 /// Appends that the silence was ended whose end the event asks for.
 #[tactic(auto, unfolding(crate::specs::Printed::line_text))]
-fn tell_ended(out: &mut String, name: &str, event: &Event) -> Result<(), AllocError>
+fn tell_ended(out: &mut String, name: &str, event: &LineEvent) -> Result<(), AllocError>
     ensures { OnOk result (string_bytes out.new ≡ string_bytes out.old ++ ended_text name.now event.now) }
 {
     match event {
-        Event::Expire { id } => tell(
+        LineEvent::Expire { id } => tell(
             out,
-            &Line::Expired {
+            &OutputLine::Expired {
                 name,
                 id: id.as_str(),
             },
@@ -37,7 +37,7 @@ fn tell_ended(out: &mut String, name: &str, event: &Event) -> Result<(), AllocEr
 fn tell_mutes(out: &mut String, name: &str, mutes: &Mutes) -> Result<(), AllocError>
     ensures { OnOk result (string_bytes out.new ≡ string_bytes out.old ++ muted_text name.now mutes.now) }
 {
-    let line = Line::Muted {
+    let line = OutputLine::Muted {
         name,
         ids: mutes.ids.as_slice(),
         broken: mutes.broken.as_slice(),
@@ -47,13 +47,18 @@ fn tell_mutes(out: &mut String, name: &str, mutes: &Mutes) -> Result<(), AllocEr
 
 /// Appends what is printed of the reply of the member of a name to an event.
 #[tactic(auto, unfolding(crate::specs::Printed::line_text))]
-fn tell_reply(out: &mut String, name: &str, event: &Event, reply: &Reply) -> Result<(), AllocError>
+fn tell_reply(
+    out: &mut String,
+    name: &str,
+    event: &LineEvent,
+    reply: &Reply,
+) -> Result<(), AllocError>
     ensures { OnOk result (string_bytes out.new ≡ string_bytes out.old ++ reply_text name.now event.now reply.now) }
 {
     match reply {
         Reply::Posted(id) => tell(
             out,
-            &Line::Posted {
+            &OutputLine::Posted {
                 name,
                 id: id.as_str(),
             },
@@ -62,14 +67,14 @@ fn tell_reply(out: &mut String, name: &str, event: &Event, reply: &Reply) -> Res
         Reply::Refused(error) => tell_refusal(out, Some(name), Some(Refusal::from(*error))),
         Reply::Logged(changed) => tell(
             out,
-            &Line::Logged {
+            &OutputLine::Logged {
                 name,
                 changed: *changed,
             },
         ),
         Reply::Decided(decision) => tell(
             out,
-            &Line::Decided {
+            &OutputLine::Decided {
                 name,
                 decision: *decision,
             },

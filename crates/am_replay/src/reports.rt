@@ -4,7 +4,7 @@ ghost use Rattle.std.specs.Prelude.{◌≡◌, ◌++◌, OnOk, string_bytes};
 ghost use Rattle.am_replay.specs.Members.{names_of};
 ghost use Rattle.am_replay.specs.Reports.{PrintsReports, report_text};
 
-use crate::line::Line;
+use crate::line::OutputLine;
 use crate::output::tell;
 use am_cluster::{CalmReport, Cluster};
 use am_instance::Place;
@@ -17,8 +17,8 @@ fn tell_report(out: &mut String, name: &str, report: CalmReport) -> Result<(), A
     ensures { OnOk result (string_bytes out.new ≡ string_bytes out.old ++ report_text name.now report.first_fault) }
 {
     match report.first_fault {
-        Some(line) => tell(out, &Line::Uncalm { name, line }),
-        None => tell(out, &Line::Calm { name }),
+        Some(line) => tell(out, &OutputLine::Uncalm { name, line }),
+        None => tell(out, &OutputLine::Calm { name }),
     }
 }
 

@@ -10,7 +10,7 @@ use Rattle.am_merge.specs.Maps.{if_live}
 use Rattle.am_merge.specs.Views.{IsBest, IsInView, IsViewAt}
 use Rattle.am_merge.proofs.Keys.{IsKeyOrder}
 use Rattle.am_collect.specs.Calm.{IsCalm}
-use Rattle.am_runs.specs.Steps.{Step, moment, delivered_in, clock_from}
+use Rattle.am_runs.specs.Steps.{RunStep, moment, delivered_in, clock_from}
 use Rattle.am_runs.specs.Members.{member_of, set_of, last_of, map_of}
 use Rattle.am_runs.specs.Runs.{IsRun, IsCalmAt}
 use Rattle.am_runs.specs.Timely.{IsTimely, IsSpread, HasCaughtUp}
@@ -24,7 +24,7 @@ use Rattle.am_runs.proofs.Goods.{good_at}
 
 module _ {K X : Type 0} (seen : X → Version K) where
   -- a calm member's past is calm
-  pub calm_past : (members q : ℕ) (steps rest : List (Step X)) (whole : List (Step X)) → steps ++ rest ≡ whole → IsCalmAt seen members q whole → IsCalm seen [] 0 (member_of members q steps).past
+  pub calm_past : (members q : ℕ) (steps rest : List (RunStep X)) (whole : List (RunStep X)) → steps ++ rest ≡ whole → IsCalmAt seen members q whole → IsCalm seen [] 0 (member_of members q steps).past
   calm_past members q steps rest whole e calm = carried (λ before. IsCalm seen [] 0 (member_of members q before).past) whole [] steps rest e (λ b s after d old. (calm b s after d).past) (fit_begin seen (ltb q members)).past
 
   -- what is in view of a key, or nothing
@@ -70,7 +70,7 @@ module _ {K X : Type 0} (seen : X → Version K) where
     same_shown is_value exact set other now key (Some v) (Some w) values others there back one two =
         ap Some (exact v w (values v one.1.best.member) (others w two.1.best.member) (alike set other v w (one.0 ∙ sym two.0) one.1.best two.1.best (there v one.1.best.member one.0) (back w two.1.best.member two.0)))
 
-    module _ (spread flight members now : ℕ) (before : List (Step X)) (step : Step X) (rest : List (Step X)) (positive : 0 < spread) (run : IsRun seen cmp members (before ++ step ∷ rest)) (timely : IsTimely seen spread flight members (before ++ step ∷ rest)) (at : moment step ≡ Some now) where
+    module _ (spread flight members now : ℕ) (before : List (RunStep X)) (step : RunStep X) (rest : List (RunStep X)) (positive : 0 < spread) (run : IsRun seen cmp members (before ++ step ∷ rest)) (timely : IsTimely seen spread flight members (before ++ step ∷ rest)) (at : moment step ≡ Some now) where
       onward_now : clock_from 0 before ≤ now
       onward_now = some_if (λ t. clock_from 0 before ≤ t) (moment step) now (timely.onward before step rest refl) at
 

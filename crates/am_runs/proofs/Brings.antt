@@ -9,8 +9,8 @@ use Rattle.std.proofs.lemmas.List.{take-append-drop}
 use Rattle.std.proofs.lemmas.Option.{slice_get_within, get_or_from_slice_get}
 use Rattle.std.proofs.lemmas.List.Elements.{All-contains}
 use Rattle.am_version_order.specs.Versions.{Version}
-use Rattle.am_runs.specs.Steps.{Step, moment, clock_after}
-use Rattle.am_runs.specs.Steps.Step.{Took, Ticked, Back, Refused, Saved, Stopped, Started}
+use Rattle.am_runs.specs.Steps.{RunStep, moment, clock_after}
+use Rattle.am_runs.specs.Steps.RunStep.{Took, Ticked, Back, Refused, Saved, Stopped, Started}
 use Rattle.am_runs.specs.Uptimes.{starts, saves, HoldsFrom, IsUptime}
 use Rattle.am_runs.specs.Tests.{Watched, later, runs_after, is_monotone, are_monotone, is_due, ran_after, ran_from, is_wanting, counts_for, watched, watch_after, comes, brings, ComesToAll}
 use Rattle.am_runs.proofs.Loops.{all_from}
@@ -35,7 +35,7 @@ ran_due due false ran now e = e
 ran_due due true ran None e = e
 ran_due due true ran (Some now) e = (later_due due ran now e).0
 
-ran_before : {X : Type 0} (due q : ℕ) (runs : Bool) (ran : Option ℕ) (steps : List (Step X)) → is_due due (ran_from q runs ran steps) ≡ false → is_due due ran ≡ false
+ran_before : {X : Type 0} (due q : ℕ) (runs : Bool) (ran : Option ℕ) (steps : List (RunStep X)) → is_due due (ran_from q runs ran steps) ≡ false → is_due due ran ≡ false
 ran_before due q runs ran [] e = e
 ran_before due q runs ran (s ∷ steps) e = ran_due due runs ran (moment s) (ran_before due q (runs_after q runs s) (ran_after runs ran (moment s)) steps e)
 
@@ -78,7 +78,7 @@ forward : (clock : ℕ) (o : Option ℕ) → is_monotone clock o ≡ true → cl
 forward clock None on = omega arith
 forward clock (Some now) on = leb-true clock now on
 
-reached : {X : Type 0} (clock : ℕ) (before : List (Step X)) (s : Step X) (rest : List (Step X)) (now : ℕ) → are_monotone clock (before ++ s ∷ rest) ≡ true → moment s ≡ Some now → clock ≤ now
+reached : {X : Type 0} (clock : ℕ) (before : List (RunStep X)) (s : RunStep X) (rest : List (RunStep X)) (now : ℕ) → are_monotone clock (before ++ s ∷ rest) ≡ true → moment s ≡ Some now → clock ≤ now
 reached clock [] s rest now on at =
     let here = (and_parts (is_monotone clock (moment s)) (are_monotone (clock_after clock (moment s)) rest) on).0 in
     leb-true clock now (subst (λ o. is_monotone clock o ≡ true) at here)
@@ -101,7 +101,7 @@ module _ {K X : Type 0} (seen : X → Version K) (cmp : K → K → Ordering) (s
   runs_turned true r u w e = e
   runs_turned false r u w e = refl
 
-  runs_watched : (w : Watched) (s : Step X) → (watch_after seen cmp q v w s).runs ≡ runs_after q w.runs s
+  runs_watched : (w : Watched) (s : RunStep X) → (watch_after seen cmp q v w s).runs ≡ runs_after q w.runs s
   runs_watched w (Took place now source versions frames) = runs_where (eqb place q) _ w w.runs refl refl
   runs_watched w (Ticked place now) = runs_where (eqb place q) w w w.runs refl refl
   runs_watched w (Back place now) = runs_where (eqb place q) w w w.runs refl refl
@@ -111,7 +111,7 @@ module _ {K X : Type 0} (seen : X → Version K) (cmp : K → K → Ordering) (s
   runs_watched w (Started place now) = runs_turned (eqb place q) true _ w refl
 
   -- the member didn't run since the version should have come
-  pub comes_unseen : (w : Watched) (ran : Option ℕ) (steps : List (Step X)) → is_due due (ran_from q w.runs ran steps) ≡ false → comes seen cmp spread q v w steps ≡ true
+  pub comes_unseen : (w : Watched) (ran : Option ℕ) (steps : List (RunStep X)) → is_due due (ran_from q w.runs ran steps) ≡ false → comes seen cmp spread q v w steps ≡ true
   comes_unseen w ran [] e = refl
   comes_unseen w ran (s ∷ steps) e =
       and_from (not (is_wanting due w (moment s))) (comes seen cmp spread q v (watch_after seen cmp q v w s) steps)
@@ -133,7 +133,7 @@ module _ {K X : Type 0} (seen : X → Version K) (cmp : K → K → Ordering) (s
   has_taken : (w : Watched) (versions : List X) → w.has ≡ true → (w.has || list_any (counts_for seen cmp v) versions) ≡ true
   has_taken w versions has = or_left w.has (list_any (counts_for seen cmp v) versions) has
 
-  both_after : (w : Watched) (s : Step X) → HasBoth w → HasBoth (watch_after seen cmp q v w s)
+  both_after : (w : Watched) (s : RunStep X) → HasBoth w → HasBoth (watch_after seen cmp q v w s)
   both_after w (Took place now source versions frames) h = where_either HasBoth (eqb place q) _ w (has_taken w versions h.0, h.1) h
   both_after w (Ticked place now) h = where_either HasBoth (eqb place q) w w h h
   both_after w (Back place now) h = where_either HasBoth (eqb place q) w w h h
@@ -143,13 +143,13 @@ module _ {K X : Type 0} (seen : X → Version K) (cmp : K → K → Ordering) (s
   both_after w (Started place now) h = where_either HasBoth (eqb place q) _ w (h.1, h.1) h
 
   -- what is saved too is never lost
-  comes_saved : (w : Watched) (steps : List (Step X)) → HasBoth w → comes seen cmp spread q v w steps ≡ true
+  comes_saved : (w : Watched) (steps : List (RunStep X)) → HasBoth w → comes seen cmp spread q v w steps ≡ true
   comes_saved w [] h = refl
   comes_saved w (s ∷ steps) h =
       and_from (not (is_wanting due w (moment s))) (comes seen cmp spread q v (watch_after seen cmp q v w s) steps)
       (unwanted_has due w (moment s) h.0) (comes_saved (watch_after seen cmp q v w s) steps (both_after w s h))
 
-  has_after : (w : Watched) (s : Step X) → w.has ≡ true → starts q s ≡ false → (watch_after seen cmp q v w s).has ≡ true
+  has_after : (w : Watched) (s : RunStep X) → w.has ≡ true → starts q s ≡ false → (watch_after seen cmp q v w s).has ≡ true
   has_after w (Took place now source versions frames) has apart = where_either Has (eqb place q) _ w (has_taken w versions has) has
   has_after w (Ticked place now) has apart = where_either Has (eqb place q) w w has has
   has_after w (Back place now) has apart = where_either Has (eqb place q) w w has has
@@ -159,21 +159,21 @@ module _ {K X : Type 0} (seen : X → Version K) (cmp : K → K → Ordering) (s
   has_after w (Started place now) has apart = ap (λ b. (cond b (watched seen cmp v w (Started place now)) w).has) apart ∙ has
 
   -- a step that starts it or doesn't, or saves it, before some that it comes with
-  abbrev Held : List (Step X) → Type 0
+  abbrev Held : List (RunStep X) → Type 0
   Held steps = (w : Watched) → w.has ≡ true → comes seen cmp spread q v w steps ≡ true
 
-  abbrev Running : List (Step X) → Type 0
+  abbrev Running : List (RunStep X) → Type 0
   Running steps = (w : Watched) → w.runs ≡ true → comes seen cmp spread q v w steps ≡ true
 
-  held_one : (s : Step X) (steps : List (Step X)) → ((w : Watched) → w.has ≡ true
+  held_one : (s : RunStep X) (steps : List (RunStep X)) → ((w : Watched) → w.has ≡ true
       → comes seen cmp spread q v (watch_after seen cmp q v w s) steps ≡ true) → Held (s ∷ steps)
   held_one s steps later w has = and_from (not (is_wanting due w (moment s)))
       (comes seen cmp spread q v (watch_after seen cmp q v w s) steps) (unwanted_has due w (moment s) has) (later w has)
 
-  held_on : (s : Step X) (steps : List (Step X)) → starts q s ≡ false → Held steps → Held (s ∷ steps)
+  held_on : (s : RunStep X) (steps : List (RunStep X)) → starts q s ≡ false → Held steps → Held (s ∷ steps)
   held_on s steps apart held = held_one s steps (λ w has. held (watch_after seen cmp q v w s) (has_after w s has apart))
 
-  started_runs : (w : Watched) (s : Step X) → starts q s ≡ true → (watch_after seen cmp q v w s).runs ≡ true
+  started_runs : (w : Watched) (s : RunStep X) → starts q s ≡ true → (watch_after seen cmp q v w s).runs ≡ true
   started_runs w (Took place now source versions frames) e = absurd (false≢true e)
   started_runs w (Ticked place now) e = absurd (false≢true e)
   started_runs w (Back place now) e = absurd (false≢true e)
@@ -182,10 +182,10 @@ module _ {K X : Type 0} (seen : X → Version K) (cmp : K → K → Ordering) (s
   started_runs w (Stopped place) e = absurd (false≢true e)
   started_runs w (Started place now) e = ap (λ b. (cond b (watched seen cmp v w (Started place now)) w).runs) e
 
-  held_started : (s : Step X) (steps : List (Step X)) → starts q s ≡ true → Running steps → Held (s ∷ steps)
+  held_started : (s : RunStep X) (steps : List (RunStep X)) → starts q s ≡ true → Running steps → Held (s ∷ steps)
   held_started s steps start running = held_one s steps (λ w has. running (watch_after seen cmp q v w s) (started_runs w s start))
 
-  saved_both : (w : Watched) (s : Step X) → w.has ≡ true → saves q s ≡ true → HasBoth (watch_after seen cmp q v w s)
+  saved_both : (w : Watched) (s : RunStep X) → w.has ≡ true → saves q s ≡ true → HasBoth (watch_after seen cmp q v w s)
   saved_both w (Took place now source versions frames) has e = absurd (false≢true e)
   saved_both w (Ticked place now) has e = absurd (false≢true e)
   saved_both w (Back place now) has e = absurd (false≢true e)
@@ -194,36 +194,36 @@ module _ {K X : Type 0} (seen : X → Version K) (cmp : K → K → Ordering) (s
   saved_both w (Stopped place) has e = absurd (false≢true e)
   saved_both w (Started place now) has e = absurd (false≢true e)
 
-  held_saved : (s : Step X) (steps : List (Step X)) → saves q s ≡ true → Held (s ∷ steps)
+  held_saved : (s : RunStep X) (steps : List (RunStep X)) → saves q s ≡ true → Held (s ∷ steps)
   held_saved s steps save = held_one s steps (λ w has. comes_saved (watch_after seen cmp q v w s) steps (saved_both w s has save))
 
   -- ---- among steps of a number
-  at_number : (steps : List (Step X)) (n : ℕ) (s : Step X) → slice_get steps n ≡ Some s → drop n steps ≡ s ∷ drop (n + 1) steps
+  at_number : (steps : List (RunStep X)) (n : ℕ) (s : RunStep X) → slice_get steps n ≡ Some s → drop n steps ≡ s ∷ drop (n + 1) steps
   at_number steps n s is =
       let next : suc n ≡ n + 1 = omega arith in
       drop-cons steps n s (slice_get_within steps n s is) ∙ ap (λ y. y ∷ drop (suc n) steps) (get_or_from_slice_get steps n s s is) ∙ ap
       (λ m. s ∷ drop m steps) next
 
-  pub held_before : (steps : List (Step X)) (n : ℕ) (s : Step X) → slice_get steps n ≡ Some s → starts q s ≡ false
+  pub held_before : (steps : List (RunStep X)) (n : ℕ) (s : RunStep X) → slice_get steps n ≡ Some s → starts q s ≡ false
       → HoldsFrom seen cmp spread q v steps (n + 1) → HoldsFrom seen cmp spread q v steps n
   held_before steps n s is apart later = subst Held (sym (at_number steps n s is)) (held_on s (drop (n + 1) steps) apart later)
 
-  pub saved_held : (steps : List (Step X)) (n : ℕ) (s : Step X) → slice_get steps n ≡ Some s → saves q s ≡ true
+  pub saved_held : (steps : List (RunStep X)) (n : ℕ) (s : RunStep X) → slice_get steps n ≡ Some s → saves q s ≡ true
       → HoldsFrom seen cmp spread q v steps n
   saved_held steps n s is save = subst Held (sym (at_number steps n s is)) (held_saved s (drop (n + 1) steps) save)
 
   -- a step that starts it, where it doesn't run as a later one with a moment begins
-  pub started_held : (steps : List (Step X)) (n : ℕ) (s : Step X) → slice_get steps n ≡ Some s → starts q s ≡ true
+  pub started_held : (steps : List (RunStep X)) (n : ℕ) (s : RunStep X) → slice_get steps n ≡ Some s → starts q s ≡ true
       → ran_from q true None (drop (n + 1) steps) ≡ None → HoldsFrom seen cmp spread q v steps n
   started_held steps n s is start rests = subst Held (sym (at_number steps n s is)) (held_started s (drop (n + 1) steps) start
       (λ w running. comes_unseen w None (drop (n + 1) steps)
       (ap (λ r. is_due due (ran_from q r None (drop (n + 1) steps))) running ∙ ap (is_due due) rests)))
 
-  pub end_held : (steps : List (Step X)) (n : ℕ) → length steps ≤ n → HoldsFrom seen cmp spread q v steps n
+  pub end_held : (steps : List (RunStep X)) (n : ℕ) → length steps ≤ n → HoldsFrom seen cmp spread q v steps n
   end_held steps n past w has = ap (comes seen cmp spread q v w) (drop_all steps n past)
 
   -- ---- a step that brings it
-  brought_at : (s : Step X) → brings seen cmp spread q v s ≡ true → (now : ℕ) × (moment s ≡ Some now) × (leb due now ≡ false)
+  brought_at : (s : RunStep X) → brings seen cmp spread q v s ≡ true → (now : ℕ) × (moment s ≡ Some now) × (leb due now ≡ false)
   brought_at (Took place now source versions frames) b =
       let parts = and_parts (eqb place q) (not (leb due now) && list_any (counts_for seen cmp v) versions) b in
       (now, refl, not-true (leb due now) (and_parts (not (leb due now)) (list_any (counts_for seen cmp v) versions) parts.1).0)
@@ -234,7 +234,7 @@ module _ {K X : Type 0} (seen : X → Version K) (cmp : K → K → Ordering) (s
   brought_at (Stopped place) b = absurd (false≢true b)
   brought_at (Started place now) b = absurd (false≢true b)
 
-  brought_has : (w : Watched) (s : Step X) → brings seen cmp spread q v s ≡ true → (watch_after seen cmp q v w s).has ≡ true
+  brought_has : (w : Watched) (s : RunStep X) → brings seen cmp spread q v s ≡ true → (watch_after seen cmp q v w s).has ≡ true
   brought_has w (Took place now source versions frames) b =
       let parts = and_parts (eqb place q) (not (leb due now) && list_any (counts_for seen cmp v) versions) b in
       let any = (and_parts (not (leb due now)) (list_any (counts_for seen cmp v) versions) parts.1).1 in
@@ -246,7 +246,7 @@ module _ {K X : Type 0} (seen : X → Version K) (cmp : K → K → Ordering) (s
   brought_has w (Stopped place) b = absurd (false≢true b)
   brought_has w (Started place now) b = absurd (false≢true b)
 
-  comes_brought : (clock : ℕ) (w : Watched) (before : List (Step X)) (s : Step X) (rest : List (Step X))
+  comes_brought : (clock : ℕ) (w : Watched) (before : List (RunStep X)) (s : RunStep X) (rest : List (RunStep X))
       → are_monotone clock (before ++ s ∷ rest) ≡ true → brings seen cmp spread q v s ≡ true → Held rest
       → comes seen cmp spread q v w (before ++ s ∷ rest) ≡ true
   comes_brought clock w [] s rest on brought kept =
@@ -262,7 +262,7 @@ module _ {K X : Type 0} (seen : X → Version K) (cmp : K → K → Ordering) (s
       (unwanted_early due w (moment b) clock at.0 (reached (clock_after clock (moment b)) before s rest at.0 both.1 at.1) at.2)
       (comes_brought (clock_after clock (moment b)) (watch_after seen cmp q v w b) before s rest both.1 brought kept)
 
-  pub comes_told : (w : Watched) (steps : List (Step X)) (n : ℕ) (s : Step X) → slice_get steps n ≡ Some s → are_monotone 0 steps ≡ true
+  pub comes_told : (w : Watched) (steps : List (RunStep X)) (n : ℕ) (s : RunStep X) → slice_get steps n ≡ Some s → are_monotone 0 steps ≡ true
       → brings seen cmp spread q v s ≡ true → HoldsFrom seen cmp spread q v steps (n + 1) → comes seen cmp spread q v w steps ≡ true
   comes_told w steps n s is on brought held =
       let cut : take n steps ++ s ∷ drop (n + 1) steps ≡ steps = ap (λ ss. take n steps ++ ss) (sym (at_number steps n s is))
@@ -271,7 +271,7 @@ module _ {K X : Type 0} (seen : X → Version K) (cmp : K → K → Ordering) (s
       (comes_brought 0 w (take n steps) s (drop (n + 1) steps) (subst (λ ss. are_monotone 0 ss ≡ true) (sym cut) on) brought held)
 
 -- ---- one member after the other
-module _ {K X : Type 0} (seen : X → Version K) (cmp : K → K → Ordering) (spread members : ℕ) (steps : List (Step X)) where
+module _ {K X : Type 0} (seen : X → Version K) (cmp : K → K → Ordering) (spread members : ℕ) (steps : List (RunStep X)) where
   abbrev pub ComeTo : ℕ → List X → Type 0
   ComeTo q vs = All (λ v. comes seen cmp spread q v (record { runs = true; has = false; saved = false }) steps ≡ true) vs
 
@@ -282,13 +282,13 @@ module _ {K X : Type 0} (seen : X → Version K) (cmp : K → K → Ordering) (s
   to_member vs q within all = all_from (λ v. comes seen cmp spread q v (record { runs = true; has = false; saved = false }) steps ≡ true) vs (λ v has. All-contains (ComesToAll seen cmp spread members steps) vs v all has q within)
 
 -- ---- uptimes
-module _ {K X : Type 0} (seen : X → Version K) (cmp : K → K → Ordering) (q : ℕ) (steps : List (Step X)) where
+module _ {K X : Type 0} (seen : X → Version K) (cmp : K → K → Ordering) (q : ℕ) (steps : List (RunStep X)) where
   -- a place from which on it has at each step, up to one of this number, what it has there
   pub record IsBack (place number : ℕ) : Type 0 where
     pub low : place ≤ number
     pub holds : (spread : ℕ) (v : X) (n : ℕ) → place ≤ n → n ≤ number → HoldsFrom seen cmp spread q v steps number → HoldsFrom seen cmp spread q v steps n
 
-  pub back_more : (place number : ℕ) (s : Step X) → slice_get steps number ≡ Some s → starts q s ≡ false → IsBack place number → IsBack place (number + 1)
+  pub back_more : (place number : ℕ) (s : RunStep X) → slice_get steps number ≡ Some s → starts q s ≡ false → IsBack place number → IsBack place (number + 1)
   back_more place number s is apart back =
       let low = back.low in
       record {

@@ -10,8 +10,8 @@ use Rattle.am_merge.specs.Maps.{greater_of, at}
 use Rattle.am_merge.specs.Views.{IsBest}
 use Rattle.am_merge.proofs.Keys.{IsKeyOrder, eq_itself, same_key}
 use Rattle.am_collect.proofs.Greatest.{second_taken, first_kept}
-use Rattle.am_collect.specs.Events.{Event, Events, taken, collections, last_moment}
-use Rattle.am_collect.specs.Events.Event.{Delivered, Passed}
+use Rattle.am_collect.specs.Events.{MapEvent, Events, taken, collections, last_moment}
+use Rattle.am_collect.specs.Events.MapEvent.{Delivered, Passed}
 use Rattle.am_collect.specs.Calm.{IsCalm, IsCalmAt, IsInTime}
 use Rattle.std.proofs.lemmas.Bool.{lt-ltb, ltb-true, not-true, and_parts, and_from, false≢true}
 use Rattle.am_runs.specs.Steps.{EachStep}
@@ -127,13 +127,13 @@ module _ {K X : Type 0} (seen : X → Version K) where
   from_event : (past : Events X) (now : ℕ) (done : List X) (v : X) → IsCalmAt seen [] 0 (past ++ passes now done) (Delivered v) now → Fits past now done v
   from_event past now done v calm = subst (λ set. IsInTime seen set (collections past) (Delivered v) now) (taken-passes past now done) (subst (λ moments. IsInTime seen (taken [] (past ++ passes now done)) moments (Delivered v) now) (collections-passes past now done) calm.in_time)
 
-  abbrev Calmly : Events X → Event X × ℕ → Type 0
+  abbrev Calmly : Events X → MapEvent X × ℕ → Type 0
   Calmly before e = IsCalmAt seen [] 0 before e.0 e.1
 
   -- an event that delivers versions is calm where each comes in time
   pub calm_passes : (past : Events X) (now : ℕ) (vs : List X) → IsCalm seen [] 0 past → last_moment 0 past ≤ now → EachStep vs (λ done v. IsInTime seen (taken [] past ++ done) (collections past) (Delivered v) now) → IsCalm seen [] 0 (past ++ passes now vs)
   calm_passes past now vs calm forward each =
-      let P : Events X → Event X × ℕ → Type 0 = λ before e. IsCalmAt seen [] 0 before e.0 e.1 in
+      let P : Events X → MapEvent X × ℕ → Type 0 = λ before e. IsCalmAt seen [] 0 before e.0 e.1 in
       each_append P past (passes now vs) calm
       (each_cons (λ before. P (past ++ before)) (Passed, now) (map (λ v. (Delivered v, now)) vs)
       (record { forward = subst (λ before. last_moment 0 before ≤ now) (sym (append-nil past)) forward; in_time = tt })
@@ -141,6 +141,6 @@ module _ {K X : Type 0} (seen : X → Version K) where
 
   pub passes_calm : (past : Events X) (now : ℕ) (vs : List X) → IsCalm seen [] 0 (past ++ passes now vs) → EachStep vs (λ done v. IsInTime seen (taken [] past ++ done) (collections past) (Delivered v) now)
   passes_calm past now vs calm =
-      let P : Events X → Event X × ℕ → Type 0 = λ before e. IsCalmAt seen [] 0 before e.0 e.1 in
+      let P : Events X → MapEvent X × ℕ → Type 0 = λ before e. IsCalmAt seen [] 0 before e.0 e.1 in
       let back = each_unmap (λ v. (Delivered v, now)) (λ before. P (past ++ (Passed, now) ∷ before)) vs (each_rest (λ before. P (past ++ before)) (Passed, now) (map (λ v. (Delivered v, now)) vs) (each_back P past (passes now vs) calm)) in
       λ done v rest e. from_event past now done v (back done v rest e)

@@ -5,11 +5,11 @@ use Rattle.std.specs.declared.cmp.Ordering.{Ordering}
 use Rattle.std.proofs.lemmas.Bool.{eqb-true}
 use Rattle.am_version_order.specs.Versions.{Version}
 use Rattle.am_merge.proofs.Keys.{IsKeyOrder}
-use Rattle.am_collect.specs.Events.{Event, Events, taken, collections, last_moment}
-use Rattle.am_collect.specs.Events.Event.{Delivered, Collected, Passed}
+use Rattle.am_collect.specs.Events.{MapEvent, Events, taken, collections, last_moment}
+use Rattle.am_collect.specs.Events.MapEvent.{Delivered, Collected, Passed}
 use Rattle.am_collect.specs.Calm.{IsCalm, IsCalmAt as IsCalmEvent, IsInTime}
-use Rattle.am_runs.specs.Steps.{Step, EachStep, IsFirstWithout, is_back_at}
-use Rattle.am_runs.specs.Steps.Step.{Took, Ticked, Back, Refused, Saved, Stopped, Started}
+use Rattle.am_runs.specs.Steps.{RunStep, EachStep, IsFirstWithout, is_back_at}
+use Rattle.am_runs.specs.Steps.RunStep.{Took, Ticked, Back, Refused, Saved, Stopped, Started}
 use Rattle.am_runs.specs.Members.{Member, passes, member_after, member_of, set_of, last_of}
 use Rattle.am_runs.specs.Runs.{IsPossible, IsRun, IsCalmStep, IsCalmAt, IsFirstFault}
 use Rattle.am_runs.specs.Tests.{StaysCalm, comes_in_time, top_among, top_in, last_in}
@@ -25,7 +25,7 @@ module _ {K X : Type 0} (seen : X → Version K) where
     pub saved : IsCalm seen [] 0 m.saved
     pub last : last_moment 0 m.saved ≤ last_of m
 
-  calm_one : (past : Events X) (event : Event X) (now : ℕ) → IsInTime seen (taken [] past) (collections past) event now → IsCalm seen [] 0 past → last_moment 0 past ≤ now → IsCalm seen [] 0 (past ++ (event, now) ∷ [])
+  calm_one : (past : Events X) (event : MapEvent X) (now : ℕ) → IsInTime seen (taken [] past) (collections past) event now → IsCalm seen [] 0 past → last_moment 0 past ≤ now → IsCalm seen [] 0 (past ++ (event, now) ∷ [])
   calm_one past event now in_time calm forward = each_push (λ before e. IsCalmEvent seen [] 0 before e.0 e.1) past (event, now) calm (record { forward = forward; in_time = in_time })
 
   pub fit_begin : (runs : Bool) → IsFit (record { past = []; saved = []; runs = runs })
@@ -61,25 +61,25 @@ module _ {K X : Type 0} (seen : X → Version K) where
 
   module _ (cmp : K → K → Ordering) (keys : IsKeyOrder cmp) (members q : ℕ) where
     -- the test of a version, both ways
-    comes_in : (before : List (Step X)) (now : ℕ) (done : List X) (v : X) → comes_in_time seen cmp q before now done v ≡ true → IsInTime seen (set_of (member_of members q before) ++ done) (collections (member_of members q before).past) (Delivered v) now
+    comes_in : (before : List (RunStep X)) (now : ℕ) (done : List X) (v : X) → comes_in_time seen cmp q before now done v ≡ true → IsInTime seen (set_of (member_of members q before) ++ done) (collections (member_of members q before).past) (Delivered v) now
     comes_in before now done v test =
         let known = known_of seen cmp keys (seen v).key members q before in
         let set = set_of (member_of members q before) in
         to_in_time seen (set ++ done) (collections (member_of members q before).past) now v (top_among seen cmp (seen v).key (top_in seen cmp q (seen v).key before) done) (last_in q before)
         (top_all seen cmp keys set (seen v).key (top_in seen cmp q (seen v).key before) done known.0) known.1 test
 
-    in_comes : (before : List (Step X)) (now : ℕ) (done : List X) (v : X) → IsInTime seen (set_of (member_of members q before) ++ done) (collections (member_of members q before).past) (Delivered v) now → comes_in_time seen cmp q before now done v ≡ true
+    in_comes : (before : List (RunStep X)) (now : ℕ) (done : List X) (v : X) → IsInTime seen (set_of (member_of members q before) ++ done) (collections (member_of members q before).past) (Delivered v) now → comes_in_time seen cmp q before now done v ≡ true
     in_comes before now done v calm =
         let known = known_of seen cmp keys (seen v).key members q before in
         let set = set_of (member_of members q before) in
         from_in_time seen (set ++ done) (collections (member_of members q before).past) now v (top_among seen cmp (seen v).key (top_in seen cmp q (seen v).key before) done) (last_in q before)
         (top_all seen cmp keys set (seen v).key (top_in seen cmp q (seen v).key before) done known.0) known.1 calm
 
-    forward_at : (before : List (Step X)) (place now : ℕ) → eqb place q ≡ true → last_of (member_of members place before) ≤ now → last_of (member_of members q before) ≤ now
+    forward_at : (before : List (RunStep X)) (place now : ℕ) → eqb place q ≡ true → last_of (member_of members place before) ≤ now → last_of (member_of members q before) ≤ now
     forward_at before place now same forward = subst (λ p. last_of (member_of members p before) ≤ now) (eqb-true place q same) forward
 
     -- a calm step keeps it fit
-    fit_after : (before : List (Step X)) (step : Step X) → IsPossible seen cmp members before step → StaysCalm seen cmp q before step → IsFit (member_of members q before) → IsFit (member_after q (member_of members q before) step)
+    fit_after : (before : List (RunStep X)) (step : RunStep X) → IsPossible seen cmp members before step → StaysCalm seen cmp q before step → IsFit (member_of members q before) → IsFit (member_after q (member_of members q before) step)
     fit_after before (Took place now source versions frames) can stays fit =
         let m = member_of members q before in
         fit_where (eqb place q) m _ fit (λ same. fit_pass m now versions (forward_at before place now same can.acts.forward) (each_weaker _ _ versions (λ done v. comes_in before now done v) (stays same)) fit)
@@ -94,7 +94,7 @@ module _ {K X : Type 0} (seen : X → Version K) where
         let m = member_of members q before in
         fit_where (eqb place q) m _ fit (λ same. fit_start m now (forward_at before place now same can.forward) fit)
 
-    not_back : (before : List (Step X)) (step : Step X) → StaysCalm seen cmp q before step → is_back_at q step ≡ false
+    not_back : (before : List (RunStep X)) (step : RunStep X) → StaysCalm seen cmp q before step → is_back_at q step ≡ false
     not_back before (Took place now source versions frames) stays = refl
     not_back before (Ticked place now) stays = refl
     not_back before (Back place now) stays = stays
@@ -103,19 +103,19 @@ module _ {K X : Type 0} (seen : X → Version K) where
     not_back before (Stopped place) stays = refl
     not_back before (Started place now) stays = refl
 
-    pub to_calm : (steps : List (Step X)) → IsRun seen cmp members steps → EachStep steps (StaysCalm seen cmp q) → IsCalmAt seen members q steps
+    pub to_calm : (steps : List (RunStep X)) → IsRun seen cmp members steps → EachStep steps (StaysCalm seen cmp q) → IsCalmAt seen members q steps
     to_calm steps run stays before step rest e =
-        let Q : List (Step X) → Type 0 = λ past. IsFit (member_of members q past) in
-        let next : (b : List (Step X)) (s : Step X) (after : List (Step X)) → b ++ s ∷ after ≡ steps → Q b → Q (b ++ s ∷ []) = λ b s after d fit. subst IsFit (sym (member_of-push members q b s)) (fit_after b s (run b s after d) (stays b s after d) fit) in
+        let Q : List (RunStep X) → Type 0 = λ past. IsFit (member_of members q past) in
+        let next : (b : List (RunStep X)) (s : RunStep X) (after : List (RunStep X)) → b ++ s ∷ after ≡ steps → Q b → Q (b ++ s ∷ []) = λ b s after d fit. subst IsFit (sym (member_of-push members q b s)) (fit_after b s (run b s after d) (stays b s after d) fit) in
         let here : Q before = carried Q steps [] before (step ∷ rest) e next (fit_begin _) in
         record { past = (next before step rest e here).past; forward = not_back before step (stays before step rest e) }
 
     -- and the other way
-    took_stays : (b : Bool) (before : List (Step X)) (now : ℕ) (versions : List X) → IsCalm seen [] 0 (cond b (record { past = (member_of members q before).past ++ passes now versions; saved = (member_of members q before).saved; runs = (member_of members q before).runs }) (member_of members q before)).past → b ≡ true → EachStep versions (λ done v. comes_in_time seen cmp q before now done v ≡ true)
+    took_stays : (b : Bool) (before : List (RunStep X)) (now : ℕ) (versions : List X) → IsCalm seen [] 0 (cond b (record { past = (member_of members q before).past ++ passes now versions; saved = (member_of members q before).saved; runs = (member_of members q before).runs }) (member_of members q before)).past → b ≡ true → EachStep versions (λ done v. comes_in_time seen cmp q before now done v ≡ true)
     took_stays true before now versions calm same = each_weaker _ _ versions (λ done v. in_comes before now done v) (passes_calm seen (member_of members q before).past now versions calm)
     took_stays false before now versions calm same = absurd cc
 
-    from_calm : (before : List (Step X)) (step : Step X) → IsCalmStep seen members q before step → StaysCalm seen cmp q before step
+    from_calm : (before : List (RunStep X)) (step : RunStep X) → IsCalmStep seen members q before step → StaysCalm seen cmp q before step
     from_calm before (Took place now source versions frames) calm = took_stays (eqb place q) before now versions (subst (λ m. IsCalm seen [] 0 m.past) (member_of-push members q before (Took place now source versions frames)) calm.past)
     from_calm before (Ticked place now) calm = tt
     from_calm before (Back place now) calm = calm.forward
@@ -125,7 +125,7 @@ module _ {K X : Type 0} (seen : X → Version K) where
     from_calm before (Started place now) calm = tt
 
     -- what the test finds is the first fault
-    pub fault_told : (steps : List (Step X)) (found : Option ℕ) → IsRun seen cmp members steps → MatchOption found (EachStep steps (StaysCalm seen cmp q)) (IsFirstWithout steps (StaysCalm seen cmp q)) → MatchOption found (IsCalmAt seen members q steps) (IsFirstFault seen members q steps)
+    pub fault_told : (steps : List (RunStep X)) (found : Option ℕ) → IsRun seen cmp members steps → MatchOption found (EachStep steps (StaysCalm seen cmp q)) (IsFirstWithout steps (StaysCalm seen cmp q)) → MatchOption found (IsCalmAt seen members q steps) (IsFirstFault seen members q steps)
     fault_told steps None run told = to_calm steps run told
     fault_told steps (Some n) run told =
         first_same (StaysCalm seen cmp q) (IsCalmStep seen members q) steps n

@@ -15,8 +15,8 @@ use Rattle.am_runs.specs.declared.maxima.Head.{Head}
 use Rattle.am_runs.specs.declared.maxima.Maximum.{Maximum}
 use Rattle.am_runs.specs.declared.maxima.Maxima.{Maxima}
 use Rattle.am_runs.specs.declared.step.Source.{Source}
-use Rattle.am_runs.specs.Steps.{Step}
-use Rattle.am_runs.specs.Steps.Step.{Took, Ticked, Back, Refused, Saved, Stopped, Started}
+use Rattle.am_runs.specs.Steps.{RunStep}
+use Rattle.am_runs.specs.Steps.RunStep.{Took, Ticked, Back, Refused, Saved, Stopped, Started}
 use Rattle.am_runs.specs.Tests.{Tops, tops_after, tops_from}
 use Rattle.am_runs.specs.Maxima.{in_step, version_at, row_of, row_entry, owner_at, owner_in, owner_cmp, by_owner, IsOrder, IsRowOf, AreMaxima, IsMaximum, IsPlaced, IsRemade, raised_all, tops_in, HasRowRoom}
 use Rattle.am_runs.proofs.Spreads.{get_left}
@@ -34,7 +34,7 @@ nil_of [] e = refl
 nil_of (x ∷ xs) e = absurd (omega arith)
 
 module _ {K X : Type 0} (seen : X → Version K) (cmp : K → K → Ordering) where
-  tops_from-push : (q : ℕ) (key : K) (t : Tops X) (before : List (Step X)) (s : Step X) → tops_from seen cmp q key t (before ++ s ∷ []) ≡ tops_after seen cmp q key (tops_from seen cmp q key t before) s
+  tops_from-push : (q : ℕ) (key : K) (t : Tops X) (before : List (RunStep X)) (s : RunStep X) → tops_from seen cmp q key t (before ++ s ∷ []) ≡ tops_after seen cmp q key (tops_from seen cmp q key t before) s
   tops_from-push q key t [] s = refl
   tops_from-push q key t (u ∷ before) s = tops_from-push q key (tops_after seen cmp q key t u) before s
 
@@ -69,9 +69,9 @@ module _ {K X : Type 0} (seen : X → Version K) (cmp : K → K → Ordering) wh
           others = λ member key nobody. maxima.others member key (λ row own. nobody row (record { version = own.version; owner = sym (same row) ∙ own.owner; same_key = own.same_key }));
         }
 
-  pub version_more : (before : List (Step X)) (s : Step X) (place : Position) (v : X) → version_at before place ≡ Some v → version_at (before ++ s ∷ []) place ≡ Some v
+  pub version_more : (before : List (RunStep X)) (s : RunStep X) (place : Position) (v : X) → version_at before place ≡ Some v → version_at (before ++ s ∷ []) place ≡ Some v
   version_more before s place v is = by (slice_get before place.step) refl is where
-    by : (o : Option (Step X)) → slice_get before place.step ≡ o → in_step o place.number ≡ Some v → version_at (before ++ s ∷ []) place ≡ Some v
+    by : (o : Option (RunStep X)) → slice_get before place.step ≡ o → in_step o place.number ≡ Some v → version_at (before ++ s ∷ []) place ≡ Some v
     by None e found = absurd cc
     by (Some t) e found = ap (λ o. in_step o place.number) (get_left before (s ∷ []) place.step (slice_get_within before place.step t e) ∙ e) ∙ found
 
@@ -125,11 +125,11 @@ module _ {K X : Type 0} (seen : X → Version K) (cmp : K → K → Ordering) wh
             own_by row q v maximum (get_or old.maxima.items row (record { top = None; saved = None })) head e (slice_get-get_or old.maxima.items row (record { top = None; saved = None }) inside) owner there (member_is head (at_place head.first) q v refl (sym (ap (owner_in at_place) e) ∙ owner))
 
   -- ---- a step more
-  module _ (at_place : Position → Option X) (p : Maxima) (before : List (Step X)) where
-    abbrev pub After : Step X → Type 0
+  module _ (at_place : Position → Option X) (p : Maxima) (before : List (RunStep X)) where
+    abbrev pub After : RunStep X → Type 0
     After s = AreMaxima seen cmp at_place p (tops_in seen cmp (before ++ s ∷ []))
 
-    pushed : (s : Step X) (tops_of : ℕ → K → Tops X) → ((q : ℕ) (key : K) → tops_of q key ≡ tops_after seen cmp q key (tops_in seen cmp before q key) s) → AreMaxima seen cmp at_place p tops_of → After s
+    pushed : (s : RunStep X) (tops_of : ℕ → K → Tops X) → ((q : ℕ) (key : K) → tops_of q key ≡ tops_after seen cmp q key (tops_in seen cmp before q key) s) → AreMaxima seen cmp at_place p tops_of → After s
     pushed s tops_of same maxima = same_maxima seen cmp at_place p tops_of (tops_in seen cmp (before ++ s ∷ [])) (λ q key. same q key ∙ sym (tops_from-push q key (record { top = None; saved = None }) before s)) maxima
 
     pub took : (place now : ℕ) (source : Source) (versions : List X) (frames : List (List X)) → AreMaxima seen cmp at_place p (raised_all seen cmp (tops_in seen cmp before) place versions) → After (Took place now source versions frames)
@@ -158,7 +158,7 @@ module _ {K X : Type 0} (seen : X → Version K) (cmp : K → K → Ordering) wh
     stopped place = pushed (Stopped place) (tops_in seen cmp before) (λ q key. same_where (eqb place q) (tops_in seen cmp before q key))
 
   -- ---- what a run keeps
-  pub account_kept : (is_value : X → Type 0) (members : ℕ) (steps others : List (Step X)) (old new : Maxima) (standings newer : List Standing) (spare more : ℕ) → IsAccount seen cmp is_value members steps old standings spare → others ≡ steps → new.heads.items ≡ old.heads.items → new.maxima.items ≡ old.maxima.items → entries new.order ≡ entries old.order → (AreStandings seen cmp standings steps → AreStandings seen cmp newer steps) → HasRowRoom new more → IsAccount seen cmp is_value members others new newer more
+  pub account_kept : (is_value : X → Type 0) (members : ℕ) (steps others : List (RunStep X)) (old new : Maxima) (standings newer : List Standing) (spare more : ℕ) → IsAccount seen cmp is_value members steps old standings spare → others ≡ steps → new.heads.items ≡ old.heads.items → new.maxima.items ≡ old.maxima.items → entries new.order ≡ entries old.order → (AreStandings seen cmp standings steps → AreStandings seen cmp newer steps) → HasRowRoom new more → IsAccount seen cmp is_value members others new newer more
   account_kept is_value members steps others old new standings newer spare more account same heads places order stands room =
       subst (λ ss. IsAccount seen cmp is_value members ss new newer more) (sym same) (record {
         run = account.run;
@@ -168,7 +168,7 @@ module _ {K X : Type 0} (seen : X → Version K) (cmp : K → K → Ordering) wh
         room = room;
       })
 
-  module _ {A : Type 0} (f : A → Step X) (steps : List A) (s : A) (number : ℕ) (long : number ≡ length steps) where
+  module _ {A : Type 0} (f : A → RunStep X) (steps : List A) (s : A) (number : ℕ) (long : number ≡ length steps) where
     taken_back : take number (steps ++ s ∷ []) ≡ steps
     taken_back = ap (λ n. take n (steps ++ s ∷ [])) long ∙ take_front steps (s ∷ [])
 

@@ -10,12 +10,12 @@ use Rattle.am_version_order.specs.Versions.{Version, is_below}
 use Rattle.am_version_order.proofs.Ranks.{below_up, below-updated}
 use Rattle.am_merge.proofs.Keys.{IsKeyOrder}
 use Rattle.am_collect.specs.Events.{Events, taken, collections, last_moment}
-use Rattle.am_collect.specs.Events.Event.{Delivered, Collected, Passed}
+use Rattle.am_collect.specs.Events.MapEvent.{Delivered, Collected, Passed}
 use Rattle.am_collect.specs.Calm.{IsCalm, IsInTime}
 use Rattle.am_runs.specs.declared.step.Source.{Source}
 use Rattle.am_runs.specs.declared.step.Source.TheVariants.{Made, Written, Arrived, Lent}
-use Rattle.am_runs.specs.Steps.{Step, EachStep, SentFrame, moment, clock_after, clock_from, delivered_by, delivered_in, flights_by, flights_of, is_at, is_back_at}
-use Rattle.am_runs.specs.Steps.Step.{Took, Ticked, Back, Refused, Saved, Stopped, Started}
+use Rattle.am_runs.specs.Steps.{RunStep, EachStep, SentFrame, moment, clock_after, clock_from, delivered_by, delivered_in, flights_by, flights_of, is_at, is_back_at}
+use Rattle.am_runs.specs.Steps.RunStep.{Took, Ticked, Back, Refused, Saved, Stopped, Started}
 use Rattle.am_runs.specs.Members.{Member, passes, stepped, member_after, member_of, set_of, last_of, map_of}
 use Rattle.am_runs.specs.Runs.{IsPossible, IsRun, AreFrom, IsSent, IsCalmStep, IsCalmAt, changed}
 use Rattle.am_runs.specs.Timely.{IsTimely, IsSpread, IsSwift, IsSwiftFrom}
@@ -29,7 +29,7 @@ got_there : {A : Type 0} (xs : List A) (n : ℕ) (x : A) → slice_get xs n ≡ 
 got_there xs n x e = (n, slice_get_within xs n x e, get_or_from_slice_get xs n x x e)
 
 module _ {X : Type 0} where
-  clock_from-push : (clock : ℕ) (before : List (Step X)) (s : Step X) → clock_from clock (before ++ s ∷ []) ≡ clock_after (clock_from clock before) (moment s)
+  clock_from-push : (clock : ℕ) (before : List (RunStep X)) (s : RunStep X) → clock_from clock (before ++ s ∷ []) ≡ clock_after (clock_from clock before) (moment s)
   clock_from-push clock [] s = refl
   clock_from-push clock (t ∷ before) s = clock_from-push (clock_after clock (moment t)) before s
 
@@ -56,7 +56,7 @@ module _ {K X : Type 0} (seen : X → Version K) (cmp : K → K → Ordering) (k
     pub past : f.sent ≤ clock
     pub unbeaten : (v : X) → Contains f.versions v → (g : X) → Contains all g → (seen g).key ≡ (seen v).key → is_below (seen v) (seen g) ≡ true → (seen g).updated + spread ≤ f.sent → (seen v).expires ≤ f.sent
 
-  pub record IsGood (before : List (Step X)) : Type 0 where
+  pub record IsGood (before : List (RunStep X)) : Type 0 where
     pub each_member : (q : ℕ) → IsGoodMember (clock_from 0 before) (member_of members q before)
     pub flights : (f : SentFrame X) → Contains (flights_of before) f → IsGoodFlight (clock_from 0 before) f
 
@@ -82,7 +82,7 @@ module _ {K X : Type 0} (seen : X → Version K) (cmp : K → K → Ordering) (k
     ]
 
   -- a member after a step, where all that it delivers is safe
-  member_next : (m : Member X) (clock : ℕ) (s : Step X) → IsGoodMember clock m → IfSome (moment s) (λ now. clock ≤ now) → ((v : X) → Contains (delivered_by s) v → Contains all v) → IfSome (moment s) (λ now. (v : X) → Contains (delivered_by s) v → IsSafe now v) → IsGoodMember (clock_after clock (moment s)) (stepped m s)
+  member_next : (m : Member X) (clock : ℕ) (s : RunStep X) → IsGoodMember clock m → IfSome (moment s) (λ now. clock ≤ now) → ((v : X) → Contains (delivered_by s) v → Contains all v) → IfSome (moment s) (λ now. (v : X) → Contains (delivered_by s) v → IsSafe now v) → IsGoodMember (clock_after clock (moment s)) (stepped m s)
   member_next m clock (Took place now source versions frames) h on known safe =
       let past : last_of m ≤ clock = h.past in
       let last = last-passes m.past now versions in
@@ -116,7 +116,7 @@ module _ {K X : Type 0} (seen : X → Version K) (cmp : K → K → Ordering) (k
   member_where false clock m n h k = h
 
   -- what a step delivers is safe, wherever it comes from
-  module _ (before : List (Step X)) (good : IsGood before) (now : ℕ) (onward : clock_from 0 before ≤ now) (spreads : IsSpread seen spread members all before now) where
+  module _ (before : List (RunStep X)) (good : IsGood before) (now : ℕ) (onward : clock_from 0 before ≤ now) (spreads : IsSpread seen spread members all before now) where
     safe_made : (v : X) → (seen v).updated ≡ now → IsSafe now v
     safe_made v made g has same below dead =
         let up : (seen v).updated ≤ (seen g).updated = below-updated (seen v) (seen g) below in
@@ -186,14 +186,14 @@ module _ {K X : Type 0} (seen : X → Version K) (cmp : K → K → Ordering) (k
           omega (arith, gone, last)
 
   -- the moment of a step, and what holds when it begins
-  pub record HasBegun (before : List (Step X)) (s : Step X) : Type 0 where
+  pub record HasBegun (before : List (RunStep X)) (s : RunStep X) : Type 0 where
     pub can : IsPossible seen cmp members before s
     pub known : (v : X) → Contains (delivered_by s) v → Contains all v
     pub onward : IfSome (moment s) (λ now. clock_from 0 before ≤ now)
     pub swift : IsSwift flight before s
     pub spreads : IfSome (moment s) (IsSpread seen spread members all before)
 
-  safe_step : (before : List (Step X)) (s : Step X) → IsGood before → HasBegun before s → IfSome (moment s) (λ now. (v : X) → Contains (delivered_by s) v → IsSafe now v)
+  safe_step : (before : List (RunStep X)) (s : RunStep X) → IsGood before → HasBegun before s → IfSome (moment s) (λ now. (v : X) → Contains (delivered_by s) v → IsSafe now v)
   safe_step before (Took place now source versions frames) good b = safe_from before good now b.onward b.spreads source versions b.can.from b.swift
   safe_step before (Ticked place now) good b = λ v c. absurd (empty v c)
   safe_step before (Back place now) good b = λ v c. absurd (empty v c)
@@ -202,7 +202,7 @@ module _ {K X : Type 0} (seen : X → Version K) (cmp : K → K → Ordering) (k
   safe_step before (Stopped place) good b = tt
   safe_step before (Started place now) good b = λ v c. absurd (empty v c)
 
-  member_step : (before : List (Step X)) (s : Step X) (q : ℕ) → IsGood before → HasBegun before s → IsGoodMember (clock_after (clock_from 0 before) (moment s)) (member_after q (member_of members q before) s)
+  member_step : (before : List (RunStep X)) (s : RunStep X) (q : ℕ) → IsGood before → HasBegun before s → IsGoodMember (clock_after (clock_from 0 before) (moment s)) (member_after q (member_of members q before) s)
   member_step before s q good b =
       let m = member_of members q before in
       let clock = clock_from 0 before in
@@ -210,10 +210,10 @@ module _ {K X : Type 0} (seen : X → Version K) (cmp : K → K → Ordering) (k
       (member_next m clock s (good.each_member q) b.onward b.known (safe_step before s good b))
 
   -- what a member that acts has done is calm
-  took_calm : (before : List (Step X)) (place now : ℕ) (source : Source) (versions : List X) (frames : List (List X)) → IsGood before → HasBegun before (Took place now source versions frames) → IsCalm seen [] 0 ((member_of members place before).past ++ passes now versions)
+  took_calm : (before : List (RunStep X)) (place now : ℕ) (source : Source) (versions : List X) (frames : List (List X)) → IsGood before → HasBegun before (Took place now source versions frames) → IsCalm seen [] 0 ((member_of members place before).past ++ passes now versions)
   took_calm before place now source versions frames good b = (member_next (member_of members place before) (clock_from 0 before) (Took place now source versions frames) (good.each_member place) b.onward b.known (safe_step before (Took place now source versions frames) good b)).fit.past
 
-  flight_new : (before : List (Step X)) (s : Step X) → IsGood before → HasBegun before s → (f : SentFrame X) → Contains (flights_by s) f → IsGoodFlight (clock_after (clock_from 0 before) (moment s)) f
+  flight_new : (before : List (RunStep X)) (s : RunStep X) → IsGood before → HasBegun before s → (f : SentFrame X) → Contains (flights_by s) f → IsGoodFlight (clock_after (clock_from 0 before) (moment s)) f
   flight_new before (Took place now source versions frames) good b f c =
       let r = flown now frames f c in
       subst (IsGoodFlight now) r.2
@@ -225,7 +225,7 @@ module _ {K X : Type 0} (seen : X → Version K) (cmp : K → K → Ordering) (k
   flight_new before (Stopped place) good b f c = absurd (empty f c)
   flight_new before (Started place now) good b f c = absurd (empty f c)
 
-  pub good_step : (before : List (Step X)) (s : Step X) → IsGood before → HasBegun before s → IsGood (before ++ s ∷ [])
+  pub good_step : (before : List (RunStep X)) (s : RunStep X) → IsGood before → HasBegun before s → IsGood (before ++ s ∷ [])
   good_step before s good b =
       let clock = clock_from 0 before in
       let on = clock_on clock (moment s) b.onward in
@@ -237,7 +237,7 @@ module _ {K X : Type 0} (seen : X → Version K) (cmp : K → K → Ordering) (k
         ]);
       }
 
-  never_back : (before : List (Step X)) (s : Step X) (q : ℕ) → IsGood before → HasBegun before s → is_back_at q s ≡ false
+  never_back : (before : List (RunStep X)) (s : RunStep X) (q : ℕ) → IsGood before → HasBegun before s → is_back_at q s ≡ false
   never_back before (Took place now source versions frames) q good b = refl
   never_back before (Ticked place now) q good b = refl
   never_back before (Back place now) q good b =
@@ -250,7 +250,7 @@ module _ {K X : Type 0} (seen : X → Version K) (cmp : K → K → Ordering) (k
   never_back before (Stopped place) q good b = refl
   never_back before (Started place now) q good b = refl
 
-  pub calm_step : (before : List (Step X)) (s : Step X) (q : ℕ) → IsGood before → HasBegun before s → IsCalmStep seen members q before s
+  pub calm_step : (before : List (RunStep X)) (s : RunStep X) (q : ℕ) → IsGood before → HasBegun before s → IsCalmStep seen members q before s
   calm_step before s q good b = record { past = ((good_step before s good b).each_member q).fit.past; forward = never_back before s q good b }
 
   good_begin : IsGood []
@@ -260,13 +260,13 @@ module _ {K X : Type 0} (seen : X → Version K) (cmp : K → K → Ordering) (k
   }
 
   -- of a run in which each step begins so
-  pub good_upto : (steps : List (Step X)) → EachStep steps HasBegun → (before rest : List (Step X)) → before ++ rest ≡ steps → IsGood before
+  pub good_upto : (steps : List (RunStep X)) → EachStep steps HasBegun → (before rest : List (RunStep X)) → before ++ rest ≡ steps → IsGood before
   good_upto steps begun before rest e = carried IsGood steps [] before rest e (λ b s after d good. good_step b s good (begun b s after d)) good_begin
 
 -- ---- a timely run
 
-module _ {K X : Type 0} (seen : X → Version K) (cmp : K → K → Ordering) (keys : IsKeyOrder cmp) (spread flight members : ℕ) (steps : List (Step X)) (positive : 0 < spread) (run : IsRun seen cmp members steps) (timely : IsTimely seen spread flight members steps) where
-  delivered_there : (before : List (Step X)) (s : Step X) (rest : List (Step X)) → before ++ s ∷ rest ≡ steps → (v : X) → Contains (delivered_by s) v → Contains (delivered_in steps) v
+module _ {K X : Type 0} (seen : X → Version K) (cmp : K → K → Ordering) (keys : IsKeyOrder cmp) (spread flight members : ℕ) (steps : List (RunStep X)) (positive : 0 < spread) (run : IsRun seen cmp members steps) (timely : IsTimely seen spread flight members steps) where
+  delivered_there : (before : List (RunStep X)) (s : RunStep X) (rest : List (RunStep X)) → before ++ s ∷ rest ≡ steps → (v : X) → Contains (delivered_by s) v → Contains (delivered_in steps) v
   delivered_there before s rest e v c =
       subst (λ ss. Contains (delivered_in ss) v) e
       (subst (λ vs. Contains vs v) (sym (flat_map-append delivered_by before (s ∷ rest)))
@@ -281,7 +281,7 @@ module _ {K X : Type 0} (seen : X → Version K) (cmp : K → K → Ordering) (k
     spreads = timely.caught_up before s rest e;
   }
 
-  pub good_at : (before rest : List (Step X)) → before ++ rest ≡ steps → IsGood seen cmp keys members spread flight (delivered_in steps) positive timely.lasting before
+  pub good_at : (before rest : List (RunStep X)) → before ++ rest ≡ steps → IsGood seen cmp keys members spread flight (delivered_in steps) positive timely.lasting before
   good_at before rest e = good_upto seen cmp keys members spread flight (delivered_in steps) positive timely.lasting steps begun before rest e
 
   pub timely_calm : (place : ℕ) → IsCalmAt seen members place steps

@@ -7,8 +7,8 @@ use Rattle.std.proofs.lemmas.List.Elements.{All-push, All-weaker, All-nil, All-c
 use Rattle.am_version_order.specs.Versions.{Version}
 use Rattle.am_merge.proofs.Keys.{IsKeyOrder}
 use Rattle.am_collect.specs.Events.{taken, collections}
-use Rattle.am_runs.specs.Steps.{Step, is_at}
-use Rattle.am_runs.specs.Steps.Step.{Took, Ticked, Back, Refused, Saved, Stopped, Started}
+use Rattle.am_runs.specs.Steps.{RunStep, is_at}
+use Rattle.am_runs.specs.Steps.RunStep.{Took, Ticked, Back, Refused, Saved, Stopped, Started}
 use Rattle.am_runs.specs.Members.{Member, stepped, member_after, member_from, member_of}
 use Rattle.am_runs.specs.Tests.{Tops, Lasts, later, lasted, lasts_after, lasts_from, last_in, topped, tops_after, tops_from, top_in, top_among}
 use Rattle.am_runs.proofs.Pasts.{taken-passes, taken-tick, taken-pass, collections-passes, collections-tick, collections-pass}
@@ -45,7 +45,7 @@ module _ {K X : Type 0} (seen : X → Version K) (cmp : K → K → Ordering) (k
     pub last : IsLast lasts.last (collections m.past)
     pub saved_last : IsLast lasts.saved (collections m.saved)
 
-  known_stepped : (m : Member X) (tops : Tops X) (lasts : Lasts) (step : Step X) → IsKnown m tops lasts → IsKnown (stepped m step) (topped seen cmp key tops step) (lasted lasts step)
+  known_stepped : (m : Member X) (tops : Tops X) (lasts : Lasts) (step : RunStep X) → IsKnown m tops lasts → IsKnown (stepped m step) (topped seen cmp key tops step) (lasted lasts step)
   known_stepped m tops lasts (Took place now source versions frames) k = record {
     top = subst (λ set. IsTop seen set key (top_among seen cmp key tops.top versions)) (sym (taken-passes m.past now versions)) (top_all seen cmp keys (taken [] m.past) key tops.top versions k.top);
     saved_top = k.saved_top;
@@ -73,7 +73,7 @@ module _ {K X : Type 0} (seen : X → Version K) (cmp : K → K → Ordering) (k
   known_where true m n tops others lasts ends k j = j
   known_where false m n tops others lasts ends k j = k
 
-  known_from : (q : ℕ) (m : Member X) (tops : Tops X) (lasts : Lasts) (steps : List (Step X)) → IsKnown m tops lasts → IsKnown (member_from q m steps) (tops_from seen cmp q key tops steps) (lasts_from q lasts steps)
+  known_from : (q : ℕ) (m : Member X) (tops : Tops X) (lasts : Lasts) (steps : List (RunStep X)) → IsKnown m tops lasts → IsKnown (member_from q m steps) (tops_from seen cmp q key tops steps) (lasts_from q lasts steps)
   known_from q m tops lasts [] k = k
   known_from q m tops lasts (step ∷ steps) k =
       known_from q (member_after q m step) (tops_after seen cmp q key tops step) (lasts_after q lasts step) steps
@@ -86,7 +86,7 @@ module _ {K X : Type 0} (seen : X → Version K) (cmp : K → K → Ordering) (k
   none_ends m = (λ e. All-nil (λ n. n < m), λ all. refl)
 
   -- what is known of a member of a run
-  pub known_of : (members q : ℕ) (steps : List (Step X)) → IsTop seen (taken [] (member_of members q steps).past) key (top_in seen cmp q key steps) × IsLast (last_in q steps) (collections (member_of members q steps).past)
+  pub known_of : (members q : ℕ) (steps : List (RunStep X)) → IsTop seen (taken [] (member_of members q steps).past) key (top_in seen cmp q key steps) × IsLast (last_in q steps) (collections (member_of members q steps).past)
   known_of members q steps =
       let k = known_from q _ (record { top = None; saved = None }) (record { last = None; saved = None }) steps (record { top = none_there; saved_top = none_there; last = none_ends; saved_last = none_ends }) in
       (k.top, k.last)

@@ -4,7 +4,7 @@ use Rattle.std.specs.Prelude.{All, Contains}
 use Rattle.std.proofs.lemmas.Grind.{flat_map-append}
 use Rattle.std.proofs.lemmas.List.{take_more, take_all, map-append}
 use Rattle.std.proofs.lemmas.List.Elements.{All-append, All-contains, All-contains_itself, All-push, All-weaker, Contains-append_left, Contains-append_right}
-use Rattle.am_runs.specs.Steps.{Step, delivered_by, delivered_in}
+use Rattle.am_runs.specs.Steps.{RunStep, delivered_by, delivered_in}
 use Rattle.am_runs.proofs.Cuts.{cut_at}
 use Rattle.am_runs.proofs.Pasts.{delivered_in-push}
 
@@ -27,7 +27,7 @@ module _ {X : Type 0} (P : X → Type 0) where
   all_done xs n past all = subst (All P) (take_all n xs past) all
 
 -- of what steps delivered, where the steps are images
-module _ {A X : Type 0} (f : A → Step X) (P : X → Type 0) where
+module _ {A X : Type 0} (f : A → RunStep X) (P : X → Type 0) where
   pub delivered_more : (steps : List A) (n : ℕ) (s : A) → n < length steps → s ≡ get_or steps n s → All P (delivered_in (map f (take n steps))) → All P (delivered_by (f s)) → All P (delivered_in (map f (take (n + 1) steps)))
   delivered_more steps n s within is all here =
       let more : take (n + 1) steps ≡ take n steps ++ s ∷ [] = take_more steps n s within ∙ ap (λ y. take n steps ++ y ∷ []) (sym is) in

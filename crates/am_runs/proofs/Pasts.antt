@@ -3,25 +3,25 @@ use Rattle.std.proofs.Common.{◌≡◌, ℕ, List, [], ◌∷◌, ◌++◌, Opt
 use Rattle.std.specs.declared.cmp.Ordering.{Ordering}
 use Rattle.std.proofs.lemmas.Grind.{flat_map-append}
 use Rattle.am_version_order.specs.Versions.{Version}
-use Rattle.am_collect.specs.Events.{Event, Events, taken, delivered, collections, collected, last_moment, after, after_all}
-use Rattle.am_collect.specs.Events.Event.{Delivered, Collected, Passed}
+use Rattle.am_collect.specs.Events.{MapEvent, Events, taken, delivered, collections, collected, last_moment, after, after_all}
+use Rattle.am_collect.specs.Events.MapEvent.{Delivered, Collected, Passed}
 use Rattle.am_collect.proofs.Histories.{last_moment-append}
-use Rattle.am_runs.specs.Steps.{Step, delivered_by, delivered_in, flights_by, flights_of}
+use Rattle.am_runs.specs.Steps.{RunStep, delivered_by, delivered_in, flights_by, flights_of}
 use Rattle.am_runs.specs.Members.{Member, passes, member_after, member_from, member_of, map_of}
 
 module _ {X : Type 0} where
-  pub member_from-append : (q : ℕ) (m : Member X) (before steps : List (Step X)) → member_from q m (before ++ steps) ≡ member_from q (member_from q m before) steps
+  pub member_from-append : (q : ℕ) (m : Member X) (before steps : List (RunStep X)) → member_from q m (before ++ steps) ≡ member_from q (member_from q m before) steps
   member_from-append q m [] steps = refl
   member_from-append q m (s ∷ before) steps = member_from-append q (member_after q m s) before steps
 
   -- a member after one step more
-  pub member_of-push : (members q : ℕ) (before : List (Step X)) (s : Step X) → member_of members q (before ++ s ∷ []) ≡ member_after q (member_of members q before) s
+  pub member_of-push : (members q : ℕ) (before : List (RunStep X)) (s : RunStep X) → member_of members q (before ++ s ∷ []) ≡ member_after q (member_of members q before) s
   member_of-push members q before s = member_from-append q _ before (s ∷ [])
 
-  pub delivered_in-push : (before : List (Step X)) (s : Step X) → delivered_in (before ++ s ∷ []) ≡ delivered_in before ++ delivered_by s
+  pub delivered_in-push : (before : List (RunStep X)) (s : RunStep X) → delivered_in (before ++ s ∷ []) ≡ delivered_in before ++ delivered_by s
   delivered_in-push before s = flat_map-append delivered_by before (s ∷ []) ∙ ap (λ vs. delivered_in before ++ vs) (append-nil (delivered_by s))
 
-  pub flights_of-push : (before : List (Step X)) (s : Step X) → flights_of (before ++ s ∷ []) ≡ flights_of before ++ flights_by s
+  pub flights_of-push : (before : List (RunStep X)) (s : RunStep X) → flights_of (before ++ s ∷ []) ≡ flights_of before ++ flights_by s
   flights_of-push before s = flat_map-append flights_by before (s ∷ []) ∙ ap (λ fs. flights_of before ++ fs) (append-nil (flights_by s))
 
   -- the set of events after others
@@ -42,13 +42,13 @@ module _ {X : Type 0} where
   pub last-passes : (past : Events X) (now : ℕ) (vs : List X) → last_moment 0 (past ++ passes now vs) ≡ now
   last-passes past now vs = last_moment-append 0 past (passes now vs) ∙ last-deliveries now vs
 
-  pub last-one : (past : Events X) (e : Event X) (now : ℕ) → last_moment 0 (past ++ (e, now) ∷ []) ≡ now
+  pub last-one : (past : Events X) (e : MapEvent X) (now : ℕ) → last_moment 0 (past ++ (e, now) ∷ []) ≡ now
   last-one past e now = last_moment-append 0 past ((e, now) ∷ [])
 
   collections-append : (past events : Events X) → collections (past ++ events) ≡ collections past ++ collections events
   collections-append past events = flat_map-append (λ e. collected e.0 e.1) past events
 
-  pub collections-push : (past : Events X) (e : Event X × ℕ) → collections (past ++ e ∷ []) ≡ collections past ++ collected e.0 e.1
+  pub collections-push : (past : Events X) (e : MapEvent X × ℕ) → collections (past ++ e ∷ []) ≡ collections past ++ collected e.0 e.1
   collections-push past e = collections-append past (e ∷ []) ∙ ap (λ ms. collections past ++ ms) (append-nil (collected e.0 e.1))
 
   collections-deliveries : (now : ℕ) (vs : List X) → collections (map (λ v. (Delivered v, now)) vs) ≡ []

@@ -10,7 +10,7 @@ use Rattle.am_merge.specs.Maps.{greater_of, at, IsMap}
 use Rattle.am_merge.proofs.Keys.{IsKeyOrder, same_key, at-above}
 use Rattle.am_collect.proofs.Greatest.{second_taken, first_kept}
 use Rattle.am_collect.specs.Events.{Events, after, after_all}
-use Rattle.am_collect.specs.Events.Event.{Delivered}
+use Rattle.am_collect.specs.Events.MapEvent.{Delivered}
 use Rattle.am_runs.specs.Members.{passes, map_of}
 use Rattle.am_runs.specs.Settles.{join_of}
 use Rattle.am_runs.proofs.Pasts.{map_of-append}

@@ -12,8 +12,8 @@ use Rattle.am_version_order.specs.Versions.{Version, is_below}
 use Rattle.am_merge.proofs.Keys.{IsKeyOrder, eq_itself, same_key}
 use Rattle.am_collect.specs.Events.{taken}
 use Rattle.am_runs.specs.declared.step.Source.TheVariants.{Made, Written, Arrived, Lent}
-use Rattle.am_runs.specs.Steps.{Step, EachStep, SentFrame, moment, clock_after, clock_from, delivered_in, flights_by, flights_of, is_at}
-use Rattle.am_runs.specs.Steps.Step.{Took, Ticked, Back, Refused, Saved, Stopped, Started}
+use Rattle.am_runs.specs.Steps.{RunStep, EachStep, SentFrame, moment, clock_after, clock_from, delivered_in, flights_by, flights_of, is_at}
+use Rattle.am_runs.specs.Steps.RunStep.{Took, Ticked, Back, Refused, Saved, Stopped, Started}
 use Rattle.am_runs.specs.Members.{Member, stepped, member_after, member_from, member_of, set_of}
 use Rattle.am_runs.specs.Runs.{IsPossible, IsRun}
 use Rattle.am_runs.specs.Timely.{IsSwift, HasCaughtUp, IsSpread, IsTimely}
@@ -54,16 +54,16 @@ onward_from clock None h = refl
 onward_from clock (Some now) h = le-leb clock now h
 
 module _ {X : Type 0} where
-  abbrev OnwardFrom : ℕ → List (Step X) → Step X → Type 0
+  abbrev OnwardFrom : ℕ → List (RunStep X) → RunStep X → Type 0
   OnwardFrom clock before step = IfSome (moment step) (λ now. clock_from clock before ≤ now)
 
-  pub to_onward : (clock : ℕ) (steps : List (Step X)) → are_monotone clock steps ≡ true → EachStep steps (OnwardFrom clock)
+  pub to_onward : (clock : ℕ) (steps : List (RunStep X)) → are_monotone clock steps ≡ true → EachStep steps (OnwardFrom clock)
   to_onward clock [] e = each_nil (OnwardFrom clock)
   to_onward clock (s ∷ steps) e =
       let both = and_parts (is_monotone clock (moment s)) (are_monotone (clock_after clock (moment s)) steps) e in
       each_cons (OnwardFrom clock) s steps (onward_to clock (moment s) both.0) (to_onward (clock_after clock (moment s)) steps both.1)
 
-  pub from_onward : (clock : ℕ) (steps : List (Step X)) → EachStep steps (OnwardFrom clock) → are_monotone clock steps ≡ true
+  pub from_onward : (clock : ℕ) (steps : List (RunStep X)) → EachStep steps (OnwardFrom clock) → are_monotone clock steps ≡ true
   from_onward clock [] each = refl
   from_onward clock (s ∷ steps) each =
       and_from (is_monotone clock (moment s)) (are_monotone (clock_after clock (moment s)) steps) (onward_from clock (moment s) (each [] s steps refl))
@@ -91,7 +91,7 @@ module _ {X : Type 0} where
   flights_long now [] = refl
   flights_long now (frame ∷ frames) = let same = flights_long now frames in omega (arith, same)
 
-  sent_here : (s : Step X) (n : ℕ) → n < length (flights_by s) → moment s ≡ option_map (λ (f : SentFrame X). f.sent) (slice_get (flights_by s) n)
+  sent_here : (s : RunStep X) (n : ℕ) → n < length (flights_by s) → moment s ≡ option_map (λ (f : SentFrame X). f.sent) (slice_get (flights_by s) n)
   sent_here (Took place now source versions frames) n within = let same = flights_long now frames in sent_now now frames n (omega (arith, same, within))
   sent_here (Ticked place now) n within = absurd (omega arith)
   sent_here (Back place now) n within = absurd (omega arith)
@@ -100,7 +100,7 @@ module _ {X : Type 0} where
   sent_here (Stopped place) n within = absurd (omega arith)
   sent_here (Started place now) n within = absurd (omega arith)
 
-  sent_told : (steps : List (Step X)) (n : ℕ) → sent_in n steps ≡ option_map (λ (f : SentFrame X). f.sent) (slice_get (flights_of steps) n)
+  sent_told : (steps : List (RunStep X)) (n : ℕ) → sent_in n steps ≡ option_map (λ (f : SentFrame X). f.sent) (slice_get (flights_of steps) n)
   sent_told [] n = refl
   sent_told (s ∷ steps) n = by (ltb n (length (flights_by s))) refl (λ m. sent_told steps m) where
     by : (b : Bool) → ltb n (length (flights_by s)) ≡ b → ((m : ℕ) → sent_in m steps ≡ option_map (λ (f : SentFrame X). f.sent) (slice_get (flights_of steps) m)) → cond b (moment s) (sent_in (n - length (flights_by s)) steps) ≡ option_map (λ (f : SentFrame X). f.sent) (slice_get (flights_by s ++ flights_of steps) n)
@@ -108,7 +108,7 @@ module _ {X : Type 0} where
     by false e later = later (n - length (flights_by s)) ∙ ap (option_map (λ (f : SentFrame X). f.sent)) (sym (get_right (flights_by s) (flights_of steps) n (ltb-false n (length (flights_by s)) e)))
 
   -- a frame that is in flight is the same one in the whole run
-  same_flight : (before rest : List (Step X)) (s : Step X) (steps : List (Step X)) (n : ℕ) (f : SentFrame X) → before ++ s ∷ rest ≡ steps → slice_get (flights_of before) n ≡ Some f → sent_in n steps ≡ Some f.sent
+  same_flight : (before rest : List (RunStep X)) (s : RunStep X) (steps : List (RunStep X)) (n : ℕ) (f : SentFrame X) → before ++ s ∷ rest ≡ steps → slice_get (flights_of before) n ≡ Some f → sent_in n steps ≡ Some f.sent
   same_flight before rest s steps n f e found =
       let within : n < length (flights_of before) = slice_get_within (flights_of before) n f found in
       let whole : flights_of steps ≡ flights_of before ++ flights_of (s ∷ rest) = ap flights_of (sym e) ∙ flat_map-append flights_by before (s ∷ rest) in
@@ -120,7 +120,7 @@ module _ {K X : Type 0} (seen : X → Version K) (cmp : K → K → Ordering) (m
   swift_arrived now None told same P is = absurd is
   swift_arrived now (Some f) told same P is = let e = same f refl in (λ t. leb-true now (f.sent + flight) (subst (λ o. flies_short flight now o ≡ true) e t), λ h. subst (λ o. flies_short flight now o ≡ true) (sym e) (le-leb now (f.sent + flight) h))
 
-  swift_one : (before : List (Step X)) (s : Step X) (rest steps : List (Step X)) → before ++ s ∷ rest ≡ steps → IsPossible seen cmp members before s → (is_swift flight steps s ≡ true) ↔ IsSwift flight before s
+  swift_one : (before : List (RunStep X)) (s : RunStep X) (rest steps : List (RunStep X)) → before ++ s ∷ rest ≡ steps → IsPossible seen cmp members before s → (is_swift flight steps s ≡ true) ↔ IsSwift flight before s
   swift_one before (Took place now Made versions frames) rest steps e can = (λ t. tt, λ h. refl)
   swift_one before (Took place now (Written sent) versions frames) rest steps e can = (leb-true now (sent + flight), le-leb now (sent + flight))
   swift_one before (Took place now (Arrived number) versions frames) rest steps e can = swift_arrived now (slice_get (flights_of before) number) (sent_in number steps) (λ f found. same_flight before rest (Took place now (Arrived number) versions frames) steps number f e found) _ can.from
@@ -132,10 +132,10 @@ module _ {K X : Type 0} (seen : X → Version K) (cmp : K → K → Ordering) (m
   swift_one before (Stopped place) rest steps e can = (λ t. tt, λ h. refl)
   swift_one before (Started place now) rest steps e can = (λ t. tt, λ h. refl)
 
-  pub to_swift : (steps : List (Step X)) → IsRun seen cmp members steps → list_all (is_swift flight steps) steps ≡ true → EachStep steps (IsSwift flight)
+  pub to_swift : (steps : List (RunStep X)) → IsRun seen cmp members steps → list_all (is_swift flight steps) steps ≡ true → EachStep steps (IsSwift flight)
   to_swift steps run test before s rest e = (swift_one before s rest steps e (run before s rest e)).0 (to_each (is_swift flight steps) steps test before s rest e)
 
-  pub from_swift : (steps : List (Step X)) → IsRun seen cmp members steps → EachStep steps (IsSwift flight) → list_all (is_swift flight steps) steps ≡ true
+  pub from_swift : (steps : List (RunStep X)) → IsRun seen cmp members steps → EachStep steps (IsSwift flight) → list_all (is_swift flight steps) steps ≡ true
   from_swift steps run each = from_each (is_swift flight steps) steps (λ before s rest e. (swift_one before s rest steps e (run before s rest e)).1 (each before s rest e))
 
 -- ---- spread
@@ -200,7 +200,7 @@ module _ {K X : Type 0} (seen : X → Version K) where
       λ h. elim (caught_cases set versions v h) [ inl old ↦ or_left has (list_any (counts_for seen cmp v) versions) (told.1 old) | inr new ↦ or_right has (list_any (counts_for seen cmp v) versions) (from_caught v versions new) ],
     )
 
-    tells_stepped : (v : X) (w : Watched) (m : Member X) (s : Step X) → Tells v w m → Tells v (watched seen cmp v w s) (stepped m s)
+    tells_stepped : (v : X) (w : Watched) (m : Member X) (s : RunStep X) → Tells v w m → Tells v (watched seen cmp v w s) (stepped m s)
     tells_stepped v w m (Took place now source versions frames) t = record {
       runs = t.runs;
       has = subst (λ set. ((w.has || list_any (counts_for seen cmp v) versions) ≡ true) ↔ HasCaughtUp seen set v) (sym (taken-passes m.past now versions)) (tells_more v w.has (taken [] m.past) versions t.has);
@@ -241,17 +241,17 @@ module _ {K X : Type 0} (seen : X → Version K) where
           absurd (false≢true (sym (not-true w.has q.1) ∙ has))
       by false e = ap not e
 
-    abbrev ComeStep : ℕ → ℕ → X → Member X → List (Step X) → Step X → Type 0
+    abbrev ComeStep : ℕ → ℕ → X → Member X → List (RunStep X) → RunStep X → Type 0
     ComeStep q spread v m before s = IfSome (moment s) (HasCome spread v (member_from q m before))
 
-    pub to_come : (q spread : ℕ) (v : X) (w : Watched) (m : Member X) (steps : List (Step X)) → Tells v w m → comes seen cmp spread q v w steps ≡ true → EachStep steps (ComeStep q spread v m)
+    pub to_come : (q spread : ℕ) (v : X) (w : Watched) (m : Member X) (steps : List (RunStep X)) → Tells v w m → comes seen cmp spread q v w steps ≡ true → EachStep steps (ComeStep q spread v m)
     to_come q spread v w m [] t e = each_nil (ComeStep q spread v m)
     to_come q spread v w m (s ∷ steps) t e =
         let both = and_parts (not (is_wanting ((seen v).updated + spread) w (moment s))) (comes seen cmp spread q v (watch_after seen cmp q v w s) steps) e in
         each_cons (ComeStep q spread v m) s steps (come_to spread v w m (moment s) t both.0)
         (to_come q spread v (watch_after seen cmp q v w s) (member_after q m s) steps (tells_where v (is_at q s) w (watched seen cmp v w s) m (stepped m s) t (tells_stepped v w m s t)) both.1)
 
-    pub from_come : (q spread : ℕ) (v : X) (w : Watched) (m : Member X) (steps : List (Step X)) → Tells v w m → EachStep steps (ComeStep q spread v m) → comes seen cmp spread q v w steps ≡ true
+    pub from_come : (q spread : ℕ) (v : X) (w : Watched) (m : Member X) (steps : List (RunStep X)) → Tells v w m → EachStep steps (ComeStep q spread v m) → comes seen cmp spread q v w steps ≡ true
     from_come q spread v w m [] t each = refl
     from_come q spread v w m (s ∷ steps) t each =
         and_from (not (is_wanting ((seen v).updated + spread) w (moment s))) (comes seen cmp spread q v (watch_after seen cmp q v w s) steps)
@@ -267,13 +267,13 @@ module _ {K X : Type 0} (seen : X → Version K) where
     }
 
     -- in a run only members run
-    only_members : (members q : ℕ) (before : List (Step X)) (s : Step X) → IsPossible seen cmp members before s → ((member_of members q before).runs ≡ true → q < members) → (member_after q (member_of members q before) s).runs ≡ true → q < members
+    only_members : (members q : ℕ) (before : List (RunStep X)) (s : RunStep X) → IsPossible seen cmp members before s → ((member_of members q before).runs ≡ true → q < members) → (member_after q (member_of members q before) s).runs ≡ true → q < members
     only_members members q before s can old = by s can where
       where_runs : (b : Bool) (n : Member X) → (b ≡ true → n.runs ≡ true → q < members) → (cond b n (member_of members q before)).runs ≡ true → q < members
       where_runs true n new runs = new refl runs
       where_runs false n new runs = old runs
 
-      by : (s : Step X) → IsPossible seen cmp members before s → (member_after q (member_of members q before) s).runs ≡ true → q < members
+      by : (s : RunStep X) → IsPossible seen cmp members before s → (member_after q (member_of members q before) s).runs ≡ true → q < members
       by (Took place now source versions frames) can = where_runs (eqb place q) _ (λ same runs. old runs)
       by (Ticked place now) can = where_runs (eqb place q) _ (λ same runs. old runs)
       by (Back place now) can = where_runs (eqb place q) _ (λ same runs. old runs)
@@ -282,27 +282,27 @@ module _ {K X : Type 0} (seen : X → Version K) where
       by (Stopped place) can = where_runs (eqb place q) _ (λ same runs. absurd (false≢true runs))
       by (Started place now) can = where_runs (eqb place q) _ (λ same runs. subst (λ p. p < members) (eqb-true place q same) can.member)
 
-    pub runs_within : (members q : ℕ) (steps : List (Step X)) → IsRun seen cmp members steps → (before rest : List (Step X)) → before ++ rest ≡ steps → (member_of members q before).runs ≡ true → q < members
+    pub runs_within : (members q : ℕ) (steps : List (RunStep X)) → IsRun seen cmp members steps → (before rest : List (RunStep X)) → before ++ rest ≡ steps → (member_of members q before).runs ≡ true → q < members
     runs_within members q steps run before rest e =
-        let Q : List (Step X) → Type 0 = λ past. (member_of members q past).runs ≡ true → q < members in
+        let Q : List (RunStep X) → Type 0 = λ past. (member_of members q past).runs ≡ true → q < members in
         carried Q steps [] before rest e
         (λ b s after d old. λ runs. only_members members q b s (run b s after d) old (subst (λ m. m.runs ≡ true) (member_of-push members q b s) runs))
         (λ runs. ltb-true q members runs)
 
-    pub to_spread : (members spread : ℕ) (steps : List (Step X)) → IsRun seen cmp members steps → All (ComesToAll seen cmp spread members steps) (delivered_in steps) → EachStep steps (λ before s. IfSome (moment s) (IsSpread seen spread members (delivered_in steps) before))
+    pub to_spread : (members spread : ℕ) (steps : List (RunStep X)) → IsRun seen cmp members steps → All (ComesToAll seen cmp spread members steps) (delivered_in steps) → EachStep steps (λ before s. IfSome (moment s) (IsSpread seen spread members (delivered_in steps) before))
     to_spread members spread steps run all before s rest e =
         if_some (IsSpread seen spread members (delivered_in steps) before) (moment s) (λ now at v has old q runs.
         let within : q < members = runs_within members q steps run before (s ∷ rest) e runs in
         let come = to_come q spread v (record { runs = true; has = false; saved = false }) (record { past = []; saved = []; runs = ltb q members }) steps (tells_begin v members q within) (All-contains (ComesToAll seen cmp spread members steps) (delivered_in steps) v all has q within) in
         some_if (HasCome spread v (member_of members q before)) (moment s) now (come before s rest e) at old runs)
 
-    pub from_spread : (members spread : ℕ) (steps : List (Step X)) → EachStep steps (λ before s. IfSome (moment s) (IsSpread seen spread members (delivered_in steps) before)) → All (ComesToAll seen cmp spread members steps) (delivered_in steps)
+    pub from_spread : (members spread : ℕ) (steps : List (RunStep X)) → EachStep steps (λ before s. IfSome (moment s) (IsSpread seen spread members (delivered_in steps) before)) → All (ComesToAll seen cmp spread members steps) (delivered_in steps)
     from_spread members spread steps each = all_from (ComesToAll seen cmp spread members steps) (delivered_in steps) (λ v has q within.
         from_come q spread v (record { runs = true; has = false; saved = false }) (record { past = []; saved = []; runs = ltb q members }) steps (tells_begin v members q within)
         (λ before s rest e. if_some (HasCome spread v (member_of members q before)) (moment s) (λ now at old runs. some_if (IsSpread seen spread members (delivered_in steps) before) (moment s) now (each before s rest e) at v has old q runs)))
 
     -- all of it
-    pub timely_from : (spread flight members : ℕ) (steps : List (Step X)) → IsRun seen cmp members steps → are_monotone 0 steps ≡ true → All (λ v. ((seen v).updated + spread) + flight ≤ (seen v).expires) (delivered_in steps) → list_all (is_swift flight steps) steps ≡ true → All (ComesToAll seen cmp spread members steps) (delivered_in steps) → IsTimely seen spread flight members steps
+    pub timely_from : (spread flight members : ℕ) (steps : List (RunStep X)) → IsRun seen cmp members steps → are_monotone 0 steps ≡ true → All (λ v. ((seen v).updated + spread) + flight ≤ (seen v).expires) (delivered_in steps) → list_all (is_swift flight steps) steps ≡ true → All (ComesToAll seen cmp spread members steps) (delivered_in steps) → IsTimely seen spread flight members steps
     timely_from spread flight members steps run onward lasting swift comes = record {
       onward = to_onward 0 steps onward;
       lasting = lasting;

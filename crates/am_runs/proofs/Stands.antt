@@ -9,27 +9,27 @@ use Rattle.am_merge.proofs.Indexes.{some_is}
 use Rattle.am_runs.specs.declared.standing.Standing.{Standing}
 use Rattle.am_runs.specs.Records.{lasts_seen}
 use Rattle.am_runs.specs.Standings.{IsStanding, AreStandings, fault_after}
-use Rattle.am_runs.specs.Steps.{Step, EachStep, IsFirstWithout, is_at}
-use Rattle.am_runs.specs.Steps.Step.{Took, Ticked, Back, Refused, Saved, Stopped, Started}
+use Rattle.am_runs.specs.Steps.{RunStep, EachStep, IsFirstWithout, is_at}
+use Rattle.am_runs.specs.Steps.RunStep.{Took, Ticked, Back, Refused, Saved, Stopped, Started}
 use Rattle.am_runs.specs.Tests.{Lasts, acted, last_after, last_from, runs_after, runs_from, lasted, lasts_after, lasts_from, StaysCalm}
 use Rattle.am_runs.proofs.Cuts.{each_nil, each_push}
 use Rattle.am_runs.proofs.Spreads.{get_left, get_right}
 use Rattle.am_runs.proofs.Owners.{got_same, got_other}
 
-lasts_from-push : {X : Type 0} (q : ℕ) (l : Lasts) (before : List (Step X)) (s : Step X) → lasts_from q l (before ++ s ∷ []) ≡ lasts_after q (lasts_from q l before) s
+lasts_from-push : {X : Type 0} (q : ℕ) (l : Lasts) (before : List (RunStep X)) (s : RunStep X) → lasts_from q l (before ++ s ∷ []) ≡ lasts_after q (lasts_from q l before) s
 lasts_from-push q l [] s = refl
 lasts_from-push q l (t ∷ before) s = lasts_from-push q (lasts_after q l t) before s
 
-runs_from-push : {X : Type 0} (q : ℕ) (r : Bool) (before : List (Step X)) (s : Step X) → runs_from q r (before ++ s ∷ []) ≡ runs_after q (runs_from q r before) s
+runs_from-push : {X : Type 0} (q : ℕ) (r : Bool) (before : List (RunStep X)) (s : RunStep X) → runs_from q r (before ++ s ∷ []) ≡ runs_after q (runs_from q r before) s
 runs_from-push q r [] s = refl
 runs_from-push q r (t ∷ before) s = runs_from-push q (runs_after q r t) before s
 
-last_from-push : {X : Type 0} (q l : ℕ) (before : List (Step X)) (s : Step X) → last_from q l (before ++ s ∷ []) ≡ last_after q (last_from q l before) s
+last_from-push : {X : Type 0} (q l : ℕ) (before : List (RunStep X)) (s : RunStep X) → last_from q l (before ++ s ∷ []) ≡ last_after q (last_from q l before) s
 last_from-push q l [] s = refl
 last_from-push q l (t ∷ before) s = last_from-push q (last_after q l t) before s
 
 -- a step of another member leaves a member running or not
-apart_runs : {X : Type 0} (q : ℕ) (r : Bool) (s : Step X) → is_at q s ≡ false → runs_after q r s ≡ r
+apart_runs : {X : Type 0} (q : ℕ) (r : Bool) (s : RunStep X) → is_at q s ≡ false → runs_after q r s ≡ r
 apart_runs q r (Took place now source versions frames) apart = refl
 apart_runs q r (Ticked place now) apart = refl
 apart_runs q r (Back place now) apart = refl
@@ -62,7 +62,7 @@ fault_same (Some n) number = refl
 
 module _ {K X : Type 0} (seen : X → Version K) (cmp : K → K → Ordering) where
   -- a step of another member leaves a member calm
-  apart_stays : (q : ℕ) (before : List (Step X)) (s : Step X) → is_at q s ≡ false → StaysCalm seen cmp q before s
+  apart_stays : (q : ℕ) (before : List (RunStep X)) (s : RunStep X) → is_at q s ≡ false → StaysCalm seen cmp q before s
   apart_stays q before (Took place now source versions frames) apart = λ same. absurd (false≢true (sym apart ∙ same))
   apart_stays q before (Ticked place now) apart = tt
   apart_stays q before (Back place now) apart = apart
@@ -74,7 +74,7 @@ module _ {K X : Type 0} (seen : X → Version K) (cmp : K → K → Ordering) wh
   pub stands_none : AreStandings seen cmp [] []
   stands_none q standing there = absurd cc
 
-  stands_apart : (q : ℕ) (standing : Standing) (before : List (Step X)) (s : Step X) → is_at q s ≡ false → IsStanding seen cmp q standing before → IsStanding seen cmp q standing (before ++ s ∷ [])
+  stands_apart : (q : ℕ) (standing : Standing) (before : List (RunStep X)) (s : RunStep X) → is_at q s ≡ false → IsStanding seen cmp q standing before → IsStanding seen cmp q standing (before ++ s ∷ [])
   stands_apart q standing before s apart is =
       let P = StaysCalm seen cmp q in
       record {
@@ -84,7 +84,7 @@ module _ {K X : Type 0} (seen : X → Version K) (cmp : K → K → Ordering) wh
         fault = subst (λ f. MatchOption f (EachStep (before ++ s ∷ []) P) (IsFirstWithout (before ++ s ∷ []) P)) (fault_same standing.fault (length before)) (fault_more P standing.fault true before s (λ t. apart_stays q before s apart, λ h. refl) is.fault);
       }
 
-  stands_own : (q : ℕ) (standing new : Standing) (before : List (Step X)) (s : Step X) (stays : Bool) → new.runs ≡ runs_after q standing.runs s → new.acted ≡ last_after q standing.acted s → lasts_seen new.lasts ≡ lasts_after q (lasts_seen standing.lasts) s → new.fault ≡ fault_after standing.fault stays (length before) → (IsTrue stays ↔ StaysCalm seen cmp q before s) → IsStanding seen cmp q standing before → IsStanding seen cmp q new (before ++ s ∷ [])
+  stands_own : (q : ℕ) (standing new : Standing) (before : List (RunStep X)) (s : RunStep X) (stays : Bool) → new.runs ≡ runs_after q standing.runs s → new.acted ≡ last_after q standing.acted s → lasts_seen new.lasts ≡ lasts_after q (lasts_seen standing.lasts) s → new.fault ≡ fault_after standing.fault stays (length before) → (IsTrue stays ↔ StaysCalm seen cmp q before s) → IsStanding seen cmp q standing before → IsStanding seen cmp q new (before ++ s ∷ [])
   stands_own q standing new before s stays runs acted lasts fault told is = record {
     runs = runs ∙ ap (λ r. runs_after q r s) is.runs ∙ sym (runs_from-push q true before s);
     acted = acted ∙ ap (λ l. last_after q l s) is.acted ∙ sym (last_from-push q 0 before s);
@@ -93,11 +93,11 @@ module _ {K X : Type 0} (seen : X → Version K) (cmp : K → K → Ordering) wh
   }
 
   -- no step of one of these members
-  pub stands_kept : (standings : List Standing) (before : List (Step X)) (s : Step X) → ((q : ℕ) → q < length standings → is_at q s ≡ false) → AreStandings seen cmp standings before → AreStandings seen cmp standings (before ++ s ∷ [])
+  pub stands_kept : (standings : List Standing) (before : List (RunStep X)) (s : RunStep X) → ((q : ℕ) → q < length standings → is_at q s ≡ false) → AreStandings seen cmp standings before → AreStandings seen cmp standings (before ++ s ∷ [])
   stands_kept standings before s apart are q standing there = stands_apart q standing before s (apart q (slice_get_within standings q standing there)) (are q standing there)
 
   -- a step of this member
-  pub stands_noted : (standings : List Standing) (member : ℕ) (standing new : Standing) (before : List (Step X)) (s : Step X) (stays : Bool) → slice_get standings member ≡ Some standing → ((q : ℕ) → is_at q s ≡ eqb member q) → new.runs ≡ runs_after member standing.runs s → new.acted ≡ last_after member standing.acted s → lasts_seen new.lasts ≡ lasts_after member (lasts_seen standing.lasts) s → new.fault ≡ fault_after standing.fault stays (length before) → (IsTrue stays ↔ StaysCalm seen cmp member before s) → AreStandings seen cmp standings before → AreStandings seen cmp (slice_set standings member new) (before ++ s ∷ [])
+  pub stands_noted : (standings : List Standing) (member : ℕ) (standing new : Standing) (before : List (RunStep X)) (s : RunStep X) (stays : Bool) → slice_get standings member ≡ Some standing → ((q : ℕ) → is_at q s ≡ eqb member q) → new.runs ≡ runs_after member standing.runs s → new.acted ≡ last_after member standing.acted s → lasts_seen new.lasts ≡ lasts_after member (lasts_seen standing.lasts) s → new.fault ≡ fault_after standing.fault stays (length before) → (IsTrue stays ↔ StaysCalm seen cmp member before s) → AreStandings seen cmp standings before → AreStandings seen cmp (slice_set standings member new) (before ++ s ∷ [])
   stands_noted standings member standing new before s stays there at runs acted lasts fault told are q one is = elim (cases_eq q member) [
     | inl same ↦
         let put : new ≡ one = some_is (sym (got_same standings member new (slice_get_within standings member standing there)) ∙ ap (slice_get (slice_set standings member new)) (sym same) ∙ is) in

@@ -9,8 +9,8 @@ use Rattle.std.proofs.lemmas.List.{take_all, take_more}
 use Rattle.am_version_order.specs.Versions.{Version}
 use Rattle.am_runs.specs.Steps.{EachStep}
 use Rattle.am_runs.specs.declared.step.Source.{Source}
-use Rattle.am_runs.specs.Steps.{Step}
-use Rattle.am_runs.specs.Steps.Step.{Took}
+use Rattle.am_runs.specs.Steps.{RunStep}
+use Rattle.am_runs.specs.Steps.RunStep.{Took}
 use Rattle.am_runs.specs.Tests.{Tops, top_among, in_time, last_in, StaysCalm}
 use Rattle.am_runs.specs.Maxima.{raised_all, tops_in}
 use Rattle.am_runs.proofs.Cuts.{each_front, each_last, each_push}
@@ -32,7 +32,7 @@ module _ {K X : Type 0} (seen : X → Version K) (cmp : K → K → Ordering) wh
       )
 
   -- an event of a member
-  pub took_calm : (before : List (Step X)) (place now q : ℕ) (source : Source) (versions : List X) (frames : List (List X)) (result : Bool) (last : Option ℕ) → last ≡ last_in place before
+  pub took_calm : (before : List (RunStep X)) (place now q : ℕ) (source : Source) (versions : List X) (frames : List (List X)) (result : Bool) (last : Option ℕ) → last ≡ last_in place before
       → (IsTrue result ↔ EachStep versions (λ done v. in_time seen (top_among seen cmp (seen v).key (tops_in seen cmp before place (seen v).key).top done) last now v ≡ true))
       → eqb place q ≡ true → IsTrue result ↔ StaysCalm seen cmp q before (Took place now source versions frames)
   took_calm before place now q source versions frames result last is told same =

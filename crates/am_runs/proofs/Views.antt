@@ -8,8 +8,8 @@ use Rattle.am_version_order.specs.Versions.{Version, is_below, is_live}
 use Rattle.am_merge.specs.Maps.{greater_of, is_above, if_live, at}
 use Rattle.am_merge.specs.Views.{IsViewAt}
 use Rattle.am_merge.proofs.Keys.{IsKeyOrder, eq_itself}
-use Rattle.am_collect.specs.Events.{Event, Events, taken, collections, collected, last_moment, after}
-use Rattle.am_collect.specs.Events.Event.{Delivered, Collected, Passed}
+use Rattle.am_collect.specs.Events.{MapEvent, Events, taken, collections, collected, last_moment, after}
+use Rattle.am_collect.specs.Events.MapEvent.{Delivered, Collected, Passed}
 use Rattle.am_collect.specs.Calm.{IsCalm, IsCalmAt}
 use Rattle.am_collect.proofs.Greatest.{live_kept, second_taken}
 use Rattle.am_collect.proofs.Histories.{calm_shows, last_moment-append}
@@ -31,12 +31,12 @@ module _ {K X : Type 0} (seen : X → Version K) where
   collected_before past calm =
       let Q : Events X → Type 0 = λ events. (moment : ℕ) → Contains (collections events) moment → moment ≤ last_moment 0 events in
       carried Q past [] past [] (append-nil past) next (λ moment c. absurd (empty moment c)) where
-        next_one : (before : Events X) (e : Event X) (now : ℕ) → last_moment 0 before ≤ now → ((moment : ℕ) → Contains (collections before) moment → moment ≤ last_moment 0 before) → (moment : ℕ) → Contains (collections before ++ collected e now) moment → moment ≤ now
+        next_one : (before : Events X) (e : MapEvent X) (now : ℕ) → last_moment 0 before ≤ now → ((moment : ℕ) → Contains (collections before) moment → moment ≤ last_moment 0 before) → (moment : ℕ) → Contains (collections before ++ collected e now) moment → moment ≤ now
         next_one before (Delivered v) now forward old moment c = let bound : moment ≤ last_moment 0 before = old moment (subst (λ ms. Contains ms moment) (append-nil (collections before)) c) in omega arith
         next_one before Collected now forward old moment c = elim (Contains-push_cases (collections before) now moment c) [ inl there ↦ (let bound : moment ≤ last_moment 0 before = old moment there in omega arith) | inr here ↦ omega arith ]
         next_one before Passed now forward old moment c = let bound : moment ≤ last_moment 0 before = old moment (subst (λ ms. Contains ms moment) (append-nil (collections before)) c) in omega arith
 
-        next : (before : Events X) (e : Event X × ℕ) (rest : Events X) → before ++ e ∷ rest ≡ past → ((moment : ℕ) → Contains (collections before) moment → moment ≤ last_moment 0 before) → (moment : ℕ) → Contains (collections (before ++ e ∷ [])) moment → moment ≤ last_moment 0 (before ++ e ∷ [])
+        next : (before : Events X) (e : MapEvent X × ℕ) (rest : Events X) → before ++ e ∷ rest ≡ past → ((moment : ℕ) → Contains (collections before) moment → moment ≤ last_moment 0 before) → (moment : ℕ) → Contains (collections (before ++ e ∷ [])) moment → moment ≤ last_moment 0 (before ++ e ∷ [])
         next before e rest is old moment c =
             subst (λ last. moment ≤ last) (sym (last_moment-append 0 before (e ∷ [])))
             (next_one before e.0 e.1 (calm before e rest is).forward old moment (subst (λ ms. Contains ms moment) (collections-push before e) c))

@@ -10,10 +10,10 @@ use Rattle.am_version_order.specs.Versions.{Version, is_below}
 use Rattle.am_version_order.proofs.Ranks.{below_itself}
 use Rattle.am_merge.specs.Maps.{if_live}
 use Rattle.am_merge.proofs.Keys.{IsKeyOrder, key_order}
-use Rattle.am_collect.specs.Events.Event.{Delivered, Collected, Passed}
+use Rattle.am_collect.specs.Events.MapEvent.{Delivered, Collected, Passed}
 use Rattle.am_runs.specs.declared.step.Source.TheVariants.{Made, Written, Arrived}
-use Rattle.am_runs.specs.Steps.{Step}
-use Rattle.am_runs.specs.Steps.Step.{Took, Ticked, Stopped, Started}
+use Rattle.am_runs.specs.Steps.{RunStep}
+use Rattle.am_runs.specs.Steps.RunStep.{Took, Ticked, Stopped, Started}
 use Rattle.am_runs.specs.Members.{member_of, map_of, passes}
 use Rattle.am_runs.specs.Runs.{IsRun, IsSent, IsCalmAt, changed}
 use Rattle.am_runs.specs.Timely.{IsTimely}
@@ -75,19 +75,19 @@ single : {A : Type 0} (P : A → Type 0) (x : A) → P x → All P (x ∷ [])
 single P x is = All-cons P x [] is (All-nil P)
 
 -- a frame of one version, after these steps of two members
-abbrev Possible : List (Step (Version ℕ)) → ℕ → ℕ → List (Version ℕ) → Version ℕ → Type 0
+abbrev Possible : List (RunStep (Version ℕ)) → ℕ → ℕ → List (Version ℕ) → Version ℕ → Type 0
 Possible before place now versions v =
     Contains (changed (λ w. w) nat_cmp now (map_of (λ w. w) nat_cmp (member_of 2 place before).past) versions) v
     ⊎ (map_of (λ w. w) nat_cmp ((member_of 2 place before).past ++ passes now versions) v.key ≡ Some v)
 
-sent_one : (before : List (Step (Version ℕ))) (place now : ℕ) (versions : List (Version ℕ)) (v : Version ℕ) → Possible before place now versions v → All (IsSent (λ w. w) nat_cmp 2 before place now versions) ((v ∷ []) ∷ [])
+sent_one : (before : List (RunStep (Version ℕ))) (place now : ℕ) (versions : List (Version ℕ)) (v : Version ℕ) → Possible before place now versions v → All (IsSent (λ w. w) nat_cmp 2 before place now versions) ((v ∷ []) ∷ [])
 sent_one before place now versions v is = single (IsSent (λ w. w) nat_cmp 2 before place now versions) (v ∷ []) (single (Possible before place now versions) v is)
 
 -- of two members, the first and the second
-abbrev comes_to_two : List (Step (Version ℕ)) → Version ℕ → Type 0
+abbrev comes_to_two : List (RunStep (Version ℕ)) → Version ℕ → Type 0
 comes_to_two steps v = (comes (λ w. w) nat_cmp 5 0 v (record { runs = true; has = false; saved = false }) steps ≡ true) × (comes (λ w. w) nat_cmp 5 1 v (record { runs = true; has = false; saved = false }) steps ≡ true)
 
-to_both : (steps : List (Step (Version ℕ))) (v : Version ℕ) → comes_to_two steps v → ComesToAll (λ w. w) nat_cmp 5 2 steps v
+to_both : (steps : List (RunStep (Version ℕ))) (v : Version ℕ) → comes_to_two steps v → ComesToAll (λ w. w) nat_cmp 5 2 steps v
 to_both steps v both zero within = both.0
 to_both steps v both (suc zero) within = both.1
 to_both steps v both (suc (suc q)) within = absurd (omega arith)

@@ -2,8 +2,8 @@
 use Rattle.std.specs.Prelude.{ℕ, List, [], ◌∷◌}
 use Rattle.am_version_order.specs.Versions.{Version}
 use Rattle.am_runs.specs.declared.step.Source.TheVariants.{Made, Written, Arrived}
-use Rattle.am_runs.specs.Steps.{Step}
-use Rattle.am_runs.specs.Steps.Step.{Took, Ticked, Stopped, Started}
+use Rattle.am_runs.specs.Steps.{RunStep}
+use Rattle.am_runs.specs.Steps.RunStep.{Took, Ticked, Stopped, Started}
 
 -- a version of one key, of these moments
 abbrev pub version : ℕ → ℕ → Version ℕ
@@ -18,7 +18,7 @@ abbrev pub lesser : Version ℕ
 lesser = version 3 100
 
 -- member 0 takes the greater one, collects it, and then takes the lesser one; member 1 takes both before it collects
-abbrev pub forgotten : List (Step (Version ℕ))
+abbrev pub forgotten : List (RunStep (Version ℕ))
 forgotten =
     Took 0 7 (Written 6) (greater ∷ []) []
     ∷ (Ticked 0 12
@@ -33,7 +33,7 @@ abbrev pub spreading : Version ℕ
 spreading = version 10 200
 
 -- member 0 restarts from nothing after the version came to both
-abbrev pub restarted : List (Step (Version ℕ))
+abbrev pub restarted : List (RunStep (Version ℕ))
 restarted =
     Took 0 10 (Written 10) (spreading ∷ []) []
     ∷ (Took 1 10 (Written 10) (spreading ∷ []) []
@@ -42,7 +42,7 @@ restarted =
     ∷ [])))
 
 -- and it acts when the version should have come to it
-abbrev pub behind : List (Step (Version ℕ))
+abbrev pub behind : List (RunStep (Version ℕ))
 behind =
     Took 0 10 (Written 10) (spreading ∷ []) []
     ∷ (Took 1 10 (Written 10) (spreading ∷ []) []
@@ -56,7 +56,7 @@ abbrev pub passing : Version ℕ
 passing = version 10 20
 
 -- member 0 makes a version and sends it; later it sends its whole map, in which the version has expired
-abbrev pub late : List (Step (Version ℕ))
+abbrev pub late : List (RunStep (Version ℕ))
 late =
     Took 0 10 Made (passing ∷ []) ((passing ∷ []) ∷ [])
     ∷ (Took 1 12 (Arrived 0) (passing ∷ []) []

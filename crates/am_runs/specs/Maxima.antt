@@ -14,16 +14,16 @@ use Rattle.am_runs.specs.declared.position.Position.{Position}
 use Rattle.am_runs.specs.declared.maxima.Head.{Head}
 use Rattle.am_runs.specs.declared.maxima.Maximum.{Maximum}
 use Rattle.am_runs.specs.declared.maxima.Maxima.{Maxima}
-use Rattle.am_runs.specs.Steps.{Step, delivered_by}
+use Rattle.am_runs.specs.Steps.{RunStep, delivered_by}
 use Rattle.am_runs.specs.Tests.{Tops, tops_from, top_among}
 
 -- the version of this number in a step
-abbrev pub in_step : {X : Type 0} → Option (Step X) → ℕ → Option X
+abbrev pub in_step : {X : Type 0} → Option (RunStep X) → ℕ → Option X
 in_step None number = None
 in_step (Some step) number = slice_get (delivered_by step) number
 
 -- the version at a place
-abbrev pub version_at : {X : Type 0} → List (Step X) → Position → Option X
+abbrev pub version_at : {X : Type 0} → List (RunStep X) → Position → Option X
 version_at steps place = in_step (slice_get steps place.step) place.number
 
 -- the number of a row is its own entry
@@ -121,7 +121,7 @@ module _ {K X : Type 0} (seen : X → Version K) where
       pub are : AreMaxima at_place maxima tops_of
 
     -- the greatest versions taken in steps
-    abbrev pub tops_in : List (Step X) → ℕ → K → Tops X
+    abbrev pub tops_in : List (RunStep X) → ℕ → K → Tops X
     tops_in steps q key = tops_from seen cmp q key (record { top = None; saved = None }) steps
 
     -- what the greatest versions taken are once a member took more

@@ -5,9 +5,9 @@ use Rattle.std.specs.Prelude.{ℕ, List, [], ◌∷◌, ◌++◌, Bool, true, fa
 use Rattle.std.specs.declared.cmp.Ordering.{Ordering}
 use Rattle.am_version_order.specs.Versions.{Version}
 use Rattle.am_collect.specs.Events.{Events, taken, last_moment, after_all}
-use Rattle.am_collect.specs.Events.Event.{Delivered, Collected, Passed}
-use Rattle.am_runs.specs.Steps.{Step, is_at}
-use Rattle.am_runs.specs.Steps.Step.{Took, Ticked, Back, Refused, Saved, Stopped, Started}
+use Rattle.am_collect.specs.Events.MapEvent.{Delivered, Collected, Passed}
+use Rattle.am_runs.specs.Steps.{RunStep, is_at}
+use Rattle.am_runs.specs.Steps.RunStep.{Took, Ticked, Back, Refused, Saved, Stopped, Started}
 
 -- the past of what a member has, the past of what was last saved of it (or none), and whether it runs
 pub record Member (X : Type 0) : Type 0 where
@@ -21,7 +21,7 @@ module _ {X : Type 0} where
   passes now versions = (Passed, now) ∷ map (λ v. (Delivered v, now)) versions
 
   -- what a step makes of the member that it is one of; a start brings back what was saved, whatever came since
-  abbrev pub stepped : Member X → Step X → Member X
+  abbrev pub stepped : Member X → RunStep X → Member X
   stepped m (Took place now source versions frames) = record { past = m.past ++ passes now versions; saved = m.saved; runs = m.runs }
   stepped m (Ticked place now) = record { past = m.past ++ (Collected, now) ∷ []; saved = m.saved; runs = m.runs }
   stepped m (Back place now) = m
@@ -31,16 +31,16 @@ module _ {X : Type 0} where
   stepped m (Started place now) = record { past = m.saved ++ (Passed, now) ∷ []; saved = m.saved; runs = true }
 
   -- and of a member q
-  abbrev pub member_after : ℕ → Member X → Step X → Member X
+  abbrev pub member_after : ℕ → Member X → RunStep X → Member X
   member_after q m step = if is_at q step then stepped m step else m
 
   -- and after steps
-  abbrev pub member_from : ℕ → Member X → List (Step X) → Member X
+  abbrev pub member_from : ℕ → Member X → List (RunStep X) → Member X
   member_from q m [] = m
   member_from q m (step ∷ steps) = member_from q (member_after q m step) steps
 
   -- a member q of so many after steps; at first each of them runs, is empty and has nothing saved
-  abbrev pub member_of : ℕ → ℕ → List (Step X) → Member X
+  abbrev pub member_of : ℕ → ℕ → List (RunStep X) → Member X
   member_of members q steps = member_from q (record { past = []; saved = []; runs = nat_lt q members }) steps
 
   -- its bare set

@@ -1,19 +1,19 @@
 -- A run as contracts see it.
 use Rattle.std.specs.Prelude.{ℕ, List, map}
-use Rattle.am_runs.specs.declared.step.Step.{Step as Kept}
-use Rattle.am_runs.specs.declared.step.Step.TheVariants.{Took as KeptTook, Ticked as KeptTicked, Back as KeptBack}
-use Rattle.am_runs.specs.declared.step.Step.TheVariants.{Refused as KeptRefused, Saved as KeptSaved}
-use Rattle.am_runs.specs.declared.step.Step.TheVariants.{Stopped as KeptStopped, Started as KeptStarted}
+use Rattle.am_runs.specs.declared.step.RunStep.{RunStep as Kept}
+use Rattle.am_runs.specs.declared.step.RunStep.TheVariants.{Took as KeptTook, Ticked as KeptTicked, Back as KeptBack}
+use Rattle.am_runs.specs.declared.step.RunStep.TheVariants.{Refused as KeptRefused, Saved as KeptSaved}
+use Rattle.am_runs.specs.declared.step.RunStep.TheVariants.{Stopped as KeptStopped, Started as KeptStarted}
 use Rattle.std.specs.Option.{option_copied}
 use Rattle.am_runs.specs.declared.calm.Lasts.{Lasts as KeptLasts}
 use Rattle.am_runs.specs.declared.calm.Tops.{Tops as KeptTops}
 use Rattle.am_runs.specs.declared.timely.Watch.{Watch}
 use Rattle.am_runs.specs.Tests.{Lasts, Tops, Watched}
-use Rattle.am_runs.specs.Steps.{Step}
-use Rattle.am_runs.specs.Steps.Step.{Took, Ticked, Back, Refused, Saved, Stopped, Started}
+use Rattle.am_runs.specs.Steps.{RunStep}
+use Rattle.am_runs.specs.Steps.RunStep.{Took, Ticked, Back, Refused, Saved, Stopped, Started}
 
 -- a step without where its versions lie in memory
-abbrev pub step_of : {X : Type 0} → Kept X → Step X
+abbrev pub step_of : {X : Type 0} → Kept X → RunStep X
 step_of (KeptTook place now source versions frames) = Took place now source versions.items (map (λ frame. frame.items) frames.items)
 step_of (KeptTicked place now) = Ticked place now
 step_of (KeptBack place now) = Back place now
@@ -26,7 +26,7 @@ step_of (KeptStarted place now) = Started place now
 -- that they deliver
 pub record Record (X : Type 0) : Type 0 where
   pub members : ℕ
-  pub steps : List (Step X)
+  pub steps : List (RunStep X)
   pub room : ℕ
   pub spare : ℕ
 

@@ -6,12 +6,12 @@ use Rattle.std.specs.declared.cmp.Ordering.{Ordering}
 use Rattle.am_version_order.specs.Versions.{Version, is_live}
 use Rattle.am_merge.specs.Maps.{is_above}
 use Rattle.am_collect.specs.Events.{after}
-use Rattle.am_collect.specs.Events.Event.{Delivered}
+use Rattle.am_collect.specs.Events.MapEvent.{Delivered}
 use Rattle.am_collect.specs.Calm.{IsCalm}
 use Rattle.am_runs.specs.declared.step.Source.{Source}
 use Rattle.am_runs.specs.declared.step.Source.TheVariants.{Made, Written, Arrived, Lent}
-use Rattle.am_runs.specs.Steps.{Step, EachStep, IsFirstWithout, flights_of, is_back_at}
-use Rattle.am_runs.specs.Steps.Step.{Took, Ticked, Back, Refused, Saved, Stopped, Started}
+use Rattle.am_runs.specs.Steps.{RunStep, EachStep, IsFirstWithout, flights_of, is_back_at}
+use Rattle.am_runs.specs.Steps.RunStep.{Took, Ticked, Back, Refused, Saved, Stopped, Started}
 use Rattle.am_runs.specs.Members.{passes, member_of, last_of, map_of}
 
 module _ {K X : Type 0} (seen : X → Version K) (cmp : K → K → Ordering) where
@@ -24,7 +24,7 @@ module _ {K X : Type 0} (seen : X → Version K) (cmp : K → K → Ordering) wh
 
   -- the versions come from where the source says: they were made now; or they were written in a frame that counts as sent no later
   -- than any of them was made; or they stand in the frame of that number; or a member that runs lent them from its map
-  abbrev pub AreFrom : ℕ → List (Step X) → ℕ → Source → List X → Type 0
+  abbrev pub AreFrom : ℕ → List (RunStep X) → ℕ → Source → List X → Type 0
   AreFrom members before now Made versions = All (λ v. (seen v).updated ≡ now) versions
   AreFrom members before now (Written sent) versions = All (λ v. sent ≤ (seen v).updated) versions
   AreFrom members before now (Arrived number) versions =
@@ -34,32 +34,32 @@ module _ {K X : Type 0} (seen : X → Version K) (cmp : K → K → Ordering) wh
       × All (λ v. map_of seen cmp (member_of members place before).past (seen v).key ≡ Some v) versions
 
   -- each version of a frame was answered Changed in the event that sent it, or is held after that
-  abbrev pub IsSent : ℕ → List (Step X) → ℕ → ℕ → List X → List X → Type 0
+  abbrev pub IsSent : ℕ → List (RunStep X) → ℕ → ℕ → List X → List X → Type 0
   IsSent members before place now versions frame =
       let past = (member_of members place before).past in
       All (λ v. (Contains (changed now (map_of seen cmp past) versions) v)
       ⊎ (map_of seen cmp (past ++ passes now versions) (seen v).key ≡ Some v)) frame
 
   -- a member runs, and the moment isn't before its last one
-  pub record CanAct (members : ℕ) (before : List (Step X)) (place now : ℕ) : Type 0 where
+  pub record CanAct (members : ℕ) (before : List (RunStep X)) (place now : ℕ) : Type 0 where
     pub runs : (member_of members place before).runs ≡ true
     pub forward : last_of (member_of members place before) ≤ now
 
   -- an event can have delivered and sent this
-  pub record CanTake (members : ℕ) (before : List (Step X)) (place now : ℕ) (source : Source) (versions : List X)
+  pub record CanTake (members : ℕ) (before : List (RunStep X)) (place now : ℕ) (source : Source) (versions : List X)
       (frames : List (List X)) : Type 0 where
     pub acts : CanAct members before place now
     pub from : AreFrom members before now source versions
     pub sent : All (IsSent members before place now versions) frames
 
   -- a stopped member can have been started
-  pub record CanStart (members : ℕ) (before : List (Step X)) (place now : ℕ) : Type 0 where
+  pub record CanStart (members : ℕ) (before : List (RunStep X)) (place now : ℕ) : Type 0 where
     pub member : place < members
     pub stopped : (member_of members place before).runs ≡ false
     pub forward : last_of (member_of members place before) ≤ now
 
   -- what can have happened after the steps before it
-  abbrev pub IsPossible : ℕ → List (Step X) → Step X → Type 0
+  abbrev pub IsPossible : ℕ → List (RunStep X) → RunStep X → Type 0
   IsPossible members before (Took place now source versions frames) = CanTake members before place now source versions frames
   IsPossible members before (Ticked place now) = CanAct members before place now
   IsPossible members before (Back place now) = now < last_of (member_of members place before)
@@ -69,19 +69,19 @@ module _ {K X : Type 0} (seen : X → Version K) (cmp : K → K → Ordering) wh
   IsPossible members before (Started place now) = CanStart members before place now
 
   -- a run of a cluster of so many members
-  abbrev pub IsRun : ℕ → List (Step X) → Type 0
+  abbrev pub IsRun : ℕ → List (RunStep X) → Type 0
   IsRun members steps = EachStep steps (IsPossible members)
 
 module _ {K X : Type 0} (seen : X → Version K) where
   -- with this step the events of the member's past are calm, and nothing is refused to it since its moment was before its last one
-  pub record IsCalmStep (members q : ℕ) (before : List (Step X)) (step : Step X) : Type 0 where
+  pub record IsCalmStep (members q : ℕ) (before : List (RunStep X)) (step : RunStep X) : Type 0 where
     pub past : IsCalm seen [] 0 (member_of members q (before ++ step ∷ [])).past
     pub forward : is_back_at q step ≡ false
 
   -- the member is calm: with each step so far it was, those before a restart included
-  abbrev pub IsCalmAt : ℕ → ℕ → List (Step X) → Type 0
+  abbrev pub IsCalmAt : ℕ → ℕ → List (RunStep X) → Type 0
   IsCalmAt members q steps = EachStep steps (IsCalmStep members q)
 
   -- the step of this number, counted from 0, is the first with which the member is not calm
-  abbrev pub IsFirstFault : ℕ → ℕ → List (Step X) → ℕ → Type 0
+  abbrev pub IsFirstFault : ℕ → ℕ → List (RunStep X) → ℕ → Type 0
   IsFirstFault members q steps number = IsFirstWithout steps (IsCalmStep members q) number

@@ -5,7 +5,7 @@ use Rattle.std.specs.declared.cmp.Ordering.{Ordering}
 use Rattle.am_version_order.specs.Versions.{Version}
 use Rattle.am_runs.specs.declared.standing.Standing.{Standing}
 use Rattle.am_runs.specs.Records.{lasts_seen}
-use Rattle.am_runs.specs.Steps.{Step, EachStep, IsFirstWithout}
+use Rattle.am_runs.specs.Steps.{RunStep, EachStep, IsFirstWithout}
 use Rattle.am_runs.specs.Tests.{last_from, lasts_from, runs_from, StaysCalm}
 
 -- the first fault once a step of this number is made, with which the member stays calm or not
@@ -15,12 +15,12 @@ fault_after None stays number = if stays then None else Some number
 
 module _ {K X : Type 0} (seen : X → Version K) (cmp : K → K → Ordering) where
   -- what stands of a member after steps, where it runs at first
-  pub record IsStanding (q : ℕ) (standing : Standing) (steps : List (Step X)) : Type 0 where
+  pub record IsStanding (q : ℕ) (standing : Standing) (steps : List (RunStep X)) : Type 0 where
     pub runs : standing.runs ≡ runs_from q true steps
     pub acted : standing.acted ≡ last_from q 0 steps
     pub lasts : lasts_seen standing.lasts ≡ lasts_from q (record { last = None; saved = None }) steps
     pub fault : MatchOption standing.fault (EachStep steps (StaysCalm seen cmp q)) (IsFirstWithout steps (StaysCalm seen cmp q))
 
   -- what stands of the first members after steps
-  abbrev pub AreStandings : List Standing → List (Step X) → Type 0
+  abbrev pub AreStandings : List Standing → List (RunStep X) → Type 0
   AreStandings standings steps = (q : ℕ) (standing : Standing) → slice_get standings q ≡ Some standing → IsStanding q standing steps

@@ -5,20 +5,20 @@ use Rattle.std.specs.List.{flat_map}
 use Rattle.am_runs.specs.declared.step.Source.{Source}
 
 -- Members are numbered from 0 on. A frame that is sent and lost is one that no later step delivers.
-pub data Step (X : Type 0) : Type 0 where
+pub data RunStep (X : Type 0) : Type 0 where
   -- an event of a member: the versions that it delivered, in order, and the versions in each frame that it sent
-  Took : (place now : ℕ) (source : Source) (versions : List X) (frames : List (List X)) → Step X
+  Took : (place now : ℕ) (source : Source) (versions : List X) (frames : List (List X)) → RunStep X
   -- a member collected
-  Ticked : (place now : ℕ) → Step X
+  Ticked : (place now : ℕ) → RunStep X
   -- refused to a member, since the moment is before that member's last one
-  Back : (place now : ℕ) → Step X
+  Back : (place now : ℕ) → RunStep X
   -- refused for another cause
-  Refused : (now : ℕ) → Step X
+  Refused : (now : ℕ) → RunStep X
   -- a member's copy was saved
-  Saved : (place : ℕ) → Step X
-  Stopped : (place : ℕ) → Step X
+  Saved : (place : ℕ) → RunStep X
+  Stopped : (place : ℕ) → RunStep X
   -- a member was started from its saved copy, or from nothing where none was saved
-  Started : (place now : ℕ) → Step X
+  Started : (place now : ℕ) → RunStep X
 
 -- a frame in flight: when it was sent, and its versions
 pub record SentFrame (X : Type 0) : Type 0 where
@@ -46,7 +46,7 @@ clock_after clock (Some now) = now
 
 module _ {X : Type 0} where
   -- the moment that is written in a step
-  abbrev pub moment : Step X → Option ℕ
+  abbrev pub moment : RunStep X → Option ℕ
   moment (Took place now source versions frames) = Some now
   moment (Ticked place now) = Some now
   moment (Back place now) = Some now
@@ -56,12 +56,12 @@ module _ {X : Type 0} where
   moment (Started place now) = Some now
 
   -- the last moment written in steps, after a first one
-  abbrev pub clock_from : ℕ → List (Step X) → ℕ
+  abbrev pub clock_from : ℕ → List (RunStep X) → ℕ
   clock_from clock [] = clock
   clock_from clock (step ∷ steps) = clock_from (clock_after clock (moment step)) steps
 
   -- the versions that a step delivered
-  abbrev pub delivered_by : Step X → List X
+  abbrev pub delivered_by : RunStep X → List X
   delivered_by (Took place now source versions frames) = versions
   delivered_by (Ticked place now) = []
   delivered_by (Back place now) = []
@@ -71,11 +71,11 @@ module _ {X : Type 0} where
   delivered_by (Started place now) = []
 
   -- the versions delivered anywhere in steps
-  abbrev pub delivered_in : List (Step X) → List X
+  abbrev pub delivered_in : List (RunStep X) → List X
   delivered_in steps = flat_map delivered_by steps
 
   -- the frames that a step sent
-  abbrev pub flights_by : Step X → List (SentFrame X)
+  abbrev pub flights_by : RunStep X → List (SentFrame X)
   flights_by (Took place now source versions frames) = map (λ frame. record { sent = now; versions = frame }) frames
   flights_by (Ticked place now) = []
   flights_by (Back place now) = []
@@ -85,11 +85,11 @@ module _ {X : Type 0} where
   flights_by (Started place now) = []
 
   -- all frames ever sent, in order
-  abbrev pub flights_of : List (Step X) → List (SentFrame X)
+  abbrev pub flights_of : List (RunStep X) → List (SentFrame X)
   flights_of steps = flat_map flights_by steps
 
   -- the step is one of this member
-  abbrev pub is_at : ℕ → Step X → Bool
+  abbrev pub is_at : ℕ → RunStep X → Bool
   is_at q (Took place now source versions frames) = place == q
   is_at q (Ticked place now) = place == q
   is_at q (Back place now) = place == q
@@ -99,7 +99,7 @@ module _ {X : Type 0} where
   is_at q (Started place now) = place == q
 
   -- refused to this member, since the moment is before its last one
-  abbrev pub is_back_at : ℕ → Step X → Bool
+  abbrev pub is_back_at : ℕ → RunStep X → Bool
   is_back_at q (Took place now source versions frames) = false
   is_back_at q (Ticked place now) = false
   is_back_at q (Back place now) = place == q

@@ -9,13 +9,13 @@ use Rattle.am_version_order.specs.Versions.{Version, is_below, is_live}
 use Rattle.am_merge.specs.Maps.{greater_of, at}
 use Rattle.am_runs.specs.declared.step.Source.{Source}
 use Rattle.am_runs.specs.declared.step.Source.TheVariants.{Made, Written, Arrived, Lent}
-use Rattle.am_runs.specs.Steps.{Step, EachStep, clock_after, is_at, flights_by, moment}
-use Rattle.am_runs.specs.Steps.Step.{Took, Ticked, Back, Refused, Saved, Stopped, Started}
+use Rattle.am_runs.specs.Steps.{RunStep, EachStep, clock_after, is_at, flights_by, moment}
+use Rattle.am_runs.specs.Steps.RunStep.{Took, Ticked, Back, Refused, Saved, Stopped, Started}
 
 -- ---- whether a member runs
 
 -- after a step, where it ran before it or not
-abbrev pub runs_after : {X : Type 0} → ℕ → Bool → Step X → Bool
+abbrev pub runs_after : {X : Type 0} → ℕ → Bool → RunStep X → Bool
 runs_after q runs (Took place now source versions frames) = runs
 runs_after q runs (Ticked place now) = runs
 runs_after q runs (Back place now) = runs
@@ -25,14 +25,14 @@ runs_after q runs (Stopped place) = if place == q then false else runs
 runs_after q runs (Started place now) = if place == q then true else runs
 
 -- and after steps
-abbrev pub runs_from : {X : Type 0} → ℕ → Bool → List (Step X) → Bool
+abbrev pub runs_from : {X : Type 0} → ℕ → Bool → List (RunStep X) → Bool
 runs_from q runs [] = runs
 runs_from q runs (step ∷ steps) = runs_from q (runs_after q runs step) steps
 
 -- ---- the moment of its last event or start
 
 -- with a step of the member itself
-abbrev pub acted : {X : Type 0} → ℕ → Step X → ℕ
+abbrev pub acted : {X : Type 0} → ℕ → RunStep X → ℕ
 acted last (Took place now source versions frames) = now
 acted last (Ticked place now) = now
 acted last (Back place now) = last
@@ -42,11 +42,11 @@ acted last (Stopped place) = last
 acted last (Started place now) = now
 
 -- with any step
-abbrev pub last_after : {X : Type 0} → ℕ → ℕ → Step X → ℕ
+abbrev pub last_after : {X : Type 0} → ℕ → ℕ → RunStep X → ℕ
 last_after q last step = if is_at q step then acted last step else last
 
 -- after steps
-abbrev pub last_from : {X : Type 0} → ℕ → ℕ → List (Step X) → ℕ
+abbrev pub last_from : {X : Type 0} → ℕ → ℕ → List (RunStep X) → ℕ
 last_from q last [] = last
 last_from q last (step ∷ steps) = last_from q (last_after q last step) steps
 
@@ -68,7 +68,7 @@ later None now = Some now
 later (Some last) now = Some (max last now)
 
 -- both with a step of the member itself
-abbrev pub lasted : {X : Type 0} → Lasts → Step X → Lasts
+abbrev pub lasted : {X : Type 0} → Lasts → RunStep X → Lasts
 lasted l (Took place now source versions frames) = l
 lasted l (Ticked place now) = record { last = later l.last now; saved = l.saved }
 lasted l (Back place now) = l
@@ -78,11 +78,11 @@ lasted l (Stopped place) = l
 lasted l (Started place now) = record { last = l.saved; saved = l.saved }
 
 -- with any step
-abbrev pub lasts_after : {X : Type 0} → ℕ → Lasts → Step X → Lasts
+abbrev pub lasts_after : {X : Type 0} → ℕ → Lasts → RunStep X → Lasts
 lasts_after q l step = if is_at q step then lasted l step else l
 
 -- after steps
-abbrev pub lasts_from : {X : Type 0} → ℕ → Lasts → List (Step X) → Lasts
+abbrev pub lasts_from : {X : Type 0} → ℕ → Lasts → List (RunStep X) → Lasts
 lasts_from q l [] = l
 lasts_from q l (step ∷ steps) = lasts_from q (lasts_after q l step) steps
 
@@ -92,7 +92,7 @@ has_reached None moment = false
 has_reached (Some last) moment = nat_le moment last
 
 -- the last collection of a member in steps
-abbrev pub last_in : {X : Type 0} → ℕ → List (Step X) → Option ℕ
+abbrev pub last_in : {X : Type 0} → ℕ → List (RunStep X) → Option ℕ
 last_in q steps = (lasts_from q (record { last = None; saved = None }) steps).last
 
 module _ {K X : Type 0} (seen : X → Version K) where
@@ -108,7 +108,7 @@ module _ {K X : Type 0} (seen : X → Version K) (cmp : K → K → Ordering) wh
   top_among key top (v ∷ vs) = top_among key (greater_of seen top (at seen cmp (v ∷ []) key)) vs
 
   -- both with a step of the member itself
-  abbrev pub topped : K → Tops X → Step X → Tops X
+  abbrev pub topped : K → Tops X → RunStep X → Tops X
   topped key t (Took place now source versions frames) = record { top = top_among key t.top versions; saved = t.saved }
   topped key t (Ticked place now) = t
   topped key t (Back place now) = t
@@ -118,24 +118,24 @@ module _ {K X : Type 0} (seen : X → Version K) (cmp : K → K → Ordering) wh
   topped key t (Started place now) = record { top = t.saved; saved = t.saved }
 
   -- with any step
-  abbrev pub tops_after : ℕ → K → Tops X → Step X → Tops X
+  abbrev pub tops_after : ℕ → K → Tops X → RunStep X → Tops X
   tops_after q key t step = if is_at q step then topped key t step else t
 
   -- after steps
-  abbrev pub tops_from : ℕ → K → Tops X → List (Step X) → Tops X
+  abbrev pub tops_from : ℕ → K → Tops X → List (RunStep X) → Tops X
   tops_from q key t [] = t
   tops_from q key t (step ∷ steps) = tops_from q key (tops_after q key t step) steps
 
   -- the greatest taken of a key by a member in steps
-  abbrev pub top_in : ℕ → K → List (Step X) → Option X
+  abbrev pub top_in : ℕ → K → List (RunStep X) → Option X
   top_in q key steps = (tops_from q key (record { top = None; saved = None }) steps).top
 
   -- whether a version of an event comes in time, after the steps before and the versions before it
-  abbrev pub comes_in_time : ℕ → List (Step X) → ℕ → List X → X → Bool
+  abbrev pub comes_in_time : ℕ → List (RunStep X) → ℕ → List X → X → Bool
   comes_in_time q before now done v = in_time seen (top_among (seen v).key (top_in q (seen v).key before) done) (last_in q before) now v
 
   -- with this step a member that was calm stays so
-  abbrev pub StaysCalm : ℕ → List (Step X) → Step X → Type 0
+  abbrev pub StaysCalm : ℕ → List (RunStep X) → RunStep X → Type 0
   StaysCalm q before (Took place now source versions frames) =
       (place == q) ≡ true → EachStep versions (λ done v. comes_in_time q before now done v ≡ true)
   StaysCalm q before (Ticked place now) = Unit {0}
@@ -153,12 +153,12 @@ is_monotone clock None = true
 is_monotone clock (Some now) = nat_le clock now
 
 -- the moments of steps never fall
-abbrev pub are_monotone : {X : Type 0} → ℕ → List (Step X) → Bool
+abbrev pub are_monotone : {X : Type 0} → ℕ → List (RunStep X) → Bool
 are_monotone clock [] = true
 are_monotone clock (step ∷ steps) = is_monotone clock (moment step) && are_monotone (clock_after clock (moment step)) steps
 
 -- when the frame of this number was sent
-abbrev pub sent_in : {X : Type 0} → ℕ → List (Step X) → Option ℕ
+abbrev pub sent_in : {X : Type 0} → ℕ → List (RunStep X) → Option ℕ
 sent_in number [] = None
 sent_in number (step ∷ steps) = if nat_lt number (length (flights_by step)) then moment step
     else sent_in (number - length (flights_by step)) steps
@@ -169,14 +169,14 @@ flies_short flight now None = true
 flies_short flight now (Some sent) = nat_le now (sent + flight)
 
 -- when the versions of a source were sent, if they were
-abbrev pub sent_at : {X : Type 0} → List (Step X) → Source → Option ℕ
+abbrev pub sent_at : {X : Type 0} → List (RunStep X) → Source → Option ℕ
 sent_at steps Made = None
 sent_at steps (Written sent) = Some sent
 sent_at steps (Arrived number) = sent_in number steps
 sent_at steps (Lent place) = None
 
 -- a step, among all steps
-abbrev pub is_swift : {X : Type 0} → ℕ → List (Step X) → Step X → Bool
+abbrev pub is_swift : {X : Type 0} → ℕ → List (RunStep X) → RunStep X → Bool
 is_swift flight steps (Took place now source versions frames) = flies_short flight now (sent_at steps source)
 is_swift flight steps (Ticked place now) = true
 is_swift flight steps (Back place now) = true
@@ -208,7 +208,7 @@ ran_after true ran None = ran
 ran_after true ran (Some now) = later ran now
 
 -- and after steps
-abbrev pub ran_from : {X : Type 0} → ℕ → Bool → Option ℕ → List (Step X) → Option ℕ
+abbrev pub ran_from : {X : Type 0} → ℕ → Bool → Option ℕ → List (RunStep X) → Option ℕ
 ran_from q runs ran [] = ran
 ran_from q runs ran (step ∷ steps) = ran_from q (runs_after q runs step) (ran_after runs ran (moment step)) steps
 
@@ -218,7 +218,7 @@ module _ {K X : Type 0} (seen : X → Version K) (cmp : K → K → Ordering) wh
   counts_for v taken = eq_by_cmp cmp (seen taken).key (seen v).key && not (is_below (seen taken) (seen v))
 
   -- all three with a step of the member itself
-  abbrev pub watched : X → Watched → Step X → Watched
+  abbrev pub watched : X → Watched → RunStep X → Watched
   watched v w (Took place now source versions frames) =
       record { runs = w.runs; has = w.has || list_any (counts_for v) versions; saved = w.saved }
   watched v w (Ticked place now) = w
@@ -229,17 +229,17 @@ module _ {K X : Type 0} (seen : X → Version K) (cmp : K → K → Ordering) wh
   watched v w (Started place now) = record { runs = true; has = w.saved; saved = w.saved }
 
   -- with any step
-  abbrev pub watch_after : ℕ → X → Watched → Step X → Watched
+  abbrev pub watch_after : ℕ → X → Watched → RunStep X → Watched
   watch_after q v w step = if is_at q step then watched v w step else w
 
   -- at no step that begins when a version should have come does the member run without it
-  abbrev pub comes : ℕ → ℕ → X → Watched → List (Step X) → Bool
+  abbrev pub comes : ℕ → ℕ → X → Watched → List (RunStep X) → Bool
   comes spread q v w [] = true
   comes spread q v w (step ∷ steps) = not (is_wanting ((seen v).updated + spread) w (moment step))
       && comes spread q v (watch_after q v w step) steps
 
   -- a step brings a member a version, or a greater one of its key, before that should have come
-  abbrev pub brings : ℕ → ℕ → X → Step X → Bool
+  abbrev pub brings : ℕ → ℕ → X → RunStep X → Bool
   brings spread q v (Took place now source versions frames) = place ==
       q && (not (nat_le ((seen v).updated + spread) now) && list_any (counts_for v) versions)
   brings spread q v (Ticked place now) = false
@@ -250,6 +250,6 @@ module _ {K X : Type 0} (seen : X → Version K) (cmp : K → K → Ordering) wh
   brings spread q v (Started place now) = false
 
   -- it comes to each of so many members
-  abbrev pub ComesToAll : ℕ → ℕ → List (Step X) → X → Type 0
+  abbrev pub ComesToAll : ℕ → ℕ → List (RunStep X) → X → Type 0
   ComesToAll spread members steps v = (q : ℕ) → q < members
       → comes spread q v (record { runs = true; has = false; saved = false }) steps ≡ true

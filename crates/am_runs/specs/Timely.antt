@@ -4,13 +4,13 @@ use Rattle.std.specs.Prelude.{◌≡◌, ℕ, ◌+◌, ◌≤◌, List, true, fa
 use Rattle.am_version_order.specs.Versions.{Version, is_below}
 use Rattle.am_runs.specs.declared.step.Source.{Source}
 use Rattle.am_runs.specs.declared.step.Source.TheVariants.{Made, Written, Arrived, Lent}
-use Rattle.am_runs.specs.Steps.{Step, SentFrame, EachStep, moment, clock_from, delivered_in, flights_of}
-use Rattle.am_runs.specs.Steps.Step.{Took, Ticked, Back, Refused, Saved, Stopped, Started}
+use Rattle.am_runs.specs.Steps.{RunStep, SentFrame, EachStep, moment, clock_from, delivered_in, flights_of}
+use Rattle.am_runs.specs.Steps.RunStep.{Took, Ticked, Back, Refused, Saved, Stopped, Started}
 use Rattle.am_runs.specs.Members.{member_of, set_of}
 
 module _ {X : Type 0} where
   -- the moment isn't before the last one written
-  abbrev pub IsOnward : List (Step X) → Step X → Type 0
+  abbrev pub IsOnward : List (RunStep X) → RunStep X → Type 0
   IsOnward before step = IfSome (moment step) (λ now. clock_from 0 before ≤ now)
 
   -- versions that came in a frame came in time: what is made now, and what is lent in a settle, flies no time
@@ -21,7 +21,7 @@ module _ {X : Type 0} where
   IsSwiftFrom flight flights now (Lent place) = Unit {0}
 
   -- a frame is delivered no later than the flight time after it was sent
-  abbrev pub IsSwift : ℕ → List (Step X) → Step X → Type 0
+  abbrev pub IsSwift : ℕ → List (RunStep X) → RunStep X → Type 0
   IsSwift flight before (Took place now source versions frames) = IsSwiftFrom flight (flights_of before) now source
   IsSwift flight before (Ticked place now) = Unit {0}
   IsSwift flight before (Back place now) = Unit {0}
@@ -39,13 +39,13 @@ module _ {K X : Type 0} (seen : X → Version K) where
     pub not_below : is_below (seen version) (seen v) ≡ false
 
   -- each version made a spread before this moment or earlier has come to every member that runs
-  abbrev pub IsSpread : ℕ → ℕ → List X → List (Step X) → ℕ → Type 0
+  abbrev pub IsSpread : ℕ → ℕ → List X → List (RunStep X) → ℕ → Type 0
   IsSpread spread members all before now =
       (v : X) → Contains all v → (seen v).updated + spread ≤ now →
       (q : ℕ) → (member_of members q before).runs ≡ true → HasCaughtUp (set_of (member_of members q before)) v
 
   -- The run keeps the spread and the flight time. Versions delivered anywhere in it count at each of its steps, later ones too.
-  pub record IsTimely (spread flight members : ℕ) (steps : List (Step X)) : Type 0 where
+  pub record IsTimely (spread flight members : ℕ) (steps : List (RunStep X)) : Type 0 where
     -- the moments written in the steps never fall
     pub onward : EachStep steps IsOnward
     -- each version lives for the spread and the flight time at least

@@ -11,7 +11,7 @@ ghost use Rattle.am_runs.specs.Steps.{EachStep};
 ghost use Rattle.am_runs.specs.Tests.{has_reached, in_time, later, lasts_after, lasts_from, top_among, top_in};
 ghost use Rattle.am_runs.specs.Tests.{tops_after, tops_from, last_in, comes_in_time, StaysCalm};
 
-use crate::step::Step;
+use crate::step::RunStep;
 use am_version_order::{Moment, Version};
 
 /// The last collection of a member, and that of what is saved of it.
@@ -30,22 +30,22 @@ pub fn later(last: Option<Moment>, now: Moment) -> Option<Moment>
     }
 }
 
-pub fn lasts_after<V>(member: usize, lasts: Lasts, step: &Step<V>) -> Lasts
+pub fn lasts_after<V>(member: usize, lasts: Lasts, step: &RunStep<V>) -> Lasts
     ensures { lasts_seen result ≡ lasts_after member (lasts_seen lasts) (step_of step.now) }
 {
     if !step.is_at(member) {
         return lasts;
     }
     match step {
-        Step::Ticked { now, .. } => Lasts {
+        RunStep::Ticked { now, .. } => Lasts {
             last: later(lasts.last, *now),
             saved: lasts.saved,
         },
-        Step::Saved { .. } => Lasts {
+        RunStep::Saved { .. } => Lasts {
             last: lasts.last,
             saved: lasts.last,
         },
-        Step::Started { .. } => Lasts {
+        RunStep::Started { .. } => Lasts {
             last: lasts.saved,
             saved: lasts.saved,
         },
@@ -53,7 +53,7 @@ pub fn lasts_after<V>(member: usize, lasts: Lasts, step: &Step<V>) -> Lasts
     }
 }
 
-fn lasts_from<V>(member: usize, lasts: Lasts, steps: &[Step<V>]) -> Lasts
+fn lasts_from<V>(member: usize, lasts: Lasts, steps: &[RunStep<V>]) -> Lasts
     ensures { lasts_seen result ≡ lasts_from member (lasts_seen lasts) (map step_of steps.now) }
 {
     let mut lasts = lasts;
@@ -124,7 +124,7 @@ fn tops_after<'a, V: Version>(
     member: usize,
     key: &V::Key,
     tops: Tops<'a, V>,
-    step: &'a Step<V>,
+    step: &'a RunStep<V>,
 ) -> Tops<'a, V>
     ensures { tops_seen result ≡ tops_after V.seen V.Key.cmp member key.now (tops_seen tops.entry) (step_of step.now) }
 {
@@ -132,15 +132,15 @@ fn tops_after<'a, V: Version>(
         return tops;
     }
     match step {
-        Step::Took { versions, .. } => Tops {
+        RunStep::Took { versions, .. } => Tops {
             top: top_among(key, tops.top, versions),
             saved: tops.saved,
         },
-        Step::Saved { .. } => Tops {
+        RunStep::Saved { .. } => Tops {
             top: tops.top,
             saved: tops.top,
         },
-        Step::Started { .. } => Tops {
+        RunStep::Started { .. } => Tops {
             top: tops.saved,
             saved: tops.saved,
         },
@@ -149,7 +149,7 @@ fn tops_after<'a, V: Version>(
 }
 
 /// The greatest version of a key that a member took in steps.
-fn top_in<'a, V: Version>(member: usize, key: &V::Key, steps: &'a [Step<V>]) -> Option<&'a V>
+fn top_in<'a, V: Version>(member: usize, key: &V::Key, steps: &'a [RunStep<V>]) -> Option<&'a V>
     ensures { option_copied result ≡ top_in V.seen V.Key.cmp member key.now (map step_of steps.now) }
 {
     let mut tops = Tops {
@@ -163,7 +163,7 @@ fn top_in<'a, V: Version>(member: usize, key: &V::Key, steps: &'a [Step<V>]) -> 
 }
 
 /// The last collection of a member in steps.
-pub fn last_in<V>(member: usize, steps: &[Step<V>]) -> Option<Moment>
+pub fn last_in<V>(member: usize, steps: &[RunStep<V>]) -> Option<Moment>
     ensures { result ≡ last_in member (map step_of steps.now) }
 {
     let start = Lasts {
@@ -188,7 +188,7 @@ pub fn in_time<V: Version>(top: Option<&V>, last: Option<Moment>, now: Moment, v
 /// Whether a version of an event comes in time, after the steps before and the versions before it.
 fn comes_in_time<V: Version>(
     member: usize,
-    before: &[Step<V>],
+    before: &[RunStep<V>],
     now: Moment,
     done: &[V],
     version: &V,
@@ -201,7 +201,12 @@ fn comes_in_time<V: Version>(
 }
 
 /// Whether each version of an event does.
-fn come_in_time<V: Version>(member: usize, before: &[Step<V>], now: Moment, versions: &[V]) -> bool
+fn come_in_time<V: Version>(
+    member: usize,
+    before: &[RunStep<V>],
+    now: Moment,
+    versions: &[V],
+) -> bool
     ensures { IsTrue result ↔ EachStep versions.now (λ done v.
         comes_in_time V.seen V.Key.cmp member (map step_of before.now) now done v ≡ true) }
 {
@@ -214,23 +219,23 @@ fn come_in_time<V: Version>(member: usize, before: &[Step<V>], now: Moment, vers
 }
 
 /// Whether a member that was calm stays so with a step.
-fn stays_calm<V: Version>(member: usize, before: &[Step<V>], step: &Step<V>) -> bool
+fn stays_calm<V: Version>(member: usize, before: &[RunStep<V>], step: &RunStep<V>) -> bool
     ensures { IsTrue result ↔ StaysCalm V.seen V.Key.cmp member (map step_of before.now) (step_of step.now) }
 {
     match step {
-        Step::Took {
+        RunStep::Took {
             place,
             now,
             versions,
             ..
         } => *place != member || come_in_time(member, before, *now, versions),
-        Step::Back { place, .. } => *place != member,
+        RunStep::Back { place, .. } => *place != member,
         _ => true,
     }
 }
 
 /// The number of the first step of a run, counted from 0, with which a member isn't calm, or `None` where it is calm.
-pub fn first_fault<V: Version>(member: usize, steps: &[Step<V>]) -> Option<usize>
+pub fn first_fault<V: Version>(member: usize, steps: &[RunStep<V>]) -> Option<usize>
     ensures { (members : ℕ) → IsRun V.seen V.Key.cmp members (map step_of steps.now)
         → MatchOption result (IsCalmAt V.seen members member (map step_of steps.now))
         (IsFirstFault V.seen members member (map step_of steps.now)) }

@@ -6,7 +6,7 @@ ghost use Rattle.am_runs.specs.Flights.{IsMark};
 ghost use Rattle.am_runs.specs.Records.{step_of};
 ghost use Rattle.am_runs.specs.Tests.{is_swift, sent_at};
 
-use crate::step::{Source, Step};
+use crate::step::{RunStep, Source};
 use crate::timely::{self, flies_short, sent_in};
 use am_version_order::{Interval, Moment};
 
@@ -18,7 +18,7 @@ pub struct Mark {
 }
 
 /// The mark moved back to where the frame of this number wasn't sent before it.
-fn back<V>(steps: &[Step<V>], mark: Mark, number: usize) -> Mark
+fn back<V>(steps: &[RunStep<V>], mark: Mark, number: usize) -> Mark
     requires { IsMark (map step_of steps.now) mark }
     ensures { IsMark (map step_of steps.now) result }
 {
@@ -31,7 +31,7 @@ fn back<V>(steps: &[Step<V>], mark: Mark, number: usize) -> Mark
 }
 
 /// The mark moved on to the step that sent it.
-fn forth<V>(steps: &[Step<V>], mark: Mark, number: usize) -> Mark
+fn forth<V>(steps: &[RunStep<V>], mark: Mark, number: usize) -> Mark
     requires { IsMark (map step_of steps.now) mark }
     ensures { IsMark (map step_of steps.now) result }
 {
@@ -48,7 +48,7 @@ fn forth<V>(steps: &[Step<V>], mark: Mark, number: usize) -> Mark
 }
 
 /// When the versions of a source were sent, if they were. The mark moves to where that was.
-fn sent_at<V>(steps: &[Step<V>], mark: &mut Mark, source: Source) -> Option<Moment>
+fn sent_at<V>(steps: &[RunStep<V>], mark: &mut Mark, source: Source) -> Option<Moment>
     requires { IsMark (map step_of steps.now) mark.old }
     ensures mark { IsMark (map step_of steps.now) mark.new }
     ensures sent { result ≡ sent_at (map step_of steps.now) source }
@@ -64,19 +64,23 @@ fn sent_at<V>(steps: &[Step<V>], mark: &mut Mark, source: Source) -> Option<Mome
 }
 
 /// Whether what a step delivered came in time.
-fn is_swift<V>(flight: Interval, steps: &[Step<V>], mark: &mut Mark, step: &Step<V>) -> bool
+fn is_swift<V>(flight: Interval, steps: &[RunStep<V>], mark: &mut Mark, step: &RunStep<V>) -> bool
     requires { IsMark (map step_of steps.now) mark.old }
     ensures mark { IsMark (map step_of steps.now) mark.new }
     ensures swift { result ≡ is_swift flight (map step_of steps.now) (step_of step.now) }
 {
     match step {
-        Step::Took { now, source, .. } => flies_short(flight, *now, sent_at(steps, mark, *source)),
+        RunStep::Took { now, source, .. } => flies_short(
+            flight,
+            *now,
+            sent_at(steps, mark, *source),
+        ),
         _ => true,
     }
 }
 
 /// Whether what each step delivered came in time.
-pub fn are_swift<V>(flight: Interval, steps: &[Step<V>]) -> bool
+pub fn are_swift<V>(flight: Interval, steps: &[RunStep<V>]) -> bool
     ensures { result ≡ list_all (is_swift flight (map step_of steps.now)) (map step_of steps.now) }
 {
     let mut mark = Mark { step: 0, sent: 0 };

@@ -9,7 +9,7 @@ ghost use Rattle.am_runs.specs.Tests.{StaysCalm};
 
 use crate::maxima::{Maxima, Timing, bring_back, save, take_all};
 use crate::standing::{Standing, last_collection, note};
-use crate::step::Step;
+use crate::step::RunStep;
 use crate::trails::Trails;
 use am_version_order::Version;
 
@@ -18,9 +18,9 @@ fn follow<V: Version>(
     maxima: &mut Maxima,
     trails: &mut Trails,
     standings: &[Standing],
-    steps: &[Step<V>],
-    before: &[Step<V>],
-    step: &Step<V>,
+    steps: &[RunStep<V>],
+    before: &[RunStep<V>],
+    step: &RunStep<V>,
 ) -> bool
     requires parts { steps.now ≡ before.now ++ step.now ∷ [] }
     requires maxima { AreMaxima V.seen V.Key.cmp (version_at (map step_of steps.now)) maxima.old
@@ -34,7 +34,7 @@ fn follow<V: Version>(
     ensures room { (n : ℕ) → HasRowRoom maxima.old (n + length (delivered_by (step_of step.now))) → HasRowRoom maxima.new n }
 {
     match step {
-        Step::Took {
+        RunStep::Took {
             place,
             now,
             versions,
@@ -55,18 +55,18 @@ fn follow<V: Version>(
                 versions,
             )
         }
-        Step::Back { .. } => false,
-        Step::Saved { place } => {
+        RunStep::Back { .. } => false,
+        RunStep::Saved { place } => {
             save(&maxima.heads, &mut maxima.maxima, *place);
             true
         }
-        Step::Started { place, .. } => {
+        RunStep::Started { place, .. } => {
             bring_back(&maxima.heads, &mut maxima.maxima, *place);
             true
         }
-        Step::Ticked { .. } => true,
-        Step::Refused { .. } => true,
-        Step::Stopped { .. } => true,
+        RunStep::Ticked { .. } => true,
+        RunStep::Refused { .. } => true,
+        RunStep::Stopped { .. } => true,
     }
 }
 
@@ -75,19 +75,19 @@ pub fn write_down<V: Version>(
     maxima: &mut Maxima,
     standings: &mut Vec<Standing>,
     trails: &mut Trails,
-    steps: &[Step<V>],
+    steps: &[RunStep<V>],
     number: usize,
 )
     requires long { length steps.now ≡ number + 1 }
     requires maxima { AreMaxima V.seen V.Key.cmp (version_at (map step_of steps.now)) maxima.old
         (tops_in V.seen V.Key.cmp (map step_of (take number steps.now))) }
     requires standings { AreStandings V.seen V.Key.cmp standings.old.items (map step_of (take number steps.now)) }
-    requires room { (step : Step V) → steps.now ≡ take number steps.now ++ step ∷ [] →
+    requires room { (step : RunStep V) → steps.now ≡ take number steps.now ++ step ∷ [] →
         HasRowRoom maxima.old (length (delivered_by (step_of step))) }
     ensures maxima { AreMaxima V.seen V.Key.cmp (version_at (map step_of steps.now)) maxima.new
         (tops_in V.seen V.Key.cmp (map step_of steps.now)) }
     ensures standings { AreStandings V.seen V.Key.cmp standings.new.items (map step_of steps.now) }
-    ensures room { (n : ℕ) (step : Step V) → steps.now ≡ take number steps.now ++ step ∷ [] →
+    ensures room { (n : ℕ) (step : RunStep V) → steps.now ≡ take number steps.now ++ step ∷ [] →
         HasRowRoom maxima.old (n + length (delivered_by (step_of step))) → HasRowRoom maxima.new n }
 {
     let before = &steps[..number];

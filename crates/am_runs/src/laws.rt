@@ -6,7 +6,7 @@ ghost use Rattle.am_version_order.specs.Versions.{is_below};
 ghost use Rattle.am_merge.specs.Maps.{IsMap, at, greater_of, if_live};
 ghost use Rattle.am_collect.specs.Events.{Events};
 ghost use Rattle.am_merge.specs.Views.{IsBest, IsInView, IsViewAt};
-ghost use Rattle.am_runs.specs.Steps.{Step, delivered_in, moment};
+ghost use Rattle.am_runs.specs.Steps.{RunStep, delivered_in, moment};
 ghost use Rattle.am_runs.specs.Members.{last_of, map_of, member_after, member_of, passes, set_of};
 ghost use Rattle.am_runs.specs.Runs.{IsPossible, IsRun, IsCalmStep, IsCalmAt};
 ghost use Rattle.am_runs.specs.Timely.{IsTimely};
@@ -18,12 +18,12 @@ use am_version_order::Version;
 
 /// A run, its members and their calm go on by one step.
 pub fn one_step_more<V: Version>()
-    ensures run { (members : ℕ) (steps : List (Step V)) (step : Step V) →
+    ensures run { (members : ℕ) (steps : List (RunStep V)) (step : RunStep V) →
         IsRun V.seen V.Key.cmp members (steps ++ step ∷ [])
         ↔ (IsRun V.seen V.Key.cmp members steps × IsPossible V.seen V.Key.cmp members steps step) }
-    ensures member { (members place : ℕ) (steps : List (Step V)) (step : Step V) →
+    ensures member { (members place : ℕ) (steps : List (RunStep V)) (step : RunStep V) →
         member_of members place (steps ++ step ∷ []) ≡ member_after place (member_of members place steps) step }
-    ensures calm { (members place : ℕ) (steps : List (Step V)) (step : Step V) →
+    ensures calm { (members place : ℕ) (steps : List (RunStep V)) (step : RunStep V) →
         IsCalmAt V.seen members place (steps ++ step ∷ [])
         ↔ (IsCalmAt V.seen members place steps × IsCalmStep V.seen members place steps step) }
 {}
@@ -31,7 +31,7 @@ pub fn one_step_more<V: Version>()
 /// A calm member shows, at every key and at every moment from its last one on, what the bare set of all that it took
 /// shows there, whatever was lost, came twice or in another order, and across saves, stops and restarts.
 pub fn calm_members_show_the_bare_set<V: Version>()
-    ensures { (members place : ℕ) (steps : List (Step V)) (now : ℕ) (key : V.Key) →
+    ensures { (members place : ℕ) (steps : List (RunStep V)) (now : ℕ) (key : V.Key) →
         IsCalmAt V.seen members place steps →
         let member = member_of members place steps in
         last_of member ≤ now →
@@ -40,7 +40,7 @@ pub fn calm_members_show_the_bare_set<V: Version>()
 
 /// Where a run keeps a spread and a flight time, every member is calm.
 pub fn timely_runs_are_calm<V: Version>()
-    ensures { (members spread flight : ℕ) (steps : List (Step V)) → 0 < spread →
+    ensures { (members spread flight : ℕ) (steps : List (RunStep V)) → 0 < spread →
         IsRun V.seen V.Key.cmp members steps → IsTimely V.seen spread flight members steps →
         (place : ℕ) → IsCalmAt V.seen members place steps }
 {}
@@ -48,7 +48,7 @@ pub fn timely_runs_are_calm<V: Version>()
 /// When a step of a timely run begins, any two members that run show the same of each key of which every version
 /// delivered anywhere in the run was made a spread ago or earlier.
 pub fn views_agree<V: Version>()
-    ensures { (members spread flight now : ℕ) (before rest : List (Step V)) (step : Step V) (key : V.Key) → 0 < spread →
+    ensures { (members spread flight now : ℕ) (before rest : List (RunStep V)) (step : RunStep V) (key : V.Key) → 0 < spread →
         let steps = before ++ step ∷ rest in
         IsRun V.seen V.Key.cmp members steps → IsTimely V.seen spread flight members steps →
         All V.is_value (delivered_in steps) → moment step ≡ Some now →
@@ -61,7 +61,7 @@ pub fn views_agree<V: Version>()
 
 /// A calm member shows nothing of a key exactly where no version of it that it took is best and live.
 pub fn nothing_shown_exactly<V: Version>()
-    ensures { (members place : ℕ) (steps : List (Step V)) (now : ℕ) (key : V.Key) →
+    ensures { (members place : ℕ) (steps : List (RunStep V)) (now : ℕ) (key : V.Key) →
         IsCalmAt V.seen members place steps →
         let member = member_of members place steps in
         last_of member ≤ now →
@@ -72,7 +72,7 @@ pub fn nothing_shown_exactly<V: Version>()
 /// When a step of a timely run begins, a member that runs shows nothing of the key of a version that was made a spread
 /// ago or earlier only where the greatest that it took of that key, at least as great as that one, isn't live any more.
 pub fn nothing_shown_after_a_spread<V: Version>()
-    ensures { (members spread flight now : ℕ) (before rest : List (Step V)) (step : Step V) (v : V) → 0 < spread →
+    ensures { (members spread flight now : ℕ) (before rest : List (RunStep V)) (step : RunStep V) (v : V) → 0 < spread →
         let steps = before ++ step ∷ rest in
         IsRun V.seen V.Key.cmp members steps → IsTimely V.seen spread flight members steps →
         moment step ≡ Some now → Contains (delivered_in steps) v → (V.seen v).updated + spread ≤ now →

@@ -20,4 +20,4 @@ mod trails;
 mod uptimes;
 
 pub use run::Run;
-pub use step::{Source, Step};
+pub use step::{RunStep, Source};

@@ -16,7 +16,7 @@ ghost use Rattle.am_runs.specs.Tests.{Tops, top_among, in_time};
 
 use crate::calm::{in_time, is_below};
 use crate::position::{Position, placed, version_at};
-use crate::step::Step;
+use crate::step::RunStep;
 use crate::trails::{Trails, add_cell};
 use am_merge::blocks::{Blocks, Cursor, Probe};
 use am_version_order::{Moment, Version};
@@ -62,7 +62,7 @@ pub struct Maxima {
 /// A key and a member whose row is looked for.
 #[derive(Drop)]
 struct OwnerProbe<'a, V: Version> {
-    steps: &'a [Step<V>],
+    steps: &'a [RunStep<V>],
     heads: &'a [Head],
     key: &'a V::Key,
     member: usize,
@@ -135,7 +135,7 @@ pub fn make_rows(maxima: &mut Maxima, count: usize) -> Result<(), AllocError>
 /// The row of a key and a member, or where in the order it would go.
 pub fn find<V: Version>(
     maxima: &Maxima,
-    steps: &[Step<V>],
+    steps: &[RunStep<V>],
     key: &V::Key,
     member: usize,
 ) -> Result<usize, Cursor>
@@ -163,7 +163,7 @@ pub fn find<V: Version>(
 /// The row of a key and the first of some members that has one.
 fn find_any<V: Version>(
     maxima: &Maxima,
-    steps: &[Step<V>],
+    steps: &[RunStep<V>],
     key: &V::Key,
     members: usize,
 ) -> Option<usize>
@@ -178,7 +178,13 @@ fn find_any<V: Version>(
 }
 
 /// Puts a row of a member and a key of which it took its first version in. It takes no memory.
-fn add<V: Version>(maxima: &mut Maxima, steps: &[Step<V>], cursor: Cursor, head: Head, version: &V)
+fn add<V: Version>(
+    maxima: &mut Maxima,
+    steps: &[RunStep<V>],
+    cursor: Cursor,
+    head: Head,
+    version: &V,
+)
     requires at { version_at (map step_of steps.now) head.first ≡ Some version.now }
     requires room { HasRowRoom maxima.old 1 }
     requires within { IsWithin maxima.old.order cursor }
@@ -205,7 +211,7 @@ fn add<V: Version>(maxima: &mut Maxima, steps: &[Step<V>], cursor: Cursor, head:
 }
 
 /// Whether a version comes in time after the one at a maximum.
-fn is_calm<V: Version>(maximum: Maximum, steps: &[Step<V>], timing: &Timing, version: &V) -> bool
+fn is_calm<V: Version>(maximum: Maximum, steps: &[RunStep<V>], timing: &Timing, version: &V) -> bool
     ensures { (tops : Tops V) → IsMaximum (version_at (map step_of steps.now)) maximum tops →
         result ≡ in_time V.seen tops.top timing.now.last timing.now.moment version.now }
 {
@@ -214,7 +220,12 @@ fn is_calm<V: Version>(maximum: Maximum, steps: &[Step<V>], timing: &Timing, ver
 }
 
 /// A maximum once a version of its key was taken.
-fn risen<V: Version>(maximum: Maximum, steps: &[Step<V>], place: Position, version: &V) -> Maximum
+fn risen<V: Version>(
+    maximum: Maximum,
+    steps: &[RunStep<V>],
+    place: Position,
+    version: &V,
+) -> Maximum
     requires { version_at (map step_of steps.now) place ≡ Some version.now }
     ensures { (tops : Tops V) → IsMaximum (version_at (map step_of steps.now)) maximum tops →
         IsMaximum (version_at (map step_of steps.now)) result
@@ -232,7 +243,7 @@ fn risen<V: Version>(maximum: Maximum, steps: &[Step<V>], place: Position, versi
 /// Whether a version that a member takes comes in time; and it is taken. It takes no memory.
 pub fn take<V: Version>(
     maxima: &mut Maxima,
-    steps: &[Step<V>],
+    steps: &[RunStep<V>],
     head: Head,
     timing: &Timing,
     version: &V,
@@ -267,7 +278,7 @@ pub fn take<V: Version>(
 pub fn take_all<V: Version>(
     maxima: &mut Maxima,
     trails: &mut Trails,
-    steps: &[Step<V>],
+    steps: &[RunStep<V>],
     step: usize,
     member: usize,
     members: usize,

@@ -15,7 +15,7 @@ use crate::running::{last_from, runs_from};
 use crate::spans::is_some_time;
 use crate::spread::is_timely;
 use crate::standing::{Standing, fill_first};
-use crate::step::Step;
+use crate::step::RunStep;
 use crate::trails::{Trails, make_trails, no_trails};
 use am_version_order::{Interval, Moment, Version, versions_are_values};
 use std::alloc::{AllocError, Global};
@@ -26,7 +26,7 @@ use std::marker::Model;
 /// Contracts see it as the number of the members, the list of the steps, which is a run, and the room for more.
 pub struct Run<V: Version> {
     members: usize,
-    steps: Vec<Step<V>>,
+    steps: Vec<RunStep<V>>,
     maxima: Maxima,
     standings: Vec<Standing>,
     trails: Trails,
@@ -90,7 +90,7 @@ impl<V: Version> Run<V> {
     }
 
     /// The steps so far, in order.
-    pub fn steps(&self) -> &[Step<V>]
+    pub fn steps(&self) -> &[RunStep<V>]
         ensures { map step_of result.now ≡ self.now.steps }
     {
         &self.steps
@@ -130,7 +130,7 @@ impl<V: Version> Run<V> {
     }
 
     /// Writes down what happened. It takes no memory.
-    pub fn append(&mut self, step: Step<V>)
+    pub fn append(&mut self, step: RunStep<V>)
         requires room { 0 < self.old.room }
         requires spare { length (delivered_by (step_of step)) ≤ self.old.spare }
         requires possible { IsPossible V.seen V.Key.cmp self.old.members self.old.steps (step_of step) }

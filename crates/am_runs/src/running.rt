@@ -6,22 +6,22 @@ ghost use Rattle.am_runs.specs.Uptimes.{starts, saves};
 ghost use Rattle.am_runs.specs.Tests.{runs_after, runs_from, last_after, last_from, ran_after, ran_from};
 
 use crate::calm::later;
-use crate::step::Step;
+use crate::step::RunStep;
 use am_version_order::Moment;
 
 /// Whether a member runs after a step, where it ran before that or not.
-pub fn runs_after<V>(member: usize, runs: bool, step: &Step<V>) -> bool
+pub fn runs_after<V>(member: usize, runs: bool, step: &RunStep<V>) -> bool
     ensures { result ≡ runs_after member runs (step_of step.now) }
 {
     match step {
-        Step::Stopped { place } => runs && *place != member,
-        Step::Started { place, .. } => runs || *place == member,
+        RunStep::Stopped { place } => runs && *place != member,
+        RunStep::Started { place, .. } => runs || *place == member,
         _ => runs,
     }
 }
 
 /// Whether it runs after steps.
-pub fn runs_from<V>(member: usize, runs: bool, steps: &[Step<V>]) -> bool
+pub fn runs_from<V>(member: usize, runs: bool, steps: &[RunStep<V>]) -> bool
     ensures { result ≡ runs_from member runs (map step_of steps.now) }
 {
     let mut runs = runs;
@@ -32,20 +32,21 @@ pub fn runs_from<V>(member: usize, runs: bool, steps: &[Step<V>]) -> bool
 }
 
 /// The moment of a member's last event or start after a step, where it was this before that.
-pub fn last_after<V>(member: usize, last: Moment, step: &Step<V>) -> Moment
+pub fn last_after<V>(member: usize, last: Moment, step: &RunStep<V>) -> Moment
     ensures { result ≡ last_after member last (step_of step.now) }
 {
     if !step.is_at(member) {
         return last;
     }
     match step {
-        Step::Took { now, .. } | Step::Ticked { now, .. } | Step::Started { now, .. } => *now,
+        RunStep::Took { now, .. } | RunStep::Ticked { now, .. } | RunStep::Started { now, .. } =>
+            *now,
         _ => last,
     }
 }
 
 /// The moment of its last event or start in steps, or the first moment.
-pub fn last_from<V>(member: usize, steps: &[Step<V>]) -> Moment
+pub fn last_from<V>(member: usize, steps: &[RunStep<V>]) -> Moment
     ensures { result ≡ last_from member 0 (map step_of steps.now) }
 {
     let mut last = Moment::LEAST;
@@ -65,7 +66,7 @@ fn ran_after(runs: bool, ran: Option<Moment>, now: Option<Moment>) -> Option<Mom
 }
 
 /// The latest moment at which a member ran as one of the steps began, where it runs at first.
-pub fn ran_in<V>(member: usize, steps: &[Step<V>]) -> Option<Moment>
+pub fn ran_in<V>(member: usize, steps: &[RunStep<V>]) -> Option<Moment>
     ensures { result ≡ ran_from member true None (map step_of steps.now) }
 {
     let mut runs = true;
@@ -78,21 +79,21 @@ pub fn ran_in<V>(member: usize, steps: &[Step<V>]) -> Option<Moment>
 }
 
 /// Whether a step starts a member.
-pub fn starts<V>(member: usize, step: &Step<V>) -> bool
+pub fn starts<V>(member: usize, step: &RunStep<V>) -> bool
     ensures { result ≡ starts member (step_of step.now) }
 {
     match step {
-        Step::Started { place, .. } => *place == member,
+        RunStep::Started { place, .. } => *place == member,
         _ => false,
     }
 }
 
 /// Whether a step saves a member.
-pub fn saves<V>(member: usize, step: &Step<V>) -> bool
+pub fn saves<V>(member: usize, step: &RunStep<V>) -> bool
     ensures { result ≡ saves member (step_of step.now) }
 {
     match step {
-        Step::Saved { place } => *place == member,
+        RunStep::Saved { place } => *place == member,
         _ => false,
     }
 }

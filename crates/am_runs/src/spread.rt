@@ -16,7 +16,7 @@ use crate::flight::are_swift;
 use crate::position::Position;
 use crate::running::ran_in;
 use crate::spans::ends_by;
-use crate::step::Step;
+use crate::step::RunStep;
 use crate::timely::{all_lasting, are_monotone, comes, counts_for, is_due};
 use crate::trails::Cell;
 use crate::uptimes::{Uptime, uptime_at};
@@ -29,17 +29,17 @@ struct Search<'a, V> {
     member: usize,
     /// The latest moment at which it ran as a step began.
     ran: Option<Moment>,
-    steps: &'a [Step<V>],
+    steps: &'a [RunStep<V>],
     cells: &'a [Cell],
 }
 
 /// Whether a step brings the member a version, or a greater one of its key, before that should have come, with the one of
 /// this number in it.
-fn brings<V: Version>(asked: &Search<V>, version: &V, step: &Step<V>, number: usize) -> bool
+fn brings<V: Version>(asked: &Search<V>, version: &V, step: &RunStep<V>, number: usize) -> bool
     ensures { IsTrue result → brings V.seen V.Key.cmp asked.now.spread asked.now.member version.now (step_of step.now) ≡ true }
 {
     match step {
-        Step::Took {
+        RunStep::Took {
             place,
             now,
             versions,
@@ -125,7 +125,7 @@ fn come_soon<V: Version>(
 fn all_come_soon<V: Version>(
     spread: Interval,
     member: usize,
-    steps: &[Step<V>],
+    steps: &[RunStep<V>],
     cells: &[Cell],
 ) -> bool
     requires onward { are_monotone 0 (map step_of steps.now) ≡ true }
@@ -160,7 +160,7 @@ pub fn is_timely<V: Version>(
     spread: Interval,
     flight: Interval,
     members: usize,
-    steps: &[Step<V>],
+    steps: &[RunStep<V>],
     cells: &[Cell],
 ) -> bool
     requires run { IsRun V.seen V.Key.cmp members (map step_of steps.now) }

@@ -8,7 +8,7 @@ ghost use Rattle.am_runs.specs.Standings.{AreStandings, fault_after};
 
 use crate::calm::{Lasts, last_in, lasts_after};
 use crate::running::{last_after, runs_after};
-use crate::step::Step;
+use crate::step::RunStep;
 use am_version_order::{Moment, Version};
 use std::alloc::AllocError;
 
@@ -31,7 +31,7 @@ pub struct Standing {
 pub fn fill_first<V: Version>(
     standings: &mut Vec<Standing>,
     members: usize,
-    steps: &[Step<V>],
+    steps: &[RunStep<V>],
 ) -> Result<(), AllocError>
     ensures { AreStandings V.seen V.Key.cmp standings.old.items (map step_of steps.now)
         → AreStandings V.seen V.Key.cmp standings.new.items (map step_of steps.now) }
@@ -64,7 +64,7 @@ fn fill<V: Version>(standings: &mut Vec<Standing>, members: usize) -> Result<(),
 pub fn last_collection<V: Version>(
     standings: &[Standing],
     member: usize,
-    steps: &[Step<V>],
+    steps: &[RunStep<V>],
 ) -> Option<Moment>
     requires { AreStandings V.seen V.Key.cmp standings.now (map step_of steps.now) }
     ensures { result ≡ last_in member (map step_of steps.now) }
@@ -88,7 +88,7 @@ fn fault_after(fault: Option<usize>, stays: bool, number: usize) -> Option<usize
 fn standing_after<V>(
     standing: &Standing,
     member: usize,
-    step: &Step<V>,
+    step: &RunStep<V>,
     number: usize,
     stays: bool,
 ) -> Standing
@@ -108,8 +108,8 @@ fn standing_after<V>(
 /// Notes a step of this number, with which its member stays calm or not.
 pub fn note<V: Version>(
     standings: &mut Vec<Standing>,
-    before: &[Step<V>],
-    step: &Step<V>,
+    before: &[RunStep<V>],
+    step: &RunStep<V>,
     stays: bool,
 )
     requires standings { AreStandings V.seen V.Key.cmp standings.old.items (map step_of before.now) }

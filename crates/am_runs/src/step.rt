@@ -22,7 +22,7 @@ pub enum Source {
 
 /// What a step did, to the versions of one type.
 #[derive(Drop)]
-pub enum Step<V> {
+pub enum RunStep<V> {
     /// An event of a member: the versions that it delivered, in order, and the versions in each frame that it sent.
     Took {
         place: usize,
@@ -60,19 +60,19 @@ pub enum Step<V> {
     },
 }
 
-impl<V> Step<V> {
+impl<V> RunStep<V> {
     /// Whether it is a step of this member.
     pub fn is_at(&self, member: usize) -> bool
         ensures { result ≡ is_at member (step_of self.now) }
     {
         match self {
-            Step::Took { place, .. }
-            | Step::Ticked { place, .. }
-            | Step::Back { place, .. }
-            | Step::Saved { place }
-            | Step::Stopped { place }
-            | Step::Started { place, .. } => *place == member,
-            Step::Refused { .. } => false,
+            RunStep::Took { place, .. }
+            | RunStep::Ticked { place, .. }
+            | RunStep::Back { place, .. }
+            | RunStep::Saved { place }
+            | RunStep::Stopped { place }
+            | RunStep::Started { place, .. } => *place == member,
+            RunStep::Refused { .. } => false,
         }
     }
 
@@ -82,13 +82,13 @@ impl<V> Step<V> {
             is_at q (step_of self.now) ≡ (place == q)) }
     {
         match self {
-            Step::Took { place, .. }
-            | Step::Ticked { place, .. }
-            | Step::Back { place, .. }
-            | Step::Saved { place }
-            | Step::Stopped { place }
-            | Step::Started { place, .. } => Some(*place),
-            Step::Refused { .. } => None,
+            RunStep::Took { place, .. }
+            | RunStep::Ticked { place, .. }
+            | RunStep::Back { place, .. }
+            | RunStep::Saved { place }
+            | RunStep::Stopped { place }
+            | RunStep::Started { place, .. } => Some(*place),
+            RunStep::Refused { .. } => None,
         }
     }
 
@@ -97,12 +97,12 @@ impl<V> Step<V> {
         ensures { result ≡ moment (step_of self.now) }
     {
         match self {
-            Step::Took { now, .. }
-            | Step::Ticked { now, .. }
-            | Step::Back { now, .. }
-            | Step::Refused { now }
-            | Step::Started { now, .. } => Some(*now),
-            Step::Saved { .. } | Step::Stopped { .. } => None,
+            RunStep::Took { now, .. }
+            | RunStep::Ticked { now, .. }
+            | RunStep::Back { now, .. }
+            | RunStep::Refused { now }
+            | RunStep::Started { now, .. } => Some(*now),
+            RunStep::Saved { .. } | RunStep::Stopped { .. } => None,
         }
     }
 
@@ -111,7 +111,7 @@ impl<V> Step<V> {
         ensures { result.now ≡ delivered_by (step_of self.now) }
     {
         match self {
-            Step::Took { versions, .. } => versions.as_slice(),
+            RunStep::Took { versions, .. } => versions.as_slice(),
             _ => &[],
         }
     }
@@ -121,7 +121,7 @@ impl<V> Step<V> {
         ensures { result ≡ length (flights_by (step_of self.now)) }
     {
         match self {
-            Step::Took { frames, .. } => frames.len(),
+            RunStep::Took { frames, .. } => frames.len(),
             _ => 0,
         }
     }

@@ -11,7 +11,7 @@ ghost use Rattle.am_runs.specs.Timely.{IsTimely};
 
 use crate::calm::{has_key, is_below};
 use crate::spans::{both_end_by, ends_by, is_within};
-use crate::step::{Source, Step};
+use crate::step::{RunStep, Source};
 use am_version_order::{Interval, Moment, Version};
 
 fn is_monotone(clock: Moment, now: Option<Moment>) -> bool
@@ -24,7 +24,7 @@ fn is_monotone(clock: Moment, now: Option<Moment>) -> bool
 }
 
 /// Whether the moments written in steps never fall.
-pub fn are_monotone<V>(steps: &[Step<V>]) -> bool
+pub fn are_monotone<V>(steps: &[RunStep<V>]) -> bool
     ensures { result ≡ are_monotone 0 (map step_of steps.now) }
 {
     let mut clock = Moment::LEAST;
@@ -57,7 +57,7 @@ fn are_lasting<V: Version>(versions: &[V], spread: Interval, flight: Interval) -
 }
 
 /// Whether each version delivered in steps does.
-pub fn all_lasting<V: Version>(steps: &[Step<V>], spread: Interval, flight: Interval) -> bool
+pub fn all_lasting<V: Version>(steps: &[RunStep<V>], spread: Interval, flight: Interval) -> bool
     ensures { IsTrue result ↔ All (λ v. ((V.seen v).updated + spread) + flight ≤ (V.seen v).expires)
         (delivered_in (map step_of steps.now)) }
 {
@@ -70,7 +70,7 @@ pub fn all_lasting<V: Version>(steps: &[Step<V>], spread: Interval, flight: Inte
 }
 
 /// When the frame of this number was sent.
-pub fn sent_in<V>(number: usize, steps: &[Step<V>]) -> Option<Moment>
+pub fn sent_in<V>(number: usize, steps: &[RunStep<V>]) -> Option<Moment>
     ensures { result ≡ sent_in number (map step_of steps.now) }
 {
     let mut left = number;
@@ -85,7 +85,7 @@ pub fn sent_in<V>(number: usize, steps: &[Step<V>]) -> Option<Moment>
 }
 
 /// When the versions of a source were sent, if they were.
-pub fn sent_at<V>(steps: &[Step<V>], source: Source) -> Option<Moment>
+pub fn sent_at<V>(steps: &[RunStep<V>], source: Source) -> Option<Moment>
     ensures { result ≡ sent_at (map step_of steps.now) source }
 {
     match source {
@@ -105,16 +105,16 @@ pub fn flies_short(flight: Interval, now: Moment, sent: Option<Moment>) -> bool
 }
 
 /// Whether what a step delivered came in time.
-fn is_swift<V>(flight: Interval, steps: &[Step<V>], step: &Step<V>) -> bool
+fn is_swift<V>(flight: Interval, steps: &[RunStep<V>], step: &RunStep<V>) -> bool
     ensures { result ≡ is_swift flight (map step_of steps.now) (step_of step.now) }
 {
     match step {
-        Step::Took { now, source, .. } => flies_short(flight, *now, sent_at(steps, *source)),
+        RunStep::Took { now, source, .. } => flies_short(flight, *now, sent_at(steps, *source)),
         _ => true,
     }
 }
 
-pub fn are_swift<V>(flight: Interval, steps: &[Step<V>]) -> bool
+pub fn are_swift<V>(flight: Interval, steps: &[RunStep<V>]) -> bool
     ensures { result ≡ list_all (is_swift flight (map step_of steps.now)) (map step_of steps.now) }
 {
     for step in steps {
@@ -168,7 +168,7 @@ fn any_counts<V: Version>(version: &V, taken: &[V]) -> bool
     false
 }
 
-fn watch_after<V: Version>(member: usize, version: &V, watch: Watch, step: &Step<V>) -> Watch
+fn watch_after<V: Version>(member: usize, version: &V, watch: Watch, step: &RunStep<V>) -> Watch
     ensures { watch_seen result
         ≡ watch_after V.seen V.Key.cmp member version.now (watch_seen watch) (step_of step.now) }
 {
@@ -177,22 +177,22 @@ fn watch_after<V: Version>(member: usize, version: &V, watch: Watch, step: &Step
         return watch;
     }
     match step {
-        Step::Took { versions, .. } => Watch {
+        RunStep::Took { versions, .. } => Watch {
             runs,
             has: has || any_counts(version, versions),
             saved,
         },
-        Step::Saved { .. } => Watch {
+        RunStep::Saved { .. } => Watch {
             runs,
             has,
             saved: has,
         },
-        Step::Stopped { .. } => Watch {
+        RunStep::Stopped { .. } => Watch {
             runs: false,
             has,
             saved,
         },
-        Step::Started { .. } => Watch {
+        RunStep::Started { .. } => Watch {
             runs: true,
             has: saved,
             saved,
@@ -202,7 +202,7 @@ fn watch_after<V: Version>(member: usize, version: &V, watch: Watch, step: &Step
 }
 
 /// Whether at no step that begins when a version should have come the member runs without it.
-pub fn comes<V: Version>(spread: Interval, member: usize, version: &V, steps: &[Step<V>]) -> bool
+pub fn comes<V: Version>(spread: Interval, member: usize, version: &V, steps: &[RunStep<V>]) -> bool
     ensures { result ≡ comes V.seen V.Key.cmp spread member version.now
         (record { runs = true; has = false; saved = false }) (map step_of steps.now) }
 {
@@ -224,7 +224,7 @@ pub fn comes<V: Version>(spread: Interval, member: usize, version: &V, steps: &[
 fn comes_to_all<V: Version>(
     spread: Interval,
     members: usize,
-    steps: &[Step<V>],
+    steps: &[RunStep<V>],
     version: &V,
 ) -> bool
     ensures { IsTrue result ↔ ComesToAll V.seen V.Key.cmp spread members (map step_of steps.now) version.now }
@@ -241,7 +241,7 @@ fn comes_to_all<V: Version>(
 fn come_to_all<V: Version>(
     spread: Interval,
     members: usize,
-    steps: &[Step<V>],
+    steps: &[RunStep<V>],
     versions: &[V],
 ) -> bool
     ensures { IsTrue result ↔ All (ComesToAll V.seen V.Key.cmp spread members (map step_of steps.now)) versions.now }
@@ -255,7 +255,7 @@ fn come_to_all<V: Version>(
 }
 
 /// Whether each version delivered in some of the steps does.
-pub fn all_come_to_all<V: Version>(spread: Interval, members: usize, steps: &[Step<V>]) -> bool
+pub fn all_come_to_all<V: Version>(spread: Interval, members: usize, steps: &[RunStep<V>]) -> bool
     ensures { IsTrue result ↔ All (ComesToAll V.seen V.Key.cmp spread members (map step_of steps.now))
         (delivered_in (map step_of steps.now)) }
 {
@@ -272,7 +272,7 @@ pub fn is_timely<V: Version>(
     spread: Interval,
     flight: Interval,
     members: usize,
-    steps: &[Step<V>],
+    steps: &[RunStep<V>],
 ) -> bool
     ensures { IsRun V.seen V.Key.cmp members (map step_of steps.now)
         → IsTrue result ↔ IsTimely V.seen spread flight members (map step_of steps.now) }

@@ -6,7 +6,7 @@ ghost use Rattle.am_runs.specs.Records.{step_of};
 ghost use Rattle.am_runs.specs.Uptimes.{IsUptime};
 
 use crate::running::{ran_in, saves, starts};
-use crate::step::Step;
+use crate::step::RunStep;
 use am_version_order::Version;
 
 /// Steps from one up to another, and whether a member has ever after what it has as one of them begins.
@@ -20,7 +20,7 @@ pub struct Uptime {
 /// The uptime of a place, by one that is known.
 pub fn uptime_at<V: Version>(
     member: usize,
-    steps: &[Step<V>],
+    steps: &[RunStep<V>],
     known: Uptime,
     place: usize,
 ) -> Uptime

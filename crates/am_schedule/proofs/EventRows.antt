@@ -6,8 +6,8 @@ use Rattle.am_schedule.specs.declared.form.Verb.TheVariants as verbs
 use Rattle.am_schedule.specs.declared.step.VersionLine.{VersionLine}
 use Rattle.am_schedule.specs.declared.step.PostLine.{PostLine}
 use Rattle.am_schedule.specs.declared.step.GroupLine.{GroupLine}
-use Rattle.am_schedule.specs.declared.step.Event.{Event}
-use Rattle.am_schedule.specs.declared.step.Event.TheVariants as events
+use Rattle.am_schedule.specs.declared.step.LineEvent.{LineEvent}
+use Rattle.am_schedule.specs.declared.step.LineEvent.TheVariants as events
 use Rattle.am_schedule.specs.Readings.{◌>>=◌}
 use Rattle.am_schedule.specs.Words.{word_at, text_in}
 use Rattle.am_schedule.specs.Lists.{pairs_in, member_in}
@@ -16,7 +16,7 @@ use Rattle.am_schedule.specs.Slots.{whole_moment, interval, bits, hashes, yes_or
 use Rattle.am_schedule.specs.StepLines.{post_in, group_in, event_in}
 
 -- what the words behind a verb are, where a post and a group are read as one
-abbrev pub event_parts : List (List ℕ) → (List ℕ → Option VersionLine) → Verb → List (List ℕ) → Result Event FaultKind
+abbrev pub event_parts : List (List ℕ) → (List ℕ → Option VersionLine) → Verb → List (List ℕ) → Result LineEvent FaultKind
 event_parts names version verbs.From words = member_in names (word_at 4 words) >>= λ peer. versions_in version (drop 5 words) >>= λ versions. Ok (events.From peer versions)
 event_parts names version verbs.Post words = post_in words >>= λ line. Ok (events.Post line)
 event_parts names version verbs.Expire words = text_in (word_at 4 words) >>= λ id. Ok (events.Expire id)

@@ -16,8 +16,8 @@ use Rattle.am_schedule.specs.declared.form.Form.TheVariants.{Version}
 use Rattle.am_schedule.specs.declared.step.VersionLine.{VersionLine}
 use Rattle.am_schedule.specs.declared.step.VersionLine.TheVariants.{Silence, Log}
 use Rattle.am_schedule.specs.declared.step.Pair.{Pair}
-use Rattle.am_schedule.specs.declared.step.Event.{Event}
-use Rattle.am_schedule.specs.declared.step.Event.TheVariants as events
+use Rattle.am_schedule.specs.declared.step.LineEvent.{LineEvent}
+use Rattle.am_schedule.specs.declared.step.LineEvent.TheVariants as events
 use Rattle.am_schedule.specs.declared.step.Action.TheVariants as actions
 use Rattle.am_schedule.specs.declared.step.Line.{Line}
 use Rattle.am_schedule.specs.declared.step.Line.TheVariants as kinds
@@ -71,7 +71,7 @@ frames_read cluster version = refl
 
 -- ---- events
 
-verb_of : Event → Verb
+verb_of : LineEvent → Verb
 verb_of (events.From peer versions) = verbs.From
 verb_of (events.Post post) = verbs.Post
 verb_of (events.Expire id) = verbs.Expire
@@ -83,7 +83,7 @@ verb_of events.Tick = verbs.Tick
 verb_of (events.Pull peer) = verbs.Pull
 verb_of events.Start = verbs.Start
 
-verb_read : (names : List (List ℕ)) (version : List ℕ → Option VersionLine) (labels : List (List ℕ)) (t name : List ℕ) (event : Event) → IsWritableEvent names version labels event
+verb_read : (names : List (List ℕ)) (version : List ℕ → Option VersionLine) (labels : List (List ℕ)) (t name : List ℕ) (event : LineEvent) → IsWritableEvent names version labels event
     → verb_in (codes "at" ∷ t ∷ name ∷ event_words labels event) ≡ Some (verb_of event)
 unfolding verb_in verb_of word_at
 verb_read names version labels t name (events.From peer versions) is = let enough : 6 ≤ length (codes "at" ∷ t ∷ name ∷ codes "from" ∷ peer ∷ labels) = omega (arith, is.1) in rw (le-leb _ _ enough) refl
@@ -118,7 +118,7 @@ labels_read : (pairs : List Pair) → ArePairs pairs → pairs_in (map pair_word
 unfolding pairs_in
 labels_read pairs is = rw (pairs_read pairs is.1, is.2) refl
 
-event_read : (names : List (List ℕ)) (version : List ℕ → Option VersionLine) (labels : List (List ℕ)) (t name : List ℕ) (event : Event) → IsWritableEvent names version labels event
+event_read : (names : List (List ℕ)) (version : List ℕ → Option VersionLine) (labels : List (List ℕ)) (t name : List ℕ) (event : LineEvent) → IsWritableEvent names version labels event
     → event_in names version (verb_of event) (codes "at" ∷ t ∷ name ∷ event_words labels event) ≡ Ok event
 unfolding event_in verb_of word_at
 event_read names version labels t name (events.From peer versions) is = rw (member_read names peer is.0, is.2) refl
@@ -148,7 +148,7 @@ unfolding is_name
 no_settle name is = is_false _ (right_true _ _ (right_true _ _ is))
 
 -- a line of a member
-member_line_read : (cluster : ClusterLine) (version : List ℕ → Option VersionLine) (labels : List (List ℕ)) (at : ℕ) (name : List ℕ) (event : Event)
+member_line_read : (cluster : ClusterLine) (version : List ℕ → Option VersionLine) (labels : List (List ℕ)) (at : ℕ) (name : List ℕ) (event : LineEvent)
     → IsWritableLine cluster.names version labels (kinds.Step (actions.Event at name event))
     → said_in (Some cluster) version (codes "at" ∷ word_of moment at ∷ name ∷ event_words labels event) ≡ Ok (Some (kinds.Step (actions.Event at name event)))
 unfolding form_in line_in at_line_in member_line_in event_line_in word_at

@@ -10,8 +10,8 @@ use Rattle.am_schedule.specs.declared.step.SilenceLine.{SilenceLine}
 use Rattle.am_schedule.specs.declared.step.LogLine.{LogLine}
 use Rattle.am_schedule.specs.declared.step.PostLine.{PostLine}
 use Rattle.am_schedule.specs.declared.step.GroupLine.{GroupLine}
-use Rattle.am_schedule.specs.declared.step.Event.{Event}
-use Rattle.am_schedule.specs.declared.step.Event.TheVariants as events
+use Rattle.am_schedule.specs.declared.step.LineEvent.{LineEvent}
+use Rattle.am_schedule.specs.declared.step.LineEvent.TheVariants as events
 use Rattle.am_schedule.specs.declared.step.Action.TheVariants as actions
 use Rattle.am_schedule.specs.declared.step.Line.{Line}
 use Rattle.am_schedule.specs.declared.step.Line.TheVariants as kinds
@@ -115,7 +115,7 @@ group_row = row (text ∷ text ∷ hashes ∷ hashes ∷ interval ∷ []) nothin
     record { group = group; receiver = receiver; firing = firing; resolved = resolved; repeat = repeat })
 
 -- at T NAME VERB ..: what stands behind the verb
-abbrev pub event_row : Verb → Row Event
+abbrev pub event_row : Verb → Row LineEvent
 event_row verbs.From = row (member ∷ []) labels (λ peer versions. events.From peer versions)
 event_row verbs.Post = row (identifier ∷ bits ∷ whole_moment ∷ whole_moment ∷ text ∷ text ∷ []) nothing
     (λ id bits starts ends name value. events.Post (post_row.makes id bits starts ends name value))

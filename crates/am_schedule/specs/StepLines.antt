@@ -7,7 +7,7 @@ use Rattle.am_schedule.specs.declared.form.LineForm.TheVariants as forms
 use Rattle.am_schedule.specs.declared.step.VersionLine.{VersionLine}
 use Rattle.am_schedule.specs.declared.step.PostLine.{PostLine}
 use Rattle.am_schedule.specs.declared.step.GroupLine.{GroupLine}
-use Rattle.am_schedule.specs.declared.step.Event.{Event}
+use Rattle.am_schedule.specs.declared.step.LineEvent.{LineEvent}
 use Rattle.am_schedule.specs.declared.step.Action.TheVariants as actions
 use Rattle.am_schedule.specs.declared.step.Line.{Line}
 use Rattle.am_schedule.specs.declared.step.Line.TheVariants as kinds
@@ -28,7 +28,7 @@ unfoldable pub group_in : List (List ℕ) → Result GroupLine FaultKind
 group_in words = by_row [] no_version 4 group_row words
 
 -- what the words behind a verb are
-unfoldable pub event_in : List (List ℕ) → (List ℕ → Option VersionLine) → Verb → List (List ℕ) → Result Event FaultKind
+unfoldable pub event_in : List (List ℕ) → (List ℕ → Option VersionLine) → Verb → List (List ℕ) → Result LineEvent FaultKind
 event_in names version verb words = by_row names version 4 (event_row verb) words
 
 -- at T NAME VERB .., by the verb

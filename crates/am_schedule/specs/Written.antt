@@ -10,8 +10,8 @@ use Rattle.am_schedule.specs.declared.step.VersionLine.{VersionLine}
 use Rattle.am_schedule.specs.declared.step.VersionLine.TheVariants.{Silence, Log}
 use Rattle.am_schedule.specs.declared.step.Pair.{Pair}
 use Rattle.am_schedule.specs.declared.step.GroupLine.{GroupLine}
-use Rattle.am_schedule.specs.declared.step.Event.{Event}
-use Rattle.am_schedule.specs.declared.step.Event.TheVariants as events
+use Rattle.am_schedule.specs.declared.step.LineEvent.{LineEvent}
+use Rattle.am_schedule.specs.declared.step.LineEvent.TheVariants as events
 use Rattle.am_schedule.specs.declared.step.Action.TheVariants as actions
 use Rattle.am_schedule.specs.declared.step.Line.{Line}
 use Rattle.am_schedule.specs.declared.step.Line.TheVariants as kinds
@@ -87,7 +87,7 @@ group_words group behind =
     ∷ word_of interval group.repeat ∷ behind
 
 -- an event from its verb on; a `from` names its versions by the labels
-abbrev pub event_words : List (List ℕ) → Event → List (List ℕ)
+abbrev pub event_words : List (List ℕ) → LineEvent → List (List ℕ)
 event_words labels (events.From peer versions) = codes "from" ∷ peer ∷ labels
 event_words labels (events.Post post) =
     codes "post" ∷ word_of identifier post.id ∷ word_of bits post.bits
@@ -175,7 +175,7 @@ IsGroup group =
     × IsWritable [] hashes group.resolved × IsWritable [] interval group.repeat
 
 -- an event that can be written where `names` are the members and `version` knows the labels
-abbrev pub IsWritableEvent : List (List ℕ) → (List ℕ → Option VersionLine) → List (List ℕ) → Event → Type 0
+abbrev pub IsWritableEvent : List (List ℕ) → (List ℕ → Option VersionLine) → List (List ℕ) → LineEvent → Type 0
 IsWritableEvent names version labels (events.From peer versions) =
     IsMember names peer × (0 < length labels) × (versions_in version labels ≡ Ok versions)
 IsWritableEvent names version labels (events.Post post) =

@@ -12,7 +12,7 @@ use crate::lists::pairs;
 use crate::places::{
     bits_at, hashes_at, member_at, seconds_at, text_at, whole_moment_at, yes_or_no_at,
 };
-use crate::step::{Event, GroupLine, PostLine, VersionLine};
+use crate::step::{GroupLine, LineEvent, PostLine, VersionLine};
 use crate::versions::versions_of;
 use crate::word::{Word, behind, word_at};
 use std::alloc::Global;
@@ -77,45 +77,45 @@ pub(crate) fn event(
     versions: &BTreeMap<&str, VersionLine>,
     verb: Verb,
     words: &[&str],
-) -> Result<Event, FaultKind>
+) -> Result<LineEvent, FaultKind>
     ensures { GivesUnlessMemory result (event_in names.now (value_in versions.now) verb (map (λ w. w.now) words.now)) }
 {
     match verb {
         Verb::From => {
             let peer = member_at(alloc, names, words, 4)?;
             let versions = versions_of(alloc, versions, behind(words, 5))?;
-            Ok(Event::From { peer, versions })
+            Ok(LineEvent::From { peer, versions })
         }
         Verb::Post => {
             let line = post(alloc, words)?;
-            Ok(Event::Post(line))
+            Ok(LineEvent::Post(line))
         }
         Verb::Expire => {
             let id = text_at(alloc, words, 4)?;
-            Ok(Event::Expire { id })
+            Ok(LineEvent::Expire { id })
         }
         Verb::Notified => {
             let group = group(alloc, words)?;
-            Ok(Event::Notified(group))
+            Ok(LineEvent::Notified(group))
         }
         Verb::Decide => {
             let group = group(alloc, words)?;
             let resolved_wanted = yes_or_no_at(words, 9)?;
-            Ok(Event::Decide {
+            Ok(LineEvent::Decide {
                 group,
                 resolved_wanted,
             })
         }
         Verb::Mutes => {
             let labels = pairs(alloc, behind(words, 4))?;
-            Ok(Event::Mutes { labels })
+            Ok(LineEvent::Mutes { labels })
         }
-        Verb::Show => Ok(Event::Show),
-        Verb::Tick => Ok(Event::Tick),
+        Verb::Show => Ok(LineEvent::Show),
+        Verb::Tick => Ok(LineEvent::Tick),
         Verb::Pull => {
             let peer = member_at(alloc, names, words, 4)?;
-            Ok(Event::Pull { peer })
+            Ok(LineEvent::Pull { peer })
         }
-        Verb::Start => Ok(Event::Start),
+        Verb::Start => Ok(LineEvent::Start),
     }
 }

@@ -28,7 +28,7 @@ pub use items::Items;
 pub use schedule::{Schedule, parse};
 pub use shared::Shared;
 pub use step::{
-    Action, Event, GroupLine, Line, LogLine, Pair, PostLine, SilenceLine, Step, VersionLine,
+    Action, GroupLine, Line, LineEvent, LogLine, Pair, PostLine, SilenceLine, Step, VersionLine,
     Versions,
 };
 pub use word::Word;

@@ -78,7 +78,7 @@ pub struct Pair {
 
 /// What happens at a member at a moment.
 #[derive(Drop)]
-pub enum Event {
+pub enum LineEvent {
     /// A Delta of these versions comes from a peer.
     From {
         peer: Word,
@@ -113,7 +113,7 @@ pub enum Action {
     Event {
         at: Moment,
         name: Word,
-        event: Event,
+        event: LineEvent,
     },
     Stop {
         name: Word,

@@ -8,8 +8,8 @@ use Rattle.am_gossip.specs.declared.frame.Frame.{Frame}
 use Rattle.am_merge.specs.Maps.{at}
 use Rattle.am_runs.specs.declared.step.Source.{Source}
 use Rattle.am_runs.specs.declared.step.Source.TheVariants.{Made, Written, Arrived, Lent}
-use Rattle.am_runs.specs.Steps.{SentFrame, Step, flights_of}
-use Rattle.am_runs.specs.Steps.Step.{Took, Ticked}
+use Rattle.am_runs.specs.Steps.{SentFrame, RunStep, flights_of}
+use Rattle.am_runs.specs.Steps.RunStep.{Took, Ticked}
 use Rattle.am_runs.specs.Members.{Member, map_of, member_of, passes, stepped}
 use Rattle.am_runs.specs.Runs.{AreFrom, CanAct, IsPossible, IsSent, changed}
 use Rattle.am_runs.proofs.Loops.{all_left}
@@ -38,7 +38,7 @@ use Rattle.am_steps.proofs.Going.{members_go_on}
 use Rattle.am_steps.proofs.Making.{frame_makes_nothing, reply_now}
 use Rattle.am_steps.proofs.Sendings.{AreKnown, IfFits, all_deltas, all_picked, all_sent, changed_values, deltas_known, last_holds, pull_known, push_known}
 
-module _ {K X : Type 0} {state : StateOf K X} (facts : IsStateOf state) (members : ℕ) (before : List (Step X)) (now : ℕ) where
+module _ {K X : Type 0} {state : StateOf K X} (facts : IsStateOf state) (members : ℕ) (before : List (RunStep X)) (now : ℕ) where
   -- the first of versions come from where all of them do
   fewer_flown : (vs ws : List X) (flight : Option (SentFrame X)) → IsSomeAnd flight (λ f. All (Contains f.versions) (vs ++ ws)) → IsSomeAnd flight (λ f. All (Contains f.versions) vs)
   fewer_flown vs ws None all = all

@@ -7,10 +7,10 @@ use Rattle.am_nflog.specs.Mesh.{Mesh as LogMesh, IsMesh as IsLogMesh}
 use Rattle.am_gossip.specs.Answers.{frame_fault}
 use Rattle.am_gossip.specs.declared.frame.Frame.{Frame}
 use Rattle.am_gossip.specs.declared.frame.Frame.TheVariants as frames
-use Rattle.am_collect.specs.Events.Event.{Passed}
+use Rattle.am_collect.specs.Events.MapEvent.{Passed}
 use Rattle.am_runs.specs.declared.step.Source.{Source}
 use Rattle.am_runs.specs.Steps.{SentFrame, flights_by, flights_of}
-use Rattle.am_runs.specs.Steps.Step.{Took, Ticked}
+use Rattle.am_runs.specs.Steps.RunStep.{Took, Ticked}
 use Rattle.am_runs.specs.Members.{map_of, member_of}
 use Rattle.am_runs.proofs.Pasts.{flights_of-push, last-one, map_of-append}
 use Rattle.am_instance.specs.declared.event.Event.{Event}

@@ -17,7 +17,7 @@ use Rattle.am_instance.specs.Sendings.{IsSent, Sends, Sent, addressed, delta_of,
 use Rattle.am_instance.specs.InstanceStates.{InstanceState}
 use Rattle.am_instance.specs.Steps.{last_wanted}
 use Rattle.am_collect.specs.Events.{after}
-use Rattle.am_collect.specs.Events.Event.{Delivered}
+use Rattle.am_collect.specs.Events.MapEvent.{Delivered}
 use Rattle.am_nflog.specs.Keys.{key_cmp}
 use Rattle.std.specs.Ordering.{nat_cmp}
 use Rattle.std.specs.Cmp.Lexicographic.{slice_cmp}

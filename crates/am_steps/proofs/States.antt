@@ -13,11 +13,11 @@ use Rattle.am_nflog.specs.LogKeys.{LogKey}
 use Rattle.am_merge.specs.Maps.{IsMap, at}
 use Rattle.am_merge.proofs.Keys.{IsKeyOrder, key_order}
 use Rattle.am_merge.proofs.Puts.{at-member}
-use Rattle.am_collect.specs.Events.{Event, Events, after, after_all, last_moment}
-use Rattle.am_collect.specs.Events.Event.{Delivered}
+use Rattle.am_collect.specs.Events.{MapEvent, Events, after, after_all, last_moment}
+use Rattle.am_collect.specs.Events.MapEvent.{Delivered}
 use Rattle.am_collect.specs.Keepers.{IsLeftBy}
 use Rattle.am_runs.specs.Runs.{changed}
-use Rattle.am_instance.specs.declared.event.Event.{Event as Happening}
+use Rattle.am_instance.specs.declared.event.Event.{Event}
 use Rattle.am_instance.specs.declared.error.StepError.{StepError}
 use Rattle.am_instance.specs.declared.reply.Made.{Made}
 use Rattle.am_instance.specs.declared.reply.Outcome.{Outcome}
@@ -39,7 +39,7 @@ abbrev pub takings : {X : Type 0} → ℕ → List X → Events X
 takings now vs = map (λ v. (Delivered v, now)) vs
 
 -- versions of both states, as the events that they are to one of the maps
-abbrev pub arrivals : {X : Type 0} → (Delivery → Event X) → ℕ → List Delivery → Events X
+abbrev pub arrivals : {X : Type 0} → (Delivery → MapEvent X) → ℕ → List Delivery → Events X
 arrivals event_of now ds = map (λ d. (event_of d, now)) ds
 
 -- What is told of a state: how its keys are ordered, what is its own of versions of both states, that versions of the other
@@ -57,7 +57,7 @@ pub record IsStateOf {K X : Type 0} (state : StateOf K X) : Type 0 where
       state.versions_in (changed_of now (silence_at stand.silences) (entry_at stand.log) ds)
       ≡ changed state.seen state.cmp now (at state.seen state.cmp (state.kept stand).held) (state.versions_in ds)
   pub made : (now : ℕ) (made : Made) → MadeNow now made → All (λ v. (state.seen v).updated ≡ now) (state.versions_in (made_here made))
-  pub left : (old new : InstanceState) (event : Happening) (now : ℕ) (answer : Result Outcome StepError) → IsStep old event now answer new →
+  pub left : (old new : InstanceState) (event : Event) (now : ℕ) (answer : Result Outcome StepError) → IsStep old event now answer new →
       IsLeftBy state.seen state.cmp (state.kept old) (step_events state.event_of event now answer) (state.kept new)
 
 -- a map has each of its versions at that version's key
@@ -67,7 +67,7 @@ held_at {K} {X} {state} facts stand maps k v within =
     at-member state.seen state.cmp facts.keys (state.kept stand).held _ (facts.maps stand maps) (All-contains_itself (state.kept stand).held k v within)
 
 -- all these moments are one
-pub last_arrivals : {X : Type 0} (event_of : Delivery → Event X) (now : ℕ) (ds : List Delivery) → last_moment now (arrivals event_of now ds) ≡ now
+pub last_arrivals : {X : Type 0} (event_of : Delivery → MapEvent X) (now : ℕ) (ds : List Delivery) → last_moment now (arrivals event_of now ds) ≡ now
 last_arrivals event_of now [] = refl
 last_arrivals event_of now (d ∷ ds) = last_arrivals event_of now ds
 

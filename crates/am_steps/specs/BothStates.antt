@@ -8,7 +8,7 @@ use Rattle.am_silence.specs.Mesh.{Mesh, mesh_version}
 use Rattle.am_nflog.specs.Mesh.{Mesh as LogMesh, mesh_version as entry_version}
 use Rattle.am_nflog.specs.Keys.{key_cmp}
 use Rattle.am_nflog.specs.LogKeys.{LogKey}
-use Rattle.am_collect.specs.Events.{Event}
+use Rattle.am_collect.specs.Events.{MapEvent}
 use Rattle.am_collect.specs.Kept.{Kept}
 use Rattle.am_instance.specs.Deliveries.{Delivery, to_silences, to_log}
 use Rattle.am_instance.specs.InstanceStates.{InstanceState, kept_log, kept_silences}
@@ -19,7 +19,7 @@ use Rattle.am_steps.specs.Contents.{entries_in, silences_in}
 pub record StateOf (K X : Type 0) : Type 0 where
   pub seen : X → Version K
   pub cmp : K → K → Ordering
-  pub event_of : Delivery → Event X
+  pub event_of : Delivery → MapEvent X
   pub versions_in : List Delivery → List X
   pub kept : InstanceState → Kept X
 

@@ -14,8 +14,8 @@ use Rattle.am_schedule.specs.declared.step.Versions.{Versions}
 use Rattle.am_schedule.specs.declared.step.PostLine.{PostLine}
 use Rattle.am_schedule.specs.declared.step.GroupLine.{GroupLine}
 use Rattle.am_schedule.specs.declared.step.Pair.{Pair}
-use Rattle.am_schedule.specs.declared.step.Event.{Event as LineEvent}
-use Rattle.am_schedule.specs.declared.step.Event.TheVariants as lines
+use Rattle.am_schedule.specs.declared.step.LineEvent.{LineEvent}
+use Rattle.am_schedule.specs.declared.step.LineEvent.TheVariants as lines
 use Rattle.am_steps.specs.declared.asked.Asked.{Asked}
 use Rattle.am_steps.specs.declared.asked.Asked.TheVariants as asked
 use Rattle.am_steps.specs.Versions.{wants, receiver_of, versions_of, part_of, updated, sent_at}

@@ -9,8 +9,8 @@ use Rattle.am_collect.specs.Events.{Events, last_moment}
 use Rattle.am_collect.specs.Kept.{Kept}
 use Rattle.am_runs.specs.declared.step.Source.{Source}
 use Rattle.am_runs.specs.declared.step.Source.TheVariants.{Made}
-use Rattle.am_runs.specs.Steps.{Step, SentFrame}
-use Rattle.am_runs.specs.Steps.Step.{Took, Ticked, Back, Refused}
+use Rattle.am_runs.specs.Steps.{RunStep, SentFrame}
+use Rattle.am_runs.specs.Steps.RunStep.{Took, Ticked, Back, Refused}
 use Rattle.am_runs.specs.Members.{map_of}
 use Rattle.am_runs.specs.Runs.{AreFrom}
 use Rattle.am_instance.specs.declared.event.Event.{Event}
@@ -40,7 +40,7 @@ module _ {K X : Type 0} (state : StateOf K X) where
 
   -- What the step of the member at a place was, by its event, its answer and the frames that it left in flight. One that
   -- memory stopped delivered the first versions alone, and sent nothing.
-  abbrev pub event_step : ℕ → ℕ → Source → Event → Result Outcome StepError → List (ℕ × Frame) → Step X
+  abbrev pub event_step : ℕ → ℕ → Source → Event → Result Outcome StepError → List (ℕ × Frame) → RunStep X
   event_step place now source event (Ok outcome) frames =
       if collects event then Ticked place now else Took place now source (state.versions_in (delivers event outcome.made)) (sent_in frames)
   event_step place now source event (Err (Memory taken)) frames = Took place now source (state.versions_in (take taken (brought event))) []
@@ -48,7 +48,7 @@ module _ {K X : Type 0} (state : StateOf K X) where
   event_step place now source event (Err _) frames = Refused now
 
   -- what a frame brings comes from where the source says, and all else is made by the step
-  abbrev pub HasSource : ℕ → List (Step X) → ℕ → Event → Source → Type 0
+  abbrev pub HasSource : ℕ → List (RunStep X) → ℕ → Event → Source → Type 0
   HasSource members before now (events.Frame sender frame) source =
       AreFrom state.seen state.cmp members before now source (state.versions_in (carries frame))
   HasSource members before now _ source = source ≡ Made

@@ -5,8 +5,8 @@ use Rattle.am_gossip.specs.declared.frame.Frame.TheVariants.{Pull}
 use Rattle.am_collect.specs.Kept.{Kept}
 use Rattle.am_runs.specs.declared.step.Source.{Source}
 use Rattle.am_runs.specs.declared.step.Source.TheVariants.{Arrived, Lent}
-use Rattle.am_runs.specs.Steps.{Step, flights_of}
-use Rattle.am_runs.specs.Steps.Step.{Started}
+use Rattle.am_runs.specs.Steps.{RunStep, flights_of}
+use Rattle.am_runs.specs.Steps.RunStep.{Started}
 use Rattle.am_runs.specs.Members.{Member, member_of, stepped}
 use Rattle.am_runs.specs.Runs.{AreFrom, IsPossible}
 use Rattle.am_instance.specs.declared.event.Event.{Event}
@@ -35,7 +35,7 @@ module _ {K X : Type 0} (state : StateOf K X) where
   -- a recorded step changes the member at its place
   abbrev pub OwnMemberChanges : Type 0
   OwnMemberChanges =
-      (members place now : ℕ) (source : Source) (before : List (Step X)) (event : Event) (answer : Result Outcome StepError)
+      (members place now : ℕ) (source : Source) (before : List (RunStep X)) (event : Event) (answer : Result Outcome StepError)
       (frames : List (ℕ × Frame)) →
       let step = event_step state place now source event answer frames in
       member_of members place (before ++ step ∷ []) ≡ stepped (member_of members place before) step
@@ -43,7 +43,7 @@ module _ {K X : Type 0} (state : StateOf K X) where
   -- and no other one
   abbrev pub OthersStay : Type 0
   OthersStay =
-      (members place other now : ℕ) (source : Source) (before : List (Step X)) (event : Event) (answer : Result Outcome StepError)
+      (members place other now : ℕ) (source : Source) (before : List (RunStep X)) (event : Event) (answer : Result Outcome StepError)
       (frames : List (ℕ × Frame)) →
       place ≢ other →
       member_of members other (before ++ event_step state place now source event answer frames ∷ []) ≡ member_of members other before
@@ -57,7 +57,7 @@ module _ {K X : Type 0} (state : StateOf K X) where
   -- a step of an instance that is a member of a run can have happened in it
   abbrev pub StepsArePossible : Type 0
   StepsArePossible =
-      (members place now : ℕ) (before : List (Step X)) (source : Source) (old new : InstanceState) (event : Event)
+      (members place now : ℕ) (before : List (RunStep X)) (source : Source) (old new : InstanceState) (event : Event)
       (answer : Result Outcome StepError) (frames : List (ℕ × Frame)) →
       let member = member_of members place before in
       (counts answer ≡ true → member.runs ≡ true) →
@@ -69,7 +69,7 @@ module _ {K X : Type 0} (state : StateOf K X) where
   -- what a Pull of the maps of a member that runs brings comes from that member
   abbrev pub LentMapsAreItsLenders : Type 0
   LentMapsAreItsLenders =
-      (members lender now : ℕ) (before : List (Step X)) (lent : InstanceState) → (member_of members lender before).runs ≡ true →
+      (members lender now : ℕ) (before : List (RunStep X)) (lent : InstanceState) → (member_of members lender before).runs ≡ true →
       HasGoneThrough state (member_of members lender before).past (state.kept lent) → HasMaps lent →
       All IsReadable (map OfSilence lent.silences) → All IsReadable (map OfEntry lent.log) →
       AreFrom state.seen state.cmp members before now (Lent lender)
@@ -78,7 +78,7 @@ module _ {K X : Type 0} (state : StateOf K X) where
   -- the frames that a step left in flight are the flights that its recorded step adds
   abbrev pub FramesAreFlights : Type 0
   FramesAreFlights =
-      (place now : ℕ) (before : List (Step X)) (source : Source) (old new : InstanceState) (event : Event)
+      (place now : ℕ) (before : List (RunStep X)) (source : Source) (old new : InstanceState) (event : Event)
       (answer : Result Outcome StepError) (frames : List (ℕ × Frame)) →
       IsStep old event now answer new → AreInFlight answer frames →
       flights_of (before ++ event_step state place now source event answer frames ∷ []) ≡ flights_of before ++ flights_in state now frames
@@ -86,7 +86,7 @@ module _ {K X : Type 0} (state : StateOf K X) where
   -- what a frame brings comes from its flight
   abbrev pub FramesComeFromFlights : Type 0
   FramesComeFromFlights =
-      (members now number sent : ℕ) (before : List (Step X)) (frame : Frame) →
+      (members now number sent : ℕ) (before : List (RunStep X)) (frame : Frame) →
       slice_get (flights_of before) number ≡ Some (record { sent = sent; versions = state.versions_in (carries frame) }) →
       AreFrom state.seen state.cmp members before now (Arrived number) (state.versions_in (carries frame))
 

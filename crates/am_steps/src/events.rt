@@ -10,7 +10,7 @@ use crate::texts::text_of;
 use crate::written::from;
 use am_instance::{Config, Event, Place, Request};
 use am_matcher::{Label, Labels};
-use am_schedule::{Event as LineEvent, Pair};
+use am_schedule::{LineEvent, Pair};
 use std::alloc::{AllocError, Global};
 
 /// The label of a pair.

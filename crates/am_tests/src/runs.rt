@@ -1,7 +1,7 @@
 //! Runs that follow from a number: what a run tells of them is what plain loops over its steps tell.
 
 use crate::notes::{Note, at, mixed};
-use am_runs::{Run, Source, Step, plain};
+use am_runs::{Run, RunStep, Source, plain};
 use am_version_order::{Interval, Moment};
 use std::alloc::{AllocError, Global};
 
@@ -106,7 +106,7 @@ fn take(
     if !run.runs(place) || now < run.last(place) {
         return Ok(false);
     }
-    run.append(Step::Took {
+    run.append(RunStep::Took {
         place,
         now,
         source: Source::Written(Moment::LEAST),
@@ -122,12 +122,12 @@ fn turn(run: &mut Run<Note>, verb: Verb, place: usize, now: Moment) -> Result<bo
     let runs = run.runs(place);
     let is_back = now < run.last(place);
     match verb {
-        Verb::Back if is_back => run.append(Step::Back { place, now }),
-        Verb::Tick if runs && !is_back => run.append(Step::Ticked { place, now }),
-        Verb::Save if runs => run.append(Step::Saved { place }),
-        Verb::Stop if runs => run.append(Step::Stopped { place }),
+        Verb::Back if is_back => run.append(RunStep::Back { place, now }),
+        Verb::Tick if runs && !is_back => run.append(RunStep::Ticked { place, now }),
+        Verb::Save if runs => run.append(RunStep::Saved { place }),
+        Verb::Stop if runs => run.append(RunStep::Stopped { place }),
         Verb::Start if place < run.members() && !runs && !is_back => {
-            run.append(Step::Started { place, now });
+            run.append(RunStep::Started { place, now });
         }
         _ => return Ok(false),
     }

@@ -9,7 +9,7 @@ use am_part_cases::common::{
 };
 use am_part_cases::{put, say};
 use am_runs::Source;
-use am_schedule::{Action, Event as LineEvent, FaultKind, Line, Schedule, parse};
+use am_schedule::{Action, FaultKind, Line, LineEvent, Schedule, parse};
 use am_silence::Posted;
 use am_steps::{Asked, to_event};
 use am_wire::Bytes;

@@ -6,7 +6,7 @@ use am_part_cases::common::{
     writer,
 };
 use am_part_cases::put;
-use am_replay::{Line, Refusal, ReplayError, append_line, run};
+use am_replay::{OutputLine, Refusal, ReplayError, append_line, run};
 use am_silence::SilenceError;
 use std::alloc::Global;
 
@@ -60,7 +60,7 @@ fn played(rt: &HostRuntime, text: &[u8], how: &How) -> Result<(), Fault> {
     say_reply(rt, writer.taken.as_slice())
 }
 
-fn say_line(rt: &HostRuntime, line: &Line<'_>) -> Result<(), Fault> {
+fn say_line(rt: &HostRuntime, line: &OutputLine<'_>) -> Result<(), Fault> {
     let mut text = String::new(rt.alloc());
     append_line(&mut text, line)?;
     print(rt, text)
@@ -75,7 +75,7 @@ pub fn refused(rt: &HostRuntime) -> Result<(), Fault> {
         SilenceError::Memory,
     ] {
         let (name, refusal) = (Some("a"), Refusal::from(error));
-        say_line(rt, &Line::Refused { name, refusal })?;
+        say_line(rt, &OutputLine::Refused { name, refusal })?;
     }
     Ok(())
 }

@@ -3,7 +3,7 @@
 ghost use Rattle.std.specs.Prelude.{◌≡◌, ℕ, List, length};
 ghost use Rattle.am_silence.specs.Mesh.{Mesh};
 ghost use Rattle.am_nflog.specs.Mesh.{Mesh as LogMesh};
-ghost use Rattle.am_runs.specs.Steps.{Step, flights_of};
+ghost use Rattle.am_runs.specs.Steps.{RunStep, flights_of};
 ghost use Rattle.am_runs.specs.Members.{member_of, last_of};
 ghost use Rattle.am_cluster.specs.declared.journal.mark.Mark.{Mark};
 ghost use Rattle.am_cluster.specs.Marks.{step_of_mark};
@@ -12,18 +12,18 @@ ghost use Rattle.am_cluster.specs.Twins.{IsTwin, AreTwins};
 
 /// Both runs tell the same of a member, whether it runs and its last moment, and as many frames were sent in both.
 pub fn twins_tell_same()
-    ensures runs { (members place : ℕ) (silences : List (Step Mesh)) (log : List (Step LogMesh)) → AreTwins silences log →
+    ensures runs { (members place : ℕ) (silences : List (RunStep Mesh)) (log : List (RunStep LogMesh)) → AreTwins silences log →
         (member_of members place silences).runs ≡ (member_of members place log).runs }
-    ensures last { (members place : ℕ) (silences : List (Step Mesh)) (log : List (Step LogMesh)) → AreTwins silences log →
+    ensures last { (members place : ℕ) (silences : List (RunStep Mesh)) (log : List (RunStep LogMesh)) → AreTwins silences log →
         last_of (member_of members place silences) ≡ last_of (member_of members place log) }
-    ensures flights { (silences : List (Step Mesh)) (log : List (Step LogMesh)) → AreTwins silences log →
+    ensures flights { (silences : List (RunStep Mesh)) (log : List (RunStep LogMesh)) → AreTwins silences log →
         length (flights_of silences) ≡ length (flights_of log) }
 {}
 
 /// A step without versions is the twin of itself, and what is possible in one run is possible in the other.
 pub fn marks_are_told_of_both()
     ensures twins { (mark : Mark) → IsTwin (step_of_mark {X = Mesh} mark) (step_of_mark {X = LogMesh} mark) }
-    ensures possible { (members : ℕ) (silences : List (Step Mesh)) (log : List (Step LogMesh)) (mark : Mark) →
+    ensures possible { (members : ℕ) (silences : List (RunStep Mesh)) (log : List (RunStep LogMesh)) (mark : Mark) →
         AreTwins silences log → IsPossibleForSilences members silences (step_of_mark mark) →
         IsPossibleForLog members log (step_of_mark mark) }
 {}

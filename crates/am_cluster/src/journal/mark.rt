@@ -4,7 +4,7 @@ ghost use Rattle.std.specs.Prelude.{◌≡◌};
 ghost use Rattle.am_runs.specs.Records.{step_of};
 ghost use Rattle.am_cluster.specs.Marks.{step_of_mark};
 
-use am_runs::Step;
+use am_runs::RunStep;
 use am_version_order::Moment;
 
 /// A step in which no version came and no frame was sent.
@@ -26,16 +26,16 @@ pub enum Mark {
 
 impl Mark {
     /// What it is to the versions of any type.
-    pub(super) fn step<V>(&self) -> Step<V>
+    pub(super) fn step<V>(&self) -> RunStep<V>
         ensures { step_of result ≡ step_of_mark self.now }
     {
         match *self {
-            Mark::Ticked { place, now } => Step::Ticked { place, now },
-            Mark::Back { place, now } => Step::Back { place, now },
-            Mark::Refused { now } => Step::Refused { now },
-            Mark::Saved { place } => Step::Saved { place },
-            Mark::Stopped { place } => Step::Stopped { place },
-            Mark::Started { place, now } => Step::Started { place, now },
+            Mark::Ticked { place, now } => RunStep::Ticked { place, now },
+            Mark::Back { place, now } => RunStep::Back { place, now },
+            Mark::Refused { now } => RunStep::Refused { now },
+            Mark::Saved { place } => RunStep::Saved { place },
+            Mark::Stopped { place } => RunStep::Stopped { place },
+            Mark::Started { place, now } => RunStep::Started { place, now },
         }
     }
 }

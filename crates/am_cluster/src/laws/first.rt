@@ -6,7 +6,7 @@ ghost use Rattle.am_nflog.specs.Keys.{key_cmp};
 ghost use Rattle.am_nflog.specs.LogKeys.{LogKey};
 ghost use Rattle.am_version_order.specs.Versions.{is_below};
 ghost use Rattle.am_merge.specs.Views.{IsBest, IsInView, IsViewAt};
-ghost use Rattle.am_runs.specs.Steps.{Step, delivered_in, moment};
+ghost use Rattle.am_runs.specs.Steps.{RunStep, delivered_in, moment};
 ghost use Rattle.am_runs.specs.Members.{member_of, set_of};
 ghost use Rattle.am_runs.specs.Runs.{IsRun};
 ghost use Rattle.am_runs.specs.Timely.{IsTimely};
@@ -43,7 +43,7 @@ pub fn first_is_told_exactly(cluster: &Cluster)
 /// the run, a member that runs says that the group is notified for the first time only where the greatest entry of it that
 /// the member took, at least as great as that one, isn't live any more.
 pub fn first_is_told_after_a_spread()
-    ensures { (members spread flight now : ℕ) (before rest : List (Step LogMesh)) (step : Step LogMesh) (entry : LogMesh) → 0 < spread →
+    ensures { (members spread flight now : ℕ) (before rest : List (RunStep LogMesh)) (step : RunStep LogMesh) (entry : LogMesh) → 0 < spread →
         let steps = before ++ step ∷ rest in
         IsRun entry_version key_cmp members steps → IsTimely entry_version spread flight members steps → moment step ≡ Some now →
         Contains (delivered_in steps) entry → (entry_version entry).updated + spread ≤ now →

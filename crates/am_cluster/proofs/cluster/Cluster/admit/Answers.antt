@@ -1,5 +1,5 @@
 use Rattle.std.proofs.Common.{ℕ, ◌++◌, ◌∷◌, [], eqb, refl, sym, ap, ◌∙◌, subst}
-use Rattle.am_runs.specs.Steps.Step.{Refused}
+use Rattle.am_runs.specs.Steps.RunStep.{Refused}
 use Rattle.am_cluster.specs.Ties.{IsWorld}
 use Rattle.am_cluster.proofs.Admitted.{lasts_told, let_in_alone, let_in_with_members, marked_world, not_so, refused_as_back, refused_as_stopped, world_marked}
 use Rattle.am_cluster.proofs.Goes.{goes_on_idle}

@@ -2,7 +2,7 @@ use Rattle.std.proofs.Common.{◌≡◌, ◌++◌, ◌∷◌, [], refl, sym, ap,
 use Rattle.std.proofs.Common.{slice_get}
 use Rattle.am_steps.specs.BothStates.{log_state, silence_state}
 use Rattle.am_steps.specs.Recorded.{HasSource}
-use Rattle.am_runs.specs.Steps.Step.{Refused}
+use Rattle.am_runs.specs.Steps.RunStep.{Refused}
 use Rattle.am_cluster.specs.Ties.{IsWorld}
 use Rattle.am_cluster.proofs.Goes.{goes_on_idle}
 use Rattle.am_cluster.proofs.Places.{set_length}

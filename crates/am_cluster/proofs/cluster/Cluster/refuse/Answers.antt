@@ -1,5 +1,5 @@
 use Rattle.std.proofs.Common.{◌++◌, ◌∷◌, [], refl, sym, ap, ◌∙◌, subst}
-use Rattle.am_runs.specs.Steps.Step.{Refused}
+use Rattle.am_runs.specs.Steps.RunStep.{Refused}
 use Rattle.am_cluster.specs.Ties.{IsWorld}
 use Rattle.am_cluster.proofs.Goes.{goes_on_idle}
 use Rattle.am_cluster.proofs.Lived.{same_world}

@@ -1,5 +1,5 @@
 use Rattle.std.proofs.Common.{true, [], ◌∷◌, ◌++◌, sym, ap, ◌∙◌, subst, set}
-use Rattle.am_runs.specs.Steps.Step.{Saved}
+use Rattle.am_runs.specs.Steps.RunStep.{Saved}
 use Rattle.am_cluster.specs.Worlds.{with_replica, written}
 use Rattle.am_cluster.specs.Lives.{saved}
 use Rattle.am_cluster.specs.Ties.{IsWorld}

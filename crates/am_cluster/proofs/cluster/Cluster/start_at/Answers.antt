@@ -1,5 +1,5 @@
 use Rattle.std.proofs.Common.{◌<◌, ◌≤◌, true, false, [], ◌∷◌, ◌++◌, refl, sym, ap, ◌∙◌, subst, set}
-use Rattle.am_runs.specs.Steps.Step.{Back, Refused, Started}
+use Rattle.am_runs.specs.Steps.RunStep.{Back, Refused, Started}
 use Rattle.am_cluster.specs.Worlds.{written}
 use Rattle.am_cluster.specs.Lives.{started}
 use Rattle.am_cluster.specs.Ties.{IsWorld}

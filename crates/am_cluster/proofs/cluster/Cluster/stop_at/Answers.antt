@@ -1,5 +1,5 @@
 use Rattle.std.proofs.Common.{true, [], ◌∷◌, ◌++◌, sym, ap, ◌∙◌, subst, set}
-use Rattle.am_runs.specs.Steps.Step.{Stopped}
+use Rattle.am_runs.specs.Steps.RunStep.{Stopped}
 use Rattle.am_cluster.specs.Worlds.{with_replica, written}
 use Rattle.am_cluster.specs.Lives.{stopped}
 use Rattle.am_cluster.specs.Ties.{IsWorld}
