@@ -1,6 +1,6 @@
 //! A cluster, and what can be asked of it.
 
-ghost use Rattle.std.specs.Prelude.{◌≡◌, ◌≢◌, ◌↔◌, ℕ, [], All, Any, Err, IfOk, IsTrue, MatchOption, length, option_map};
+ghost use Rattle.std.specs.Prelude.{◌≡◌, ◌↔◌, ℕ, [], All, Any, Err, IfOk, IsTrue, MatchOption, length, option_map};
 ghost use Rattle.std.specs.Option.{option_copied};
 ghost use Rattle.am_instance.specs.Configs.{HasTwice, IsEmptyName, IsLongName};
 ghost use Rattle.am_instance.specs.declared.error.ConfigError.TheVariants as errors;

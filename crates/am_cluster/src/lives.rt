@@ -1,6 +1,6 @@
 //! How members are saved, stopped and started.
 
-ghost use Rattle.std.specs.Prelude.{◌≡◌, ◌<◌, length};
+ghost use Rattle.std.specs.Prelude.{◌<◌, length};
 ghost use Rattle.am_cluster.specs.Lives.{IsSave, IsStart, IsStop, OfMember};
 
 use crate::cluster::Cluster;

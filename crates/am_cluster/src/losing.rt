@@ -1,6 +1,6 @@
 //! How a frame in flight is found by its number, and how one is lost.
 
-ghost use Rattle.std.specs.Prelude.{◌≡◌, MatchOption};
+ghost use Rattle.std.specs.Prelude.{MatchOption};
 ghost use Rattle.am_cluster.specs.Losing.{IsLoss, IsNoNumber, IsNumberedAt};
 ghost use Rattle.am_cluster.specs.Ties.{AreAscending};
 

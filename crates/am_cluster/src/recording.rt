@@ -1,6 +1,6 @@
 //! How the answer of an instance is written down.
 
-ghost use Rattle.std.specs.Prelude.{◌≡◌, ◌≤◌, ◌++◌, ℕ, List, [], false, length, map, take, Ok, Err, OnErr, OnOk};
+ghost use Rattle.std.specs.Prelude.{◌≡◌, ◌++◌, ℕ, List, [], false, length, map, take, Ok, Err, OnErr, OnOk};
 ghost use Rattle.am_steps.specs.Contents.{delivery_of, entries_in, silences_in};
 ghost use Rattle.am_instance.specs.declared.event.Event.{Event};
 ghost use Rattle.am_instance.specs.Replies.{IsNothing, listed};

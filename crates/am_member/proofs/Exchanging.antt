@@ -1,5 +1,5 @@
 -- What comes of what a connection said.
-use Rattle.std.proofs.Common.{◌≡◌, inl, inr, ℕ, List, [], Option, None, Some, Result, Ok, Err, refl, sym, subst, ap, ◌∙◌}
+use Rattle.std.proofs.Common.{◌≡◌, inl, inr, ℕ, List, Option, None, Some, Result, Ok, Err, refl, sym, subst}
 use Rattle.std.specs.Prelude.{option_map}
 use Rattle.am_api_silences.specs.Answers.{Becomes, IsAnswered, IsTurnedAway, with_reply as answered_with}
 use Rattle.am_api_silences.specs.declared.answering.Answered.{Answered}
@@ -7,7 +7,7 @@ use Rattle.am_api_silences.specs.declared.answering.Begun.{Begun}
 use Rattle.am_gossip.specs.declared.frame.Frame.{Frame}
 use Rattle.am_http.specs.declared.refusal.Refusal.{Refusal}
 use Rattle.am_http.specs.declared.request.Read.{Read}
-use Rattle.am_http.specs.declared.request.Read.TheVariants.{More, Whole, Refused}
+use Rattle.am_http.specs.declared.request.Read.TheVariants.{Whole, Refused}
 use Rattle.am_http.specs.declared.request.Request.{Request}
 use Rattle.am_instance.specs.InstanceStates.{InstanceState}
 use Rattle.am_http.specs.declared.session.fault.SessionFault.{SessionFault}

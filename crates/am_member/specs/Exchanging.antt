@@ -1,5 +1,5 @@
 -- What comes of what a connection said: the answer to its request, or the steps of its frames.
-use Rattle.std.specs.Prelude.{◌≡◌, ◌≢◌, ◌⊎◌, ℕ, Bool, true, false, List, [], ◌∷◌, Option, None, Some, option_map, Result, Ok, Err, ⊤}
+use Rattle.std.specs.Prelude.{◌≡◌, ◌≢◌, ◌⊎◌, ℕ, Bool, true, false, List, [], Option, None, Some, option_map, Result, Ok, Err, ⊤}
 use Rattle.am_api_silences.specs.declared.answering.Answered.{Answered}
 use Rattle.am_api_silences.specs.declared.answering.Begun.{Begun}
 use Rattle.am_api_silences.specs.declared.making.Making.{Making}
@@ -11,7 +11,7 @@ use Rattle.am_api_silences.specs.Serving.{IsAnswerTo}
 use Rattle.am_gossip.specs.declared.frame.Frame.{Frame}
 use Rattle.am_http.specs.declared.cause.Cause.{Cause}
 use Rattle.am_http.specs.declared.request.Read.{Read}
-use Rattle.am_http.specs.declared.request.Read.TheVariants.{More, Whole, Refused}
+use Rattle.am_http.specs.declared.request.Read.TheVariants.{More, Whole}
 use Rattle.am_http.specs.declared.routes.Call.{Call}
 use Rattle.am_http.specs.declared.routes.Call.TheVariants.{List as ListCall}
 use Rattle.am_instance.specs.Configs.{Settings}

@@ -1,6 +1,6 @@
 //! Asking a server for its silences, over any reader and writer.
 
-ghost use Rattle.std.specs.Prelude.{◌≡◌, ◌<◌, ◌≤◌, ℕ, List, length, IfOk, IfErr, IfSome, IsErrOf, OnOk};
+ghost use Rattle.std.specs.Prelude.{◌≡◌, ◌<◌, ◌≤◌, length, IfOk, IfErr, IfSome, IsErrOf};
 ghost use Rattle.am_member.specs.Requests.{IsOfReading, request_text, most_reply};
 ghost use Rattle.am_member.specs.declared.error.ServerFault.TheVariants as errors;
 

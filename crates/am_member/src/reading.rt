@@ -1,6 +1,6 @@
 //! The bytes of a connection, piece by piece.
 
-ghost use Rattle.std.specs.Prelude.{◌≡◌, ◌<◌, ◌≤◌, length};
+ghost use Rattle.std.specs.Prelude.{◌<◌, ◌≤◌, length};
 ghost use Rattle.am_member.specs.Incoming.{most_bytes};
 ghost use Rattle.am_member.specs.Hearing.{IsPiece};
 

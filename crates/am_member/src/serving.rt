@@ -1,6 +1,6 @@
 //! A connection, of a person, a tool or a peer.
 
-ghost use Rattle.std.specs.Prelude.{◌≡◌, List, [], ◌∷◌, option_map};
+ghost use Rattle.std.specs.Prelude.{◌≡◌, [], ◌∷◌, option_map};
 ghost use Rattle.am_http.specs.Receiving.{behind};
 ghost use Rattle.am_member.specs.Serving.{EndsAs, IsBegun, IsServed, fault_told};
 

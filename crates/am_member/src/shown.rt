@@ -1,10 +1,10 @@
 //! What API v2 shows of sources, as maps that can be compared.
 
-ghost use Rattle.std.specs.Prelude.{◌≡◌, ◌⊎◌, List, map, All, IfOk, IfErr, IfSome, OnOk};
+ghost use Rattle.std.specs.Prelude.{◌≡◌, map, IfOk, IfSome};
 ghost use Rattle.std.specs.Ordering.{nat_cmp};
 ghost use Rattle.std.specs.Cmp.Lexicographic.{slice_cmp};
 ghost use Rattle.am_merge.specs.Maps.{IsMap};
-ghost use Rattle.am_silence.specs.Mesh.{Mesh, mesh_version};
+ghost use Rattle.am_silence.specs.Mesh.{mesh_version};
 ghost use Rattle.am_silence_json.specs.Shown.{cut_to_shown};
 ghost use Rattle.am_snapshot.specs.Best.{HoldsBest};
 ghost use Rattle.am_member.specs.Shown.{IsShownOfRow};

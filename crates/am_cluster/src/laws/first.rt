@@ -1,11 +1,10 @@
 //! When a group is notified for the first time.
 
-ghost use Rattle.std.specs.Prelude.{◌≡◌, ◌≢◌, ◌↔◌, ◌+◌, ◌<◌, ◌≤◌, ◌++◌, ◌∷◌, ℕ, Bool, List, Option, Some, None, true, false, Contains};
+ghost use Rattle.std.specs.Prelude.{◌≡◌, ◌≢◌, ◌↔◌, ◌+◌, ◌<◌, ◌≤◌, ◌++◌, ◌∷◌, ℕ, List, Some, true, false, Contains};
 ghost use Rattle.am_nflog.specs.Mesh.{Mesh as LogMesh, mesh_version as entry_version};
 ghost use Rattle.am_nflog.specs.Keys.{key_cmp};
-ghost use Rattle.am_nflog.specs.LogKeys.{LogKey};
 ghost use Rattle.am_version_order.specs.Versions.{is_below};
-ghost use Rattle.am_merge.specs.Views.{IsBest, IsInView, IsViewAt};
+ghost use Rattle.am_merge.specs.Views.{IsBest, IsInView};
 ghost use Rattle.am_runs.specs.Steps.{RunStep, delivered_in, moment};
 ghost use Rattle.am_runs.specs.Members.{member_of, set_of};
 ghost use Rattle.am_runs.specs.Runs.{IsRun};
@@ -13,7 +12,6 @@ ghost use Rattle.am_runs.specs.Timely.{IsTimely};
 ghost use Rattle.am_steps.specs.BothStates.{log_state};
 ghost use Rattle.am_steps.specs.Recorded.{HasGoneThrough};
 ghost use Rattle.am_instance.specs.InstanceStates.{InstanceState, kept_log};
-ghost use Rattle.am_instance.specs.declared.event.Event.{Event};
 ghost use Rattle.am_instance.specs.declared.reply.Made.{Made};
 ghost use Rattle.am_instance.specs.declared.reply.Reply.{Reply};
 ghost use Rattle.am_instance.specs.Replies.{IsReply};

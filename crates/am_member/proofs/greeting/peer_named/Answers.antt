@@ -1,4 +1,4 @@
-use Rattle.std.proofs.Common.{◌≡◌, ℕ, Some, sym, ◌∙◌}
+use Rattle.std.proofs.Common.{sym, ◌∙◌}
 use Rattle.am_member.proofs.Greeted.{only_peer}
 use Rattle.am_member.proofs.greeting.peer_named.Goals as goal
 
