@@ -3,6 +3,8 @@
 ghost use Rattle.std.specs.Prelude.{drop, ⊤};
 ghost use Rattle.am_api_silences.specs.Replies.{bytes_of};
 
+use super::Member;
+use super::dialogue::{Dialogue, has_pull, has_push, is_nothing, may_change};
 use crate::fault::Fault;
 use am_gossip::{Frame, append_frame};
 use am_http::session::Said;
@@ -13,8 +15,6 @@ use am_reactor::{Broken, Failure, LinkFault, Outgoing, Service, Wake};
 use std::alloc::{AllocError, Global};
 use std::io::ErrorKind;
 use std::time::Instant;
-use super::Member;
-use super::dialogue::{Dialogue, has_pull, has_push, is_nothing, may_change};
 
 /// The bytes of frames.
 fn text_of(alloc: Global, frames: &[Frame]) -> Result<Vec<u8>, AllocError> {
