@@ -185,6 +185,13 @@ def asked_of(peer, count):
     return kinds
 
 
+def answer_to(peer):
+    """The kind of the first frame of a connection to a peer that isn't a Push: of those that it was asked by, one may be left."""
+    while (kinds := asked_of(peer, 1)) == [2]:
+        pass
+    return kinds
+
+
 def test_unanswered_push(folder):
     """A Push isn't answered before the first pull is over. That of one peer of two doesn't end it, as a Pull does."""
     port, nobody = free_ports(2)
@@ -199,7 +206,7 @@ def test_unanswered_push(folder):
         compare("a request is answered when it waits no more", comments(member), [])
         check("which is at the limit", time.monotonic() - begun > 2 and "am_tool: NoPull" in member.lines, member.lines)
         member.send(greeting("p") + EMPTY_PUSH)
-        compare("then it answers a Push", asked_of(peer, 1), [3])
+        compare("then it answers a Push", answer_to(peer), [3])
         member.kill()
 
 
