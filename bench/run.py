@@ -16,14 +16,16 @@ import tempfile
 import rows
 
 TOP = os.path.dirname(os.path.dirname(os.path.abspath(__file__)))
+PROGRAM = os.path.join(TOP, "crates", "am_tool", "out", "am_tool")
 LINE = "%-5s %-8s %9s %9s %11s %11s %7s %11s %11s %7s"
 HEAD = ("state", "order", "versions", "keys", "am_tool ns", "plain ns", "ratio", "am_tool MiB", "plain MiB", "ratio")
 
 
 def build_ours(state="sil"):
     """The command that folds rows of a state by am_tool, which is built where it isn't."""
-    subprocess.run([os.path.join(TOP, "am_tool"), "build"], check=True, stdout=subprocess.DEVNULL)
-    return [os.path.join(TOP, "crates", "am_tool", "out", "am_tool"), "fold", "--state", state, "--now", "0"]
+    if not os.path.exists(PROGRAM):
+        subprocess.run([os.path.join(TOP, "am_tool"), "build"], check=True, stdout=subprocess.DEVNULL)
+    return [PROGRAM, "fold", "--state", state, "--now", "0"]
 
 
 def build_plain(folder):
