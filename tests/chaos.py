@@ -77,11 +77,15 @@ OPENINGS = [
     b"\0\1q\4\0",
 ]
 
+# The reply of a member that still waits for its first pull.
+NOT_READY = (503, b'"not ready"')
+
 # Replies that refuse a post, an update and an end for a cause that chaos may bring about.
 REFUSALS = [
     (400, b'"end in the past"'),
     (404, b'"silence not found"'),
     (500, b'"silence already expired"'),
+    NOT_READY,
 ]
 
 
@@ -174,7 +178,7 @@ class Member(members.Member):
                 status, body = parted(received(stream))
         except OSError:
             return None, b""
-        if status and not self.is_open and generation == self.generation:
+        if status and (status, body) != NOT_READY and not self.is_open and generation == self.generation:
             self.meddled, self.is_open = time.monotonic(), True
         return status, body
 

@@ -123,6 +123,7 @@ Options:
       --connections <N>       After how many connections it saves both files and ends, 1 to 18446744073709551615; without it, it goes on
       --time-limit <S>        For how many seconds a connection may last, of a client or to a peer, 1 to 3600 [default: 5]
       --at-once <N>           How many connections it serves at once, 1 to 65535; those beyond wait until one of them ends [default: 256]
+      --lines-a-second <N>    How many lines of one kind of fault it prints in a second, 1 to 65535; further ones are counted in a line [default: 10]
       --tick-every <S>        Ticks by itself every so many seconds, 1 to 999999999: drops what has expired, and saves both files
       --pull-every <S>        Asks each peer for all it has every so many seconds, 1 to 999999999, and says at the start which spread and flight time that keeps
       --save-every <S>        Saves both files every so many seconds, 1 to 999999999, where something may have changed

@@ -8,7 +8,7 @@ with status 0; one below `<!-- prints -->` is what the block before it printed, 
 are lines of that, in this order. The blocks of a document are run one after the other in one folder, where the files stand
 that the documents speak of; `am_tool diff` has the moment NOW, and its status 5, that something differs, is none here. The
 ports of members are free ones. Blocks with curl are left out where curl is not there. Each block of Rust in docs/LIBRARY.md
-has to stand in a source of am_cases or am_part_cases. The last line says how many passed.
+has to stand in a source of am_cases, am_part_cases or am_member. The last line says how many passed.
 """
 
 import glob
@@ -154,7 +154,8 @@ def content(path):
 
 def test_quotes():
     """What docs/LIBRARY.md quotes is code."""
-    sources = [content(it) for it in glob.glob(f"{TOP}/crates/am_*cases/src/*/*.rt")]
+    files = glob.glob(f"{TOP}/crates/am_*cases/src/**/*.rt", recursive=True) + glob.glob(f"{TOP}/crates/am_member/src/*.rt")
+    sources = [content(it) for it in files]
     for block in re.findall(r"```rust\n(.*?)```", content(f"{TOP}/docs/LIBRARY.md"), re.DOTALL):
         check("docs/LIBRARY.md", any(block in it for it in sources), block)
 

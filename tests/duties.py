@@ -31,6 +31,7 @@ BLOCKED = ["env", "--block-signal=TERM", "--block-signal=INT"]
 # The options with a number, and numbers that each refuses.
 NUMBERS = [
     ("--at-once", ("0", "65536", "+1", "x")),
+    ("--lines-a-second", ("0", "65536", "x")),
     ("--tick-every", ("0", "1000000000", "1.5")),
     ("--pull-every", ("0", "1000000000", "")),
     ("--save-every", ("0", "1000000000", "-1")),
@@ -171,7 +172,7 @@ def test_pulls(folder):
     begun = time.monotonic()
     compare("an answer where no peer is there", comments(alone), [])
     check("it waited for the limit", 1 < time.monotonic() - begun < PATIENCE)
-    check("which is told", "am_tool: NoPull" in alone.lines, alone.lines)
+    check("which is told", eventually(lambda: "am_tool: NoPull" in alone.lines), alone.lines)
     alone.kill()
 
 

@@ -431,7 +431,7 @@ def serves(member):
 def test_member(seeds, make, folder):
     """Inputs to one member, one after the other; now and then a good request."""
     peer = members.silent_peer()
-    member = members.Member("m", *members.free_ports(1), [("p", peer.getsockname()[1])], folder)
+    member = members.Member("m", *members.free_ports(1), [("p", peer.getsockname()[1])], folder, members.ALL_LINES)
     if not member.start():
         return settle("am_tool instance", f"it does not listen: {member.lines}", b"")
     for number, seed in enumerate(seeds):

@@ -24,6 +24,9 @@ LANES = 4
 STRANGER = "stranger"
 TOLD_OF_STRANGER = "am_tool: UnknownName"
 
+# Options of a member that prints the line of each fault.
+ALL_LINES = ["--lines-a-second", "65535"]
+
 # The program that is run.
 program = f"{TOP}/crates/am_tool/out/am_tool"
 

@@ -165,7 +165,6 @@ UNSENT = re.compile(r"unsent (\d+) 0")
 TAKEN = re.compile(r"Memory \{ taken: (\d+) \}")
 STOPPED = re.compile(r"stops at \d+: $")
 MOMENT = re.compile(r"^(holds \d+ \d+) at \S+$", re.MULTILINE)
-TRIES = re.compile(r"(write) (\d+)(?: to (\d+))?: (.*)")
 
 # How the members of a cluster stand behind a line of a schedule, and one that found no memory.
 REFUSED_LINE = "no memory at "
@@ -173,32 +172,8 @@ STANDING = re.compile(rf"(?:{REFUSED_LINE})?line \d+: (.*), (\d+) frames")
 MEMBER = re.compile(r"\S+ (\d+) (\d+) at (\S+)( uncalm)?")
 
 
-# What a request is answered whose step was made before memory ran out: it isn't made again.
-STANDS = ["! Memory, and something stands"]
-
-
 def without_frames(lines):
     return [line for line in lines if not FRAME.match(line)]
-
-
-def tries_of(lines):
-    """What came of each try of a case that is made in turn, by its number; and the other lines."""
-    tries, others = {}, []
-    for line in lines:
-        row = TRIES.fullmatch(line)
-        if row:
-            tries.update({(row[1], number): row[4] for number in range(int(row[2]), int(row[3] or row[2]) + 1)})
-        else:
-            others.append(line)
-    return tries, others
-
-
-def is_one_try(lines, wanted):
-    """Whether one try of a case is answered otherwise: one whose reply that there is no memory could not be written. That
-    reply may be the longer one, so that one more write is to fail."""
-    (found, others), (tries, rest) = tries_of(lines), tries_of(wanted)
-    differing = [key for key in found if found[key] != tries.get(key)]
-    return others == rest and tries.keys() <= found.keys() and len(differing) == 1
 
 
 def standing_of(line):
@@ -234,10 +209,6 @@ def how_refused(lines, wanted):
     """What the lines of a case say of a request that was refused; None where they are not right."""
     if lines == wanted:
         return "as wanted"
-    if lines == STANDS:
-        return "something stands"
-    if is_one_try(lines, wanted):
-        return "one try"
     if is_line_made_again(lines, wanted):
         return "made again"
     found, text = "".join(f"{line}\n" for line in lines), "".join(f"{line}\n" for line in wanted)
@@ -312,7 +283,8 @@ def wanted_of(case):
 
 def try_cases(lanes, folder, name):
     """The tries of a file of cases: how many requests it makes, what was wrong, and how many tries there are of each kind."""
-    cases = cases_of.read_cases(f"{TOP}/cases/{name}.txt")
+    # connections come whole: in pieces they ask for so much that the requests of what else happens were hardly met
+    cases = [cases_of.Case(0, "whole", {}), *cases_of.read_cases(f"{TOP}/cases/{name}.txt")]
     words, given, tries = [cases_of.CASES], f"{folder}/{name}.cases", f"{folder}/{name}.tries"
     with open(given, "w", encoding="utf-8") as file:
         file.write("".join(f"{case.words}\n" for case in cases))
@@ -407,7 +379,8 @@ def bytes_of(path):
 def member_under(library, folder, peer):
     """The member `m` of a peer `p`, and the counts of its requests."""
     counts = Counts(folder)
-    return Member("m", *free_ports(1), [("p", peer)], folder, env=counts.environment(library)), counts
+    options = {"options": members.ALL_LINES, "env": counts.environment(library)}
+    return Member("m", *free_ports(1), [("p", peer)], folder, **options), counts
 
 
 def test_starts(folder, library):

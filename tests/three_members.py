@@ -377,10 +377,10 @@ def test_starts(folder):
     for sil, nfl, status, line in [
         (broken, missing, 1, "Silences Wire Truncated 0"),
         (twice, missing, 1, "Silences DuplicateKey"),
-        (folder, missing, 3, "Silences Read 0"),
+        (folder, missing, 3, "Silences NotAFile"),
         (broken, folder, 1, "Silences Wire Truncated 0"),
         (missing, whole, 1, "Log Wire WrongType 13"),
-        (whole, folder, 3, "Log Read 0"),
+        (whole, folder, 3, "Log NotAFile"),
         (f"{whole}/below", missing, 3, "Silences File NotADirectory"),
     ]:
         compare(line, run([*named, "--sil", sil, "--nfl", nfl]), refused(status, line))

@@ -1,6 +1,5 @@
 pub mod FilterRows
-pub mod Statuses
+pub mod Bodies
 pub mod Telling
-pub mod Handing
 pub mod Beginning
 pub mod Made

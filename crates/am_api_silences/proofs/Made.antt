@@ -1,36 +1,24 @@
 -- What a making is finished with.
-use Rattle.std.proofs.Common.{◌≡◌, ℕ, List, None, sym, subst}
-use Rattle.serde_json.specs.Data.{array}
-use Rattle.serde_json.specs.View.{items_of}
-use Rattle.serde_json.specs.Written.{compact_text}
+use Rattle.std.proofs.Common.{ℕ, List, sym, subst}
 use Rattle.am_silence.specs.Mesh.{Mesh}
 use Rattle.am_silence.specs.declared.state.State.{State}
 use Rattle.am_silence_json.specs.Listing.{Listed}
 use Rattle.am_api_silences.specs.Making.{GoesOn, IsBegun, IsMadeOf, IsNoMemory, Makes}
-use Rattle.am_api_silences.specs.Replies.{HasStatus, HasStatusOf, IsListReply, Says}
+use Rattle.am_api_silences.specs.Replies.{IsListReply, Says}
 use Rattle.am_api_silences.specs.declared.making.Making.{Making}
 use Rattle.am_api_silences.specs.declared.making.Making.TheVariants as makings
 use Rattle.am_api_silences.specs.declared.replies.ReplyBytes.{ReplyBytes}
 use Rattle.am_api_silences.specs.declared.replies.ReplyBytes.TheVariants.{Own, Fixed}
-use Rattle.am_api_silences.proofs.Statuses.{memory_has}
 
 -- where there is no memory, that is said in place of anything
 pub no_memory_says : (IsMeant : List ℕ → Type 0) (reply : ReplyBytes) → IsNoMemory reply → Says IsMeant reply
 no_memory_says IsMeant (Own bytes) none = absurd none
 no_memory_says IsMeant (Fixed bytes) none = none
 
--- a list that is replied has the status 200
-list_status : (rows : List (Mesh × State)) (reply : ReplyBytes) → Says (IsListReply rows) reply → HasStatusOf 200 reply
-list_status rows (Own bytes) says = (None, compact_text (array (items_of says.0)), says.2)
-list_status rows (Fixed bytes) says = subst (λ (b : List ℕ). HasStatus 500 b) (sym says) memory_has
-
 -- a list that is begun says its silences
 pub begun_says : (rows : List (Mesh × State)) (making : Making) → IsBegun rows making → Makes (Says (IsListReply rows)) making
 begun_says rows (makings.Whole whole) none = λ reply made. subst (λ (r : ReplyBytes). Says (IsListReply rows) r) (sym made) (no_memory_says (IsListReply rows) whole none)
 begun_says rows (makings.List list) begun = λ reply made. subst (λ (l : Listed). Says (IsListReply l.rows) reply) begun made
-
-pub begun_status : (rows : List (Mesh × State)) (making : Making) → IsBegun rows making → Makes (HasStatusOf 200) making
-begun_status rows making begun = λ reply made. list_status rows reply (begun_says rows making begun reply made)
 
 -- a stretch more leaves what is said as it was
 pub goes_same : (count : ℕ) (old new : Making) → GoesOn count old new → Makes (IsMadeOf old) new

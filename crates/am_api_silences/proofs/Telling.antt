@@ -5,11 +5,10 @@ use Rattle.am_http.specs.declared.refusal.Refusal.{Refusal}
 use Rattle.am_instance.specs.declared.error.StepError.{StepError}
 use Rattle.am_instance.specs.declared.error.StepError.TheVariants.{MomentBack}
 use Rattle.am_api_silences.specs.Answers.{IsErrorBytes}
-use Rattle.am_api_silences.specs.Replies.{HasStatus, Says, bytes_of, line_bytes, memory_bytes}
+use Rattle.am_api_silences.specs.Replies.{Says, line_bytes, memory_bytes}
 use Rattle.am_api_silences.specs.Table.{clock_line}
 use Rattle.am_api_silences.specs.declared.replies.ReplyBytes.{ReplyBytes}
 use Rattle.am_api_silences.specs.declared.replies.ReplyBytes.TheVariants.{Own, Fixed}
-use Rattle.am_api_silences.proofs.Statuses.{memory_has}
 
 says_weaker : (IsMeant Other : List ℕ → Type 0) → ((bytes : List ℕ) → IsMeant bytes → Other bytes) → (reply : ReplyBytes) → Says IsMeant reply → Says Other reply
 says_weaker IsMeant Other weaker (Own bytes) says = weaker bytes.items says
@@ -26,6 +25,3 @@ says_clock error last refusal told reply is line same says =
 -- that there is no memory
 pub says_memory : (IsMeant : List ℕ → Type 0) (fixed : Bor (List ℕ)) (reply : ReplyBytes) → reply ≡ Fixed fixed → fixed.now ≡ memory_bytes → Says IsMeant reply
 says_memory IsMeant fixed reply same is = subst (λ (r : ReplyBytes). Says IsMeant r) (sym same) is
-
-pub memory_status : (fixed : Bor (List ℕ)) (reply : ReplyBytes) → reply ≡ Fixed fixed → fixed.now ≡ memory_bytes → HasStatus 500 (bytes_of reply)
-memory_status fixed reply same is = subst (λ (bytes : List ℕ). HasStatus 500 bytes) (sym (ap bytes_of same ∙ is)) memory_has

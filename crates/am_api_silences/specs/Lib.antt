@@ -4,4 +4,3 @@ pub mod Table
 pub mod Replies
 pub mod Making
 pub mod Answers
-pub mod Serving

@@ -1,5 +1,5 @@
 -- The bytes of replies (API v2, in HTTP/1.1 and JSON).
-use Rattle.std.specs.Prelude.{◌≡◌, ℕ, List, [], Option, None, Result, Ok, Err}
+use Rattle.std.specs.Prelude.{◌≡◌, ℕ, List, [], None, Result, Ok, Err}
 use Rattle.std.specs.Borrow.{Bor}
 use Rattle.serde_json.specs.Data.{Data, array, string}
 use Rattle.serde_json.specs.View.{items_of}
@@ -41,20 +41,6 @@ abbrev pub IsSaid : Result (Bor Reply) (Bor Refusal) → List ℕ → Type 0
 IsSaid (Ok reply) bytes = IsReplyBytes reply.now bytes
 IsSaid (Err refusal) bytes = bytes ≡ line_bytes (line_seen refusal.now)
 
--- the status of a reply
-abbrev pub reply_status : Reply → ℕ
-reply_status (replies.Refused error) = (refused_line error).status
-reply_status _ = 200
-
--- the status of a reply, or of a refusal
-abbrev pub said_status : Result (Bor Reply) (Bor Refusal) → ℕ
-said_status (Ok reply) = reply_status reply.now
-said_status (Err refusal) = refusal.now.status
-
--- the bytes are a reply with this status
-abbrev pub HasStatus : ℕ → List ℕ → Type 0
-HasStatus status bytes = (allow : Option (List ℕ)) × (body : List ℕ) × (bytes ≡ reply_bytes status allow body)
-
 -- ---- bytes that go out
 
 -- the bytes of a reply, its own or a constant
@@ -70,8 +56,3 @@ memory_bytes = line_bytes memory_line
 abbrev pub Says : (List ℕ → Type 0) → ReplyBytes → Type 0
 Says IsMeant (Own bytes) = IsMeant bytes.items
 Says IsMeant (Fixed bytes) = bytes.now ≡ memory_bytes
-
--- it has this status; where it says that there is no memory for another, it has 500
-abbrev pub HasStatusOf : ℕ → ReplyBytes → Type 0
-HasStatusOf status (Own bytes) = HasStatus status bytes.items
-HasStatusOf status (Fixed bytes) = HasStatus 500 bytes.now

@@ -1,5 +1,5 @@
 //! The silences of API v2, from the bytes of a request to the bytes of its reply: what a request means, one step of an
-//! instance, and what is answered; over any reader and writer.
+//! instance, and what is answered.
 #![tactic(auto)]
 
 mod answering;
@@ -7,12 +7,10 @@ mod events;
 mod filters;
 mod making;
 mod replies;
-mod serving;
 mod table;
 
 pub use am_http::{Read, Refusal, Request, read_request};
-pub use answering::{Answered, Begun, answer, begin_answer, turn_away};
+pub use answering::{Begun, begin_answer, turn_away};
 pub use events::to_event;
 pub use making::Making;
 pub use replies::{ReplyBytes, to_bytes};
-pub use serving::{Fault, Served, serve, serve_behind};

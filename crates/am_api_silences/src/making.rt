@@ -2,7 +2,7 @@
 
 ghost use Rattle.std.specs.Prelude.{◌≡◌, IfOk};
 ghost use Rattle.am_api_silences.specs.Making.{GoesOn, IsBegun, IsMadeOf, IsNoMemory, Makes, is_whole};
-ghost use Rattle.am_api_silences.specs.Replies.{HasStatusOf, IsListReply, IsReplyBytes, Says};
+ghost use Rattle.am_api_silences.specs.Replies.{IsListReply, IsReplyBytes, Says};
 
 use crate::replies::{ReplyBytes, good, no_memory, tell};
 use am_instance::Reply;
@@ -44,17 +44,13 @@ fn finished(alloc: Global, list: Listing) -> Result<Vec<u8>, AllocError>
     Ok(bytes)
 }
 
-/// Begins a reply, with the status that it has where there is memory for it.
-pub fn make(alloc: Global, reply: Reply) -> (u16, Making)
-    ensures says { Makes (Says (IsReplyBytes reply)) result.1 }
-    ensures status { Makes (HasStatusOf result.0) result.1 }
+/// Begins a reply.
+pub fn make(alloc: Global, reply: Reply) -> Making
+    ensures { Makes (Says (IsReplyBytes reply)) result }
 {
     match reply {
-        Reply::Silences(rows) => (200, list(alloc, rows)),
-        other => {
-            let (status, whole) = tell(alloc, Ok(&other));
-            (status, Making::Whole(whole))
-        }
+        Reply::Silences(rows) => list(alloc, rows),
+        other => Making::Whole(tell(alloc, Ok(&other))),
     }
 }
 

@@ -5,8 +5,8 @@ ghost use Rattle.serde_json.specs.Data.{Data};
 ghost use Rattle.serde_json.specs.Written.{compact_text};
 ghost use Rattle.am_silence_json.specs.Gettables.{IsGettable, posted_data};
 ghost use Rattle.am_http.specs.Lines.{line_seen};
-ghost use Rattle.am_api_silences.specs.Replies.{HasStatus, HasStatusOf, IsListReply, IsReplyBytes, IsSaid, Says, bytes_of, good_bytes};
-ghost use Rattle.am_api_silences.specs.Replies.{line_bytes, memory_bytes, said_status};
+ghost use Rattle.am_api_silences.specs.Replies.{IsListReply, IsReplyBytes, IsSaid, Says, bytes_of, good_bytes};
+ghost use Rattle.am_api_silences.specs.Replies.{line_bytes, memory_bytes};
 
 use crate::table;
 use am_http::{Refusal, out_of_memory, reply};
@@ -106,17 +106,6 @@ pub fn to_bytes(alloc: Global, said: Result<&Reply, &Refusal>) -> Result<Vec<u8>
     }
 }
 
-/// The status of the reply.
-fn status_of(said: Result<&Reply, &Refusal>) -> u16
-    ensures { result ≡ said_status said.entry }
-{
-    match said {
-        Ok(Reply::Refused(error)) => table::refused(*error).status,
-        Ok(_) => 200,
-        Err(refusal) => refusal.status,
-    }
-}
-
 /// The reply where there is no memory for another.
 pub fn no_memory() -> &'static [u8]
     ensures { result.now ≡ memory_bytes }
@@ -124,24 +113,12 @@ pub fn no_memory() -> &'static [u8]
     out_of_memory()
 }
 
-/// The reply to a request, or why it is refused, with its status; where there is no memory for it, that is said.
-pub fn tell(alloc: Global, said: Result<&Reply, &Refusal>) -> (u16, ReplyBytes)
-    ensures says { Says (IsSaid said.entry) result.1 }
-    ensures status { HasStatus result.0 (bytes_of result.1) }
+/// The reply to a request, or why it is refused; where there is no memory for it, that is said.
+pub fn tell(alloc: Global, said: Result<&Reply, &Refusal>) -> ReplyBytes
+    ensures { Says (IsSaid said.entry) result }
 {
     match to_bytes(alloc, said) {
-        Ok(bytes) => (status_of(said), ReplyBytes::Own(bytes)),
-        Err(_) => (500, ReplyBytes::Fixed(no_memory())),
-    }
-}
-
-/// The status of a reply, which is this one where there was memory for it.
-pub fn status_with(status: u16, reply: &ReplyBytes) -> u16
-    requires { HasStatusOf status reply.now }
-    ensures { HasStatus result (bytes_of reply.now) }
-{
-    match reply {
-        ReplyBytes::Own(_) => status,
-        ReplyBytes::Fixed(_) => 500,
+        Ok(bytes) => ReplyBytes::Own(bytes),
+        Err(_) => ReplyBytes::Fixed(no_memory()),
     }
 }

@@ -1,75 +1,86 @@
-//! Cases of instances, their requests and connections, and of clusters.
+//! Cases of instances, their requests and connections, of clusters, and of the command line.
 
-mod asking;
-mod carried;
-mod clusters;
-mod command_words;
-mod events;
-mod frames;
-mod line_events;
-mod members;
-mod replays;
-mod requests;
-mod sending;
-mod steps;
-
-use am_instance::Instance;
-use am_part_cases::common::Fault;
-use am_part_cases::parts;
+use crate::clusters::{carried, cluster, refused, replay, settle, steps};
+use crate::connections::{connect, send};
+use crate::events::asks;
+use crate::members::{begin, hold, say_config, say_state};
+use crate::steps::happen;
+use am_api_silences::to_bytes;
+use am_instance::{Instance, Reply};
+use am_member::{later_moment, number_within, peer_of, port_of};
+use am_part_cases::common::{Case, Printed, cut};
+use am_part_cases::{given, parts, say};
+use am_silence::SilenceError;
+use std::time::Duration;
 
 /// Answers a case: of the member that stands, where there is one, or of none.
-pub fn answer(
-    rt: &HostRuntime,
-    member: &mut Option<Instance>,
-    verb: &str,
-    rest: &str,
-) -> Result<(), Fault> {
+pub fn answer(case: &Case, member: &mut Option<Instance>, is_whole: bool, verb: &str, rest: &str) {
     if verb == "new" {
-        return members::begin(rt, member, rest);
+        return begin(case, member, rest);
     }
     match member {
-        Some(instance) => by_member(rt, instance, verb, rest),
-        None => alone(rt, verb, rest),
+        Some(instance) => by_member(case, instance, is_whole, verb, rest),
+        None => alone(case, verb, rest),
     }
 }
 
-/// Answers a case of the member that stands, or one that is of none.
-fn by_member(
-    rt: &HostRuntime,
-    instance: &mut Instance,
-    verb: &str,
-    rest: &str,
-) -> Result<(), Fault> {
+fn by_member(case: &Case, instance: &mut Instance, is_whole: bool, verb: &str, rest: &str) {
     match verb {
-        "hold" => members::hold(rt.alloc(), instance, rest),
-        "config" => members::copy_config(rt, instance),
-        "state" => members::say_state(rt, instance),
-        "at" => steps::happen(rt, instance, rest),
-        "ask" => requests::ask(rt, instance, false, rest),
-        "connect" => requests::ask(rt, instance, true, rest),
-        "hear" => requests::hear(rt, instance, rest),
-        "asks" => line_events::asks(rt, instance.config(), rest),
-        "places" => line_events::places(rt, instance.config(), rest),
-        _ => alone(rt, verb, rest),
+        "hold" => hold(case, instance, rest),
+        "config" => {
+            given!(copy = case.made(instance.config().try_clone()));
+            say_config(case, &copy);
+        }
+        "state" => say_state(case, instance),
+        "at" => happen(case, instance, rest),
+        "ask" | "connect" | "hear" => connect(case, instance, is_whole, verb, rest),
+        "asks" => asks(case, instance.config(), rest),
+        "places" => {
+            for name in rest.split(',') {
+                say!(case; ?instance.config().place_named(name));
+            }
+        }
+        _ => alone(case, verb, rest),
     }
 }
 
-/// Answers a case that is of no member.
-fn alone(rt: &HostRuntime, verb: &str, rest: &str) -> Result<(), Fault> {
+fn alone(case: &Case, verb: &str, rest: &str) {
     match verb {
-        "send" if !rest.starts_with("in pieces of ") => sending::send_frames(rt, rest),
-        "reply" if rest == "too large" => requests::too_large(rt),
-        "reply" if rest == "no memory" => requests::no_memory(rt),
-        "replay" => replays::replay(rt, rest),
-        "refused" => replays::refused(rt),
-        "carried" => carried::carried(rt, rest),
-        "cluster" => clusters::cluster(rt, rest),
-        "settle" => clusters::settle(rt, rest),
-        "steps" => clusters::steps(rt, rest),
-        "number" => command_words::say_number(rt, rest),
-        "port" => command_words::port(rt, rest),
-        "peer" => command_words::peer(rt, rest),
-        "clock" => command_words::clock(rt, rest),
-        _ => parts::answer(rt, verb, rest),
+        "whole" => {}
+        "send" if !rest.starts_with("in pieces of ") => send(case, rest),
+        "reply" if rest == "too large" => {
+            let reply = Reply::Refused(SilenceError::TooLarge);
+            given!(bytes = case.made(to_bytes(case.alloc, Ok(&reply))));
+            case.say_text(bytes.as_slice());
+        }
+        "reply" if rest == "no memory" => case.say_text(am_http::out_of_memory()),
+        "replay" => replay(case, rest),
+        "refused" => refused(case),
+        "carried" => carried(case, rest),
+        "cluster" => cluster(case, rest),
+        "settle" => settle(case, rest),
+        "steps" => steps(case, rest),
+        "port" => say!(case; ?port_of(rest)),
+        "peer" => say!(case; ?peer_of(rest)),
+        "number" => say_number(case, rest),
+        "clock" => say_clock(case, rest),
+        _ => parts::answer(case, verb, rest),
     }
+}
+
+/// `number LEAST to MOST: WORD`
+fn say_number(case: &Case, rest: &str) {
+    let (bounds, word) = cut(rest, ":");
+    let (least, most) = cut(bounds, " to ");
+    let word = word.strip_prefix(' ').unwrap_or(word);
+    say!(case; ?number_within(case.number(least), case.number(most), word));
+}
+
+/// `clock TIME, last MOMENT`, where a time since 1970 is seconds, or seconds `and` nanoseconds.
+fn say_clock(case: &Case, rest: &str) {
+    let (clock, last) = cut(rest, ", last ");
+    let (seconds, nanos) = clock.split_once(" and ").unwrap_or((clock, "0"));
+    let time = Duration::from_secs(case.number(seconds));
+    let time = time.saturating_add(Duration::from_nanos(case.number(nanos)));
+    say!(case; @later_moment(time, case.moment(last)));
 }

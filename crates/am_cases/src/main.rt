@@ -1,16 +1,79 @@
 //! Answers cases: reads them from standard input, a line each, and prints each with its answer below it (docs/CASES.md).
 #![tactic(auto)]
 
+mod clusters;
+mod connections;
+mod events;
 mod instances;
-mod transcript;
+mod members;
+mod steps;
 
+use am_instance::Instance;
+use am_part_cases::common::{Case, Fault, first};
+use std::io::Read;
 use std::process::ExitCode;
 
+/// An answer of so many bytes needs no memory once its case has begun.
+const ROOM: usize = 80_000;
+
 fn main(rt: HostRuntime) -> ExitCode {
-    // the member that the cases go through, one after the other, once there is one
-    let mut member = None;
-    match transcript::cases(&rt, &mut member) {
-        Ok(()) => ExitCode::SUCCESS,
-        Err(_) => ExitCode::FAILURE,
+    match input(&rt) {
+        Some(text) if answer_all(&rt, text.as_slice()) => ExitCode::SUCCESS,
+        _ => ExitCode::FAILURE,
     }
+}
+
+fn input(rt: &HostRuntime) -> Option<Vec<u8>> {
+    let mut text = Vec::new(rt.alloc());
+    let mut piece = [0; 4096];
+    for _ in 0..u64::MAX {
+        let count = rt.stdin().read(&mut piece).ok()?.min(4096);
+        if count == 0 {
+            break;
+        }
+        append(rt, &mut text, &piece[..count])?;
+    }
+    Some(text)
+}
+
+/// Appends a piece; where no memory is there, says so, and tries once more.
+fn append(rt: &HostRuntime, text: &mut Vec<u8>, piece: &[u8]) -> Option<()> {
+    if text.extend_from_slice(piece).is_err() {
+        println!(rt; "! Memory").ok()?;
+        text.extend_from_slice(piece).ok()?;
+    }
+    Some(())
+}
+
+/// Answers the cases of a text by one member, once there is one; whether all is printed. Behind a line `whole` connections are
+/// not tried in pieces.
+fn answer_all(rt: &HostRuntime, text: &[u8]) -> bool {
+    let (mut member, mut is_whole) = (None, false);
+    for line in str::from_utf8(text).unwrap_or("no text").lines() {
+        is_whole |= line == "whole";
+        if !answer(rt, &mut member, is_whole, line) {
+            return false;
+        }
+    }
+    true
+}
+
+/// Prints a case and its answer, and where no memory is there for it, once more; whether all is printed.
+fn answer(rt: &HostRuntime, member: &mut Option<Instance>, is_whole: bool, line: &str) -> bool {
+    let mut is_printed = println!(rt; "> {line}").is_ok();
+    for _ in 0..2 {
+        let case = Case::new(rt.alloc(), ROOM);
+        let (verb, rest) = first(line);
+        instances::answer(&case, member, is_whole, verb, rest);
+        let fault = case.fault();
+        let text = case.into_text();
+        is_printed &= print!(rt; "{text}").is_ok();
+        if let Some(fault) = fault {
+            is_printed &= println!(rt; "! {fault:?}").is_ok();
+        }
+        if fault != Some(Fault::Memory) {
+            break;
+        }
+    }
+    is_printed
 }

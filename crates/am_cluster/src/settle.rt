@@ -27,27 +27,13 @@ use crate::cluster::Cluster;
 use crate::error::{ClusterError, SettleError};
 use crate::journal::{Journal, Mark};
 use crate::member::Member;
-use am_gossip::{Frame, FullState, Part, StateKey};
-use am_instance::{Event, Instance, Place, Reply};
-use am_merge::Held;
+use am_gossip::Frame;
+use am_instance::{Event, Instance, Place, Reply, whole_state};
 use am_runs::Source;
-use am_snapshot::{row_bytes, row_length};
 use am_steps::carried::laws::what_keeps_its_limit_is_readable;
 use am_steps::laws::lent_maps_come_from_their_lender;
-use am_version_order::{Moment, Version};
-use am_wire::Bytes;
+use am_version_order::Moment;
 use std::alloc::{AllocError, Global};
-
-/// The row of a map, or [`AllocError`] also where it has over 67,108,864 bytes.
-fn row_of<V: Version>(alloc: Global, held: &Held<V>) -> Result<Bytes, AllocError>
-    ensures row { IfOk result (λ bytes. bytes ≡ row_text V.seen held.now) }
-    ensures short { OnOk result (length (row_text V.seen held.now) ≤ most) }
-{
-    let Some(length) = row_length(held) else {
-        return Err(AllocError);
-    };
-    row_bytes(alloc, held, length)
-}
 
 /// Both maps of an instance in a frame, or [`AllocError`] also where the row of one has over 67,108,864 bytes.
 fn frame_of(alloc: Global, instance: &Instance) -> Result<Frame, AllocError>
@@ -61,18 +47,8 @@ fn frame_of(alloc: Global, instance: &Instance) -> Result<Frame, AllocError>
     what_keeps_its_limit_is_readable();
     instance.silences().has_values();
     instance.log().has_values();
-    let silences = row_of(alloc, instance.silences())?;
-    let log = row_of(alloc, instance.log())?;
-    let mut parts = Vec::with_capacity(alloc, 2)?;
-    parts.push(Part {
-        key: StateKey::Sil,
-        bytes: silences,
-    })?;
-    parts.push(Part {
-        key: StateKey::Nfl,
-        bytes: log,
-    })?;
-    Ok(Frame::Pull(FullState::new(parts)))
+    let state = whole_state(alloc, instance.silences(), instance.log())?;
+    Ok(Frame::Pull(state))
 }
 
 impl Cluster {

@@ -3,7 +3,6 @@ pub mod Heads
 pub mod HeadSpans
 pub mod Bodies
 pub mod Requests
-pub mod Receiving
 pub mod Paths
 pub mod Queries
 pub mod Replies

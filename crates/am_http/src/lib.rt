@@ -7,7 +7,6 @@ mod fields;
 mod filters;
 mod head;
 pub mod laws;
-mod receiving;
 mod refusal;
 mod replies;
 mod request;
@@ -17,7 +16,6 @@ mod standing;
 
 pub use cause::{Cause, Resource};
 pub use filters::filter_texts;
-pub use receiving::{ReadFault, receive, receive_behind};
 pub use refusal::Refusal;
 pub use replies::{out_of_memory, reply};
 pub use request::{Read, Request, read_request};

@@ -5,7 +5,7 @@ use Rattle.std.proofs.lemmas.List.Folds.{list_any-from_Any}
 use Rattle.am_silence.specs.Mesh.{Mesh}
 use Rattle.am_silence.specs.Ids.{id_text}
 use Rattle.am_silence.specs.Plans.{post_of, planned, versions, ended_of}
-use Rattle.am_silence.specs.Refusals.{◌when◌, ◌before◌, refusal, early_refusal, posted_refusal, matchers_refusal, end_refusal}
+use Rattle.am_silence.specs.Refusals.{◌before◌, refusal, early_refusal, posted_refusal, unread_refusal, end_refusal}
 use Rattle.am_silence.specs.declared.plan.Posted.{Posted}
 use Rattle.am_silence.specs.declared.plan.Plan.{Plan}
 use Rattle.am_silence.specs.declared.plan.Verdict.{Verdict}
@@ -14,6 +14,7 @@ use Rattle.am_silence.specs.declared.matcher.Matcher.{Matcher}
 use Rattle.am_silence.specs.Kinds.{is_regexp}
 use Rattle.am_silence.specs.declared.error.SilenceError.{SilenceError}
 use Rattle.am_silence.specs.declared.error.SilenceError.TheVariants as silence_errors
+use Rattle.am_silence.proofs.Refusing.{unread_tells_no_memory}
 use Rattle.am_matcher.specs.Matching.{has_regexp, IsVerdict}
 use Rattle.am_matcher.proofs.Verdicts.{has_verdict}
 use Rattle.am_instance.specs.declared.error.StepError.{StepError}
@@ -25,7 +26,7 @@ use Rattle.am_instance.specs.declared.reply.Reply.TheVariants as replies
 use Rattle.am_instance.specs.declared.reply.Outcome.{Outcome}
 use Rattle.am_instance.specs.Deliveries.Delivery.{OfSilence}
 use Rattle.am_instance.specs.InstanceStates.{InstanceState, silence_at}
-use Rattle.am_instance.specs.Replies.{RefusedOr, IsDone, IsEnded, posted_id, posted_over, unread_refusal, silence_in_view}
+use Rattle.am_instance.specs.Replies.{RefusedOr, IsDone, IsEnded, posted_id, posted_over, silence_in_view}
 use Rattle.am_instance.specs.Steps.{IsWork, IsPlanned, IsPutHere, IsTurnedAway, plain_verdict, post_refusal, refused_anyway}
 use Rattle.am_instance.proofs.Works.{made_work, quiet_work, stopped_work, made_silences}
 
@@ -71,29 +72,16 @@ refused_for_memory stand posted bits now verdict held id_held (Ok plan) is known
 refused_for_memory stand posted bits now verdict held id_held (Err e) is known none = λ memory. refusal_is stand posted bits now verdict held id_held is known ∙ none memory
 
 -- what comes first of refusals is the refusal, whatever comes behind it
-comes_first : (missing none nameless : Bool) (patterns times older fresh size : Option SilenceError) (error : SilenceError) →
-    (silence_errors.NotFound when missing before silence_errors.NoMatcher when none before silence_errors.EmptyName when nameless) ≡ Some error →
-    (silence_errors.NotFound when missing
-    before (silence_errors.NoMatcher when none before silence_errors.EmptyName when nameless before patterns)
-    before times before older before fresh before size) ≡ Some error
-comes_first true none nameless patterns times older fresh size error is = is
-comes_first false true nameless patterns times older fresh size error is = is
-comes_first false false true patterns times older fresh size error is = is
-comes_first false false false patterns times older fresh size error is = absurd cc
+comes_first : (first patterns times older fresh size : Option SilenceError) (error : SilenceError) → first ≡ Some error →
+    (first before patterns before times before older before fresh before size) ≡ Some error
+comes_first first patterns times older fresh size error is = rw is refl
 
 -- a post that is refused whatever its patterns are: there is a verdict on them, with which it is refused so
 pub unread_planned : (stand : InstanceState) (posted : Posted) (bits now : ℕ) (error : SilenceError) → unread_refusal (posted_over now stand.silences posted.id) posted ≡ Some error → IsPlanned stand posted bits now (Err error)
-unfolding refusal early_refusal posted_refusal matchers_refusal
+unfolding refusal early_refusal posted_refusal
 unread_planned stand posted bits now error is = λ other.
     let judged = has_verdict posted.matchers in
-    (judged.0, judged.1, comes_first _ _ _ _ _ _ _ _ error is)
-
--- no refusal whatever the patterns are is for want of memory
-unread_aside : (a b c : Bool) (error : SilenceError) (R : Type 0) → (silence_errors.NotFound when a before silence_errors.NoMatcher when b before silence_errors.EmptyName when c) ≡ Some error → error ≡ silence_errors.Memory → R
-unread_aside true b c error R is memory = absurd cc
-unread_aside false true c error R is memory = absurd cc
-unread_aside false false true error R is memory = absurd cc
-unread_aside false false false error R is memory = absurd cc
+    (judged.0, judged.1, comes_first _ _ _ _ _ _ error is)
 
 -- the verdict on matchers without a regular expression is the plain one
 plain_is : (matchers : List Matcher) (verdict : Verdict) → has_regexp matchers ≡ false → IsVerdict matchers verdict → verdict ≡ plain_verdict matchers
@@ -119,7 +107,7 @@ judged_anyway stand posted bits now verdict judged read accepted = either_way (h
 
 pub unread_is_told : (stand : InstanceState) (posted : Posted) (bits now : ℕ) (error : SilenceError) → unread_refusal (posted_over now stand.silences posted.id) posted ≡ Some error →
     error ≡ silence_errors.Memory → refused_anyway stand (events.Request (requests.Post posted bits)) now ≡ None
-unread_is_told stand posted bits now error is memory = unread_aside _ _ _ error _ is memory
+unread_is_told stand posted bits now error is memory = absurd (unread_tells_no_memory _ posted error is memory)
 
 -- a post that was planned and carried out
 pub post_done : (old new : InstanceState) (posted : Posted) (bits now : ℕ) (plan : Plan) (result : Result Outcome StepError) → IsPlanned old posted bits now (Ok plan) →

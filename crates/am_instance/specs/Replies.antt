@@ -1,6 +1,6 @@
 -- What a step answers, and which versions it makes here.
-use Rattle.std.specs.Prelude.{◌≡◌, ℕ, ◌==◌, Bool, true, false, ◌&&◌, List, [], ◌∷◌, length, map, filter, Option, Some, None, is_some, is_none, option_map, nat_lt}
-use Rattle.std.specs.List.{list_all, list_any}
+use Rattle.std.specs.Prelude.{◌≡◌, ℕ, Bool, true, false, List, [], ◌∷◌, map, filter, Option, Some, None, is_some, option_map, nat_lt}
+use Rattle.std.specs.List.{list_all}
 use Rattle.am_silence.specs.Mesh.{Mesh}
 use Rattle.am_silence.specs.States.{state_of}
 use Rattle.am_silence.specs.Ids.{id_text}
@@ -10,10 +10,10 @@ use Rattle.am_silence.specs.declared.plan.Plan.{Plan}
 use Rattle.am_silence.specs.declared.plan.Plan.TheVariants.{Update, Create, Replace}
 use Rattle.am_silence.specs.declared.plan.Verdict.{Verdict}
 use Rattle.am_silence.specs.declared.error.SilenceError.{SilenceError}
-use Rattle.am_silence.specs.declared.error.SilenceError.TheVariants.{NotFound, NoMatcher, EmptyName}
+use Rattle.am_silence.specs.declared.error.SilenceError.TheVariants.{NotFound}
 use Rattle.am_silence.specs.declared.matcher.Matcher.{Matcher}
 use Rattle.am_silence.specs.Plans.{post_of, planned, versions, ended_of}
-use Rattle.am_silence.specs.Refusals.{◌when◌, ◌before◌, refusal, end_refusal}
+use Rattle.am_silence.specs.Refusals.{refusal, end_refusal}
 use Rattle.am_matcher.specs.Matching.{passes, IsVerdict}
 use Rattle.am_matcher.specs.Mutes.{AreMuted}
 use Rattle.am_nflog.specs.Mesh.{Mesh as LogMesh, mesh_version as entry_version}
@@ -88,13 +88,6 @@ posted_id (Replace new old) = new.silence.id
 abbrev pub posted_over : ℕ → List Mesh → Option (List ℕ) → Option Mesh
 posted_over now silences None = None
 posted_over now silences (Some id) = silence_in_view now silences id
-
--- why a post is refused whatever its patterns are: what comes before them in the order of refusals
-abbrev pub unread_refusal : Option Mesh → Posted → Option SilenceError
-unread_refusal held posted =
-    NotFound when (is_some posted.id && is_none held)
-    before NoMatcher when (length posted.matchers == 0)
-    before EmptyName when list_any (λ m. length m.name == 0) posted.matchers
 
 -- a request is refused, and makes nothing
 pub record IsRefused (error : SilenceError) (reply : Reply) (made : Made) : Type 0 where

@@ -1,5 +1,5 @@
 -- What a step sends.
-use Rattle.std.specs.Prelude.{◌≡◌, ◌⊎◌, ℕ, ◌+◌, ◌-◌, ◌^◌, min, true, false, List, [], ◌∷◌, ◌++◌, map}
+use Rattle.std.specs.Prelude.{◌≡◌, ◌⊎◌, ℕ, ◌+◌, ◌-◌, ◌^◌, min, true, false, List, [], ◌∷◌, ◌++◌, map, length}
 use Rattle.std.specs.List.{flat_map}
 use Rattle.am_version_order.specs.Versions.{Version}
 use Rattle.am_wire.specs.Writing.{delimited}
@@ -28,9 +28,13 @@ pub record Sent : Type 0 where
 abbrev pub nothing_sent : Sent
 nothing_sent = record { frames = []; memory = 0; limit = 0 }
 
--- one more of a count, which stops at the greatest number of 64 bits
+-- a count stops at the greatest number of 64 bits
+abbrev pub capped : ℕ → ℕ
+capped n = min n (2 ^ 64 - 1)
+
+-- one more of a count
 abbrev pub one_more : ℕ → ℕ
-one_more n = min (n + 1) (2 ^ 64 - 1)
+one_more n = capped (n + 1)
 
 -- a frame is handed out
 abbrev pub handed_out : ℕ × Frame → Sent → Sent
@@ -43,6 +47,28 @@ no_memory sent = record sent { memory = one_more sent.memory }
 -- a frame is over its limit, and it is counted so
 abbrev pub over_limit : Sent → Sent
 over_limit sent = record sent { limit = one_more sent.limit }
+
+-- the frames of another are kept behind those before
+abbrev pub with_more : Sent → Sent → Sent
+with_more before more = record {
+  frames = before.frames
+      ++ more.frames;
+  memory = capped (before.memory + more.memory);
+  limit = capped (before.limit + more.limit);
+}
+
+-- there is no memory for the frames of another, and they are counted
+abbrev pub without_more : Sent → Sent → Sent
+without_more before more = record {
+  frames = before.frames;
+  memory = capped
+      (capped (before.memory + more.memory) + length more.frames);
+  limit = capped (before.limit + more.limit);
+}
+
+-- what another holds is added: its frames are kept, or there is no memory for them
+abbrev pub Gathers : Sent → Sent → Sent → Type 0
+Gathers more before after = (after ≡ with_more before more) ⊎ (after ≡ without_more before more)
 
 -- What became of a frame that is wanted: one that keeps its limit is handed out, unless there is no memory for it; another is
 -- counted as over its limit, whatever memory there is.

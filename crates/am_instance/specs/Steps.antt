@@ -34,7 +34,7 @@ use Rattle.am_instance.specs.Deliveries.{Delivery, events_at, to_silences, to_lo
 use Rattle.am_instance.specs.Deliveries.Delivery.{OfSilence, OfEntry}
 use Rattle.am_instance.specs.Changes.{changes, changed_of, silences_after, log_after}
 use Rattle.am_instance.specs.Sendings.{Sent, Sends, deltas_to, nothing_sent, sent_by, whole_state}
-use Rattle.am_instance.specs.Replies.{IsReply, IsNothing, AreSilencesMade, listed, not_found, posted_over, silence_in_view, unread_refusal}
+use Rattle.am_instance.specs.Replies.{IsReply, IsNothing, AreSilencesMade, listed, not_found, posted_over, silence_in_view}
 use Rattle.am_instance.specs.declared.reply.Reply.{Reply}
 use Rattle.am_instance.specs.declared.reply.Reply.TheVariants as replies
 use Rattle.am_merge.specs.declared.held.Taken.{Taken}
@@ -48,7 +48,7 @@ use Rattle.am_silence.specs.declared.error.SilenceError.{SilenceError}
 use Rattle.am_silence.specs.declared.error.SilenceError.TheVariants as silence_errors
 use Rattle.am_silence.specs.Ids.{id_text}
 use Rattle.am_silence.specs.Plans.{post_of, planned}
-use Rattle.am_silence.specs.Refusals.{refusal, end_refusal}
+use Rattle.am_silence.specs.Refusals.{refusal, end_refusal, unread_refusal}
 use Rattle.am_matcher.specs.Matching.{matches_value, has_regexp, IsVerdict}
 
 -- ---- when a step is refused

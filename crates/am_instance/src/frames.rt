@@ -225,7 +225,7 @@ pub(crate) fn outcome(alloc: Global, reply: Reply, outbox: Outbox) -> Outcome
     ensures sent { sent_by result ≡ outbox }
     ensures made { IsNothing result.made }
 {
-    let (frames, unsent) = outbox.into_parts();
+    let Outbox { frames, unsent } = outbox;
     Outcome {
         reply,
         frames,

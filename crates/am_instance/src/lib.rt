@@ -18,4 +18,5 @@ pub use config::Config;
 pub use error::{ConfigError, StepError};
 pub use event::{Event, Place, Request};
 pub use instance::Instance;
+pub use outbox::{Outbox, whole_state};
 pub use reply::{Made, Outcome, Reply, Unsent};

@@ -126,7 +126,7 @@ fn logged_outcome(alloc: Global, is_changed: bool, outbox: Outbox, entry: MeshEn
     ensures silences { result.made.silences.items ≡ [] }
     ensures log { result.made.log ≡ Some entry }
 {
-    let (frames, unsent) = outbox.into_parts();
+    let Outbox { frames, unsent } = outbox;
     Outcome {
         reply: Reply::Logged(is_changed),
         frames,

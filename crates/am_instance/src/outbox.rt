@@ -1,12 +1,16 @@
-//! Frames that a step hands out.
+//! Frames to be sent, and how those of a step are made.
 
-ghost use Rattle.std.specs.Prelude.{◌≡◌, [], ◌∷◌, filter, Some, None, true, false, IfSome, OnSome, IfOk};
+ghost use Rattle.std.specs.Prelude.{◌≡◌, ◌≤◌, [], ◌∷◌, filter, length, Some, true, IfSome, IfOk, OnOk};
 ghost use Rattle.std.specs.Option.{option_copied};
+ghost use Rattle.am_wire.specs.Limits.{most};
 ghost use Rattle.am_wire.specs.Writing.{delimited};
+ghost use Rattle.am_silence.specs.Mesh.{mesh_version};
+ghost use Rattle.am_nflog.specs.Mesh.{mesh_version as entry_version};
+ghost use Rattle.am_snapshot.specs.Texts.{row_text};
 ghost use Rattle.am_gossip.specs.Frames.{fits};
 ghost use Rattle.am_gossip.specs.declared.frame.Frame.TheVariants as frames;
 ghost use Rattle.am_instance.specs.Configs.{is_other, places_but};
-ghost use Rattle.am_instance.specs.Sendings.{IsSent, Sends, addressed, delta, no_memory, states_frame};
+ghost use Rattle.am_instance.specs.Sendings.{Gathers, IsSent, Sends, addressed, delta, no_memory, states_frame};
 ghost use Rattle.am_instance.specs.Sendings.{nothing_sent, over_limit, whole_state};
 
 use crate::event::Place;
@@ -16,6 +20,7 @@ use am_merge::Held;
 use am_nflog::MeshEntry;
 use am_silence::MeshSilence;
 use am_snapshot::{row_bytes, row_length};
+use am_version_order::Version;
 use am_wire::Bytes;
 use am_wire::writing::{delimited_bytes, delimited_length};
 use std::alloc::{AllocError, Global};
@@ -38,19 +43,11 @@ pub enum Exchange {
     Answer,
 }
 
-/// How many bytes the rows of both states have.
-#[derive(Clone, Copy)]
-struct Lengths {
-    silences: u64,
-    log: u64,
-}
-
-/// The frames of a step so far, and how many were left out.
+/// Frames to be sent, each with the place of its peer, and how many were left out. Contracts see the list and the counts.
 #[derive(Drop)]
 pub struct Outbox {
-    alloc: Global,
-    frames: Vec<(Place, Frame)>,
-    unsent: Unsent,
+    pub frames: Vec<(Place, Frame)>,
+    pub unsent: Unsent,
 }
 
 impl Model for Outbox {
@@ -67,7 +64,6 @@ impl Outbox {
         ensures { result ≡ nothing_sent }
     {
         Outbox {
-            alloc,
             frames: Vec::new(alloc),
             unsent: Unsent {
                 memory: 0,
@@ -76,13 +72,16 @@ impl Outbox {
         }
     }
 
-    /// Gives the frames, and how many were left out.
-    pub fn into_parts(self) -> (Vec<(Place, Frame)>, Unsent)
-        ensures frames { result.0.items ≡ self.frames }
-        ensures memory { result.1.memory ≡ self.memory }
-        ensures limit { result.1.limit ≡ self.limit }
+    /// Adds what another holds, behind what is here. Frames that there is no memory for are counted.
+    pub fn add(&mut self, more: Outbox)
+        ensures { Gathers more self.old self.new }
     {
-        (self.frames, self.unsent)
+        let Outbox { mut frames, unsent } = more;
+        self.unsent.memory = self.unsent.memory.saturating_add(unsent.memory);
+        self.unsent.limit = self.unsent.limit.saturating_add(unsent.limit);
+        if self.frames.append(&mut frames).is_err() {
+            self.unsent.memory = self.unsent.memory.saturating_add(frames.len());
+        }
     }
 
     fn count_memory(&mut self)
@@ -108,10 +107,10 @@ impl Outbox {
     }
 
     /// Sends a version to each place of the route, by its canonical text.
-    pub fn send_version(&mut self, route: Route, key: StateKey, content: &[u8])
+    pub(crate) fn send_version(&mut self, route: Route, key: StateKey, content: &[u8])
         ensures { Sends (addressed (places_but route.members route.own route.origin) (delta key content.now)) self.old self.new }
     {
-        let row = delta_row(self.alloc, key, content);
+        let row = delta_row(*self.frames.allocator(), key, content);
         for place in 0..route.members {
             self.send_along(route, place, key, content, row.as_ref());
         }
@@ -143,14 +142,14 @@ impl Outbox {
             self.count_limit();
             return;
         }
-        match copy_of(self.alloc, row) {
+        match copy_of(*self.frames.allocator(), row) {
             Some(bytes) => self.hand_out(place, Frame::Delta(Part { key, bytes })),
             None => self.count_memory(),
         }
     }
 
     /// Sends both states whole to a peer.
-    pub fn send_states(
+    pub(crate) fn send_states(
         &mut self,
         place: Place,
         silences: &Held<MeshSilence>,
@@ -159,11 +158,11 @@ impl Outbox {
     )
         ensures { IsSent (place, states_frame exchange (whole_state silences.now log.now)) self.old self.new }
     {
-        let Some(lengths) = lengths_within(silences, log) else {
+        if !keep_limit(silences, log) {
             self.count_limit();
             return;
-        };
-        match whole_state(self.alloc, silences, log, lengths) {
+        }
+        match whole_state(*self.frames.allocator(), silences, log) {
             Ok(state) => self.hand_out(place, states_frame(exchange, state)),
             Err(_) => self.count_memory(),
         }
@@ -197,33 +196,42 @@ fn delta_row(alloc: Global, key: StateKey, content: &[u8]) -> Option<Bytes>
     delimited_bytes(alloc, content).ok()
 }
 
-/// How long both states are, where they keep the limit of a frame. It takes no memory.
-fn lengths_within(silences: &Held<MeshSilence>, log: &Held<MeshEntry>) -> Option<Lengths>
-    ensures fitting { OnSome result (fits (frames.Push (whole_state silences.now log.now)) ≡ true) }
-    ensures too_long { result ≡ None → fits (frames.Push (whole_state silences.now log.now)) ≡ false }
+/// Whether both states keep the limit of a frame. It takes no memory.
+fn keep_limit(silences: &Held<MeshSilence>, log: &Held<MeshEntry>) -> bool
+    ensures { result ≡ fits (frames.Push (whole_state silences.now log.now)) }
 {
-    let of_silences = row_length(silences)?;
-    let of_log = row_length(log)?;
-    if !states_fit(of_silences, of_log) {
-        return None;
-    }
-    Some(Lengths {
-        silences: of_silences,
-        log: of_log,
-    })
+    let Some(of_silences) = row_length(silences) else {
+        return false;
+    };
+    let Some(of_log) = row_length(log) else {
+        return false;
+    };
+    states_fit(of_silences, of_log)
 }
 
-/// Both states whole, whose lengths are known.
-fn whole_state(
+/// The row of a map, or [`AllocError`] also where it has over 67,108,864 bytes.
+fn row_of<V: Version>(alloc: Global, held: &Held<V>) -> Result<Bytes, AllocError>
+    ensures row { IfOk result (λ bytes. bytes ≡ row_text V.seen held.now) }
+    ensures short { OnOk result (length (row_text V.seen held.now) ≤ most) }
+{
+    let Some(length) = row_length(held) else {
+        return Err(AllocError);
+    };
+    row_bytes(alloc, held, length)
+}
+
+/// Both maps whole, versions that are not live too; or [`AllocError`] also where the row of one has over 67,108,864 bytes.
+pub fn whole_state(
     alloc: Global,
     silences: &Held<MeshSilence>,
     log: &Held<MeshEntry>,
-    lengths: Lengths,
 ) -> Result<FullState, AllocError>
-    ensures { IfOk result (λ state. state ≡ whole_state silences.now log.now) }
+    ensures state { IfOk result (λ state. state ≡ whole_state silences.now log.now) }
+    ensures silences_fit { OnOk result (length (row_text mesh_version silences.now) ≤ most) }
+    ensures log_fit { OnOk result (length (row_text entry_version log.now) ≤ most) }
 {
-    let silences = row_bytes(alloc, silences, lengths.silences)?;
-    let log = row_bytes(alloc, log, lengths.log)?;
+    let silences = row_of(alloc, silences)?;
+    let log = row_of(alloc, log)?;
     let mut parts = Vec::with_capacity(alloc, 2)?;
     parts.push(Part {
         key: StateKey::Sil,

@@ -1,6 +1,10 @@
 //! What a step answers.
 
+ghost use Rattle.std.specs.Prelude.{◌≡◌};
+ghost use Rattle.am_instance.specs.Sendings.{sent_by};
+
 use crate::event::Place;
+use crate::outbox::Outbox;
 use am_dedup::Decision;
 use am_gossip::Frame;
 use am_matcher::Mutes;
@@ -55,4 +59,18 @@ pub struct Outcome {
     pub frames: Vec<(Place, Frame)>,
     pub unsent: Unsent,
     pub made: Made,
+}
+
+impl Outcome {
+    /// The reply, and what the step sends.
+    pub fn into_parts(self) -> (Reply, Outbox)
+        ensures reply { result.0 ≡ self.reply }
+        ensures sent { result.1 ≡ sent_by self }
+    {
+        let outbox = Outbox {
+            frames: self.frames,
+            unsent: self.unsent,
+        };
+        (self.reply, outbox)
+    }
 }

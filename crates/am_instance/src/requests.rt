@@ -1,10 +1,10 @@
 //! What people and tools ask of an instance.
 
-ghost use Rattle.std.specs.Prelude.{◌≡◌, ◌==◌, [], ◌∷◌, length, is_some, None, true, OnErr, IfOk, IfErr};
-ghost use Rattle.std.specs.List.{list_any};
+ghost use Rattle.std.specs.Prelude.{◌≡◌, [], ◌∷◌, is_some, None, true, OnErr, IfOk, IfErr};
 ghost use Rattle.std.specs.Option.{option_copied};
 ghost use Rattle.am_silence.specs.Ids.{id_text};
 ghost use Rattle.am_silence.specs.Plans.{versions};
+ghost use Rattle.am_silence.specs.Refusals.{unread_refusal};
 ghost use Rattle.am_silence.specs.declared.error.SilenceError.TheVariants as silence_errors;
 ghost use Rattle.am_matcher.specs.Matching.{has_regexp, IsVerdict};
 ghost use Rattle.am_instance.specs.InstanceStates.{silence_at};
@@ -16,7 +16,7 @@ ghost use Rattle.am_instance.specs.Deliveries.Delivery.{OfSilence};
 ghost use Rattle.am_instance.specs.declared.reply.Reply.TheVariants as replies;
 ghost use Rattle.am_instance.specs.Changes.{only_if};
 ghost use Rattle.am_instance.specs.Sendings.{Sends, deltas_to, nothing_sent, sent_by};
-ghost use Rattle.am_instance.specs.Replies.{AreSilencesMade, IsNothing, posted_id, posted_over, unread_refusal};
+ghost use Rattle.am_instance.specs.Replies.{AreSilencesMade, IsNothing, posted_id, posted_over};
 ghost use Rattle.am_instance.specs.Steps.{IsPlanned, IsPutHere, IsTurnedAway, IsWork, is_changed, post_refusal};
 
 use crate::error::StepError;
@@ -30,8 +30,8 @@ use am_gossip::StateKey;
 use am_matcher::Filter;
 use am_merge::{Held, Taken};
 use am_silence::{
-    MatcherIter, Matchers, MeshSilence, Plan, Posted, SilenceError, Verdict, fresh_id, plan_expire,
-    plan_post,
+    Matchers, MeshSilence, Plan, Posted, SilenceError, Verdict, fresh_id, plan_expire, plan_post,
+    refused_unread,
 };
 use am_version_order::{Moment, Version};
 use am_wire::Text;
@@ -264,35 +264,6 @@ pub(crate) fn is_changed(taken: Taken) -> bool
     matches!(taken, Taken::Changed)
 }
 
-/// Why a post is refused whatever its patterns are: an identifier that is not in view, no matcher, or one without a
-/// label's name.
-fn refused_unread(held: Option<&MeshSilence>, posted: &Posted) -> Option<SilenceError>
-    ensures { result ≡ unread_refusal (option_copied held.entry) posted.now }
-{
-    if posted.id.is_some() && held.is_none() {
-        return Some(SilenceError::NotFound);
-    }
-    if posted.matchers.is_empty() {
-        return Some(SilenceError::NoMatcher);
-    }
-    if has_empty_name(posted.matchers.iter()) {
-        return Some(SilenceError::EmptyName);
-    }
-    None
-}
-
-/// Whether a matcher names no label.
-fn has_empty_name(matchers: MatcherIter<'_>) -> bool
-    ensures { result ≡ list_any (λ m. length m.name == 0) matchers.entry }
-{
-    for matcher in matchers {
-        if matcher.name().is_empty() {
-            return true;
-        }
-    }
-    false
-}
-
 /// A copy of a version.
 fn copies_of_one(alloc: Global, version: &MeshSilence) -> Result<Vec<MeshSilence>, AllocError>
     ensures { IfOk result (λ copies. copies.items ≡ version.now ∷ []) }
@@ -341,7 +312,7 @@ fn made_outcome(reply: Reply, outbox: Outbox, silences: Vec<MeshSilence>) -> Out
     ensures sent { sent_by result ≡ outbox }
     ensures made { AreSilencesMade result.made silences.items }
 {
-    let (frames, unsent) = outbox.into_parts();
+    let Outbox { frames, unsent } = outbox;
     Outcome {
         reply,
         frames,

@@ -39,7 +39,7 @@ heard_on (Some (Step error)) standing on = absurd cc
 
 -- one turn more before others, of this connection or of another
 one_before : (mine : Bool) (standing own final : Standing) (old : InstanceState) (turn : Turn) (rest : List Turn) → (mine ≡ true → standing ≡ own) → IsTurn own old turn →
-    (AllByRecursion IsHeardOut rest → SaysAll (if mine then left_at turn.answer.ended.fault turn.heard else standing) (pieces_of rest) (said_in rest) final) →
+    (AllByRecursion IsHeardOut rest → SaysAll (if mine then left_at turn.answer.fault turn.heard else standing) (pieces_of rest) (said_in rest) final) →
     AllByRecursion IsHeardOut (cond mine (turn ∷ rest) rest) →
     SaysAll standing (pieces_of (cond mine (turn ∷ rest) rest)) (said_in (cond mine (turn ∷ rest) rest)) final
 one_before true standing own final old turn rest same done on all = (
@@ -47,7 +47,7 @@ one_before true standing own final old turn rest same done on all = (
   turn.heard,
   said_in rest,
   subst (λ (s : Standing). Says s (bytes_of turn.came) turn.said turn.heard) (sym (same refl)) (told_heard turn.came all.0.piece own turn.said turn.heard all.0.came done.tells),
-  subst (λ (s : Standing). SaysAll s (pieces_of rest) (said_in rest) final) (heard_on turn.answer.ended.fault turn.heard all.0.goes_on) (on all.1),
+  subst (λ (s : Standing). SaysAll s (pieces_of rest) (said_in rest) final) (heard_on turn.answer.fault turn.heard all.0.goes_on) (on all.1),
   refl,
 )
 one_before false standing own final old turn rest same done on all = on all

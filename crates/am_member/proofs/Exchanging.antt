@@ -2,7 +2,6 @@
 use Rattle.std.proofs.Common.{◌≡◌, inl, inr, ℕ, List, Option, None, Some, Result, Ok, Err, refl, sym, subst}
 use Rattle.std.specs.Prelude.{option_map}
 use Rattle.am_api_silences.specs.Answers.{Becomes, IsAnswered, IsTurnedAway, with_reply as answered_with}
-use Rattle.am_api_silences.specs.declared.answering.Answered.{Answered}
 use Rattle.am_api_silences.specs.declared.answering.Begun.{Begun}
 use Rattle.am_gossip.specs.declared.frame.Frame.{Frame}
 use Rattle.am_http.specs.declared.refusal.Refusal.{Refusal}
@@ -13,11 +12,12 @@ use Rattle.am_instance.specs.InstanceStates.{InstanceState}
 use Rattle.am_http.specs.declared.session.fault.SessionFault.{SessionFault}
 use Rattle.am_http.specs.declared.session.fault.SessionFault.TheVariants as session_faults
 use Rattle.am_http.specs.Sessions.{Standing, name_of, over}
-use Rattle.am_member.specs.declared.answering.Exchanged.{Exchanged}
+use Rattle.am_member.specs.declared.exchanged.Effects.{Effects}
+use Rattle.am_member.specs.declared.exchanged.Exchanged.{Exchanged}
 use Rattle.am_member.specs.declared.fault.Fault.{Fault}
 use Rattle.am_member.specs.declared.fault.Fault.TheVariants.{Read as InRead, Write, TooLarge, Frame as InFrame, UnknownName, Step}
-use Rattle.am_member.specs.Incoming.{Effects, no_effects}
-use Rattle.am_member.specs.Exchanging.{AreHeard, AreStepped, Comes, IsAnsweredTo, IsHandedOn, IsReplied, fault_heard, left_at, with_reply}
+use Rattle.am_member.specs.Incoming.{no_effects}
+use Rattle.am_member.specs.Exchanging.{AreHeard, AreStepped, Comes, IsAnsweredTo, IsHandedOn, fault_heard, left_at, with_reply}
 
 module _ (read : Read) (bits now : ℕ) (old new : InstanceState) (exchanged : Exchanged) where
   pub whole_answered : (request : Request) (begun : Begun) → read ≡ Whole request → Becomes (λ answered. IsAnswered old request bits now answered new) begun →
@@ -26,11 +26,11 @@ module _ (read : Read) (bits now : ℕ) (old new : InstanceState) (exchanged : E
       let on = handed reply finished in
       subst (λ (r : Read). IsAnsweredTo r bits now old new (with_reply exchanged reply)) (sym is) (answered_with begun on.0, done on.0 on.1, on.2)
 
-  pub refused_answered : (refusal : Refusal) (answered : Answered) (begun : Begun) → read ≡ Refused refusal → IsTurnedAway refusal old answered new →
-      Becomes (λ answer. answer ≡ answered) begun → Comes (IsHandedOn begun) exchanged → Comes (IsAnsweredTo read bits now old new) exchanged
-  refused_answered refusal answered begun is done same handed = λ reply finished.
+  pub refused_answered : (refusal : Refusal) (begun : Begun) → read ≡ Refused refusal → Becomes (λ answered. IsTurnedAway refusal old answered new) begun →
+      Comes (IsHandedOn begun) exchanged → Comes (IsAnsweredTo read bits now old new) exchanged
+  refused_answered refusal begun is done handed = λ reply finished.
       let on = handed reply finished in
-      subst (λ (r : Read). IsAnsweredTo r bits now old new (with_reply exchanged reply)) (sym is) (answered, done, subst (λ (a : Answered). IsReplied a (with_reply exchanged reply)) (same on.0 on.1) on.2)
+      subst (λ (r : Read). IsAnsweredTo r bits now old new (with_reply exchanged reply)) (sym is) (answered_with begun on.0, done on.0 on.1, on.2)
 
 -- a fault of the session itself is none at which the member stops it
 pub heard_fault : (fault : Option SessionFault) (standing : Standing) → left_at (option_map fault_heard fault) standing ≡ standing

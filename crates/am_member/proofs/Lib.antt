@@ -1,6 +1,5 @@
 mod Whole
 pub mod Making
-pub mod Listening
 pub mod Greeted
 pub mod Names
 mod Lives
@@ -10,4 +9,5 @@ mod Exchanging
 mod Cuts
 mod Decimals
 mod Queued
+mod OneRead
 mod Signs

@@ -14,13 +14,13 @@ use Rattle.am_instance.specs.declared.error.StepError.{StepError}
 use Rattle.am_instance.specs.declared.event.Event.{Event}
 use Rattle.am_instance.specs.declared.event.Event.TheVariants as events
 use Rattle.am_instance.specs.declared.reply.Outcome.{Outcome}
-use Rattle.am_api_silences.specs.Answers.{ComesOf}
-use Rattle.am_api_silences.specs.declared.answering.Answered.{Answered}
+use Rattle.am_api_silences.specs.Answers.{Answered, ComesOf}
 use Rattle.am_http.specs.declared.session.fault.SessionFault.{SessionFault}
 use Rattle.am_http.specs.Sessions.{Standing, name_of}
 use Rattle.am_member.specs.declared.fault.Fault.{Fault}
 use Rattle.am_member.specs.declared.fault.Fault.TheVariants.{Read as InRead, Write, TooLarge, Frame as InFrame, UnknownName, Step}
-use Rattle.am_member.specs.Incoming.{Effects, MakesAll, StopsAt, effects_of, no_effects}
+use Rattle.am_member.specs.declared.exchanged.Effects.{Effects}
+use Rattle.am_member.specs.Incoming.{MakesAll, StopsAt, no_effects}
 use Rattle.am_member.specs.Exchanging.{Answer, AreHeard, AreStepped, IsAnsweredTo, IsFromNobody, MakesNamed, is_stopped}
 use Rattle.am_member.specs.Lives.{AreEventsOf, AreEventsOfFrames, AreEventsOfRead, AreStepsOf, AreStepsOfAll, Deed, IsLife, IsTurn, Turn, listed, standings_after}
 use Rattle.am_member.specs.Lives.Deed.{Served, Own}
@@ -202,7 +202,7 @@ read_steps More bits now stopped old new answer done =
 
 -- the steps of the events that were asked for, of a turn
 steps_of_turn : (old : InstanceState) (turn : Turn) (asked : List Event) → AreEventsOf old.config (name_of turn.heard) turn.bits turn.said asked →
-    ((steps : List Happened) × AreStepsUpTo turn.now asked (is_stopped turn.answer.ended.fault) old steps turn.left) →
+    ((steps : List Happened) × AreStepsUpTo turn.now asked (is_stopped turn.answer.fault) old steps turn.left) →
     (steps : List Happened) × AreStepsOf old turn steps
 steps_of_turn old turn asked said up_to = (
   up_to.0,
@@ -227,7 +227,7 @@ some_is x y o is also = ap (or_given x) (sym is ∙ also)
 turn_by : (standing : Standing) (old : InstanceState) (turn : Turn) (request : Option Read) → turn.said.request ≡ request → IsTurn standing old turn →
     (steps : List Happened) × AreStepsOf old turn steps
 turn_by standing old turn (Some read) is done =
-    let found = read_steps read turn.bits turn.now (is_stopped turn.answer.ended.fault) old turn.left turn.answer (done.answered.asked read is) in
+    let found = read_steps read turn.bits turn.now (is_stopped turn.answer.fault) old turn.left turn.answer (done.answered.asked read is) in
     steps_of_turn old turn found.asked
     (record {
       of_request = λ other also. subst (λ (r : Read). AreEventsOfRead r turn.bits found.asked) (some_is read other turn.said.request is also) found.are;
@@ -235,7 +235,7 @@ turn_by standing old turn (Some read) is done =
     })
     found.steps
 turn_by standing old turn None is done =
-    let found = heard_steps (name_of turn.heard) turn.now turn.said.frames turn.said.fault old turn.left (effects_of turn.answer.ended) turn.answer.ended.fault (done.answered.heard is).1 in
+    let found = heard_steps (name_of turn.heard) turn.now turn.said.frames turn.said.fault old turn.left turn.answer.effects turn.answer.fault (done.answered.heard is).1 in
     steps_of_turn old turn found.asked
     (record {
       of_request = λ read some. absurd (none-some read (sym is ∙ some));

@@ -5,7 +5,8 @@ use Rattle.am_instance.specs.declared.error.StepError.{StepError}
 use Rattle.am_instance.specs.declared.event.Event.TheVariants as events
 use Rattle.am_instance.specs.InstanceStates.{InstanceState}
 use Rattle.am_instance.specs.OneStep.{IsStep}
-use Rattle.am_member.specs.Incoming.{Effects, MakesAll, MakesStep, StopsAt}
+use Rattle.am_member.specs.declared.exchanged.Effects.{Effects}
+use Rattle.am_member.specs.Incoming.{MakesAll, MakesStep, StopsAt}
 
 -- one more
 pub all_more : (sender now : ℕ) (frames : List Frame) (frame : Frame) (old : InstanceState) (before : Effects) (mid : InstanceState) (between : Effects) (new : InstanceState) (after : Effects) →

@@ -14,9 +14,8 @@ use Rattle.am_instance.specs.declared.event.Event.{Event}
 use Rattle.am_instance.specs.declared.reply.Made.{Made}
 use Rattle.am_instance.specs.declared.reply.Outcome.{Outcome}
 use Rattle.am_instance.specs.declared.reply.Reply.{Reply}
-use Rattle.am_api_silences.specs.Answers.{ComesOf, IsErrorBytes, TellsStep}
+use Rattle.am_api_silences.specs.Answers.{Answered, ComesOf, IsErrorBytes, TellsStep}
 use Rattle.am_api_silences.specs.Replies.{IsReplyBytes, Says}
-use Rattle.am_api_silences.specs.declared.answering.Answered.{Answered}
 use Rattle.am_api_silences.specs.declared.replies.ReplyBytes.{ReplyBytes}
 use Rattle.am_api_silences.specs.declared.replies.ReplyBytes.TheVariants.{Own, Fixed}
 use Rattle.am_member.specs.Exchanging.{Answer, IsAnsweredTo}

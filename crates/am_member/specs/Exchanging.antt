@@ -1,13 +1,11 @@
 -- What comes of what a connection said: the answer to its request, or the steps of its frames.
 use Rattle.std.specs.Prelude.{◌≡◌, ◌≢◌, ◌⊎◌, ℕ, Bool, true, false, List, [], Option, None, Some, option_map, Result, Ok, Err, ⊤}
-use Rattle.am_api_silences.specs.declared.answering.Answered.{Answered}
 use Rattle.am_api_silences.specs.declared.answering.Begun.{Begun}
 use Rattle.am_api_silences.specs.declared.making.Making.{Making}
 use Rattle.am_api_silences.specs.declared.replies.ReplyBytes.{ReplyBytes}
-use Rattle.am_api_silences.specs.Answers.{sent_with, with_reply as answered_with}
+use Rattle.am_api_silences.specs.Answers.{Answered, IsAnswerTo, with_reply as answered_with}
 use Rattle.am_api_silences.specs.Events.{IsCall}
 use Rattle.am_api_silences.specs.Making.{IsMadeOf}
-use Rattle.am_api_silences.specs.Serving.{IsAnswerTo}
 use Rattle.am_gossip.specs.declared.frame.Frame.{Frame}
 use Rattle.am_http.specs.declared.cause.Cause.{Cause}
 use Rattle.am_http.specs.declared.request.Read.{Read}
@@ -19,18 +17,20 @@ use Rattle.am_instance.specs.InstanceStates.{InstanceState}
 use Rattle.am_http.specs.declared.session.fault.SessionFault.{SessionFault}
 use Rattle.am_http.specs.declared.session.fault.SessionFault.TheVariants as session_faults
 use Rattle.am_http.specs.Sessions.{Spoken, Standing, name_of, over}
-use Rattle.am_member.specs.declared.answering.Exchanged.{Exchanged}
-use Rattle.am_member.specs.declared.ended.Ended.{Ended}
+use Rattle.am_member.specs.declared.exchanged.Effects.{Effects}
+use Rattle.am_member.specs.declared.exchanged.Exchanged.{Exchanged}
 use Rattle.am_member.specs.declared.fault.Fault.{Fault}
 use Rattle.am_member.specs.declared.fault.Fault.TheVariants.{TooLarge, Frame as InFrame, UnknownName, Step}
-use Rattle.am_member.specs.Incoming.{Effects, IsOnlyPeerOf, IsPeerOf, MakesAll, StopsAt, effects_of, no_effects}
+use Rattle.am_member.specs.Incoming.{IsOnlyPeerOf, IsPeerOf, MakesAll, StopsAt, no_effects}
 
 -- ---- what comes of an exchange
 
--- What came of what a connection said, once its reply is whole: the reply, where a request was answered, and what its steps were.
+-- What came of what a connection said, once its reply is whole: the reply, where a request was answered; what its steps had for
+-- effects besides those on the instance; and why no more is heard of it.
 pub record Answer : Type 0 where
   pub reply : Option ReplyBytes
-  pub ended : Ended
+  pub effects : Effects
+  pub fault : Option Fault
 
 -- what a reply that is being made is finished with, where there is one
 abbrev pub IsFinished : Option Making → Option ReplyBytes → Type 0
@@ -40,7 +40,7 @@ IsFinished _ _ = ⊥
 
 -- what comes of an exchange with this reply
 abbrev pub with_reply : Exchanged → Option ReplyBytes → Answer
-with_reply exchanged reply = record { reply = reply; ended = exchanged.ended }
+with_reply exchanged reply = record { reply = reply; effects = exchanged.effects; fault = exchanged.fault }
 
 -- whatever its reply is finished with, such an answer comes of an exchange
 abbrev pub Comes : (Answer → Type 0) → Exchanged → Type 0
@@ -52,14 +52,14 @@ Comes IsSuch exchanged = (reply : Option ReplyBytes) → IsFinished exchanged.re
 pub record IsUntouched (old new : InstanceState) (answer : Answer) : Type 0 where
   pub same : new ≡ old
   pub reply : answer.reply ≡ None
-  pub nothing : effects_of answer.ended ≡ no_effects
-  pub no_fault : answer.ended.fault ≡ None
+  pub nothing : answer.effects ≡ no_effects
+  pub no_fault : answer.fault ≡ None
 
 -- an answer is handed on as it is, its reply and its frames; no Tick was among its steps
 pub record IsReplied (answered : Answered) (answer : Answer) : Type 0 where
   pub reply : answer.reply ≡ Some answered.reply
-  pub effects : effects_of answer.ended ≡ record { sent = sent_with answered; ticked = false }
-  pub no_fault : answer.ended.fault ≡ None
+  pub effects : answer.effects ≡ record { outbox = answered.sent; ticked = false }
+  pub no_fault : answer.fault ≡ None
 
 -- so is one that is begun, with what its reply is finished with
 abbrev pub IsHandedOn : Begun → Answer → Type 0
@@ -118,7 +118,7 @@ AreHeard name now frames fault old new effects told =
 pub record IsExchanged (name : Option (List ℕ)) (bits now : ℕ) (said : Spoken) (old new : InstanceState) (answer : Answer) : Type 0 where
   pub asked : (read : Read) → said.request ≡ Some read → IsAnsweredTo read bits now old new answer
   pub heard : said.request ≡ None →
-      (answer.reply ≡ None) × AreHeard name now said.frames said.fault old new (effects_of answer.ended) answer.ended.fault
+      (answer.reply ≡ None) × AreHeard name now said.frames said.fault old new answer.effects answer.fault
 
 -- a connection is not heard on whose peer is unknown, or of which a step was refused
 abbrev pub is_stopped : Option Fault → Bool

@@ -3,10 +3,9 @@ pub mod Requests
 pub mod Shown
 pub mod Outgoing
 pub mod Incoming
-pub mod Hearing
-pub mod Serving
 pub mod Exchanging
 pub mod Lives
+pub mod Conversing
 pub mod Faults
 pub mod Moments
 pub mod Peers

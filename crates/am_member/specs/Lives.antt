@@ -67,7 +67,7 @@ pub record IsTurn (standing : Standing) (old : InstanceState) (turn : Turn) : Ty
 -- how far its connection has come after a turn, and each other one as before
 abbrev pub standings_after : (ℕ → Standing) → Turn → ℕ → Standing
 standings_after standings turn = λ connection.
-    if connection == turn.connection then left_at turn.answer.ended.fault turn.heard else standings connection
+    if connection == turn.connection then left_at turn.answer.fault turn.heard else standings connection
 
 -- what a member does: a turn of a connection; or a step by itself, as a Tick or a pull from a peer, that no connection asks for
 pub data Deed : Type 0 where
@@ -110,7 +110,7 @@ standings_in standings (Own step ∷ deeds) = standings_in standings deeds
 pub record IsHeardOut (turn : Turn) : Type 0 where
   pub piece : List ℕ
   pub came : turn.came ≡ Heard piece
-  pub goes_on : is_stopped turn.answer.ended.fault ≡ false
+  pub goes_on : is_stopped turn.answer.fault ≡ false
 
 -- ---- the steps of the instance
 
@@ -141,7 +141,7 @@ pub record AreStepsOf (old : InstanceState) (turn : Turn) (steps : List Happened
   pub said : AreEventsOf old.config (name_of turn.heard) turn.bits turn.said asked
   pub others : List Event
   pub parts : asked ≡ map (λ step. step.event) steps ++ others
-  pub whole : (others ≡ []) ⊎ (is_stopped turn.answer.ended.fault ≡ true)
+  pub whole : (others ≡ []) ⊎ (is_stopped turn.answer.fault ≡ true)
   pub moments : AllByRecursion (λ step. step.now ≡ turn.now) steps
   pub made : AreMade old steps turn.left
 

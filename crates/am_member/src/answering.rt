@@ -4,13 +4,12 @@ ghost use Rattle.std.specs.Prelude.{◌≡◌, None, option_map};
 ghost use Rattle.std.specs.Option.{option_copied};
 ghost use Rattle.am_http.specs.Sessions.{name_of, spoken};
 ghost use Rattle.am_member.specs.Exchanging.{AreHeard, AreStepped, Comes, IsAnsweredTo, IsDear, IsExchanged, IsHandedOn, fault_heard, is_list, left_at};
-ghost use Rattle.am_member.specs.Incoming.{effects_of};
 
-use crate::ended::Ended;
+use crate::exchanged::{Effects, Exchanged};
 use crate::fault::Fault;
-use crate::greeting::peer_named;
+use crate::sender::peer_named;
 use crate::steps::make_steps;
-use am_api_silences::{Begun, Making, begin_answer, turn_away};
+use am_api_silences::{Begun, begin_answer, turn_away};
 use am_gossip::Frame;
 use am_http::session::{Said, Session, SessionFault};
 use am_http::{Call, Cause, Read, call_of};
@@ -18,33 +17,19 @@ use am_instance::Instance;
 use am_version_order::Moment;
 use std::alloc::Global;
 
-/// What came of what a connection said.
-#[derive(Drop)]
-pub struct Exchanged {
-    /// The reply, where a request was answered. That of a list is still to be written.
-    pub reply: Option<Making>,
-    /// What the steps send, whether a Tick was among them, and why no more is heard of the connection.
-    pub ended: Ended,
-}
-
 /// Hands on an answer.
 fn replied(begun: Begun) -> Exchanged
     ensures handed { Comes (IsHandedOn begun) result }
-    ensures no_fault { result.ended.fault ≡ None }
+    ensures no_fault { result.fault ≡ None }
 {
-    let Begun {
-        making,
-        frames,
-        unsent,
-    } = begun;
+    let Begun { making, outbox } = begun;
     Exchanged {
         reply: Some(making),
-        ended: Ended {
-            frames,
-            unsent,
+        effects: Effects {
+            outbox,
             ticked: false,
-            fault: None,
         },
+        fault: None,
     }
 }
 
@@ -57,18 +42,12 @@ fn reply_to(
     now: Moment,
 ) -> Exchanged
     ensures answered { Comes (IsAnsweredTo read bits now instance.old instance.new) result }
-    ensures no_fault { result.ended.fault ≡ None }
+    ensures no_fault { result.fault ≡ None }
 {
     match read {
         Read::Whole(request) => replied(begin_answer(alloc, instance, &request, bits, now)),
-        Read::Refused(refusal) => {
-            let (_, answered) = turn_away(alloc, &refusal);
-            replied(Begun::whole(answered))
-        }
-        Read::More => Exchanged {
-            reply: None,
-            ended: Ended::idle(alloc, None),
-        },
+        Read::Refused(refusal) => replied(turn_away(alloc, &refusal)),
+        Read::More => Exchanged::nothing(alloc),
     }
 }
 
@@ -80,12 +59,12 @@ fn reply_to(
 /// before it stand.
 fn step_named(
     instance: &mut Instance,
-    ended: &mut Ended,
+    effects: &mut Effects,
     name: Option<&str>,
     frames: Vec<Frame>,
     now: Moment,
 ) -> Result<(), Fault>
-    ensures { AreStepped (option_copied name.entry) now frames.items instance.old (effects_of ended.old) instance.new (effects_of ended.new) result }
+    ensures { AreStepped (option_copied name.entry) now frames.items instance.old effects.old instance.new effects.new result }
 {
     let Some(name) = name else {
         return if frames.is_empty() {
@@ -97,7 +76,7 @@ fn step_named(
     let Some(sender) = peer_named(instance.config(), name) else {
         return Err(Fault::UnknownName);
     };
-    make_steps(instance, ended, sender, frames, now)?;
+    make_steps(instance, effects, sender, frames, now)?;
     Ok(())
 }
 
@@ -120,20 +99,27 @@ fn hear(
     frames: Vec<Frame>,
     fault: Option<SessionFault>,
     now: Moment,
-) -> Ended
-    ensures heard { AreHeard (name_of session.old) now frames.items fault instance.old instance.new (effects_of result) result.fault }
+) -> Exchanged
+    ensures heard { AreHeard (name_of session.old) now frames.items fault instance.old instance.new result.effects result.fault }
+    ensures silent { result.reply ≡ None }
     ensures session { session.new ≡ left_at result.fault session.old }
 {
-    let mut ended = Ended::idle(alloc, None);
-    match step_named(instance, &mut ended, session.name(), frames, now) {
+    let mut exchanged = Exchanged::nothing(alloc);
+    match step_named(
+        instance,
+        &mut exchanged.effects,
+        session.name(),
+        frames,
+        now,
+    ) {
         Ok(()) => {
-            ended.fault = fault_heard(fault);
-            ended
+            exchanged.fault = fault_heard(fault);
+            exchanged
         }
         Err(stop) => {
             session.stop();
-            ended.fault = Some(stop);
-            ended
+            exchanged.fault = Some(stop);
+            exchanged
         }
     }
 }
@@ -153,7 +139,7 @@ pub fn exchange(
     now: Moment,
 ) -> Exchanged
     ensures exchanged { Comes (IsExchanged (name_of session.old) bits now (spoken said) instance.old instance.new) result }
-    ensures session { session.new ≡ left_at result.ended.fault session.old }
+    ensures session { session.new ≡ left_at result.fault session.old }
 {
     let Said {
         frames,
@@ -162,10 +148,7 @@ pub fn exchange(
     } = said;
     match request {
         Some(read) => reply_to(alloc, instance, read, bits, now),
-        None => Exchanged {
-            reply: None,
-            ended: hear(alloc, instance, session, frames, fault, now),
-        },
+        None => hear(alloc, instance, session, frames, fault, now),
     }
 }
 

@@ -1,6 +1,6 @@
 //! The moment of the next event.
 
-ghost use Rattle.std.specs.Prelude.{◌≡◌, ◌≤◌};
+ghost use Rattle.std.specs.Prelude.{◌≡◌, ◌+◌, ◌<◌, ◌≤◌, ◌↔◌, IsTrue};
 ghost use Rattle.std.specs.Duration.{as_nanos};
 ghost use Rattle.am_member.specs.Moments.{clock_moment, later_moment};
 
@@ -39,4 +39,12 @@ pub fn next_moment<C: Clock>(clock: &C, last: Moment) -> Moment
         Ok(since_1970) => later_moment(since_1970, last),
         Err(_) => last,
     }
+}
+
+/// Whether what a clock says, as the time since 1970, is behind the moment of the last event by over a second.
+pub fn is_behind(since_1970: Duration, last: Moment) -> bool
+    ensures { IsTrue result ↔ (clock_moment (as_nanos since_1970) + 1_000_000_000 < last) }
+{
+    let second = Interval::from_seconds(1).unwrap();
+    clock_moment(since_1970).capped_add(second) < last
 }

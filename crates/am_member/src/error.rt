@@ -15,6 +15,12 @@ pub enum FileFault {
     /// What stands in it is at fault, or not all of it was read or written.
     #[error("{0}")]
     Snapshot(#[from] SnapshotError),
+    /// What stands in its place is no file.
+    #[error("no file stands there")]
+    NotAFile,
+    /// Another process has it.
+    #[error("another process has it")]
+    Locked,
 }
 
 impl From<io::Error> for FileFault {

@@ -1,19 +1,15 @@
-//! Why a connection ends before its input does, and why nothing is sent.
+//! Why a connection ends before its input does, and why nothing is written to a peer.
 
 ghost use Rattle.std.specs.Prelude.{◌≡◌};
 
 use am_gossip::FrameError;
 use am_instance::StepError;
-use am_streams::WriteFault;
 use std::alloc::AllocError;
 use thiserror::Error;
 
-/// Why not all was sent.
+/// Why what goes to a peer was not written.
 #[derive(Clone, Copy, Debug, PartialEq, Eq, Error)]
 pub enum SendError {
-    /// A write failed or took nothing, when so many bytes had gone out.
-    #[error("a write failed after {written} bytes")]
-    Write { written: u64 },
     #[error("out of memory")]
     Memory,
     /// The name has no byte or over 255, or the payload of a frame is over its limit.
@@ -28,18 +24,6 @@ impl From<AllocError> for SendError {
 
     fn from(_e: AllocError) -> SendError {
         SendError::Memory
-    }
-}
-
-impl From<WriteFault> for SendError {
-    ghost use Rattle.am_member.specs.declared.fault.SendError.TheVariants.{Write};
-
-    ghost from_gives = { λ fault e. e ≡ Write fault.written };
-
-    fn from(fault: WriteFault) -> SendError {
-        SendError::Write {
-            written: fault.written,
-        }
     }
 }
 
@@ -64,16 +48,6 @@ pub enum Fault {
     /// The step of a frame was refused.
     #[error("{0}")]
     Step(StepError),
-}
-
-impl From<FrameError> for Fault {
-    ghost use Rattle.am_member.specs.declared.fault.Fault.TheVariants.{Frame};
-
-    ghost from_gives = { λ given e. e ≡ Frame given };
-
-    fn from(error: FrameError) -> Fault {
-        Fault::Frame(error)
-    }
 }
 
 impl From<StepError> for Fault {

@@ -5,13 +5,28 @@ ghost use Rattle.am_merge.specs.Maps.{IsMap};
 ghost use Rattle.am_snapshot.specs.Texts.{row_text};
 
 use crate::error::FileFault;
+use crate::paths::directory_of;
 use am_merge::Held;
-use am_snapshot::{load, save};
+use am_snapshot::{SnapshotError, load, save};
 use am_version_order::Version;
 use am_wire::Message;
-use std::fs::{self, OpenFile};
+use std::fs::{self, File, OpenFile};
 use std::io::{BufReader, ErrorKind};
 use std::rt::Files;
+
+/// Whether a file is there. What is no file isn't opened, since that may wait for ever.
+///
+/// # Errors
+///
+/// [`FileFault::NotAFile`], and what the system says.
+pub fn is_there<R: Files>(rt: &R, path: &str) -> Result<bool, FileFault> {
+    match fs::metadata(rt, path) {
+        Ok(found) if found.is_file() => Ok(true),
+        Ok(_) => Err(FileFault::NotAFile),
+        Err(error) if error.kind() == ErrorKind::NotFound => Ok(false),
+        Err(error) => Err(FileFault::from(error)),
+    }
+}
 
 /// Loads the state that a file holds; where there is no file, an empty one.
 ///
@@ -24,16 +39,15 @@ pub fn load_file<V: Version + Message, R: Files + AllocGlobal>(
 ) -> Result<Held<V>, FileFault>
     ensures order { IfOk result (IsMap V.seen V.Key.cmp) }
 {
-    let file = match fs::open(rt, path) {
-        Ok(file) => file,
-        Err(error) if error.kind() == ErrorKind::NotFound => return Ok(Held::new(rt.alloc())),
-        Err(error) => return Err(FileFault::from(error)),
-    };
-    let mut reader = BufReader::new(rt.alloc(), file)?;
+    if !is_there(rt, path)? {
+        return Ok(Held::new(rt.alloc()));
+    }
+    let mut reader = BufReader::new(rt.alloc(), fs::open(rt, path)?)?;
     Ok(load(rt.alloc(), &mut reader)?)
 }
 
-/// Writes a new file whole, and hands it to the disk. It has the permissions of the file that it is to replace.
+/// Writes a new file whole, and hands it to the disk. It has the permissions of the file that it is to replace. Whatever
+/// stood in its own place is taken away first, so that nothing is written through a link.
 fn write_file<V: Version, R: Files + AllocGlobal>(
     rt: &R,
     path: &str,
@@ -42,7 +56,8 @@ fn write_file<V: Version, R: Files + AllocGlobal>(
 ) -> Result<u64, FileFault>
     ensures count { IfOk result (λ written. written ≡ length (row_text V.seen held.now)) }
 {
-    let mut file = fs::create(rt, path)?;
+    let _ = fs::remove_file(rt, path);
+    let mut file = File::create_new(rt, path)?;
     if let Ok(found) = fs::metadata(rt, replaced) {
         file.set_permissions(found.permissions())?;
     }
@@ -51,12 +66,13 @@ fn write_file<V: Version, R: Files + AllocGlobal>(
     Ok(written)
 }
 
-/// Saves a state in a file: it is written beside the file that stands, and takes its place once it is whole and on the disk.
-/// Answers how many bytes it has.
+/// Saves a state in a file: it is written beside the file that stands, and takes its place once it is whole and on the disk;
+/// and then the directory is handed to the disk. Answers how many bytes it has.
 ///
 /// # Errors
 ///
-/// Why it isn't saved, as a [`FileFault`]. The file that stood there stands as it was then.
+/// Why it isn't saved, as a [`FileFault`]. The file that stood there stands as it was then, or the new one does where the
+/// directory alone was not handed to the disk.
 pub fn save_file<V: Version, R: Files + AllocGlobal>(
     rt: &R,
     path: &str,
@@ -65,7 +81,7 @@ pub fn save_file<V: Version, R: Files + AllocGlobal>(
     ensures count { IfOk result (λ written. written ≡ length (row_text V.seen held.now)) }
 {
     let Ok(beside) = format!(in rt.alloc(); "{path}.new") else {
-        return Err(FileFault::Snapshot(am_snapshot::SnapshotError::Memory));
+        return Err(FileFault::Snapshot(SnapshotError::Memory));
     };
     let saved = replace(rt, &beside, path, held);
     if saved.is_err() {
@@ -85,5 +101,13 @@ fn replace<V: Version, R: Files + AllocGlobal>(
 {
     let written = write_file(rt, beside, path, held)?;
     fs::rename(rt, beside, path)?;
+    sync_directory(rt, directory_of(path))?;
     Ok(written)
+}
+
+/// Hands a directory to the disk: which files it has, and by which names.
+fn sync_directory<R: Files>(rt: &R, directory: &str) -> Result<(), FileFault> {
+    let opened = fs::open(rt, directory)?;
+    opened.sync_all()?;
+    Ok(())
 }

@@ -12,7 +12,7 @@ ghost use Rattle.am_member.specs.Shown.{IsShownOfRow};
 use am_merge::Held;
 use am_silence::MeshSilence;
 use am_silence_json::cut_to_shown;
-use am_snapshot::{FoldError, take_row};
+use am_snapshot::{SnapshotError, take_row};
 use am_version_order::{Moment, Version};
 use am_wire::WireError;
 use std::alloc::{AllocError, Global};
@@ -35,18 +35,18 @@ pub fn held_of<V: Version>(alloc: Global, list: Vec<V>) -> Result<Held<V>, Alloc
 }
 
 /// Of each version of a map the one that API v2 shows of it.
-fn cut_all(alloc: Global, held: &Held<MeshSilence>) -> Result<Vec<MeshSilence>, FoldError>
+fn cut_all(alloc: Global, held: &Held<MeshSilence>) -> Result<Vec<MeshSilence>, SnapshotError>
     ensures { IfOk result (λ cut. cut.items ≡ map cut_to_shown held.now) }
 {
     let mut list = Vec::new(alloc);
     for version in held.iter() {
         let shown = match cut_to_shown(alloc, version) {
             Ok(shown) => shown,
-            Err(WireError::Memory) => return Err(FoldError::Memory),
-            Err(error) => return Err(FoldError::Wire(error)),
+            Err(WireError::Memory) => return Err(SnapshotError::Memory),
+            Err(error) => return Err(SnapshotError::Wire(error)),
         };
         if list.push(shown).is_err() {
-            return Err(FoldError::Memory);
+            return Err(SnapshotError::Memory);
         }
     }
     Ok(list)
@@ -56,16 +56,16 @@ fn cut_all(alloc: Global, held: &Held<MeshSilence>) -> Result<Vec<MeshSilence>, 
 ///
 /// # Errors
 ///
-/// The first fault of the row, [`FoldError::Wire`] also where a version is too large once it is cut, and
-/// [`FoldError::Memory`].
-pub fn shown_of_row<R: Read>(alloc: Global, reader: &mut R) -> Result<Held<MeshSilence>, FoldError>
+/// The first fault of the row, [`SnapshotError::Wire`] also where a version is too large once it is cut, and
+/// [`SnapshotError::Memory`].
+pub fn shown_of_row<R: Read>(
+    alloc: Global,
+    reader: &mut R,
+) -> Result<Held<MeshSilence>, SnapshotError>
     ensures order { IfOk result (IsMap mesh_version (slice_cmp nat_cmp)) }
     ensures shown { IfOk result (λ held. IfSome (R.remaining reader.old) (λ input. IsShownOfRow input held)) }
 {
     let held = take_row::<MeshSilence, _>(alloc, reader)?;
     let list = cut_all(alloc, &held)?;
-    match held_of(alloc, list) {
-        Ok(held) => Ok(held),
-        Err(_) => Err(FoldError::Memory),
-    }
+    Ok(held_of(alloc, list)?)
 }

@@ -4,9 +4,9 @@ ghost use Rattle.std.specs.Prelude.{◌≡◌, ℕ, OnOk, OnErr, IfErr, Err};
 ghost use Rattle.am_instance.specs.OneStep.{IsStep};
 ghost use Rattle.am_instance.specs.Steps.{collects};
 ghost use Rattle.am_instance.specs.declared.event.Event.TheVariants as events;
-ghost use Rattle.am_member.specs.Incoming.{MakesAll, MakesStep, StopsAt, effects_of};
+ghost use Rattle.am_member.specs.Incoming.{MakesAll, MakesStep, StopsAt};
 
-use crate::ended::Ended;
+use crate::exchanged::Effects;
 use am_gossip::Frame;
 use am_instance::{Event, Instance, Place, StepError};
 use am_version_order::Moment;
@@ -20,18 +20,18 @@ fn is_tick(frame: &Frame) -> bool
 /// Makes the step of a frame.
 fn make_step(
     instance: &mut Instance,
-    ended: &mut Ended,
+    effects: &mut Effects,
     sender: Place,
     frame: Frame,
     now: Moment,
 ) -> Result<(), StepError>
-    ensures made { OnOk result (MakesStep sender now frame instance.old (effects_of ended.old) instance.new (effects_of ended.new)) }
+    ensures made { OnOk result (MakesStep sender now frame instance.old effects.old instance.new effects.new) }
     ensures stopped { IfErr result (λ e. IsStep instance.old (events.Frame sender frame) now (Err e) instance.new) }
-    ensures kept { OnErr result (effects_of ended.new ≡ effects_of ended.old) }
+    ensures kept { OnErr result (effects.new ≡ effects.old) }
 {
     let ticks = is_tick(&frame);
     let outcome = instance.step(Event::Frame { sender, frame }, now)?;
-    ended.add(outcome, ticks);
+    effects.add(outcome, ticks);
     Ok(())
 }
 
@@ -42,16 +42,16 @@ fn make_step(
 /// Why that one is refused. The steps before it stand.
 pub fn make_steps(
     instance: &mut Instance,
-    ended: &mut Ended,
+    effects: &mut Effects,
     sender: Place,
     frames: Vec<Frame>,
     now: Moment,
 ) -> Result<(), StepError>
-    ensures made { OnOk result (MakesAll sender now frames.items instance.old (effects_of ended.old) instance.new (effects_of ended.new)) }
-    ensures stopped { IfErr result (StopsAt sender now frames.items instance.old (effects_of ended.old) instance.new (effects_of ended.new)) }
+    ensures made { OnOk result (MakesAll sender now frames.items instance.old effects.old instance.new effects.new) }
+    ensures stopped { IfErr result (StopsAt sender now frames.items instance.old effects.old instance.new effects.new) }
 {
     for frame in frames {
-        make_step(instance, ended, sender, frame, now)?;
+        make_step(instance, effects, sender, frame, now)?;
     }
     Ok(())
 }

@@ -1,17 +1,15 @@
 //! What goes out to a peer.
 
-ghost use Rattle.std.specs.Prelude.{◌≡◌, ◌++◌, ◌⊎◌, ◌↔◌, ◌&&◌, false, Err, length, OnOk, IfOk, IfErr};
-ghost use Rattle.std.specs.Io.KnownBytes.{Appends};
+ghost use Rattle.std.specs.Prelude.{◌≡◌, ◌++◌, ◌⊎◌, ◌↔◌, false, Err, OnOk, IfOk, IfErr};
 ghost use Rattle.std.specs.List.{flat_map};
 ghost use Rattle.am_gossip.specs.Frames.{frame_text};
-ghost use Rattle.am_member.specs.Outgoing.{all_fit, greeting_text, is_name, outgoing_text, StopsSending};
+ghost use Rattle.am_member.specs.Outgoing.{all_fit, greeting_text, is_name};
 ghost use Rattle.am_member.specs.declared.fault.SendError.TheVariants as errors;
 
 use crate::fault::SendError;
-use am_gossip::{Frame, FrameError, MOST_NAME_BYTES, append_frame, frame_fits};
+use am_gossip::{Frame, MOST_NAME_BYTES, append_frame, frame_fits};
 use am_wire::writing::append_delimited;
 use std::alloc::{AllocError, Global};
-use std::io::Write;
 
 /// Whether a greeting may have this name.
 fn is_name(name: &str) -> bool
@@ -47,40 +45,39 @@ fn append_frames(out: &mut Vec<u8>, frames: &[Frame]) -> Result<(), AllocError>
     Ok(())
 }
 
-/// All that goes out, in memory.
-fn outgoing(alloc: Global, name: &str, frames: &[Frame]) -> Result<Vec<u8>, SendError>
-    ensures text { IfOk result (λ text. text.items ≡ outgoing_text name.now frames.now) }
-    ensures too_long { (result ≡ Err errors.Length) ↔ ((is_name name.now && all_fit frames.now) ≡ false) }
+/// The greeting of a member of this name, with which each of its connections to a peer begins.
+///
+/// # Errors
+///
+/// [`SendError::Length`] where the name has no byte or over 255, whatever memory there is, and [`SendError::Memory`].
+pub fn greeting(alloc: Global, name: &str) -> Result<Vec<u8>, SendError>
+    ensures text { IfOk result (λ text. text.items ≡ greeting_text name.now) }
+    ensures too_long { (result ≡ Err errors.Length) ↔ (is_name name.now ≡ false) }
     ensures refused { IfErr result (λ e. (e ≡ errors.Memory) ⊎ (e ≡ errors.Length)) }
 {
-    if !(is_name(name) && all_fit(frames)) {
+    if !is_name(name) {
         return Err(SendError::Length);
     }
     let mut text = Vec::new(alloc);
     append_greeting(&mut text, name)?;
-    append_frames(&mut text, frames)?;
     Ok(text)
 }
 
-/// Sends the greeting of a member and frames behind it, and answers how many bytes went out.
+/// The text of frames, one after the other, as it goes to a peer behind the greeting.
 ///
 /// # Errors
 ///
-/// [`SendError::Length`] where the name or a frame is over its limit, whatever memory there is, and
-/// [`SendError::Memory`], both before a byte goes out; [`SendError::Write`] at the first call that fails or takes
-/// nothing, which is not tried again.
-pub fn send<W: Write>(
-    alloc: Global,
-    name: &str,
-    frames: &[Frame],
-    writer: &mut W,
-) -> Result<u64, SendError>
-    ensures all { OnOk result (Appends (W.contents writer.old) (W.contents writer.new) (outgoing_text name.now frames.now)) }
-    ensures count { IfOk result (λ count. count ≡ length (outgoing_text name.now frames.now)) }
-    ensures stopped { IfErr result (StopsSending (W.contents writer.old) (W.contents writer.new) (outgoing_text name.now frames.now)) }
-    ensures too_long { (result ≡ Err errors.Length) ↔ ((is_name name.now && all_fit frames.now) ≡ false) }
+/// [`SendError::Length`] where the payload of a frame is over its limit, whatever memory there is, and
+/// [`SendError::Memory`].
+pub fn frames_text(alloc: Global, frames: &[Frame]) -> Result<Vec<u8>, SendError>
+    ensures text { IfOk result (λ text. text.items ≡ flat_map frame_text frames.now) }
+    ensures too_long { (result ≡ Err errors.Length) ↔ (all_fit frames.now ≡ false) }
+    ensures refused { IfErr result (λ e. (e ≡ errors.Memory) ⊎ (e ≡ errors.Length)) }
 {
-    let text = outgoing(alloc, name, frames)?;
-    am_streams::send(writer, &text)?;
-    Ok(text.len() as u64)
+    if !all_fit(frames) {
+        return Err(SendError::Length);
+    }
+    let mut text = Vec::new(alloc);
+    append_frames(&mut text, frames)?;
+    Ok(text)
 }

@@ -1,22 +1,25 @@
 //! The words of cases, and the answers to those of what stands below an instance (docs/CASES.md).
 #![tactic(auto)]
 
-/// Prints values one after the other; `?` before one has it printed as code spells it.
+/// Prints values one after the other; `?` before one has it printed as code spells it, and `@` as cases do.
 #[macro_export]
 macro_rules! put {
-    ($rt:expr; ? $value:expr) => { $crate::common::print_debug($rt, $value) };
-    ($rt:expr; $value:expr) => { $crate::common::print($rt, $value) };
-    ($rt:expr; ? $value:expr, $($rest:tt)+) => {{ $crate::put!($rt; ? $value)?; $crate::put!($rt; $($rest)+) }};
-    ($rt:expr; $value:expr, $($rest:tt)+) => {{ $crate::put!($rt; $value)?; $crate::put!($rt; $($rest)+) }};
+    ($case:expr;) => { () };
+    ($case:expr; ? $value:expr $(, $($rest:tt)*)?) => {{ $case.debug($value); $crate::put!($case; $($($rest)*)?) }};
+    ($case:expr; @ $value:expr $(, $($rest:tt)*)?) => {{ $value.print($case); $crate::put!($case; $($($rest)*)?) }};
+    ($case:expr; $value:expr $(, $($rest:tt)*)?) => {{ $case.put($value); $crate::put!($case; $($($rest)*)?) }};
 }
 
 /// Prints values likewise, and ends the line.
 #[macro_export]
 macro_rules! say {
-    ($rt:expr; ? $value:expr) => {{ $crate::put!($rt; ? $value)?; $crate::say!($rt; "") }};
-    ($rt:expr; $value:expr) => { $crate::common::print_line($rt, $value) };
-    ($rt:expr; ? $value:expr, $($rest:tt)+) => {{ $crate::put!($rt; ? $value)?; $crate::say!($rt; $($rest)+) }};
-    ($rt:expr; $value:expr, $($rest:tt)+) => {{ $crate::put!($rt; $value)?; $crate::say!($rt; $($rest)+) }};
+    ($case:expr; $($rest:tt)+) => {{ $crate::put!($case; $($rest)+); $case.put("\n") }};
+}
+
+/// Names a value, and returns where there is none.
+#[macro_export]
+macro_rules! given {
+    ($name:pat = $value:expr) => { let Some($name) = $value else { return; }; };
 }
 
 pub mod common;

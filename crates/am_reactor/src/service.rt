@@ -58,6 +58,10 @@ pub trait Service {
     /// first until it waits no more.
     fn resume(&mut self, session: &mut Self::Session);
 
+    /// Does what waits at once, or gives it up: it may not be done now, and the time of the connection is over in a quarter of
+    /// a second. It is looked for in each turn, so a service in which something waits for long is to be woken often.
+    fn hurry(&mut self, session: &mut Self::Session);
+
     /// What is still to be written, or a first part of it that has a byte.
     fn output<'a>(&self, session: &'a Self::Session) -> &'a [u8]
         ensures first_part { IsFirstPart result.now (pending session.now) }

@@ -1,5 +1,5 @@
 -- What plans make is live, and greater than what it takes the place of.
-use Rattle.std.proofs.Common.{◌≡◌, ℕ, ◌<◌, ◌≤◌, Bool, true, false, ◌&&◌, nat_lt, nat_le, Option, Some, None, IfSome, option_map, is_some, is_none, if◌then◌else◌, refl, ap, ◌∙◌, arith}
+use Rattle.std.proofs.Common.{◌≡◌, ℕ, ◌<◌, ◌≤◌, Bool, true, false, nat_lt, nat_le, Option, Some, None, IfSome, option_map, is_some, if◌then◌else◌, refl, ap, ◌∙◌, arith}
 use Rattle.std.proofs.lemmas.Bool.{lt-ltb}
 use Rattle.std.specs.Cmp.{second_so}
 use Rattle.std.proofs.lemmas.Bool.Decides.{nat_tests}
@@ -16,7 +16,7 @@ use Rattle.am_silence.specs.declared.plan.Plan.TheVariants as plans
 use Rattle.am_silence.specs.Mesh.{Mesh, mesh_version}
 use Rattle.am_silence.specs.States.{state_of, is_expired, has_expired}
 use Rattle.am_silence.specs.Plans.{Post, held_silence, version_of, new_version, updated_version, ended_in, ended_version, same_matchers, allows_update, may_update, new_plan, plan_over, successor, Succeeds}
-use Rattle.am_silence.specs.Refusals.{◌when◌, ◌before◌, matchers_refusal, times_refusal, newer_refusal, held_refusal, posted_refusal}
+use Rattle.am_silence.specs.Refusals.{◌when◌, ◌before◌, unread_refusal, verdict_refusal, times_refusal, newer_refusal, held_refusal, posted_refusal}
 
 -- ---- what passed tests say
 
@@ -40,11 +40,11 @@ pub posted_passes : (held : Option Mesh) (posted : Posted) (verdict : Verdict) (
     → (now < posted.ends_at) × (held_refusal (held_silence held posted) now ≡ None)
 unfolding posted_refusal
 posted_passes held posted verdict now h =
-    let known = errors.NotFound when (is_some posted.id && is_none held) in
-    let matchers = matchers_refusal posted.matchers verdict in
+    let unread = unread_refusal held posted in
+    let patterns = verdict_refusal verdict in
     let times = times_refusal posted now in
-    let all = before_none (known before matchers before times) (held_refusal (held_silence held posted) now) h in
-    let tests = before_none (known before matchers) times all.0 in
+    let all = before_none (unread before patterns before times) (held_refusal (held_silence held posted) now) h in
+    let tests = before_none (unread before patterns) times all.0 in
     (times_pass posted now tests.1, all.1)
 
 newer_passes : (silence : Silence) (now : ℕ) → newer_refusal silence now ≡ None → silence.updated_at < now

@@ -1,7 +1,6 @@
 -- No test of a post or of an end answers that memory ran out.
-use Rattle.std.proofs.Common.{◌≡◌, ℕ, Bool, true, false, ◌&&◌, ◌==◌, nat_le, List, length, Option, Some, None, is_some, is_none, if◌then◌else◌, refl, sym, ap, ◌∙◌}
+use Rattle.std.proofs.Common.{◌≡◌, ℕ, Bool, true, false, ◌&&◌, ◌==◌, nat_le, length, Option, Some, None, is_some, is_none, if◌then◌else◌, refl, sym, ap, ◌∙◌}
 use Rattle.std.specs.List.{list_any}
-use Rattle.am_silence.specs.declared.matcher.Matcher.{Matcher}
 use Rattle.am_silence.specs.declared.silence.Silence.{Silence}
 use Rattle.am_silence.specs.declared.plan.Posted.{Posted}
 use Rattle.am_silence.specs.declared.plan.Verdict.{Verdict}
@@ -11,7 +10,7 @@ use Rattle.am_silence.specs.declared.error.SilenceError.TheVariants as errors
 use Rattle.am_silence.specs.Mesh.{Mesh}
 use Rattle.am_silence.specs.States.{has_expired}
 use Rattle.am_silence.specs.Plans.{held_silence}
-use Rattle.am_silence.specs.Refusals.{◌when◌, ◌before◌, verdict_refusal, matchers_refusal, times_refusal, newer_refusal, held_refusal, posted_refusal}
+use Rattle.am_silence.specs.Refusals.{◌when◌, ◌before◌, unread_refusal, verdict_refusal, times_refusal, newer_refusal, held_refusal, posted_refusal}
 
 abbrev is_memory : SilenceError → Bool
 is_memory errors.Memory = true
@@ -34,12 +33,13 @@ verdict_other verdicts.Fine = refl
 verdict_other verdicts.Bad = refl
 verdict_other verdicts.AllEmpty = refl
 
-matchers_other : (matchers : List Matcher) (verdict : Verdict) → tells_memory (matchers_refusal matchers verdict) ≡ false
-unfolding matchers_refusal
-matchers_other matchers verdict =
-    let none = errors.NoMatcher when (length matchers == 0) in
-    let nameless = errors.EmptyName when list_any (λ m. length m.name == 0) matchers in
-    before_other (none before nameless) (verdict_refusal verdict) (before_other none nameless (when_other errors.NoMatcher _ refl) (when_other errors.EmptyName _ refl)) (verdict_other verdict)
+unread_other : (held : Option Mesh) (posted : Posted) → tells_memory (unread_refusal held posted) ≡ false
+unfolding unread_refusal
+unread_other held posted =
+    let missing = errors.NotFound when (is_some posted.id && is_none held) in
+    let none = errors.NoMatcher when (length posted.matchers == 0) in
+    let nameless = errors.EmptyName when list_any (λ m. length m.name == 0) posted.matchers in
+    before_other (missing before none) nameless (before_other missing none (when_other errors.NotFound _ refl) (when_other errors.NoMatcher _ refl)) (when_other errors.EmptyName _ refl)
 
 times_other : (posted : Posted) (now : ℕ) → tells_memory (times_refusal posted now) ≡ false
 unfolding times_refusal
@@ -63,11 +63,11 @@ held_other (Some held) now = unless_other (has_expired held now) (newer_refusal 
 posted_other : (held : Option Mesh) (posted : Posted) (verdict : Verdict) (now : ℕ) → tells_memory (posted_refusal held posted verdict now) ≡ false
 unfolding posted_refusal
 posted_other held posted verdict now =
-    let known = errors.NotFound when (is_some posted.id && is_none held) in
-    let matchers = matchers_refusal posted.matchers verdict in
+    let unread = unread_refusal held posted in
+    let patterns = verdict_refusal verdict in
     let times = times_refusal posted now in
-    before_other (known before matchers before times) (held_refusal (held_silence held posted) now)
-    (before_other (known before matchers) times (before_other known matchers (when_other errors.NotFound _ refl) (matchers_other posted.matchers verdict)) (times_other posted now))
+    before_other (unread before patterns before times) (held_refusal (held_silence held posted) now)
+    (before_other (unread before patterns) times (before_other unread patterns (unread_other held posted) (verdict_other verdict)) (times_other posted now))
     (held_other (held_silence held posted) now)
 
 never : (told : Option SilenceError) (e : SilenceError) → tells_memory told ≡ false → told ≡ Some e → e ≡ errors.Memory → ⊥
@@ -75,6 +75,9 @@ never told e other is memory =
     let tells : tells_memory told ≡ true = ap tells_memory is ∙ ap is_memory memory in
     let no : false ≡ true = sym other ∙ tells in
     absurd cc
+
+pub unread_tells_no_memory : (held : Option Mesh) (posted : Posted) (e : SilenceError) → unread_refusal held posted ≡ Some e → e ≡ errors.Memory → ⊥
+unread_tells_no_memory held posted e = never (unread_refusal held posted) e (unread_other held posted)
 
 pub posted_tells_no_memory : (held : Option Mesh) (posted : Posted) (verdict : Verdict) (now : ℕ) (e : SilenceError) → posted_refusal held posted verdict now ≡ Some e → e ≡ errors.Memory → ⊥
 posted_tells_no_memory held posted verdict now e = never (posted_refusal held posted verdict now) e (posted_other held posted verdict now)

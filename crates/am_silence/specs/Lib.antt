@@ -6,7 +6,6 @@ pub mod Silences
 pub mod Mesh
 pub mod Offsets
 pub mod Spelled
-pub mod Fields
 pub mod MeshTable
 pub mod Drafts
 pub mod RoundTrip

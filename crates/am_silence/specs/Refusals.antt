@@ -3,7 +3,6 @@ use Rattle.std.specs.Prelude.{◌≡◌, ℕ, Bool, ◌&&◌, ◌==◌, nat_lt, 
 use Rattle.std.specs.Prelude.{length, not, Option, Some, None, is_some, is_none, Result, MatchResult, if◌then◌else◌}
 use Rattle.std.specs.List.{list_any}
 use Rattle.am_wire.specs.Limits.{most}
-use Rattle.am_silence.specs.declared.matcher.Matcher.{Matcher}
 use Rattle.am_silence.specs.declared.silence.Silence.{Silence}
 use Rattle.am_silence.specs.declared.plan.Posted.{Posted}
 use Rattle.am_silence.specs.declared.plan.Verdict.{Verdict}
@@ -31,18 +30,18 @@ Refuses result refusal = MatchResult result (λ _. refusal ≡ None) (λ error. 
 
 -- ---- what is posted
 
+-- Why a post is refused whatever its patterns are: the posted id is not in view, there is no matcher, or one without a label's name.
+unfoldable pub unread_refusal : Option Mesh → Posted → Option SilenceError
+unread_refusal held posted =
+    errors.NotFound when (is_some posted.id && is_none held)
+    before errors.NoMatcher when (length posted.matchers == 0)
+    before errors.EmptyName when list_any (λ m. length m.name == 0) posted.matchers
+
 -- patterns that are none, or that all match the empty text
 abbrev pub verdict_refusal : Verdict → Option SilenceError
 verdict_refusal verdicts.Fine = None
 verdict_refusal verdicts.Bad = Some errors.BadPattern
 verdict_refusal verdicts.AllEmpty = Some errors.AllMatchEmpty
-
--- no matcher, a matcher without a label's name, patterns
-unfoldable pub matchers_refusal : List Matcher → Verdict → Option SilenceError
-matchers_refusal matchers verdict =
-    errors.NoMatcher when (length matchers == 0)
-    before errors.EmptyName when list_any (λ m. length m.name == 0) matchers
-    before verdict_refusal verdict
 
 -- an end that is not after the start as posted, an end that is not after now
 unfoldable pub times_refusal : Posted → ℕ → Option SilenceError
@@ -74,8 +73,8 @@ size_refusal made = errors.TooLarge when list_any is_too_large made
 -- what is posted, and what is held of the silence that is posted again
 unfoldable pub posted_refusal : Option Mesh → Posted → Verdict → ℕ → Option SilenceError
 posted_refusal held posted verdict now =
-    errors.NotFound when (is_some posted.id && is_none held)
-    before matchers_refusal posted.matchers verdict
+    unread_refusal held posted
+    before verdict_refusal verdict
     before times_refusal posted now
     before held_refusal (held_silence held posted) now
 

@@ -8,14 +8,14 @@ ghost use Rattle.am_silence.specs.MatcherTexts.{writes_matchers};
 ghost use Rattle.am_silence.specs.Matchers.{writes_matcher, wants_label};
 ghost use Rattle.am_silence.specs.Mesh.{bucket_of};
 
-use crate::iter::MatcherIter;
+use crate::iter::{HasMatchers, MatcherIter};
 
 /// Where the bucket stands in the text of these matchers: how many bytes come before its length.
 pub fn bucket_offset(matchers: MatcherIter<'_>) -> Option<usize>
     ensures { MatchOption result (bucket_of matchers.entry ≡ [])
         (λ at. (0 < at) × Follows at (bucket_of matchers.entry) (writes_matchers matchers.entry)) }
 {
-    if has_regexp(matchers.again()) {
+    if has_regexp(matchers.lent()) {
         return None;
     }
     first_wanting(matchers)

@@ -1,15 +1,14 @@
 //! The tests that a post and an end have to pass, which take no memory.
 
-ghost use Rattle.std.specs.Prelude.{◌≡◌, ◌==◌, ◌&&◌, length, is_some, is_none, IfOk};
+ghost use Rattle.std.specs.Prelude.{◌≡◌, ◌==◌, length, IfOk};
 ghost use Rattle.std.specs.List.{list_any};
 ghost use Rattle.std.specs.Option.{option_copied};
 ghost use Rattle.am_silence.specs.declared.error.SilenceError.TheVariants as errors;
 ghost use Rattle.am_silence.specs.Plans.{silence_in_view, held_silence};
-ghost use Rattle.am_silence.specs.Refusals.{Refuses, ◌when◌, posted_refusal, matchers_refusal, times_refusal, newer_refusal, held_refusal};
+ghost use Rattle.am_silence.specs.Refusals.{Refuses, ◌when◌, posted_refusal, unread_refusal, verdict_refusal, times_refusal, newer_refusal, held_refusal};
 
 use crate::error::SilenceError;
 use crate::iter::MatcherIter;
-use crate::matchers::Matchers;
 use crate::mesh::MeshSilence;
 use crate::plan::{Posted, Verdict};
 use crate::state::State;
@@ -26,46 +25,53 @@ pub fn check_posted<'a>(
     ensures held { IfOk result (λ version. silence_in_view (option_copied version) ≡ held_silence (option_copied held.entry) posted.now) }
     ensures tests { Refuses result (posted_refusal (option_copied held.entry) posted.now verdict now) }
 {
-    let held = held_silence(held, posted)?;
-    check_matchers(&posted.matchers, verdict)?;
+    if let Some(error) = refused_unread(held, posted) {
+        return Err(error);
+    }
+    check_verdict(verdict)?;
+    let held = held_silence(held, posted);
     check_times(posted, now)?;
     check_held(held, now)?;
     Ok(held)
 }
 
-// The silence that is posted again, if one is: it has to be there.
-fn held_silence<'a>(
-    held: Option<&'a MeshSilence>,
-    posted: &Posted,
-) -> Result<Option<&'a MeshSilence>, SilenceError>
-    ensures held { IfOk result (λ version. silence_in_view (option_copied version) ≡ held_silence (option_copied held.entry) posted.now) }
-    ensures found { Refuses result (errors.NotFound when (is_some posted.now.id && is_none (option_copied held.entry))) }
+/// Why a post is refused whatever its patterns are: an identifier that is not in view, no matcher, or one without a
+/// label's name. `held` is as [`plan_post`](crate::plan_post) takes it. It takes no memory.
+#[tactic(auto, unfolding(crate::specs::Refusals::unread_refusal))]
+pub fn refused_unread(held: Option<&MeshSilence>, posted: &Posted) -> Option<SilenceError>
+    ensures { result ≡ unread_refusal (option_copied held.entry) posted.now }
 {
-    if posted.id.is_none() {
-        return Ok(None);
+    if posted.id.is_some() && held.is_none() {
+        return Some(SilenceError::NotFound);
     }
-    match held {
-        Some(version) => Ok(Some(version)),
-        None => Err(SilenceError::NotFound),
+    if posted.matchers.is_empty() {
+        return Some(SilenceError::NoMatcher);
     }
+    if has_empty_name(posted.matchers.iter()) {
+        return Some(SilenceError::EmptyName);
+    }
+    None
 }
 
-// There are matchers, each names a label, and their patterns are fine.
-#[tactic(auto, unfolding(crate::specs::Refusals::matchers_refusal))]
-fn check_matchers(matchers: &Matchers, verdict: Verdict) -> Result<(), SilenceError>
-    ensures tests { Refuses result (matchers_refusal matchers.now verdict) }
+// The patterns of the matchers are fine.
+fn check_verdict(verdict: Verdict) -> Result<(), SilenceError>
+    ensures tests { Refuses result (verdict_refusal verdict) }
 {
-    if matchers.is_empty() {
-        return Err(SilenceError::NoMatcher);
-    }
-    if has_empty_name(matchers.iter()) {
-        return Err(SilenceError::EmptyName);
-    }
     match verdict {
         Verdict::Fine => Ok(()),
         Verdict::Bad => Err(SilenceError::BadPattern),
         Verdict::AllEmpty => Err(SilenceError::AllMatchEmpty),
     }
+}
+
+// The silence that is posted again, if one is.
+fn held_silence<'a>(held: Option<&'a MeshSilence>, posted: &Posted) -> Option<&'a MeshSilence>
+    ensures { silence_in_view (option_copied result) ≡ held_silence (option_copied held.entry) posted.now }
+{
+    if posted.id.is_none() {
+        return None;
+    }
+    held
 }
 
 // A matcher names no label.

@@ -18,6 +18,16 @@ const NAME_TAG: u8 = 18;
 
 const PATTERN_TAG: u8 = 26;
 
+/// What has matchers: its own, or another's.
+pub trait HasMatchers: Drop {
+    /// The matchers.
+    ghost listed: { Self → List Matcher };
+
+    /// Goes over them. It takes no memory.
+    fn lent(&self) -> MatcherIter<'_>
+        ensures { result ≡ listed self.now };
+}
+
 /// Goes over matchers, which are read out of their canonical text. It takes no memory.
 ///
 /// Contracts see the matchers to come.
@@ -62,11 +72,12 @@ impl<'a> MatcherIter<'a> {
     {
         self.rest
     }
+}
 
-    /// Goes over the same matchers once more.
-    pub(crate) fn again(&self) -> MatcherIter<'a>
-        ensures { result ≡ self.now }
-    {
+impl HasMatchers for MatcherIter<'_> {
+    ghost listed = { λ matchers. matchers };
+
+    fn lent(&self) -> MatcherIter<'_> {
         MatcherIter { rest: self.rest }
     }
 }

@@ -19,6 +19,7 @@ mod state;
 mod update;
 mod versions;
 
+pub use checks::refused_unread;
 pub use error::SilenceError;
 pub use ids::{IdText, fresh_id};
 pub use iter::MatcherIter;
@@ -26,5 +27,5 @@ pub use matcher::{Matcher, MatcherDraft, MatcherKind, MatcherRef};
 pub use matchers::Matchers;
 pub use mesh::MeshSilence;
 pub use plan::{Plan, Posted, Verdict, plan_expire, plan_post};
-pub use silence::{Silence, SilenceDraft, SilenceParts};
+pub use silence::Silence;
 pub use state::{State, state_at};

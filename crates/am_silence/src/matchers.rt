@@ -6,7 +6,7 @@ ghost use Rattle.am_wire.specs.Reading.{FailsUnlessMemory, message_in, item_faul
 ghost use Rattle.am_wire.specs.Writing.{writes_delimited};
 ghost use Rattle.am_silence.specs.Matchers.{matcher, matcher_value, matcher_tests, writes_matcher, IsMatcher};
 
-use crate::iter::MatcherIter;
+use crate::iter::{HasMatchers, MatcherIter};
 use crate::matcher::{Matcher, MatcherDraft, MatcherRef};
 use am_wire::reading::read_message;
 use am_wire::writing::{delimited_size, write_prefix};
@@ -129,6 +129,14 @@ impl Matchers {
         Ok(Matchers {
             text: Vec::from_slice(alloc, self.text.as_slice())?,
         })
+    }
+}
+
+impl HasMatchers for Matchers {
+    ghost listed = { λ matchers. matchers };
+
+    fn lent(&self) -> MatcherIter<'_> {
+        self.iter()
     }
 }
 

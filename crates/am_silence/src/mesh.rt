@@ -1,7 +1,6 @@
 //! Silences as instances pass them on.
 
 ghost use Rattle.std.specs.Prelude.{◌≡◌, ◌<◌, ◌≤◌, length, Err, IfOk, IfErr, false, ◌⊎◌, ◌↔◌};
-ghost use Rattle.am_silence.specs.Fields.{silence_in};
 ghost use Rattle.am_wire.specs.Limits.{most};
 ghost use Rattle.am_wire.specs.declared.error.WireError.TheVariants as errors;
 ghost use Rattle.am_version_order.specs.Moments.{greatest};
@@ -10,7 +9,7 @@ ghost use Rattle.am_silence.specs.Silences.{writes_silence};
 ghost use Rattle.am_silence.specs.Mesh.{IsMesh, writes_mesh_silence, bucket_of};
 ghost use Rattle.am_silence.specs.States.{state_of, is_expired};
 
-use crate::iter::MatcherIter;
+use crate::iter::{HasMatchers, MatcherIter};
 use crate::offsets::{Offsets, write_silence};
 use crate::silence::{Silence, SilenceDraft};
 use crate::sizes::{SilenceFields, version_size};
@@ -93,20 +92,20 @@ impl MeshSilence {
             (most < length (writes_mesh_silence (record { silence = silence; expires_at = expires_at }))) }
         ensures refused { IfErr result (λ e. (e ≡ errors.Memory) ⊎ (e ≡ errors.TooLarge)) }
     {
-        MeshSilence::of_fields(alloc, &SilenceFields::of(&silence), expires_at)
+        MeshSilence::of_fields(alloc, &silence.fields(), expires_at)
     }
 
     // The same of fields.
     pub(crate) fn of_fields(
         alloc: Global,
-        fields: &SilenceFields<'_>,
+        fields: &SilenceFields<'_, MatcherIter<'_>>,
         expires_at: Moment,
     ) -> Result<MeshSilence, WireError>
-        ensures parts { IfOk result (λ m. m ≡ record { silence = silence_in fields.now; expires_at = expires_at }) }
+        ensures parts { IfOk result (λ m. m ≡ record { silence = fields.now; expires_at = expires_at }) }
         ensures value { IfOk result IsMesh }
         ensures within { IfOk result (λ m. length (writes_mesh_silence m) ≤ most) }
         ensures too_large { (result ≡ Err errors.TooLarge) ↔
-            (most < length (writes_mesh_silence (record { silence = silence_in fields.now; expires_at = expires_at }))) }
+            (most < length (writes_mesh_silence (record { silence = fields.now; expires_at = expires_at }))) }
         ensures refused { IfErr result (λ e. (e ≡ errors.Memory) ⊎ (e ≡ errors.TooLarge)) }
     {
         let size = fields.size();
@@ -119,14 +118,14 @@ impl MeshSilence {
 
     // A version of these fields, whose silence has so many bytes, however many.
     #[tactic(auto, unfolding(crate::specs::Mesh::writes_mesh_silence))]
-    fn of_sized(
+    fn of_sized<M: HasMatchers>(
         alloc: Global,
-        fields: &SilenceFields<'_>,
+        fields: &SilenceFields<'_, M>,
         size: u64,
         expires_at: Moment,
     ) -> Result<MeshSilence, AllocError>
-        requires { size ≡ counted (length (writes_silence (silence_in fields.now))) }
-        ensures { IfOk result (λ m. m ≡ record { silence = silence_in fields.now; expires_at = expires_at }) }
+        requires { size ≡ counted (length (writes_silence fields.now)) }
+        ensures { IfOk result (λ m. m ≡ record { silence = fields.now; expires_at = expires_at }) }
     {
         let room = version_size(size, expires_at) as usize;
         let mut canonical = Vec::with_capacity(alloc, room)?;
@@ -145,8 +144,8 @@ impl MeshSilence {
     }
 
     /// The fields of the silence.
-    pub(crate) fn fields(&self) -> SilenceFields<'_>
-        ensures { silence_in result ≡ self.now.silence }
+    pub(crate) fn fields(&self) -> SilenceFields<'_, MatcherIter<'_>>
+        ensures { result ≡ self.now.silence }
     {
         SilenceFields {
             id: self.id.as_str(),
@@ -246,10 +245,9 @@ impl Message for MeshSilence {
     #[tactic(auto, unfolding(crate::specs::MeshTable::reads_mesh_silence))]
     fn decode_at(alloc: Global, bytes: &[u8], at: usize) -> Result<MeshSilence, WireError> {
         let Expiring {
-            message: silence,
+            message: fields,
             expires_at,
         } = read_message::<ExpiringDraft<SilenceDraft>>(alloc, bytes, at, at)?;
-        let fields = silence.fields();
         let version = MeshSilence::of_sized(alloc, &fields, fields.size(), expires_at)?;
         Ok(version)
     }

@@ -2,7 +2,6 @@
 
 ghost use Rattle.std.specs.Prelude.{◌≡◌, ℕ, List, ◌++◌, length, All, OnOk, IfOk};
 ghost use Rattle.am_wire.specs.Offsets.{StandsAt};
-ghost use Rattle.am_silence.specs.Fields.{silence_in};
 ghost use Rattle.am_silence.specs.MatcherTexts.{writes_matchers};
 ghost use Rattle.am_silence.specs.Matchers.{IsMatcher};
 ghost use Rattle.am_silence.specs.Mesh.{bucket_of};
@@ -10,7 +9,7 @@ ghost use Rattle.am_silence.specs.Offsets.{StandsBetween, StandIn};
 ghost use Rattle.am_silence.specs.Silences.{writes_silence, IsSilence};
 
 use crate::bucket::bucket_offset;
-use crate::iter::MatcherIter;
+use crate::iter::{HasMatchers, MatcherIter};
 use crate::sizes::SilenceFields;
 use am_wire::reading::Offset;
 use am_wire::writing::{write_message, write_part, write_text};
@@ -33,13 +32,16 @@ pub struct Offsets {
 ///
 /// [`AllocError`] where memory runs out, or 2^32 bytes or more stand before a part. Some of the text may be left.
 #[tactic(auto, unfolding(crate::specs::Silences::writes_silence))]
-pub fn write_silence(out: &mut Vec<u8>, fields: &SilenceFields<'_>) -> Result<Offsets, AllocError>
-    ensures written { OnOk result (out.new.items ≡ out.old.items ++ writes_silence (silence_in fields.now)) }
-    ensures value { OnOk result (IsSilence (silence_in fields.now)) }
-    ensures places { IfOk result (λ places. StandIn (silence_in fields.now) places out.new.items) }
+pub fn write_silence<M: HasMatchers>(
+    out: &mut Vec<u8>,
+    fields: &SilenceFields<'_, M>,
+) -> Result<Offsets, AllocError>
+    ensures written { OnOk result (out.new.items ≡ out.old.items ++ writes_silence fields.now) }
+    ensures value { OnOk result (IsSilence fields.now) }
+    ensures places { IfOk result (λ places. StandIn fields.now places out.new.items) }
 {
     write_text(out, 1, fields.id)?;
-    let (matchers, matchers_end, bucket) = write_matchers(out, &fields.matchers)?;
+    let (matchers, matchers_end, bucket) = write_matchers(out, &fields.matchers.lent())?;
     write_message(out, 3, &fields.starts_at)?;
     write_message(out, 4, &fields.ends_at)?;
     write_message(out, 5, &fields.updated_at)?;
@@ -76,7 +78,7 @@ fn bucket_place(start: u32, matchers: &MatcherIter<'_>) -> Result<Offset, AllocE
     ensures { IfOk result (λ place. (front : List ℕ) → length front ≡ start →
         StandsAt (bucket_of matchers.now) place (front ++ writes_matchers matchers.now)) }
 {
-    let Some(offset) = bucket_offset(matchers.again()) else {
+    let Some(offset) = bucket_offset(matchers.lent()) else {
         return Ok(Offset { start: 0 });
     };
     match u32::try_from(offset.saturating_add(start as usize)) {

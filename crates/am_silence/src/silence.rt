@@ -2,10 +2,10 @@
 
 ghost use Rattle.std.specs.Prelude.{◌≡◌, ℕ, List, [], ◌∷◌, ◌++◌, OnOk, IfOk, IfErr};
 ghost use Rattle.std.specs.Prelude.{if◌then◌else◌};
-ghost use Rattle.am_silence.specs.Fields.{silence_in};
 ghost use Rattle.am_silence.specs.Silences.{silence};
 
 use crate::comment::FirstComment;
+use crate::iter::MatcherIter;
 use crate::matchers::Matchers;
 use crate::offsets::write_silence;
 use crate::sizes::SilenceFields;
@@ -15,7 +15,6 @@ use am_wire::reading::{
 };
 use am_wire::{Field, Message, Text, WireError, WireType};
 use std::alloc::{AllocError, Global};
-use std::marker::Model;
 
 /// A silence: from `starts_at` until `ends_at`, alerts whose labels pass all matchers are muted.
 #[derive(Debug, Drop)]
@@ -30,6 +29,21 @@ pub struct Silence {
 }
 
 impl Silence {
+    /// The fields of the silence.
+    pub(crate) fn fields(&self) -> SilenceFields<'_, MatcherIter<'_>>
+        ensures { result ≡ self.now }
+    {
+        SilenceFields {
+            id: self.id.as_str(),
+            matchers: self.matchers.iter(),
+            starts_at: self.starts_at,
+            ends_at: self.ends_at,
+            updated_at: self.updated_at,
+            created_by: self.created_by.as_str(),
+            comment: self.comment.as_str(),
+        }
+    }
+
     /// A copy.
     ///
     /// # Errors
@@ -50,50 +64,7 @@ impl Silence {
     }
 }
 
-/// A silence as it was read, whose texts are the input's. Contracts see the silence.
-#[derive(Drop)]
-pub struct SilenceParts<'a> {
-    id: &'a str,
-    matchers: Matchers,
-    starts_at: Moment,
-    ends_at: Moment,
-    updated_at: Moment,
-    created_by: &'a str,
-    comment: &'a str,
-}
-
-impl<'a> Model for SilenceParts<'a> {
-    ghost use Rattle.am_silence.specs.declared.silence.Silence.{Silence};
-
-    ghost Value = { Silence };
-
-    ghost view = { λ s. record {
-      id = s.id.now;
-      matchers = s.matchers;
-      starts_at = s.starts_at;
-      ends_at = s.ends_at;
-      updated_at = s.updated_at;
-      created_by = s.created_by.now;
-      comment = s.comment.now;
-    } };
-}
-
-impl<'a> SilenceParts<'a> {
-    /// The fields of the silence.
-    pub(crate) fn fields(&self) -> SilenceFields<'_>
-        ensures { silence_in result ≡ self.now }
-    {
-        SilenceFields {
-            id: self.id,
-            matchers: self.matchers.iter(),
-            starts_at: self.starts_at,
-            ends_at: self.ends_at,
-            updated_at: self.updated_at,
-            created_by: self.created_by,
-            comment: self.comment,
-        }
-    }
-
+impl SilenceFields<'_, Matchers> {
     /// A silence with texts of its own.
     ///
     /// # Errors
@@ -166,7 +137,7 @@ impl<'a> Draft<'a> for SilenceDraft<'a> {
     ghost use Rattle.am_silence.specs.Silences.{silence_value, silence_tests};
     ghost use Rattle.am_silence.specs.Drafts.{IsSilenceDraft};
 
-    type Done = SilenceParts<'a>;
+    type Done = SilenceFields<'a, Matchers>;
 
     ghost inside = { silence.inside };
 
@@ -205,12 +176,12 @@ impl<'a> Draft<'a> for SilenceDraft<'a> {
         Ok(())
     }
 
-    fn finish(self, alloc: Global, _place: usize) -> Result<SilenceParts<'a>, WireError> {
+    fn finish(self, alloc: Global, _place: usize) -> Result<Self::Done, WireError> {
         let (created_by, comment) = self.author_and_comment();
         let starts_at = moment_in(alloc, self.starts_at)?;
         let ends_at = moment_in(alloc, self.ends_at)?;
         let updated_at = moment_in(alloc, self.updated_at)?;
-        Ok(SilenceParts {
+        Ok(SilenceFields {
             id: self.id.text,
             matchers: self.matchers,
             starts_at,
@@ -235,17 +206,17 @@ impl Message for Silence {
     ghost round_trip = { silence_again };
 
     fn size(&self) -> u64 {
-        SilenceFields::of(self).size()
+        self.fields().size()
     }
 
     fn write(&self, out: &mut Vec<u8>) -> Result<(), AllocError> {
-        write_silence(out, &SilenceFields::of(self))?;
+        write_silence(out, &self.fields())?;
         Ok(())
     }
 
     #[tactic(auto, unfolding(crate::specs::Silences::reads_silence))]
     fn decode_at(alloc: Global, bytes: &[u8], at: usize) -> Result<Silence, WireError> {
-        let parts = read_message::<SilenceDraft>(alloc, bytes, at, at)?;
-        Ok(parts.copied(alloc)?)
+        let fields = read_message::<SilenceDraft>(alloc, bytes, at, at)?;
+        Ok(fields.copied(alloc)?)
     }
 }

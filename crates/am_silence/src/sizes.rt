@@ -2,20 +2,19 @@
 
 ghost use Rattle.std.specs.Prelude.{◌≡◌, length};
 ghost use Rattle.am_wire.specs.Sizes.{counted};
-ghost use Rattle.am_silence.specs.Fields.{silence_in};
 ghost use Rattle.am_silence.specs.Mesh.{Mesh, writes_mesh_silence};
 ghost use Rattle.am_silence.specs.Silences.{writes_silence};
 
-use crate::iter::MatcherIter;
-use crate::silence::Silence;
+use crate::iter::HasMatchers;
 use am_version_order::Moment;
 use am_wire::writing::{expiring_size, message_size, text_size};
+use std::marker::Model;
 
-/// The fields of a silence, whose texts and matchers are another's.
+/// The fields of a silence, whose texts are another's. Contracts see the silence.
 #[derive(Drop)]
-pub struct SilenceFields<'a> {
+pub struct SilenceFields<'a, M: HasMatchers> {
     pub id: &'a str,
-    pub matchers: MatcherIter<'a>,
+    pub matchers: M,
     pub starts_at: Moment,
     pub ends_at: Moment,
     pub updated_at: Moment,
@@ -23,29 +22,30 @@ pub struct SilenceFields<'a> {
     pub comment: &'a str,
 }
 
-impl<'a> SilenceFields<'a> {
-    /// The fields of a silence.
-    pub fn of(silence: &'a Silence) -> Self
-        ensures { silence_in result ≡ silence.now }
-    {
-        SilenceFields {
-            id: silence.id.as_str(),
-            matchers: silence.matchers.iter(),
-            starts_at: silence.starts_at,
-            ends_at: silence.ends_at,
-            updated_at: silence.updated_at,
-            created_by: silence.created_by.as_str(),
-            comment: silence.comment.as_str(),
-        }
-    }
+impl<'a, M: HasMatchers> Model for SilenceFields<'a, M> {
+    ghost use Rattle.am_silence.specs.declared.silence.Silence.{Silence};
 
+    ghost Value = { Silence };
+
+    ghost view = { λ s. record {
+      id = s.id.now;
+      matchers = M.listed s.matchers;
+      starts_at = s.starts_at;
+      ends_at = s.ends_at;
+      updated_at = s.updated_at;
+      created_by = s.created_by.now;
+      comment = s.comment.now;
+    } };
+}
+
+impl<M: HasMatchers> SilenceFields<'_, M> {
     /// How many bytes the silence has.
     #[tactic(auto, unfolding(crate::specs::Silences::writes_silence))]
     pub fn size(&self) -> u64
-        ensures { result ≡ counted (length (writes_silence (silence_in self.now))) }
+        ensures { result ≡ counted (length (writes_silence self.now)) }
     {
         text_size(1, self.id)
-            .saturating_add(self.matchers.as_text().len() as u64)
+            .saturating_add(self.matchers.lent().as_text().len() as u64)
             .saturating_add(message_size(3, &self.starts_at))
             .saturating_add(message_size(4, &self.ends_at))
             .saturating_add(message_size(5, &self.updated_at))

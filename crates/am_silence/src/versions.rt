@@ -7,11 +7,11 @@ ghost use Rattle.am_silence.specs.declared.error.SilenceError.TheVariants as err
 ghost use Rattle.am_silence.specs.Mesh.{mesh_version};
 ghost use Rattle.am_silence.specs.States.{state_of, has_expired};
 ghost use Rattle.am_silence.specs.Plans.{post_of, silence_of, version_of, new_version, updated_version, ended_in, ended_version};
-ghost use Rattle.am_silence.specs.Fields.{silence_in};
 ghost use Rattle.am_silence.specs.Refusals.{Refuses, ◌when◌, is_too_large};
 
 use crate::error::SilenceError;
 use crate::ids::fresh_id;
+use crate::iter::MatcherIter;
 use crate::mesh::MeshSilence;
 use crate::plan::Posted;
 use crate::sizes::{SilenceFields, version_size};
@@ -22,15 +22,15 @@ use std::alloc::Global;
 // The version of a silence of these fields, which expires a retention after its end.
 fn version_of(
     alloc: Global,
-    fields: &SilenceFields<'_>,
+    fields: &SilenceFields<'_, MatcherIter<'_>>,
     retention: Interval,
 ) -> Result<MeshSilence, SilenceError>
-    ensures made { IfOk result (λ v. v ≡ version_of (silence_in fields.now) retention) }
-    ensures within { OnOk result (is_too_large (version_of (silence_in fields.now) retention) ≡ false) }
+    ensures made { IfOk result (λ v. v ≡ version_of fields.now retention) }
+    ensures within { OnOk result (is_too_large (version_of fields.now retention) ≡ false) }
     ensures bound { OnOk result (fields.now.ends_at ≤ greatest) }
     ensures live { fields.now.ends_at < greatest →
-        IsLive fields.now.ends_at (mesh_version (version_of (silence_in fields.now) retention)) }
-    ensures too_large { (result ≡ Err errors.TooLarge) ↔ (is_too_large (version_of (silence_in fields.now) retention) ≡ true) }
+        IsLive fields.now.ends_at (mesh_version (version_of fields.now retention)) }
+    ensures too_large { (result ≡ Err errors.TooLarge) ↔ (is_too_large (version_of fields.now retention) ≡ true) }
     ensures refused { IfErr result (λ e. (e ≡ errors.Memory) ⊎ (e ≡ errors.TooLarge)) }
 {
     let expires_at = fields.ends_at.capped_add(retention);
@@ -47,8 +47,8 @@ fn posted_fields<'a>(
     starts_at: Moment,
     posted: &'a Posted,
     updated_at: Moment,
-) -> SilenceFields<'a>
-    ensures { silence_in result ≡ silence_of id.now starts_at posted.now updated_at }
+) -> SilenceFields<'a, MatcherIter<'a>>
+    ensures { result ≡ silence_of id.now starts_at posted.now updated_at }
 {
     SilenceFields {
         id,
@@ -102,9 +102,9 @@ pub fn updated_version(
 }
 
 // The fields of a silence that ends at `now`. A pending one also starts at `now`.
-fn ended_fields(held: &MeshSilence, now: Moment) -> SilenceFields<'_>
+fn ended_fields(held: &MeshSilence, now: Moment) -> SilenceFields<'_, MatcherIter<'_>>
     requires { has_expired held.now.silence now ≡ false }
-    ensures { silence_in result ≡ ended_in (state_of held.now.silence now) held.now.silence now }
+    ensures { result ≡ ended_in (state_of held.now.silence now) held.now.silence now }
 {
     let mut fields = held.fields();
     fields.starts_at = fields.starts_at.min(now);

@@ -1,5 +1,5 @@
 -- The faults of reading and of writing a row, as those of a call that does both.
-use Rattle.std.proofs.Common.{◌≡◌, ◌≤◌, ℕ, List, [], ◌∷◌, ◌++◌, length, map, Bool, true, false, Option, Some, None, IfSome, Result, Err, inl, inr, refl, ap, ◌∙◌, append_assoc}
+use Rattle.std.proofs.Common.{◌≡◌, ◌≢◌, ◌↔◌, ◌<◌, ◌≤◌, ℕ, List, [], ◌∷◌, ◌++◌, length, map, Bool, true, false, Option, Some, None, IfSome, Result, Err, inl, inr, refl, ap, ◌∙◌, append_assoc, arith}
 use Rattle.std.specs.Prelude.{Contains, IsPermutation, is_none}
 use Rattle.std.proofs.lemmas.List.{map-append}
 use Rattle.std.specs.declared.cmp.Ordering.{Ordering}
@@ -15,10 +15,10 @@ use Rattle.am_wire.specs.Inputs.{sound, message_at, messages_of, AreMessages, St
 use Rattle.am_snapshot.specs.Texts.{row_text}
 use Rattle.am_snapshot.specs.Loads.{AreDistinct, RepeatsKey, StopsLoad, load_fault}
 use Rattle.am_snapshot.specs.Best.{HoldsBest}
-use Rattle.am_snapshot.specs.Rows.{Writes}
-use Rattle.am_snapshot.specs.Folds.{IsFold, IsFoldWithin, StopsFold, reading_fault, writing_fault}
-use Rattle.am_snapshot.specs.declared.row.RowWriteFault.{RowWriteFault}
-use Rattle.am_snapshot.specs.declared.row.RowWriteFault.TheVariants as writing
+use Rattle.am_snapshot.specs.Saving.{StopsSaving}
+use Rattle.am_snapshot.specs.Folds.{IsFold, IsFoldWithin, StopsFold}
+use Rattle.am_snapshot.specs.declared.error.SnapshotError.{SnapshotError}
+use Rattle.am_snapshot.specs.declared.error.SnapshotError.TheVariants.{Read, Write, Wire, DuplicateKey, TooLarge, Memory}
 use Rattle.am_snapshot.proofs.RowReads.{ReadsSoFar, HasRead-whole, some_then}
 
 -- two facts of what is there
@@ -26,9 +26,16 @@ both_then : {A : Type 0} (P Q R : A → Type 0) → ((x : A) → P x → Q x →
 both_then P Q R follows None p q = tt
 both_then P Q R follows (Some x) p q = follows x p q
 
+abbrev stopped : SnapshotError → Result ℕ SnapshotError
+stopped e = Err e
+
+-- a row that stopped for another fault is not too large
+within : (e : SnapshotError) (row : List ℕ) → e ≢ TooLarge → (stopped e ≡ stopped TooLarge) ↔ (most < length row) → length row ≤ most
+within e row other large = grind arith
+
 module _ {K X : Type 0} (seen : X → Version K) (cmp : K → K → Ordering) (reads : ℕ → List ℕ → Result X WireError) (start left : Option (List ℕ)) where
   pub fold_reading : {W : Type 0} (contents : W → Option (List ℕ)) (old : W) (fault : RowFault)
-      → IfSome start (λ input. (versions : List X) × StopsAfter reads input versions left fault) → StopsFold seen cmp reads start left contents old old (reading_fault fault)
+      → IfSome start (λ input. (versions : List X) × StopsAfter reads input versions left fault) → StopsFold seen cmp reads start left contents old old (load_fault fault)
   fold_reading contents old (reading.Read at) stop = (refl, stop)
   fold_reading contents old (reading.Wire e) stop = (refl, stop)
   fold_reading contents old reading.TooLarge stop = (refl, some_then _ _ (λ input one. inl one) start stop)
@@ -43,11 +50,15 @@ module _ {K X : Type 0} (seen : X → Version K) (cmp : K → K → Ordering) (r
   pub fold_within : (row : List ℕ) → IfSome start (λ input. IsFold seen cmp reads input row) → IfSome start (λ input. length input ≤ most) → IfSome start (λ input. IsFoldWithin seen cmp reads input row)
   fold_within row fold size = both_then _ _ _ (λ input one small. record { fold = one; size = small }) start fold size
 
-  pub fold_writing : {W : Type 0} (contents : W → Option (List ℕ)) (old new : W) (row : List ℕ) (fault : RowWriteFault)
-      → IfSome start (λ input. IsFoldWithin seen cmp reads input row) → Writes contents old new row (Err fault) → StopsFold seen cmp reads start left contents old new (writing_fault fault)
-  fold_writing contents old new row (writing.Write k) fold wrote = (row, wrote.1, wrote.0, wrote.2, fold)
-  fold_writing contents old new row writing.TooLarge fold wrote = (wrote.1, some_then _ _ (λ input one. inr (row, one, wrote.0)) start fold)
-  fold_writing contents old new row writing.Memory fold wrote = wrote.1
+  pub fold_writing : {W : Type 0} (contents : W → Option (List ℕ)) (old new : W) (row : List ℕ) (e : SnapshotError)
+      → IfSome start (λ input. IsFoldWithin seen cmp reads input row) → StopsSaving contents old new row e → (stopped e ≡ stopped TooLarge) ↔ (most < length row)
+      → StopsFold seen cmp reads start left contents old new e
+  fold_writing contents old new row (Write k) fold stop large = (row, stop.0, within (Write k) row (λ same. absurd cc) large, stop.1, fold)
+  fold_writing contents old new row TooLarge fold stop large = (stop, some_then _ _ (λ input one. inr (row, one, large.0 refl)) start fold)
+  fold_writing contents old new row Memory fold stop large = stop
+  fold_writing contents old new row (Read at) fold stop large = absurd stop
+  fold_writing contents old new row (Wire e) fold stop large = absurd stop
+  fold_writing contents old new row DuplicateKey fold stop large = absurd stop
 
 -- whether nothing was found, and what was
 pub some_found : {X : Type 0} (o : Option X) (none : Bool) → none ≡ is_none o → none ≡ false → (w : X) × (o ≡ Some w)

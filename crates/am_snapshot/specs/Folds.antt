@@ -4,31 +4,14 @@ use Rattle.std.specs.Io.KnownBytes.{Appends}
 use Rattle.std.specs.declared.cmp.Ordering.{Ordering}
 use Rattle.am_version_order.specs.Versions.{Version}
 use Rattle.am_wire.specs.declared.error.WireError.{WireError}
-use Rattle.am_wire.specs.declared.reader.RowFault.{RowFault}
 use Rattle.am_wire.specs.declared.reader.RowFault.TheVariants as reading
 use Rattle.am_merge.specs.Maps.{IsMap}
 use Rattle.am_wire.specs.Limits.{most}
 use Rattle.am_wire.specs.Inputs.{AreMessages, StopsAfter}
 use Rattle.am_snapshot.specs.Texts.{row_text}
 use Rattle.am_snapshot.specs.Best.{HoldsBest}
-use Rattle.am_snapshot.specs.declared.row.RowWriteFault.{RowWriteFault}
-use Rattle.am_snapshot.specs.declared.row.RowWriteFault.TheVariants as writing
-use Rattle.am_snapshot.specs.declared.folding.FoldError.{FoldError}
-use Rattle.am_snapshot.specs.declared.folding.FoldError.TheVariants.{Read, Write, Wire, TooLarge, Memory}
-
--- the fault of reading rows, as that of a fold
-abbrev pub reading_fault : RowFault → FoldError
-reading_fault (reading.Read at) = Read at
-reading_fault (reading.Wire e) = Wire e
-reading_fault reading.TooLarge = TooLarge
-reading_fault reading.Ended = Memory
-reading_fault reading.Memory = Memory
-
--- the fault of writing a row, as that of a fold
-abbrev pub writing_fault : RowWriteFault → FoldError
-writing_fault (writing.Write k) = Write k
-writing_fault writing.TooLarge = TooLarge
-writing_fault writing.Memory = Memory
+use Rattle.am_snapshot.specs.declared.error.SnapshotError.{SnapshotError}
+use Rattle.am_snapshot.specs.declared.error.SnapshotError.TheVariants.{Read, Write, Wire, DuplicateKey, TooLarge, Memory}
 
 module _ {K X : Type 0} (seen : X → Version K) (cmp : K → K → Ordering) (reads : ℕ → List ℕ → Result X WireError) where
   -- the row has of each key the best among all versions of the input, in the order of the keys
@@ -52,7 +35,7 @@ module _ {K X : Type 0} (seen : X → Version K) (cmp : K → K → Ordering) (r
   -- Exactly the first bytes of a row that may be written went out; or the input is at fault, or the row is too large,
   -- and the writer is as it was. `start` is what the reader had to give, `left` what it has then, and `contents` what a
   -- writer holds.
-  abbrev pub StopsFold : Option (List ℕ) → Option (List ℕ) → {W : Type 0} → (W → Option (List ℕ)) → W → W → FoldError → Type 0
+  abbrev pub StopsFold : Option (List ℕ) → Option (List ℕ) → {W : Type 0} → (W → Option (List ℕ)) → W → W → SnapshotError → Type 0
   StopsFold start left contents old new (Write k) =
       (row : List ℕ) × (k < length row) × (length row ≤ most) × Appends (contents old) (contents new) (take k row)
       × IfSome start (λ input. IsFoldWithin input row)
@@ -64,3 +47,4 @@ module _ {K X : Type 0} (seen : X → Version K) (cmp : K → K → Ordering) (r
       (new ≡ old)
       × IfSome start (λ input. ((versions : List X) × StopsAfter reads input versions left reading.TooLarge) ⊎ IsFoldTooLarge input)
   StopsFold start left contents old new Memory = new ≡ old
+  StopsFold start left contents old new DuplicateKey = ⊥

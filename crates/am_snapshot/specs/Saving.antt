@@ -7,8 +7,6 @@ use Rattle.am_version_order.specs.Versions.{Version}
 use Rattle.am_wire.specs.Limits.{most}
 use Rattle.am_merge.specs.Maps.{IsMap}
 use Rattle.am_snapshot.specs.Texts.{row_text}
-use Rattle.am_snapshot.specs.declared.row.RowWriteFault.{RowWriteFault}
-use Rattle.am_snapshot.specs.declared.row.RowWriteFault.TheVariants as faults
 use Rattle.am_snapshot.specs.declared.error.SnapshotError.{SnapshotError}
 use Rattle.am_snapshot.specs.declared.error.SnapshotError.TheVariants.{Write, TooLarge, Memory}
 
@@ -17,12 +15,6 @@ pub record IsSavable {K X : Type 0} (seen : X → Version K) (cmp : K → K → 
   pub order : IsMap seen cmp map
   pub values : All is_value map
   pub size : length (row_text seen map) ≤ most
-
--- the fault of a row, as that of a snapshot
-abbrev pub save_fault : RowWriteFault → SnapshotError
-save_fault (faults.Write k) = Write k
-save_fault faults.TooLarge = TooLarge
-save_fault faults.Memory = Memory
 
 -- Exactly the first bytes of the row went out, and not all; else the writer is as it was. `contents` is what it holds.
 abbrev pub StopsSaving : {W : Type 0} → (W → Option (List ℕ)) → W → W → List ℕ → SnapshotError → Type 0

@@ -3,7 +3,8 @@
 ghost use Rattle.std.specs.Prelude.{◌≡◌};
 
 use am_streams::WriteFault;
-use am_wire::WireError;
+use am_wire::{RowFault, WireError};
+use std::alloc::AllocError;
 use thiserror::Error;
 
 /// The first fault that stands.
@@ -32,5 +33,31 @@ impl From<WriteFault> for SnapshotError {
         SnapshotError::Write {
             written: fault.written,
         }
+    }
+}
+
+impl From<RowFault> for SnapshotError {
+    ghost use Rattle.am_snapshot.specs.Loads.{load_fault};
+
+    ghost from_gives = { λ fault e. e ≡ load_fault fault };
+
+    fn from(fault: RowFault) -> SnapshotError {
+        match fault {
+            RowFault::Read { at } => SnapshotError::Read { at },
+            RowFault::Wire(e) => SnapshotError::Wire(e),
+            RowFault::TooLarge => SnapshotError::TooLarge,
+            // A row is not read on after a fault, so `Ended` is never answered.
+            RowFault::Ended | RowFault::Memory => SnapshotError::Memory,
+        }
+    }
+}
+
+impl From<AllocError> for SnapshotError {
+    ghost use Rattle.am_snapshot.specs.declared.error.SnapshotError.TheVariants.{Memory};
+
+    ghost from_gives = { λ _ e. e ≡ Memory };
+
+    fn from(_e: AllocError) -> SnapshotError {
+        SnapshotError::Memory
     }
 }

@@ -7,75 +7,30 @@ ghost use Rattle.am_wire.specs.Inputs.{AreMessages};
 ghost use Rattle.am_snapshot.specs.Best.{HoldsBest};
 ghost use Rattle.am_snapshot.specs.Folds.{IsFold, StopsFold};
 
+use crate::error::SnapshotError;
 use crate::reading::take_row;
-use crate::row::{RowWriteFault, write_row};
+use crate::saving::save;
 use am_merge::Held;
 use am_version_order::{Moment, Version};
-use am_wire::{Message, RowFault, WireError};
+use am_wire::Message;
 use std::alloc::Global;
 use std::io::{Read, Write};
-use thiserror::Error;
-
-/// Why a row was not folded; the first fault that stands.
-#[derive(Clone, Copy, Debug, PartialEq, Eq, Error)]
-pub enum FoldError {
-    #[error("a read failed after {at} bytes")]
-    Read { at: usize },
-    #[error("a write failed after {written} bytes")]
-    Write { written: u64 },
-    #[error("{0}")]
-    Wire(WireError),
-    #[error("the input or the output is too large")]
-    TooLarge,
-    #[error("out of memory")]
-    Memory,
-}
-
-impl From<RowFault> for FoldError {
-    ghost use Rattle.am_snapshot.specs.Folds.{reading_fault};
-
-    ghost from_gives = { λ fault e. e ≡ reading_fault fault };
-
-    fn from(fault: RowFault) -> FoldError {
-        match fault {
-            RowFault::Read { at } => FoldError::Read { at },
-            RowFault::Wire(e) => FoldError::Wire(e),
-            RowFault::TooLarge => FoldError::TooLarge,
-            // A row that is taken is not read on after a fault, so it never answers `Ended`.
-            RowFault::Ended | RowFault::Memory => FoldError::Memory,
-        }
-    }
-}
-
-impl From<RowWriteFault> for FoldError {
-    ghost use Rattle.am_snapshot.specs.Folds.{writing_fault};
-
-    ghost from_gives = { λ fault e. e ≡ writing_fault fault };
-
-    fn from(fault: RowWriteFault) -> FoldError {
-        match fault {
-            RowWriteFault::Write { written } => FoldError::Write { written },
-            RowWriteFault::TooLarge => FoldError::TooLarge,
-            RowWriteFault::Memory => FoldError::Memory,
-        }
-    }
-}
 
 /// Reads every version of a row, and then writes the row of the best of them, live or not, in the order of
 /// their keys. Answers how many bytes went out. The moment makes no difference.
 ///
 /// # Errors
 ///
-/// The first fault of the input, with nothing written. [`FoldError::Write`] where a write fails or takes
+/// The first fault of the input, with nothing written. [`SnapshotError::Write`] where a write fails or takes
 /// nothing: exactly the first `written` bytes of the row went out, and it is not tried again.
-/// [`FoldError::TooLarge`] also where the row would have over
-/// [`MOST_MESSAGE_BYTES`](am_wire::MOST_MESSAGE_BYTES), with nothing written, and [`FoldError::Memory`] where memory runs out.
+/// [`SnapshotError::TooLarge`] also where the row would have over
+/// [`MOST_MESSAGE_BYTES`](am_wire::MOST_MESSAGE_BYTES), with nothing written, and [`SnapshotError::Memory`] where memory runs out.
 pub fn fold<V: Version + Message, R: Read, W: Write>(
     alloc: Global,
     reader: &mut R,
     writer: &mut W,
     now: Moment,
-) -> Result<u64, FoldError>
+) -> Result<u64, SnapshotError>
     ensures row { IfOk result (λ written. (row : List ℕ) × (written ≡ length row) ×
         Appends (W.contents writer.old) (W.contents writer.new) row ×
         IfSome (R.remaining reader.old) (λ input. IsFold V.seen V.Key.cmp V.reads input row)) }
@@ -109,7 +64,7 @@ pub fn fold_held<V: Version + Message, R: Read, W: Write>(
     reader: &mut R,
     writer: &mut W,
     _now: Moment,
-) -> Result<Folded<V>, FoldError>
+) -> Result<Folded<V>, SnapshotError>
     ensures row { IfOk result (λ folded. (row : List ℕ) × (folded.written ≡ length row) ×
         Appends (W.contents writer.old) (W.contents writer.new) row ×
         IfSome (R.remaining reader.old) (λ input. IsFold V.seen V.Key.cmp V.reads input row)) }
@@ -122,6 +77,6 @@ pub fn fold_held<V: Version + Message, R: Read, W: Write>(
         (R.remaining reader.new) W.contents writer.old writer.new) }
 {
     let held: Held<V> = take_row(alloc, reader)?;
-    let written = write_row(alloc, &held, writer)?;
+    let written = save(alloc, &held, writer)?;
     Ok(Folded { written, held })
 }

@@ -8,11 +8,10 @@ pub mod laws;
 mod loading;
 mod outgoing;
 mod reading;
-mod row;
 mod saving;
 
 pub use error::SnapshotError;
-pub use folding::{FoldError, Folded, fold, fold_held};
+pub use folding::{Folded, fold, fold_held};
 pub use in_memory::{row_bytes, row_length};
 pub use loading::load;
 pub use reading::take_row;

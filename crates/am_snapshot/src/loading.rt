@@ -5,38 +5,13 @@ ghost use Rattle.std.specs.Io.KnownBytes.{IsAtEnd};
 ghost use Rattle.am_merge.specs.Maps.{IsMap};
 ghost use Rattle.am_wire.specs.Limits.{most};
 ghost use Rattle.am_snapshot.specs.Loads.{IsLoaded, StopsLoad};
-ghost use Rattle.am_snapshot.specs.declared.error.SnapshotError.TheVariants as errors;
 
 use crate::error::SnapshotError;
 use am_merge::Held;
 use am_version_order::Version;
-use am_wire::{Message, RowFault, RowReader};
-use std::alloc::{AllocError, Global};
+use am_wire::{Message, RowReader};
+use std::alloc::Global;
 use std::io::Read;
-
-impl From<RowFault> for SnapshotError {
-    ghost use Rattle.am_snapshot.specs.Loads.{load_fault};
-
-    ghost from_gives = { λ fault e. e ≡ load_fault fault };
-
-    fn from(fault: RowFault) -> SnapshotError {
-        match fault {
-            RowFault::Read { at } => SnapshotError::Read { at },
-            RowFault::Wire(e) => SnapshotError::Wire(e),
-            RowFault::TooLarge => SnapshotError::TooLarge,
-            // A row is not read on after a fault, so `Ended` is never answered.
-            RowFault::Ended | RowFault::Memory => SnapshotError::Memory,
-        }
-    }
-}
-
-impl From<AllocError> for SnapshotError {
-    ghost from_gives = { λ _ e. e ≡ errors.Memory };
-
-    fn from(_e: AllocError) -> SnapshotError {
-        SnapshotError::Memory
-    }
-}
 
 /// Reads the map of exactly the versions of a row, live or not.
 ///

@@ -1,30 +1,56 @@
 //! Writing a snapshot.
 
-ghost use Rattle.std.specs.Prelude.{◌≡◌, ◌<◌, ◌↔◌, length, IfOk, IfErr, OnOk};
+ghost use Rattle.std.specs.Prelude.{◌≡◌, ◌+◌, ◌<◌, ◌≤◌, ◌^◌, ◌++◌, ◌↔◌, length, vec_len, IfOk, IfErr, OnOk, OnSome};
+ghost use Rattle.std.specs.Option.{SomeIff};
 ghost use Rattle.std.specs.Io.KnownBytes.{Appends};
+ghost use Rattle.am_wire.specs.Writing.{delimited};
 ghost use Rattle.am_wire.specs.Limits.{most};
 ghost use Rattle.am_snapshot.specs.Texts.{row_text};
+ghost use Rattle.am_snapshot.specs.Writing.{Passes, TakesPart};
 ghost use Rattle.am_snapshot.specs.Saving.{IsSavable, StopsSaving};
 
 use crate::error::SnapshotError;
-use crate::row::{RowWriteFault, write_row};
+use crate::in_memory::row_length;
+use crate::outgoing::Outgoing;
 use am_merge::Held;
+use am_streams::WriteFault;
 use am_version_order::Version;
+use am_wire::write_varint;
 use std::alloc::Global;
 use std::io::Write;
 
-impl From<RowWriteFault> for SnapshotError {
-    ghost use Rattle.am_snapshot.specs.Saving.{save_fault};
+/// Sends bytes behind their length on their way.
+fn send_delimited<W: Write>(
+    out: &mut Outgoing,
+    writer: &mut W,
+    bytes: &[u8],
+) -> Result<(), WriteFault>
+    requires { out.old.written + vec_len out.old.gathered + length (delimited bytes.now) < 2 ^ 64 }
+    ensures passed { OnOk result (Passes (W.contents writer.old) (W.contents writer.new) out.old.gathered.items
+        (delimited bytes.now) out.new.gathered.items out.old.written out.new.written) }
+    ensures stopped { IfErr result (λ e. TakesPart (W.contents writer.old) (W.contents writer.new)
+        (out.old.gathered.items ++ delimited bytes.now) out.old.written e.written) }
+{
+    out.send(writer, write_varint(bytes.len() as u64).as_slice())?;
+    out.send(writer, bytes)
+}
 
-    ghost from_gives = { λ fault e. e ≡ save_fault fault };
-
-    fn from(fault: RowWriteFault) -> SnapshotError {
-        match fault {
-            RowWriteFault::Write { written } => SnapshotError::Write { written },
-            RowWriteFault::TooLarge => SnapshotError::TooLarge,
-            RowWriteFault::Memory => SnapshotError::Memory,
-        }
+/// Sends the held versions on their way, each behind its length.
+fn send_versions<V: Version, W: Write>(
+    out: &mut Outgoing,
+    writer: &mut W,
+    held: &Held<V>,
+) -> Result<(), WriteFault>
+    requires { out.old.written + vec_len out.old.gathered + length (row_text V.seen held.now) < 2 ^ 64 }
+    ensures passed { OnOk result (Passes (W.contents writer.old) (W.contents writer.new) out.old.gathered.items
+        (row_text V.seen held.now) out.new.gathered.items out.old.written out.new.written) }
+    ensures stopped { IfErr result (λ e. TakesPart (W.contents writer.old) (W.contents writer.new)
+        (out.old.gathered.items ++ row_text V.seen held.now) out.old.written e.written) }
+{
+    for version in held.iter() {
+        send_delimited(out, writer, version.canonical())?;
     }
+    Ok(())
 }
 
 /// Writes the held versions in the order of their keys, live or not, as a row: of each the canonical bytes
@@ -47,5 +73,11 @@ pub fn save<V: Version, W: Write>(
     ensures stopped { IfErr result (StopsSaving W.contents writer.old writer.new (row_text V.seen held.now)) }
     ensures too_large { (result ≡ Err SnapshotError.TooLarge) ↔ (most < length (row_text V.seen held.now)) }
 {
-    Ok(write_row(alloc, held, writer)?)
+    let Some(length) = row_length(held) else {
+        return Err(SnapshotError::TooLarge);
+    };
+    let mut out = Outgoing::new(alloc)?;
+    send_versions(&mut out, writer, held)?;
+    out.flush(writer)?;
+    Ok(length)
 }

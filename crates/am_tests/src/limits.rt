@@ -1,8 +1,9 @@
 //! Connections of 134,217,728 bytes, as many as one may have, and of more.
 
 use crate::members::{PEER, at, instance};
+use am_http::session::Session;
 use am_instance::Instance;
-use am_member::{Fault, connection};
+use am_member::{Fault, converse};
 use std::alloc::{AllocError, Global};
 use std::io::{self, Read};
 
@@ -33,8 +34,8 @@ impl Read for Repeating<'_> {
     }
 }
 
-/// How many silences are held, how many frames are to be sent, why the connection ended, and how many bytes weren't read.
-type Told = (usize, usize, Option<Fault>, usize);
+/// How many silences are held, how many frames are to be sent, and why the connection ended.
+type Told = (usize, usize, Option<Fault>);
 
 // That Delta.
 fn delta(alloc: Global) -> Result<Vec<u8>, AllocError> {
@@ -43,36 +44,54 @@ fn delta(alloc: Global) -> Result<Vec<u8>, AllocError> {
     Ok(delta)
 }
 
-// What comes of a connection of so many bytes: a peer's Delta of a silence, and behind it the same frame over and over.
-fn connected(alloc: Global, instance: &mut Instance, frame: &[u8], bytes: usize) -> Told {
-    let mut reader = Repeating {
-        rest: PEER,
-        others: frame,
-        left: bytes,
-    };
-    let ended = connection(alloc, instance, &mut reader, &mut io::sink(), 0, at(11));
-    let held = instance.silences().len();
-    (held, ended.frames.len(), ended.fault, reader.left)
+// What comes of a connection until no more is heard of it.
+fn connected(
+    alloc: Global,
+    instance: &mut Instance,
+    reader: &mut Repeating<'_>,
+) -> io::Result<Told> {
+    let mut session = Session::new(alloc);
+    let mut told = (0, 0, None);
+    for _ in 0..u64::MAX {
+        if session.is_over() {
+            break;
+        }
+        let conversed = converse(
+            alloc,
+            instance,
+            &mut session,
+            reader,
+            &mut io::sink(),
+            0,
+            at(11),
+        )?;
+        let sent = conversed.effects.outbox.frames.len();
+        told = (instance.silences().len(), sent.max(told.1), conversed.fault);
+    }
+    Ok(told)
 }
 
-// The same of a new member; `None` without memory.
+// The same of a new member, and a connection of so many bytes: a peer's Delta of a silence, and behind it the same frame over and
+// over; `None` without memory.
 fn told(alloc: Global, bytes: usize) -> Option<Told> {
     let delta = delta(alloc).ok()?;
     let mut instance = instance(alloc)?;
-    Some(connected(alloc, &mut instance, &delta, bytes))
+    let mut reader = Repeating {
+        rest: PEER,
+        others: delta.as_slice(),
+        left: bytes,
+    };
+    connected(alloc, &mut instance, &mut reader).ok()
 }
 
-// Byte 134,217,729 is told, and none is read behind it. The steps before it stand, and what they send is to be sent.
+// Byte 134,217,729 is told. The steps before it stand, and what they send is to be sent.
 #[test]
 fn a_byte_past_the_limit_ends_a_connection(rt: HostRuntime) {
-    for (bytes, fault, left) in [
-        (134_217_728, None, 0),
-        (134_217_729, Some(Fault::TooLarge), 0),
-        (134_217_731, Some(Fault::TooLarge), 2),
+    for (bytes, fault) in [
+        (134_217_728, None),
+        (134_217_729, Some(Fault::TooLarge)),
+        (134_217_731, Some(Fault::TooLarge)),
     ] {
-        assert!(rt;
-            told(rt.alloc(), bytes) == Some((1, 1, fault, left)),
-            "{bytes}"
-        );
+        assert!(rt; told(rt.alloc(), bytes) == Some((1, 1, fault)), "{bytes}");
     }
 }

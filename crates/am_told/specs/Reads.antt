@@ -9,8 +9,8 @@ use Rattle.am_wire.specs.declared.reader.RowFault.{RowFault}
 use Rattle.am_wire.specs.Inputs.{AreMessages, StopsAfter}
 use Rattle.am_merge.specs.Maps.{IsMap}
 use Rattle.am_snapshot.specs.Best.{HoldsBest}
-use Rattle.am_snapshot.specs.Folds.{reading_fault}
-use Rattle.am_snapshot.specs.declared.folding.FoldError.{FoldError}
+use Rattle.am_snapshot.specs.Loads.{load_fault}
+use Rattle.am_snapshot.specs.declared.error.SnapshotError.{SnapshotError}
 use Rattle.am_told.specs.Sources.{Source}
 use Rattle.am_told.specs.declared.compared.Compared.{Compared}
 use Rattle.am_snapshot.specs.declared.error.SnapshotError.TheVariants.{Write}
@@ -29,9 +29,9 @@ module _ {K X R : Type 0} (seen : X → Version K) (cmp : K → K → Ordering) 
 
 module _ {X R : Type 0} (reads : ℕ → List ℕ → Result X WireError) (remaining : R → Option (List ℕ)) where
   -- the fault stands in the row of a source, and is its first
-  pub record StopsAt (old new : Input R) (fault : FoldError) : Type 0 where
+  pub record StopsAt (old new : Input R) (fault : SnapshotError) : Type 0 where
     pub row_fault : RowFault
-    pub told : fault ≡ reading_fault row_fault
+    pub told : fault ≡ load_fault row_fault
     pub first : IfSome (remaining old.reader) (λ bytes. (versions : List X) × StopsAfter reads bytes versions (remaining new.reader) row_fault)
 
   -- the source of that number is at fault; or memory ran out

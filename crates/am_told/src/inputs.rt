@@ -12,7 +12,7 @@ use crate::compared::Compared;
 use crate::replica::Replica;
 use crate::told::Told;
 use crate::writing::write_differences;
-use am_snapshot::{FoldError, SnapshotError, take_row};
+use am_snapshot::{SnapshotError, take_row};
 use am_version_order::{Moment, Version};
 use am_wire::{Message, RowFault};
 use std::alloc::{AllocError, Global};
@@ -32,7 +32,7 @@ pub struct Input<'n, R: Drop> {
 pub enum DiffError {
     /// In the row of a source, by its number from 0 on.
     #[error("in source {number}: {fault}")]
-    Source { number: usize, fault: FoldError },
+    Source { number: usize, fault: SnapshotError },
     #[error("a write failed after {written} bytes")]
     Write { written: u64 },
     #[error("out of memory")]
@@ -94,7 +94,7 @@ pub fn read_sources<'n, V: Version + Message, R: Read + Drop>(
             Err(fault) => {
                 return Err(DiffError::Source {
                     number: replicas.len(),
-                    fault: FoldError::from(fault),
+                    fault: SnapshotError::from(fault),
                 });
             }
         }

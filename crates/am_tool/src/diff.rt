@@ -86,7 +86,7 @@ fn named<'a>(job: &DiffJob<'a>, error: DiffError) -> SourceFault<'a> {
     match error {
         DiffError::Source { number, fault } => SourceFault {
             name: job.sources.get(number).map(|source| source.name),
-            fault: Fault::Fold(fault),
+            fault: Fault::Snapshot(fault),
         },
         DiffError::Write { written } => unnamed(SnapshotError::Write { written }),
         DiffError::Memory => unnamed(SnapshotError::Memory),

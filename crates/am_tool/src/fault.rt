@@ -9,7 +9,7 @@ use am_picture::PictureError;
 use am_reactor::LinkFault;
 use am_replay::ReplayError;
 use am_silence_json::ListError;
-use am_snapshot::{FoldError, SnapshotError};
+use am_snapshot::SnapshotError;
 use am_told::Word;
 use lines::FileLine;
 use std::fmt;
@@ -21,6 +21,11 @@ pub fn print<R: Eprint>(rt: &R, fault: &Fault) {
     let _ = eprintln!(rt; "am_tool: {fault}");
 }
 
+/// Prints on standard error how many faults like this one were not printed.
+pub fn print_count<R: Eprint>(rt: &R, count: u64, fault: &Fault) {
+    let _ = eprintln!(rt; "am_tool: .. and {count} more like {fault}");
+}
+
 /// Prints a fault on standard error, and answers the exit status of the program.
 pub fn report<R: Eprint>(rt: &R, fault: Fault) -> u8 {
     print(rt, &fault);
@@ -30,12 +35,9 @@ pub fn report<R: Eprint>(rt: &R, fault: Fault) -> u8 {
 /// Why a job was not done, or a part of it. It is printed as its names from outer to inner, and its numbers.
 #[derive(Clone, Copy, Debug, Error)]
 pub enum Fault {
-    /// In a row that is loaded, or in what was written of one.
+    /// In a row that is loaded or folded, or in what was written of one.
     #[error(fmt = lines::write_snapshot_error)]
     Snapshot(#[from] SnapshotError),
-    /// In a row that is folded, or in what was written of its fold.
-    #[error(fmt = lines::write_fold_error)]
-    Fold(#[from] FoldError),
     /// In a schedule, or in what was written of it.
     #[error(fmt = lines::write_replay_error)]
     Replay(#[from] ReplayError),
@@ -81,9 +83,12 @@ pub enum Fault {
     /// The system's clock could not be read at the start.
     #[error("Clock {0:?}")]
     Clock(ErrorKind),
-    /// The system refused to tell what is ready.
-    #[error("Ready {0:?}")]
-    Ready(ErrorKind),
+    /// The system's clock is behind the moment of the last event, by so many seconds.
+    #[error("Clock Behind {0}")]
+    ClockBehind(u64),
+    /// It is no more.
+    #[error("Clock CaughtUp")]
+    ClockCaughtUp,
     /// No peer answered the first pull in time, so requests are answered without it.
     #[error("NoPull")]
     NoPull,
@@ -103,7 +108,6 @@ impl Fault {
     pub fn status(self) -> u8 {
         match self {
             Fault::Snapshot(error) => status_of_snapshot(error),
-            Fault::Fold(error) => status_of_snapshot(snapshot_error(error)),
             Fault::Replay(error) => status_of_replay(error),
             Fault::Drawing(PictureError::Memory)
             | Fault::List(ListError::Memory)
@@ -117,6 +121,38 @@ impl Fault {
             Fault::Server(fault) => status_of_server(fault),
             _ => status::OUTSIDE,
         }
+    }
+}
+
+/// How many kinds of faults a member tells apart.
+pub const KINDS: usize = 14;
+
+impl Fault {
+    /// Which kind of fault of a member it is, from 0 on: one for each word with which a line begins.
+    pub fn kind(&self) -> usize {
+        match self {
+            Fault::Silences(_) => 0,
+            Fault::Log(_) => 1,
+            Fault::Accept(_) => 2,
+            Fault::UnsentMemory(_) | Fault::UnsentLimit(_) => 3,
+            Fault::Lost(LinkFault::Connect(_), _) => 4,
+            Fault::Lost(_, _) => 5,
+            Fault::Connection(fault) => kind_of_connection(fault),
+            Fault::ClockBehind(_) | Fault::ClockCaughtUp => 12,
+            _ => 13,
+        }
+    }
+}
+
+/// The kind of a fault of a connection.
+fn kind_of_connection(fault: &ConnectionFault) -> usize {
+    match fault {
+        ConnectionFault::Read { .. } => 6,
+        ConnectionFault::Write { .. } => 7,
+        ConnectionFault::TooLarge => 8,
+        ConnectionFault::Frame(_) => 9,
+        ConnectionFault::UnknownName => 10,
+        ConnectionFault::Step(_) => 11,
     }
 }
 
@@ -143,7 +179,7 @@ fn status_of_replay(error: ReplayError) -> u8 {
 /// The exit status where a file is at fault.
 fn status_of_file(fault: FileFault) -> u8 {
     match fault {
-        FileFault::File(_) => status::OUTSIDE,
+        FileFault::File(_) | FileFault::NotAFile | FileFault::Locked => status::OUTSIDE,
         FileFault::Snapshot(error) => status_of_snapshot(error),
     }
 }
@@ -156,17 +192,6 @@ fn status_of_server(fault: ServerFault) -> u8 {
         }
         ServerFault::TooLarge | ServerFault::NoHead | ServerFault::Status(_) => status::REFUSED,
         ServerFault::Memory => status::MEMORY,
-    }
-}
-
-/// The same fault, as one of a snapshot.
-fn snapshot_error(error: FoldError) -> SnapshotError {
-    match error {
-        FoldError::Read { at } => SnapshotError::Read { at },
-        FoldError::Write { written } => SnapshotError::Write { written },
-        FoldError::Wire(error) => SnapshotError::Wire(error),
-        FoldError::TooLarge => SnapshotError::TooLarge,
-        FoldError::Memory => SnapshotError::Memory,
     }
 }
 

@@ -37,7 +37,7 @@ fn run<'a>(rt: &'a HostRuntime, job: Job<'a>) -> u8 {
         Job::Replay(Some(file)) => status_of(rt, picture::run(rt, file)),
         Job::Rows(job) => status_of(rt, run_rows(rt, job)),
         Job::Diff(job) => diff::run(rt, &job),
-        Job::Instance(options) => status_of(rt, member::run(rt, &options)),
+        Job::Instance(options) => member::run(rt, &options),
     }
 }
 
@@ -131,7 +131,7 @@ fn main(rt: HostRuntime) -> ExitCode {
 
 /// Does what the words ask for, or says why there is nothing to be done, and answers the exit status of the program.
 fn start<'a>(rt: &'a HostRuntime, words: &'a [String]) -> u8 {
-    match words::job_of(rt.alloc(), words) {
+    match words::job_of(rt, words) {
         Ok(job) => run(rt, job),
         Err(error) => words::report(rt, &error),
     }

@@ -1,24 +1,31 @@
 //! A member of a cluster that runs: what it answers, and what it does by itself.
 
+mod clock;
 mod dialogue;
 mod duties;
+mod files;
 mod serving;
 mod signals;
 mod start;
 mod started;
 mod times;
+mod told;
 
-use crate::fault::{self, Fault};
+use crate::fault::Fault;
 use crate::words::Options;
 use am_gossip::Frame;
-use am_instance::{Event, Instance, Outcome, Place, Unsent};
-use am_member::{Ended, Fault as ConnectionFault, next_moment, save_file};
+use am_instance::{Event, Instance, Outbox, Place, Unsent};
+use am_member::{Effects, Fault as ConnectionFault, next_moment, save_file};
+use clock::Watch;
 use dialogue::is_pull;
 use duties::Duties;
+use files::StateFile;
 use rand::rngs::StdRng;
 use rand_core::Rng;
 pub use start::run;
+use std::rt::Clock;
 use std::time::Instant;
+use told::Lines;
 
 /// A member that runs.
 #[derive(Drop)]
@@ -26,18 +33,27 @@ pub struct Member<'a> {
     rt: &'a HostRuntime,
     options: &'a Options<'a>,
     instance: Instance,
+    /// The file of the silences.
+    silences: StateFile,
+    /// The file of the notification log.
+    log: StateFile,
     /// At which port each member listens, by place; 0 for this one.
     ports: Vec<u16>,
     random: StdRng,
     /// The frames that wait to be handed out, each with the place of its peer.
     queue: Vec<(Place, Frame)>,
     duties: Duties,
+    /// The faults that it printed.
+    lines: Lines,
+    watch: Watch,
     /// The peers that have not pushed all they have since the start.
     awaited: Vec<Place>,
     /// Something may have changed since the last save.
     is_changed: bool,
     /// It is to stop.
     stops: bool,
+    /// Its stop has ended the first pull, so that what waits for that is turned away.
+    turns_away: bool,
 }
 
 /// The frames that go out: no Push is answered where the first pull is waited for.
@@ -49,14 +65,22 @@ fn sendable(frames: Vec<(Place, Frame)>, waits_for_pull: bool) -> Vec<(Place, Fr
     frames
 }
 
+/// The first of two faults, where there is one.
+fn first_of(one: Option<Fault>, other: Option<Fault>) -> Option<Fault> {
+    match one {
+        Some(fault) => Some(fault),
+        None => other,
+    }
+}
+
 impl Member<'_> {
     /// Prints a fault.
-    fn tell(&self, fault: Fault) {
-        fault::print(self.rt, &fault);
+    fn tell(&mut self, fault: Fault) {
+        self.lines.tell(self.rt, fault);
     }
 
     /// Prints how many frames are not sent.
-    fn tell_unsent(&self, unsent: Unsent) {
+    fn tell_unsent(&mut self, unsent: Unsent) {
         if unsent.memory > 0 {
             self.tell(Fault::UnsentMemory(unsent.memory));
         }
@@ -80,28 +104,23 @@ impl Member<'_> {
         }
     }
 
-    /// What follows the steps of a connection.
-    fn follow(&mut self, ended: Ended) {
-        let Ended {
-            frames,
-            unsent,
-            ticked,
-            fault,
-        } = ended;
+    /// What follows the steps of a connection, and why no more is heard of it.
+    fn follow(&mut self, effects: Effects, fault: Option<ConnectionFault>) {
+        let Effects { outbox, ticked } = effects;
         if let Some(fault) = fault {
             self.tell(Fault::Connection(fault));
         }
-        self.tell_unsent(unsent);
+        self.tell_unsent(outbox.unsent);
         if ticked {
             self.save();
         }
         let waits_for_pull = self.duties.waits_for_pull();
-        self.queue_frames(sendable(frames, waits_for_pull));
+        self.queue_frames(sendable(outbox.frames, waits_for_pull));
     }
 
     /// What follows a step that the member made by itself.
-    fn follow_step(&mut self, outcome: Outcome) {
-        let Outcome { frames, unsent, .. } = outcome;
+    fn follow_step(&mut self, outbox: Outbox) {
+        let Outbox { frames, unsent } = outbox;
         self.tell_unsent(unsent);
         self.queue_frames(frames);
     }
@@ -111,7 +130,8 @@ impl Member<'_> {
         let now = next_moment(self.rt, self.instance.last());
         match self.instance.step(event, now) {
             Ok(outcome) => {
-                self.follow_step(outcome);
+                let (_, outbox) = outcome.into_parts();
+                self.follow_step(outbox);
                 true
             }
             Err(error) => {
@@ -121,16 +141,35 @@ impl Member<'_> {
         }
     }
 
-    /// Saves the silences, and then the log.
-    fn save(&mut self) {
-        let silences = save_file(self.rt, self.options.silences, self.instance.silences());
-        let log = save_file(self.rt, self.options.log, self.instance.log());
-        self.is_changed = silences.is_err() || log.is_err();
-        if let Err(fault) = silences {
-            self.tell(Fault::Silences(fault));
+    /// Saves the silences, and then the log. Answers the first fault; each is told.
+    fn save(&mut self) -> Option<Fault> {
+        let silences = self.save_silences();
+        let log = self.save_log();
+        self.is_changed = silences.is_some() || log.is_some();
+        first_of(silences, log)
+    }
+
+    /// Saves the silences, and answers why they are not saved, which is told.
+    fn save_silences(&mut self) -> Option<Fault> {
+        let path = self.silences.path.as_str();
+        match save_file(self.rt, path, self.instance.silences()) {
+            Ok(_) => None,
+            Err(fault) => {
+                self.tell(Fault::Silences(fault));
+                Some(Fault::Silences(fault))
+            }
         }
-        if let Err(fault) = log {
-            self.tell(Fault::Log(fault));
+    }
+
+    /// Saves the log, and answers why it is not saved, which is told.
+    fn save_log(&mut self) -> Option<Fault> {
+        let path = self.log.path.as_str();
+        match save_file(self.rt, path, self.instance.log()) {
+            Ok(_) => None,
+            Err(fault) => {
+                self.tell(Fault::Log(fault));
+                Some(Fault::Log(fault))
+            }
         }
     }
 
@@ -150,6 +189,16 @@ impl Member<'_> {
         }
     }
 
+    /// Tells where the clock is behind the moment of the last event, and where it is no more.
+    fn look_at_clock(&mut self, now: Instant) {
+        let Ok(since_1970) = self.rt.since_1970() else {
+            return;
+        };
+        if let Some(fault) = self.watch.look(since_1970, self.instance.last(), now) {
+            self.tell(fault);
+        }
+    }
+
     /// Does what is due.
     fn do_duties(&mut self, now: Instant) {
         if self.duties.is_tick_due(now) {
@@ -165,6 +214,10 @@ impl Member<'_> {
             self.tell(Fault::NoPull);
             self.duties.end_first_pull(self.options, now);
         }
+        if self.duties.is_clock_due(now) {
+            self.look_at_clock(now);
+        }
+        self.lines.settle(self.rt, now);
         if self.duties.is_signal_due(now) && signals::is_told_to_end(self.rt) {
             self.stops = true;
         }

@@ -104,13 +104,13 @@ impl From<clap::Error> for WordsError {
 }
 
 /// The job that the words of the command line ask for; without words a schedule is played.
-pub fn job_of<'a>(alloc: Global, words: &'a [String]) -> Result<Job<'a>, WordsError> {
+pub fn job_of<'a>(rt: &HostRuntime, words: &'a [String]) -> Result<Job<'a>, WordsError> {
     if words.len() <= 1 {
         return Ok(Job::Replay(None));
     }
-    let mut command = command(alloc)?;
+    let mut command = command(rt.alloc())?;
     let matches = command.try_get_matches_from_mut(words)?;
-    read_job(alloc, &mut command, &matches)
+    read_job(rt, &mut command, &matches)
 }
 
 /// The program's name and the words behind it.
@@ -230,7 +230,7 @@ fn json_flag<'a>(alloc: Global, help: &'a str) -> Arg<'a> {
 }
 
 fn read_job<'a>(
-    alloc: Global,
+    rt: &HostRuntime,
     command: &mut Command<'a>,
     matches: &ArgMatches<'a>,
 ) -> Result<Job<'a>, WordsError> {
@@ -238,10 +238,10 @@ fn read_job<'a>(
         return Ok(Job::Replay(flags.get_str(PICTURE)));
     }
     if let Some(flags) = matches.subcommand_matches(diff::NAME) {
-        return Ok(Job::Diff(diff::read_job(alloc, command, flags)?));
+        return Ok(Job::Diff(diff::read_job(rt.alloc(), command, flags)?));
     }
     if let Some(flags) = matches.subcommand_matches(instance::NAME) {
-        return Ok(Job::Instance(instance::read_options(alloc, command, flags)?));
+        return Ok(Job::Instance(instance::read_options(rt, command, flags)?));
     }
     let (task, flags) = match matches.subcommand_matches(SHOW) {
         Some(flags) => (Task::Show(form_of(flags)), Some(flags)),

@@ -1,11 +1,11 @@
 //! Labels in words, as `job=x`, and matchers: a label's name, a sign and a pattern, in which `\n` is a line feed.
 
-use crate::common::fault::Fault;
-use crate::common::words::parts;
-use am_matcher::{Label, Labels};
-use am_silence::{MatcherIter, MatcherKind, MatcherRef, Matchers};
+use crate::common::case::Case;
+use crate::common::versions::Spelled;
+use crate::common::words::cut;
+use am_matcher::{Filter, FilterError, Label};
+use am_silence::{Matcher, MatcherIter, MatcherKind, MatcherRef, Matchers};
 use am_wire::Text;
-use std::alloc::Global;
 
 /// The signs of matchers: of those that stand in a word the first here is meant.
 const SIGNS: [(&str, MatcherKind); 4] = [
@@ -25,70 +25,62 @@ pub fn matcher_parts(word: &str) -> Option<(MatcherKind, &str, &str)> {
     None
 }
 
-/// A text in which `\n` is a line feed; `""` is the empty one.
-pub fn value(alloc: Global, word: &str) -> Result<String, Fault> {
-    let word = if word == "\"\"" { "" } else { word };
-    Ok(word.replace(alloc, "\\n", "\n")?)
-}
-
-/// Puts the matcher of a word at the end, if it is one.
-fn push(alloc: Global, matchers: &mut Matchers, word: &str) -> Result<(), Fault> {
-    if let Some((kind, name, pattern)) = matcher_parts(word) {
-        let pattern = value(alloc, pattern)?;
-        matchers.push(alloc, &MatcherRef::new(kind, name, pattern.as_str()))?;
+impl Spelled for Label {
+    fn spelled(case: &Case, word: &str) -> Option<Label> {
+        let (name, value) = cut(word, "=");
+        let (name, value) = (case.text(name), Text::new(case.value(value)));
+        Some(Label { name, value })
     }
-    Ok(())
 }
 
-/// The matchers among the words.
-pub fn matchers(alloc: Global, words: &str) -> Result<Matchers, Fault> {
-    let mut matchers = Matchers::none(alloc);
-    for word in words.split(' ') {
-        push(alloc, &mut matchers, word)?;
+impl Spelled for Filter {
+    fn spelled(case: &Case, word: &str) -> Option<Filter> {
+        case.sound(Filter::parse(case.alloc, word), FilterError::Memory)
     }
-    Ok(matchers)
 }
 
-/// The label of a word, as `job=x`.
-fn label(alloc: Global, word: &str) -> Result<Label, Fault> {
-    let (name, word) = parts(word, "=")?;
-    let value = value(alloc, word)?;
-    Ok(Label {
-        name: Text::copied(alloc, name)?,
-        value: Text::new(value),
-    })
+impl Spelled for Matcher {
+    fn spelled(case: &Case, word: &str) -> Option<Matcher> {
+        let (kind, name, pattern) = case.wanted(matcher_parts(word))?;
+        let pattern = case.value(pattern);
+        case.made(MatcherRef::new(kind, name, pattern.as_str()).copied(case.alloc))
+    }
 }
 
-/// The labels of words.
-pub fn labels(alloc: Global, words: &str) -> Result<Labels, Fault> {
-    let mut labels = Vec::new(alloc);
-    for word in words.split(' ') {
-        if !word.is_empty() {
-            labels.push(label(alloc, word)?)?;
+impl Case {
+    /// A text in which `\n` is a line feed; `""` is the empty one.
+    pub fn value(&self, word: &str) -> String {
+        let word = if word == "\"\"" { "" } else { word };
+        self.made(word.replace(self.alloc, "\\n", "\n"))
+            .unwrap_or(String::new(self.alloc))
+    }
+
+    /// The matchers among the words.
+    pub fn matchers(&self, words: &str) -> Matchers {
+        let mut matchers = Matchers::none(self.alloc);
+        for word in words.split(' ') {
+            if let Some((kind, name, pattern)) = matcher_parts(word) {
+                let pattern = self.value(pattern);
+                let matcher = MatcherRef::new(kind, name, pattern.as_str());
+                self.made(matchers.push(self.alloc, &matcher));
+            }
+        }
+        matchers
+    }
+
+    /// Prints a text, and a matcher behind it.
+    pub fn print_matcher(&self, before: &str, matcher: &MatcherRef<'_>) {
+        for (sign, kind) in SIGNS {
+            if kind == matcher.kind() {
+                put!(self; before, matcher.name(), sign, matcher.pattern());
+            }
         }
     }
-    Ok(Labels::new(labels))
-}
 
-/// Prints a text, and a matcher behind it.
-pub fn print_matcher(
-    rt: &HostRuntime,
-    before: &str,
-    matcher: &MatcherRef<'_>,
-) -> Result<(), Fault> {
-    let (name, pattern) = (matcher.name(), matcher.pattern());
-    for (sign, kind) in SIGNS {
-        if kind == matcher.kind() {
-            put!(rt; before, name, sign, pattern)?;
+    /// Prints matchers, a blank before each.
+    pub fn print_matchers(&self, matchers: MatcherIter<'_>) {
+        for matcher in matchers {
+            self.print_matcher(" ", &matcher);
         }
     }
-    Ok(())
-}
-
-/// Prints matchers, a blank before each.
-pub fn print_matchers(rt: &HostRuntime, matchers: MatcherIter<'_>) -> Result<(), Fault> {
-    for matcher in matchers {
-        print_matcher(rt, " ", &matcher)?;
-    }
-    Ok(())
 }

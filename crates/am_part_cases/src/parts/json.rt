@@ -1,148 +1,100 @@
 //! Moments and silences in JSON: what is shown, written and read, and what is posted.
 
-use crate::common::{
-    Fault, first, moment, print, print_line, print_matchers, print_moment, say, say_all,
-    say_moment, say_refusal, unescaped, version,
-};
-use am_silence::{MeshSilence, Posted, State};
+use crate::common::{Case, Fault, Printed, Spelled, first};
+use crate::parts::snapshots;
+use am_silence::{MeshSilence, State};
 use am_silence_json::laws::reads_again;
 use am_silence_json::moments::{read_moment, write_moment};
 use am_silence_json::{
     BodyError, ListError, cut_to_shown, read_post, read_silences, write_error, write_posted,
     write_silence, write_silences,
 };
-use std::alloc::{AllocError, Global};
+use std::alloc::AllocError;
 
-/// `moment-text read TEXT` and `moment-text written 10.0005`.
-pub fn moment_text(rt: &HostRuntime, rest: &str) -> Result<(), Fault> {
-    match first(rest) {
-        ("read", text) => match read_moment(text) {
-            Some(moment) => say_moment(rt, "", moment),
-            None => print_line(rt, "none"),
-        },
-        ("written", word) => print_line(rt, write_moment(moment(word)?).as_str()),
-        _ => Err(Fault::Words),
+/// Cases of JSON: `moment-text read TEXT` and `moment-text written 10.0005`, and those of silences below.
+pub fn answer(case: &Case, verb: &str, rest: &str) {
+    match (verb, first(rest)) {
+        ("json", (verb, rest)) => json(case, verb, rest),
+        ("moment-text", ("read", text)) => case.say_if_any(read_moment(text)),
+        ("moment-text", (_, word)) => say!(case; write_moment(case.moment(word)).as_str()),
+        _ => snapshots::answer(case, verb, rest),
     }
 }
 
 /// `json shows STATE SILENCE`, `json lists STATE SILENCE, ..`, `json posted ID`, `json fault TEXT`, `json post BODY`,
-/// `json reads BODY`, `json cut SILENCE` and `json again STATE SILENCE, ..`.
-pub fn json(rt: &HostRuntime, rest: &str) -> Result<(), Fault> {
-    match first(rest) {
-        ("shows", row) => shows(rt, row),
-        ("lists", rows) => lists(rt, rows),
-        ("posted", id) => say_body(rt, write_posted(Vec::new(rt.alloc()), id)),
-        ("fault", text) => say_body(rt, write_error(Vec::new(rt.alloc()), text)),
-        ("post", body) => post(rt, body),
-        ("reads", body) => reads(rt, body),
-        ("cut", words) => cut(rt, words),
-        ("again", rows) => again(rt, rows),
-        _ => Err(Fault::Words),
+/// `json reads BODY`, `json cut SILENCE` and `json again STATE SILENCE, ..`. Bodies are texts with escapes.
+fn json(case: &Case, verb: &str, rest: &str) {
+    match verb {
+        "shows" => {
+            given!((version, state) = Spelled::spelled(case, rest));
+            say_body(case, write_silence(Vec::new(case.alloc), &version, state));
+        }
+        "lists" => {
+            let rows = case.list(rest, ", ");
+            say_body(case, write_silences(Vec::new(case.alloc), rows.as_slice()));
+        }
+        "again" => {
+            let rows = case.list(rest, ", ");
+            say_read(case, reads_again(case.alloc, rows.as_slice()));
+        }
+        "reads" => {
+            let body = case.unescaped(rest);
+            say_read(case, read_silences(case.alloc, body.as_slice()));
+        }
+        "posted" => say_body(case, write_posted(Vec::new(case.alloc), rest)),
+        "fault" => say_body(case, write_error(Vec::new(case.alloc), rest)),
+        "post" => post(case, rest),
+        "cut" => {
+            given!(version = MeshSilence::spelled(case, rest));
+            given!(shown = case.made(cut_to_shown(case.alloc, &version)));
+            say!(case; @shown);
+        }
+        _ => case.fail(Fault::Words),
     }
 }
 
-fn say_body(rt: &HostRuntime, body: Result<Vec<u8>, AllocError>) -> Result<(), Fault> {
-    let body = body?;
-    match str::from_utf8(body.as_slice()) {
-        Ok(text) => print_line(rt, text),
-        Err(_) => Err(Fault::Words),
-    }
-}
-
-fn state(word: &str) -> Result<State, Fault> {
-    match word {
-        "pending" => Ok(State::Pending),
-        "active" => Ok(State::Active),
-        "expired" => Ok(State::Expired),
-        _ => Err(Fault::Words),
-    }
+fn say_body(case: &Case, body: Result<Vec<u8>, AllocError>) {
+    given!(body = case.made(body));
+    say!(case; str::from_utf8(body.as_slice()).unwrap_or("no text"));
 }
 
 /// A silence in its state: `active a job=x ..`.
-fn shows(rt: &HostRuntime, row: &str) -> Result<(), Fault> {
-    let (word, words) = first(row);
-    let state = state(word)?;
-    let version = version::<MeshSilence>(rt.alloc(), words)?;
-    say_body(rt, write_silence(Vec::new(rt.alloc()), &version, state))
-}
-
-/// Puts a silence in its state at the end.
-fn push(alloc: Global, rows: &mut Vec<(MeshSilence, State)>, row: &str) -> Result<(), Fault> {
-    let (word, words) = first(row);
-    let state = state(word)?;
-    Ok(rows.push((version(alloc, words)?, state))?)
-}
-
-/// Silences in their states, parted by `, `.
-fn rows(alloc: Global, text: &str) -> Result<Vec<(MeshSilence, State)>, Fault> {
-    let mut rows = Vec::new(alloc);
-    for row in text.split(", ") {
-        if !row.is_empty() {
-            push(alloc, &mut rows, row)?;
-        }
+impl Spelled for (MeshSilence, State) {
+    fn spelled(case: &Case, row: &str) -> Option<(MeshSilence, State)> {
+        let (word, words) = first(row);
+        let state = match word {
+            "pending" => State::Pending,
+            "active" => State::Active,
+            "expired" => State::Expired,
+            _ => return case.wanted(None),
+        };
+        Some((MeshSilence::spelled(case, words)?, state))
     }
-    Ok(rows)
 }
 
-fn lists(rt: &HostRuntime, text: &str) -> Result<(), Fault> {
-    let rows = rows(rt.alloc(), text)?;
-    say_body(rt, write_silences(Vec::new(rt.alloc()), rows.as_slice()))
-}
-
-/// The versions that the body of a list is read into; the body is a text with escapes.
-fn reads(rt: &HostRuntime, body: &str) -> Result<(), Fault> {
-    let body = unescaped(rt.alloc(), body)?;
-    say_read(rt, read_silences(rt.alloc(), body.as_slice()))
-}
-
-/// The versions that a list is read into which was written of these rows.
-fn again(rt: &HostRuntime, text: &str) -> Result<(), Fault> {
-    let rows = rows(rt.alloc(), text)?;
-    say_read(rt, reads_again(rt.alloc(), rows.as_slice()))
-}
-
-/// Says each version, or why there are none, and how that is spelled.
-fn say_read(rt: &HostRuntime, read: Result<Vec<MeshSilence>, ListError>) -> Result<(), Fault> {
+fn say_read(case: &Case, read: Result<Vec<MeshSilence>, ListError>) {
     match read {
-        Ok(silences) => say_all(rt, silences.as_slice()),
-        Err(ListError::Memory) => Err(Fault::Memory),
-        Err(fault) => say!(rt; ?fault, ": ", fault),
+        Ok(silences) => case.say_versions(silences.as_slice()),
+        Err(ListError::Memory) => case.fail(Fault::Memory),
+        Err(fault) => say!(case; ?fault, ": ", fault),
     }
 }
 
-/// What is shown of a version, as a version.
-fn cut(rt: &HostRuntime, words: &str) -> Result<(), Fault> {
-    let version = version::<MeshSilence>(rt.alloc(), words)?;
-    say(rt, &cut_to_shown(rt.alloc(), &version)?)
-}
-
-/// What is posted by a body, a text with escapes.
-fn post(rt: &HostRuntime, body: &str) -> Result<(), Fault> {
-    let body = unescaped(rt.alloc(), body)?;
-    match read_post(rt.alloc(), body.as_slice()) {
-        Ok(posted) => say_posted(rt, &posted),
-        Err(fault) => say_fault(rt, fault),
+/// What is posted by a body, as `- job=x 10..100 by "ops" saying "hi"`, or why it is refused, and how the key at fault is
+/// spelled.
+fn post(case: &Case, body: &str) {
+    let body = case.unescaped(body);
+    let read = read_post(case.alloc, body.as_slice());
+    if let Err(BodyError::Wrong(key)) = read {
+        return say!(case; ?BodyError::Wrong(key), ": ", key.text());
     }
-}
-
-/// Says what is posted, as `- job=x 10..100 by "ops" saying "hi"`.
-fn say_posted(rt: &HostRuntime, posted: &Posted) -> Result<(), Fault> {
-    let id = match &posted.id {
-        Some(id) => id.as_str(),
-        None => "-",
-    };
-    let (author, comment) = (posted.created_by.as_str(), posted.comment.as_str());
-    print(rt, id)?;
-    print_matchers(rt, posted.matchers.iter())?;
-    print_moment(rt, " ", posted.starts_at)?;
-    print_moment(rt, "..", posted.ends_at)?;
-    say!(rt; " by \"", author, "\" saying \"", comment, "\"")
-}
-
-/// Says why a body is refused, and how the key at fault is spelled.
-fn say_fault(rt: &HostRuntime, fault: BodyError) -> Result<(), Fault> {
-    match fault {
-        BodyError::Wrong(key) => say!(rt; ?fault, ": ", key.text()),
-        _ => say_refusal(rt, fault, BodyError::Memory),
+    given!(posted = case.got(read, BodyError::Memory));
+    match &posted.id {
+        Some(id) => case.put(id.as_str()),
+        None => case.put("-"),
     }
+    case.print_matchers(posted.matchers.iter());
+    put!(case; " ", @posted.starts_at, "..", @posted.ends_at);
+    put!(case; " by \"", posted.created_by.as_str(), "\"");
+    say!(case; " saying \"", posted.comment.as_str(), "\"");
 }

@@ -1,224 +1,178 @@
 //! Held maps of silences, and keepers, which are maps with the moment of their last event.
 
-use crate::common::{
-    Fault, bytes, first, held, moment, parts, print_line, say_held, say_moment, say_refusal,
-    say_version_if_any, take, version, versions,
-};
-use crate::parts::moments::say_if_any;
+use crate::common::{Case, Fault, Printed, Spelled, cut, first};
+use crate::parts::matchers;
 use am_collect::{Keeper, KeeperError, Step};
 use am_merge::{FromVersionsError, Held};
 use am_silence::MeshSilence;
 use am_version_order::{Moment, Version};
-use am_wire::Text;
-use std::alloc::Global;
 use std::fmt::Debug;
 
-/// `map STEP; STEP ..`: steps on an empty map.
-pub fn map(rt: &HostRuntime, text: &str) -> Result<(), Fault> {
-    let mut held = Held::new(rt.alloc());
-    for words in text.split("; ") {
-        step(rt, &mut held, words)?;
-    }
-    Ok(())
-}
+type Map = Held<MeshSilence>;
 
-/// A step on a map.
-fn step(rt: &HostRuntime, held: &mut Held<MeshSilence>, text: &str) -> Result<(), Fault> {
-    match first(text) {
-        ("bucket", pairs) => say_bucket(rt, held, pairs),
-        ("expiry", _) => say_if_any(rt, held.next_expiry()),
-        ("held", _) => say_held(rt, held),
-        (verb, rest) => {
-            let (words, word) = parts(rest, "at ")?;
-            step_at(rt, held, verb, words.trim_end(), moment(word)?)
-        }
-    }
-}
-
-/// A step on a map at a moment.
-fn step_at(
-    rt: &HostRuntime,
-    held: &mut Held<MeshSilence>,
-    verb: &str,
-    words: &str,
-    now: Moment,
-) -> Result<(), Fault> {
+/// Cases of maps and keepers: `map STEP; STEP ..`, steps on an empty map; `versions SILENCE, ..`, what map a list of versions
+/// makes; and those of keepers below.
+pub fn answer(case: &Case, verb: &str, rest: &str) {
     match verb {
-        "take" => say!(rt; ?take(rt.alloc(), held, words, now)?),
-        "pair" => take_pair(rt, held, words, now),
-        "merge" => merge(rt, held, words, now),
-        "sweep" => say!(rt; held.sweep(now), " went"),
-        _ => Err(Fault::Words),
+        "map" => {
+            let mut held = Held::new(case.alloc);
+            for words in rest.split("; ") {
+                step(case, &mut held, words);
+            }
+        }
+        "versions" => {
+            let held = Map::from_versions(case.alloc, case.list(rest, ", "));
+            given!(held = case.got(held, FromVersionsError::Memory));
+            case.say_held(&held);
+        }
+        "keeper" => keeper(case, rest),
+        "keeper-start" => keeper_start(case, rest),
+        _ => matchers::answer(case, verb, rest),
     }
 }
 
-/// The two versions of words, parted by `, `.
-fn pair(alloc: Global, words: &str) -> Result<(MeshSilence, MeshSilence), Fault> {
-    let (one, other) = parts(words, ", ")?;
-    let one = version(alloc, one)?;
-    match version(alloc, other) {
-        Ok(other) => Ok((one, other)),
-        Err(fault) => Err(fault),
+fn step(case: &Case, held: &mut Map, text: &str) {
+    let (verb, rest) = first(text);
+    let (words, word) = cut(rest, "at ");
+    let words = words.trim_end();
+    match verb {
+        "bucket" => say_bucket(case, held, rest),
+        "expiry" => case.say_if_any(held.next_expiry()),
+        "held" => case.say_held(held),
+        "take" => say_made(case, case.take(held, words, case.moment(word))),
+        "pair" => take_pair(case, held, words, case.moment(word)),
+        "merge" => merge(case, held, words, case.moment(word)),
+        "sweep" => say!(case; held.sweep(case.moment(word)), " went"),
+        _ => case.fail(Fault::Words),
     }
 }
 
-/// Takes two versions.
-fn take_pair(
-    rt: &HostRuntime,
-    held: &mut Held<MeshSilence>,
-    words: &str,
-    now: Moment,
-) -> Result<(), Fault> {
-    let (one, other) = pair(rt.alloc(), words)?;
-    say!(rt; ?held.take_pair(one, other, now)?)
+fn say_made<T: Debug + Drop>(case: &Case, made: Option<T>) {
+    given!(made = made);
+    say!(case; ?made);
 }
 
-/// Merges a map of versions, and says how many identifiers have another version.
-fn merge(
-    rt: &HostRuntime,
-    map: &mut Held<MeshSilence>,
-    words: &str,
-    now: Moment,
-) -> Result<(), Fault> {
-    let other = held(rt.alloc(), words)?;
-    match map.merge(&other, now) {
-        Ok(changed) => say!(rt; changed, " changed"),
-        Err(_) => Err(Fault::Memory),
+/// Two versions, parted by `, `.
+impl Spelled for (MeshSilence, MeshSilence) {
+    fn spelled(case: &Case, words: &str) -> Option<(MeshSilence, MeshSilence)> {
+        let (one, other) = cut(words, ", ");
+        let one = MeshSilence::spelled(case, one)?;
+        Some((one, MeshSilence::spelled(case, other)?))
     }
 }
 
-/// Says the identifiers in a bucket.
-fn say_bucket(rt: &HostRuntime, held: &Held<MeshSilence>, pairs: &str) -> Result<(), Fault> {
-    let bytes = bytes(rt.alloc(), pairs)?;
+fn take_pair(case: &Case, held: &mut Map, words: &str, now: Moment) {
+    given!((one, other) = Spelled::spelled(case, words));
+    say_made(case, case.made(held.take_pair(one, other, now)));
+}
+
+fn merge(case: &Case, map: &mut Map, words: &str, now: Moment) {
+    let other = case.held(words);
+    given!(changed = case.made(map.merge(&other, now)));
+    say!(case; changed, " changed");
+}
+
+fn say_bucket(case: &Case, held: &Map, pairs: &str) {
+    let bytes = case.bytes(pairs);
     let mut count: usize = 0;
     for version in held.in_bucket(bytes.as_slice()) {
-        put!(rt; version.key().as_str(), " ")?;
+        put!(case; version.key().as_str(), " ");
         count = count.saturating_add(1);
     }
-    say!(rt; "(", count, ")")
-}
-
-/// `versions SILENCE, ..`: what map a list of versions makes.
-pub fn map_of(rt: &HostRuntime, text: &str) -> Result<(), Fault> {
-    match Held::<MeshSilence>::from_versions(rt.alloc(), versions(rt.alloc(), text)?) {
-        Ok(held) => say_held(rt, &held),
-        Err(fault) => say_refusal(rt, fault, FromVersionsError::Memory),
-    }
+    say!(case; "(", count, ")");
 }
 
 /// Says what a call on a keeper answered, or why it was refused.
-fn say<T: Debug>(rt: &HostRuntime, answered: &Result<T, KeeperError>) -> Result<(), Fault> {
-    match answered {
-        Ok(answer) => say!(rt; ?answer),
-        Err(refusal) => say_keeper_error(rt, *refusal),
+fn say_kept<T: Debug + Drop>(case: &Case, answered: Result<T, KeeperError>) {
+    if let Err(KeeperError::MomentBack { last }) = &answered {
+        return say!(case; "MomentBack ", @last);
     }
+    say_made(case, case.got(answered, KeeperError::Memory));
 }
 
-fn say_keeper_error(rt: &HostRuntime, refusal: KeeperError) -> Result<(), Fault> {
-    match refusal {
-        KeeperError::MomentBack { last } => say_moment(rt, "MomentBack ", last),
-        _ => say_refusal(rt, refusal, KeeperError::Memory),
-    }
-}
-
-/// The step of words, `take SILENCE at MOMENT` or `collect at MOMENT`, and its moment.
-fn step_of(alloc: Global, text: &str) -> Result<(Step<MeshSilence>, Moment), Fault> {
-    let (words, word) = parts(text, " at ")?;
-    let now = moment(word)?;
-    match first(words) {
-        ("collect", _) => Ok((Step::Collect, now)),
-        ("take", words) => Ok((Step::Take(version(alloc, words)?), now)),
-        _ => Err(Fault::Words),
-    }
-}
-
-/// The steps of words.
-fn steps_of(alloc: Global, text: &str) -> Result<Vec<(Step<MeshSilence>, Moment)>, Fault> {
-    let mut steps = Vec::new(alloc);
-    for words in text.split(", ") {
-        steps.push(step_of(alloc, words)?)?;
-    }
-    Ok(steps)
-}
-
-/// Makes a step of a keeper.
-fn keep(rt: &HostRuntime, keeper: &mut Keeper<MeshSilence>, text: &str) -> Result<(), Fault> {
-    let (step, now) = step_of(rt.alloc(), text)?;
-    say(rt, &keeper.step(step, now))
-}
-
-/// Runs steps, and says where they stop.
-fn run(rt: &HostRuntime, keeper: &mut Keeper<MeshSilence>, text: &str) -> Result<(), Fault> {
-    let steps = steps_of(rt.alloc(), text)?;
-    match keeper.run(&steps) {
-        Ok(()) => print_line(rt, "done"),
-        Err((place, refusal)) => {
-            put!(rt; "stops at ", place, ": ")?;
-            say_keeper_error(rt, refusal)
+/// A step and its moment, `take SILENCE at MOMENT` or `collect at MOMENT`.
+impl Spelled for (Step<MeshSilence>, Moment) {
+    fn spelled(case: &Case, text: &str) -> Option<(Step<MeshSilence>, Moment)> {
+        let (words, word) = cut(text, " at ");
+        let now = case.moment(word);
+        match first(words) {
+            ("collect", _) => Some((Step::Collect, now)),
+            (_, words) => Some((Step::Take(MeshSilence::spelled(case, words)?), now)),
         }
     }
 }
 
-/// Takes two versions.
-fn keep_pair(rt: &HostRuntime, keeper: &mut Keeper<MeshSilence>, text: &str) -> Result<(), Fault> {
-    let (words, word) = parts(text, " at ")?;
-    let now = moment(word)?;
-    let (one, other) = pair(rt.alloc(), words)?;
-    say(rt, &keeper.take_pair(one, other, now))
+fn keep(case: &Case, keeper: &mut Keeper<MeshSilence>, text: &str) {
+    given!((step, now) = Spelled::spelled(case, text));
+    say_kept(case, keeper.step(step, now));
 }
 
-/// Says what is in view of an identifier at a moment.
-fn view(rt: &HostRuntime, keeper: &Keeper<MeshSilence>, text: &str) -> Result<(), Fault> {
-    let (id, word) = parts(text, " at ")?;
-    let now = moment(word)?;
-    let id = Text::copied(rt.alloc(), id)?;
-    say_version_if_any(rt, keeper.view(&id, now))
+fn keep_pair(case: &Case, keeper: &mut Keeper<MeshSilence>, text: &str) {
+    let (words, word) = cut(text, " at ");
+    given!((one, other) = Spelled::spelled(case, words));
+    say_kept(case, keeper.take_pair(one, other, case.moment(word)));
 }
 
-/// Makes what words say of a keeper.
-fn made(rt: &HostRuntime, keeper: &mut Keeper<MeshSilence>, text: &str) -> Result<(), Fault> {
+/// Runs steps, and says where they stop.
+fn run(case: &Case, keeper: &mut Keeper<MeshSilence>, text: &str) {
+    let steps = case.list(text, ", ");
+    match keeper.run(&steps) {
+        Ok(()) => case.put("done\n"),
+        Err((place, refusal)) => {
+            put!(case; "stops at ", place, ": ");
+            say_kept::<()>(case, Err(refusal));
+        }
+    }
+}
+
+fn view(case: &Case, keeper: &Keeper<MeshSilence>, text: &str) {
+    let (id, word) = cut(text, " at ");
+    let id = case.text(id);
+    match keeper.view(&id, case.moment(word)) {
+        Some(version) => say!(case; @version),
+        None => case.put("none\n"),
+    }
+}
+
+fn keeps(case: &Case, keeper: &mut Keeper<MeshSilence>, text: &str) {
     match first(text) {
-        ("take", _) => keep(rt, keeper, text),
-        ("step", rest) => keep(rt, keeper, rest),
-        ("collect", rest) => say(rt, &keeper.collect(moment(first(rest).1)?)),
-        ("pair", rest) => keep_pair(rt, keeper, rest),
-        ("run", rest) => run(rt, keeper, rest),
-        ("view", rest) => view(rt, keeper, rest),
-        ("held", _) => say_held(rt, keeper.held()),
-        _ => Err(Fault::Words),
+        ("take", _) => keep(case, keeper, text),
+        ("step", rest) => keep(case, keeper, rest),
+        ("collect", rest) => say_kept(case, keeper.collect(case.moment(first(rest).1))),
+        ("pair", rest) => keep_pair(case, keeper, rest),
+        ("run", rest) => run(case, keeper, rest),
+        ("view", rest) => view(case, keeper, rest),
+        ("held", _) => case.say_held(keeper.held()),
+        _ => case.fail(Fault::Words),
     }
 }
 
 /// `keeper MOMENT SILENCE, .. merged with SILENCE, ..; STEP; ..`: a keeper of a map, and its steps.
-pub fn keeper(rt: &HostRuntime, rest: &str) -> Result<(), Fault> {
-    let (map, text) = parts(rest, "; ")?;
+fn keeper(case: &Case, rest: &str) {
+    let (map, text) = cut(rest, "; ");
     let (word, words) = first(map);
-    let now = moment(word)?;
-    let mut keeper = Keeper::of(map_at(rt, words, now)?, now);
+    let now = case.moment(word);
+    let mut keeper = Keeper::of(map_at(case, words, now), now);
     for words in text.split("; ") {
-        made(rt, &mut keeper, words)?;
+        keeps(case, &mut keeper, words);
     }
-    Ok(())
 }
 
 /// The map of versions, into which a map of others is merged where words say so.
-fn map_at(rt: &HostRuntime, words: &str, now: Moment) -> Result<Held<MeshSilence>, Fault> {
-    match words.split_once(" merged with ") {
-        None => held(rt.alloc(), words),
-        Some((words, others)) => {
-            let mut map = held(rt.alloc(), words)?;
-            merge(rt, &mut map, others, now)?;
-            Ok(map)
-        }
+fn map_at(case: &Case, words: &str, now: Moment) -> Map {
+    let (words, others) = cut(words, " merged with ");
+    let mut map = case.held(words);
+    if !others.is_empty() {
+        merge(case, &mut map, others, now);
     }
+    map
 }
 
 /// `keeper-start MOMENT SILENCE, ..`: a keeper that starts with a list of versions, and what it holds.
-pub fn keeper_start(rt: &HostRuntime, rest: &str) -> Result<(), Fault> {
+fn keeper_start(case: &Case, rest: &str) {
     let (word, words) = first(rest);
-    let now = moment(word)?;
-    match Keeper::<MeshSilence>::start(rt.alloc(), versions(rt.alloc(), words)?, now) {
-        Ok(keeper) => say_held(rt, keeper.held()),
-        Err(refusal) => say_keeper_error(rt, refusal),
+    match Keeper::start(case.alloc, case.list(words, ", "), case.moment(word)) {
+        Ok(keeper) => case.say_held::<MeshSilence>(keeper.held()),
+        Err(refusal) => say_kept::<()>(case, Err(refusal)),
     }
 }

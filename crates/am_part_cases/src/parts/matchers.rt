@@ -1,75 +1,172 @@
-//! What matchers say of values, and the verdicts on them.
+//! What matchers say of values, the verdicts on them, which silences a filter passes, and which mute an alert; whether a group
+//! is notified, and when an instance is due.
 
-use crate::common::{Fault, first, matcher_parts, matchers, print_line, say_refusal, value};
-use am_matcher::{BuildError, Compiled, PatternCache, verdict};
-use am_silence::{Matcher, MatcherRef, Verdict};
-use std::alloc::Global;
+use crate::common::{Case, Spelled, behind, cut, first};
+use crate::parts::requests;
+use am_dedup::{decide, decide_over, due};
+use am_matcher::{
+    BuildError, Compiled, Filter, FilterError, Ids, Labels, Mutes, PatternCache, mutes, verdict,
+};
+use am_merge::Held;
+use am_nflog::{Entry, MeshEntry};
+use am_silence::{Matcher, MeshSilence};
+use am_version_order::Moment;
 
-/// The matcher of a word.
-fn matcher(alloc: Global, word: &str) -> Result<Matcher, Fault> {
-    let Some((kind, name, pattern)) = matcher_parts(word) else {
-        return Err(Fault::Words);
-    };
-    let pattern = value(alloc, pattern)?;
-    Ok(MatcherRef::new(kind, name, pattern.as_str()).copied(alloc)?)
-}
+type Map = Held<MeshSilence>;
 
-/// The compiled matcher of a word.
-fn build(alloc: Global, word: &str) -> Result<Result<Compiled, BuildError>, Fault> {
-    let matcher = matcher(alloc, word)?;
-    Ok(Compiled::build(alloc, &matcher))
+/// Cases of matchers, filters and mutes; `decide ENTRY; firing LIST resolved LIST wanted no repeat SECONDS at MOMENT`, with an
+/// entry such as `g r/w/0 updated 100 firing 1,2`, or `no entry`; and `due start MOMENT place N timeout SECONDS`.
+pub fn answer(case: &Case, verb: &str, rest: &str) {
+    match verb {
+        "matches" => matches(case, rest),
+        "verdicts" => verdicts(case, rest, false),
+        "kept-verdicts" => verdicts(case, rest, true),
+        "filter" => filter(case, rest),
+        "mutes" => all_mutes(case, rest),
+        "many-mutes" => many_mutes(case, rest),
+        "decide" => {
+            let (entry, words) = cut(rest, "; ");
+            if entry == "no entry" {
+                say_decisions(case, None, None, words);
+            } else if let Some(version) = MeshEntry::spelled(case, entry) {
+                let entry = case.entry(entry);
+                say_decisions(case, entry.as_ref(), Some(&version), words);
+            }
+        }
+        "due" => {
+            let start = case.moment(behind(rest, "start ", "-"));
+            let place = case.number(behind(rest, " place ", "-"));
+            if let Some(timeout) = case.seconds(behind(rest, " timeout ", "-")) {
+                case.say_if_any(due(start, place, timeout));
+            }
+        }
+        _ => requests::answer(case, verb, rest),
+    }
 }
 
 /// `matches MATCHER VALUE ..`: whether the matcher matches each of the values.
-pub fn matches(rt: &HostRuntime, rest: &str) -> Result<(), Fault> {
+fn matches(case: &Case, rest: &str) {
     let (word, values) = first(rest);
-    match build(rt.alloc(), word)? {
-        Ok(mut compiled) => say_matches(rt, &mut compiled, values),
-        Err(refusal) => say_refusal(rt, refusal, BuildError::Memory),
-    }
-}
-
-fn say_matches(rt: &HostRuntime, compiled: &mut Compiled, values: &str) -> Result<(), Fault> {
+    given!(matcher = Matcher::spelled(case, word));
+    let compiled = Compiled::build(case.alloc, &matcher);
+    given!(mut compiled = case.got(compiled, BuildError::Memory));
     for (place, word) in values.split(' ').enumerate() {
-        let blank = if place == 0 { "" } else { " " };
-        let is_matched = is_matched(rt.alloc(), compiled, word)?;
-        put!(rt; blank, is_matched)?;
+        let value = case.value(word);
+        let is_matched = case.made(compiled.matches(value.as_str()));
+        put!(case; if place == 0 { "" } else { " " }, is_matched.unwrap_or(false));
     }
-    print_line(rt, "")
+    case.put("\n");
 }
 
-fn is_matched(alloc: Global, compiled: &mut Compiled, word: &str) -> Result<bool, Fault> {
-    let value = value(alloc, word)?;
-    Ok(compiled.matches(value.as_str())?)
-}
-
-/// `verdicts LIST; LIST ..`: the verdict on each list of matchers.
-pub fn verdicts(rt: &HostRuntime, lists: &str) -> Result<(), Fault> {
+/// `verdicts LIST; LIST ..`: the verdict on each list of matchers; `kept-verdicts LIST; LIST ..`: the same by one cache, and how
+/// many bytes it keeps then.
+fn verdicts(case: &Case, lists: &str, is_kept: bool) {
+    let mut patterns = PatternCache::new(case.alloc);
     for (place, words) in lists.split("; ").enumerate() {
-        let blank = if place == 0 { "" } else { " " };
-        let verdict = verdict_on(rt.alloc(), words)?;
-        put!(rt; blank, ?verdict)?;
+        let matchers = case.matchers(words);
+        let verdict = match is_kept {
+            true => patterns.verdict(&matchers),
+            false => verdict(case.alloc, &matchers),
+        };
+        if let Some(verdict) = case.made(verdict) {
+            put!(case; if place == 0 { "" } else { " " }, ?verdict);
+        }
     }
-    print_line(rt, "")
-}
-
-fn verdict_on(alloc: Global, words: &str) -> Result<Verdict, Fault> {
-    let matchers = matchers(alloc, words)?;
-    Ok(verdict(alloc, &matchers)?)
-}
-
-/// `kept-verdicts LIST; LIST ..`: the verdict on each list of matchers by one cache, and how many bytes it keeps then.
-pub fn kept_verdicts(rt: &HostRuntime, lists: &str) -> Result<(), Fault> {
-    let mut patterns = PatternCache::new(rt.alloc());
-    for (place, words) in lists.split("; ").enumerate() {
-        let blank = if place == 0 { "" } else { " " };
-        let verdict = verdict_by(rt.alloc(), &mut patterns, words)?;
-        put!(rt; blank, ?verdict)?;
+    if is_kept {
+        put!(case; ", ", patterns.size(), " bytes kept");
     }
-    say!(rt; ", ", patterns.size(), " bytes kept")
+    case.put("\n");
 }
 
-fn verdict_by(alloc: Global, patterns: &mut PatternCache, words: &str) -> Result<Verdict, Fault> {
-    let matchers = matchers(alloc, words)?;
-    Ok(patterns.verdict(&matchers)?)
+/// `filter [TEXT] of SILENCE`: whether a filter, given with escapes, passes a silence, and whether its version.
+fn filter(case: &Case, rest: &str) {
+    let (text, words) = rest.rsplit_once("] of ").unwrap_or((rest, ""));
+    let bytes = case.unescaped(text.strip_prefix('[').unwrap_or(text));
+    let text = str::from_utf8(bytes.as_slice()).unwrap_or("no text");
+    given!(mut filter = case.got(Filter::parse(case.alloc, text), FilterError::Memory));
+    let silence = case.silence(words);
+    let is_passed = case.made(filter.passes(&silence)).unwrap_or(false);
+    given!(version = MeshSilence::spelled(case, words));
+    let is_version = case.made(filter.passes_version(&version)).unwrap_or(false);
+    say!(case; is_passed, ", its version ", is_version);
+}
+
+/// `mutes SILENCE, ..; at MOMENT LABEL ..; ..`: which silences mute labels at moments. A step may also be `forget`, for all
+/// patterns that are kept.
+fn all_mutes(case: &Case, rest: &str) {
+    let (silences, text) = cut(rest, "; ");
+    let held = case.held(silences);
+    let mut patterns = PatternCache::new(case.alloc);
+    for words in text.split("; ") {
+        step(case, &mut patterns, &held, words);
+    }
+}
+
+fn step(case: &Case, patterns: &mut PatternCache, held: &Map, words: &str) {
+    let (verb, rest) = first(words);
+    if verb == "forget" {
+        patterns.drop_unused(&Held::new(case.alloc));
+        return say!(case; "forgotten, ", patterns.size(), " bytes kept");
+    }
+    let (word, names) = first(rest);
+    let now = case.moment(word);
+    let labels = Labels::new(case.list(names, " "));
+    print_mutes(case, case.made(mutes(case.alloc, held, &labels, now)));
+    case.put("; kept ");
+    print_mutes(case, case.made(patterns.mutes(held, &labels, now)));
+    patterns.drop_unused(held);
+    case.put("; again ");
+    print_mutes(case, case.made(patterns.mutes(held, &labels, now)));
+    case.put("\n");
+}
+
+fn print_mutes(case: &Case, mutes: Option<Mutes>) {
+    given!(mutes = mutes);
+    print_ids(case, &mutes.ids);
+    case.put(" broken ");
+    print_ids(case, &mutes.broken);
+}
+
+/// Prints identifiers, parted by commas, or `-` for none.
+fn print_ids(case: &Case, ids: &Ids) {
+    let mut comma = "";
+    for id in ids.as_slice() {
+        put!(case; comma, id.as_str());
+        comma = ",";
+    }
+    case.put(if comma.is_empty() { "-" } else { "" });
+}
+
+/// `many-mutes COUNT`: asks one cache twice which of so many silences mute the job x at 50. Each has a pattern of its own,
+/// which is broken at those of odd numbers.
+fn many_mutes(case: &Case, rest: &str) {
+    let mut held = Held::new(case.alloc);
+    for number in 0..case.number(rest) {
+        let end = if number % 2 == 0 { "x" } else { "(" };
+        if let Some(words) = case.made(format!(in case.alloc; "{number} job=~{number}|{end}")) {
+            case.take(&mut held, words.as_str(), Moment::LEAST);
+        }
+    }
+    let mut patterns = PatternCache::new(case.alloc);
+    count_mutes(case, &mut patterns, &held);
+    count_mutes(case, &mut patterns, &held);
+}
+
+fn count_mutes(case: &Case, patterns: &mut PatternCache, held: &Map) {
+    let labels = Labels::new(case.list("job=x", " "));
+    given!(mutes = case.made(patterns.mutes(held, &labels, case.moment("50"))));
+    let (ids, broken) = (mutes.ids.as_slice().len(), mutes.broken.as_slice().len());
+    say!(case; ids, " mute, ", broken, " broken, ", patterns.size() >> 20, " MiB kept");
+}
+
+fn say_decisions(case: &Case, entry: Option<&Entry>, version: Option<&MeshEntry>, words: &str) {
+    let firing = case.numbers(behind(words, "firing ", "-"));
+    let resolved = case.numbers(behind(words, " resolved ", "-"));
+    let (firing, resolved) = (firing.as_slice(), resolved.as_slice());
+    let wanted = behind(words, " wanted ", "yes") != "no";
+    let now = case.moment(behind(words, " at ", "-"));
+    given!(repeat = case.seconds(behind(words, " repeat ", "60")));
+    let decision = decide(entry, firing, resolved, repeat, wanted, now);
+    let over = decide_over(version, firing, resolved, repeat, wanted, now);
+    say!(case; ?decision, ", over its version ", ?over);
 }

@@ -1,137 +1,144 @@
-//! Requests in bytes that came, and from readers.
+//! Requests in bytes that came, the calls that they are, the table of statuses, and the bytes of replies; texts, numbers and
+//! lists as words, and schedules as they are read.
 
-use crate::common::{
-    Answered, Brittle, Call, Each, Fault, How, Pieces, how_of, make, parts, print, print_line,
-    print_text, spelled, writer,
-};
-use am_http::{Read, Request, read_request, receive};
-use std::alloc::Global;
+use crate::common::{Case, Fault, cut, first};
+use crate::parts::json;
+use am_http::{Cause, Read, Resource, call_of, filter_texts, out_of_memory, read_request, reply};
+use am_nflog::HashIter;
+use am_schedule::{FaultKind, parse};
+use am_silence_json::Key;
+use am_told::{ListedWord, Numbers, Texts, Word};
 
-/// What was read: a status with what it says, or words for what has none.
-#[derive(Clone, Copy, PartialEq, Eq)]
-struct Seen {
-    status: u16,
-    text: &'static str,
-}
-
-fn seen_of(read: &Read) -> Result<Seen, Fault> {
-    let (status, text) = match read {
-        Read::More => (0, "more"),
-        Read::Whole(_) => (0, "whole"),
-        Read::Refused(refusal) => (refusal.status, refusal.text),
-    };
-    if status == 500 {
-        return Err(Fault::Memory);
+/// Cases of requests, replies and words.
+pub fn answer(case: &Case, verb: &str, rest: &str) {
+    match verb {
+        "request" => request(case, rest),
+        "call" => {
+            let (method, target) = first(rest);
+            match call_of(method, target) {
+                Ok(call) => say!(case; ?call),
+                Err(cause) => say!(case; ?cause),
+            }
+        }
+        "filters" => filters(case, rest),
+        "refusals" => refusals(case),
+        "reply" => say_reply(case, rest),
+        "out_of_memory" => case.say_text(out_of_memory()),
+        "schedule" => schedule(case, rest),
+        "word" => {
+            let bytes = case.spelled(rest);
+            say!(case; Word(&bytes), "\n", ListedWord(&bytes));
+        }
+        "numbers" => {
+            let mut numbers = Vec::new(case.alloc);
+            for word in rest.split_terminator(' ') {
+                case.push(&mut numbers, case.number(word));
+            }
+            say!(case; Numbers(HashIter::of(&numbers)));
+        }
+        "texts" => texts(case, rest),
+        _ => json::answer(case, verb, rest),
     }
-    Ok(Seen { status, text })
 }
 
-fn seen_in(alloc: Global, bytes: &[u8], ended: bool) -> Result<Seen, Fault> {
-    let read = read_request(alloc, bytes, ended);
-    seen_of(&read)
-}
-
-fn print_seen(rt: &HostRuntime, seen: Seen) -> Result<(), Fault> {
-    if seen.status != 0 {
-        put!(rt; seen.status, " ")?;
-    }
-    print(rt, seen.text)
-}
-
-/// Prints what a read comes to, with the parts of a request.
-pub fn print_read(rt: &HostRuntime, read: &Read) -> Result<(), Fault> {
+/// Prints what a read comes to, with the parts of a request or `whole`.
+pub fn print_read(case: &Case, read: &Read, has_parts: bool) {
     match read {
-        Read::Whole(request) => print_request(rt, request),
-        _ => print_seen(rt, seen_of(read)?),
-    }
-}
-
-/// Says what a read comes to, with the parts of a request.
-fn say_read(rt: &HostRuntime, read: &Read) -> Result<(), Fault> {
-    print_read(rt, read)?;
-    print_line(rt, "")
-}
-
-fn print_request(rt: &HostRuntime, request: &Request) -> Result<(), Fault> {
-    let (method, target) = (request.method.as_str(), request.target.as_str());
-    put!(rt; method, " ", target, " body [")?;
-    print_text(rt, &request.body)?;
-    print(rt, "]")
-}
-
-/// `request TEXT`: what bytes come to behind which more may come, and where the input ended if that is something else.
-pub fn request(rt: &HostRuntime, text: &str) -> Result<(), Fault> {
-    let bytes = spelled(rt.alloc(), text)?;
-    let ended = seen_in(rt.alloc(), bytes.as_slice(), true)?;
-    let open = say_open(rt, bytes.as_slice())?;
-    if open != ended {
-        print(rt, "at the end: ")?;
-        print_seen(rt, ended)?;
-        print_line(rt, "")?;
-    }
-    Ok(())
-}
-
-fn say_open(rt: &HostRuntime, bytes: &[u8]) -> Result<Seen, Fault> {
-    let read = read_request(rt.alloc(), bytes, false);
-    say_read(rt, &read)?;
-    seen_of(&read)
-}
-
-/// A request that is read from a reader.
-#[derive(Clone, Copy)]
-struct Receiving;
-
-impl Call for Receiving {
-    type Answer = Option<Seen>;
-
-    fn make(
-        &self,
-        alloc: Global,
-        reader: &mut Pieces<'_>,
-        _writer: &mut Brittle,
-    ) -> Result<Answered<Option<Seen>>, Fault> {
-        match receive(alloc, reader) {
-            Ok(read) => Ok(Answered {
-                answer: Some(seen_of(&read)?),
-                told: None,
-            }),
-            Err(fault) => Ok(Answered {
-                answer: None,
-                told: Some(fault.at as u64),
-            }),
+        Read::More => case.put("more"),
+        Read::Whole(request) if has_parts => {
+            put!(case; request.method.as_str(), " ", request.target.as_str(), " body [");
+            case.print_text(&request.body);
+            case.put("]");
         }
+        Read::Whole(_) => case.put("whole"),
+        Read::Refused(refusal) if refusal.status == 500 => case.fail(Fault::Memory),
+        Read::Refused(refusal) => put!(case; refusal.status, " ", refusal.text),
     }
+}
 
-    fn print(&self, rt: &HostRuntime, answer: &Option<Seen>) -> Result<(), Fault> {
-        match answer {
-            Some(seen) => print_seen(rt, *seen),
-            None => print(rt, "Read"),
+/// `request TEXT`: what bytes come to behind which more may come, and where the input ended if more would have to come.
+fn request(case: &Case, text: &str) {
+    let bytes = case.spelled(text);
+    let open = read_request(case.alloc, bytes.as_slice(), false);
+    print_read(case, &open, true);
+    if matches!(open, Read::More) {
+        case.put("\nat the end: ");
+        let ended = read_request(case.alloc, bytes.as_slice(), true);
+        print_read(case, &ended, false);
+    }
+    case.put("\n");
+}
+
+/// `filters QUERY`: the filters of a query.
+fn filters(case: &Case, query: &str) {
+    given!(filters = case.made(filter_texts(case.alloc, query)));
+    put!(case; filters.len(), " filters");
+    for filter in &filters {
+        put!(case; " [", filter.as_str(), "]");
+    }
+    case.put("\n");
+}
+
+/// What a request may be refused for before a step is made.
+const CAUSES: [Cause; 18] = [
+    Cause::HeadTooLarge,
+    Cause::BadHead,
+    Cause::TransferEncoding,
+    Cause::BadContentLength,
+    Cause::BodyTooLarge,
+    Cause::EndedEarly,
+    Cause::NoSuchPath,
+    Cause::MethodNotAllowed(Resource::Silences),
+    Cause::MethodNotAllowed(Resource::Silence),
+    Cause::BadFilter,
+    Cause::BadJson,
+    Cause::BadSilence(Key::Id),
+    Cause::BadSilence(Key::Matchers),
+    Cause::BadSilence(Key::StartsAt),
+    Cause::BadSilence(Key::EndsAt),
+    Cause::BadSilence(Key::CreatedBy),
+    Cause::BadSilence(Key::Comment),
+    Cause::Memory,
+];
+
+/// `refusals`: the lines of the table of statuses.
+fn refusals(case: &Case) {
+    for cause in CAUSES {
+        let line = cause.refusal();
+        put!(case; ?cause, ": ", line.status, " ", line.text);
+        say!(case; ", allow ", line.allow.unwrap_or("-"));
+    }
+}
+
+/// `reply STATUS ALLOW: BODY`: a reply, where ALLOW is `-` for none.
+fn say_reply(case: &Case, rest: &str) {
+    let (status, rest) = first(rest);
+    let (allow, body) = cut(rest, ":");
+    let status = case.or(status.parse::<u16>().ok(), 200).clamp(100, 999);
+    let allow = if allow == "-" { None } else { Some(allow) };
+    let reply = reply(case.alloc, status, allow, body.trim_start().as_bytes());
+    given!(reply = case.made(reply));
+    case.say_text(reply.as_slice());
+}
+
+/// `texts TEXT|TEXT|..`: texts as one word, each of which has a `|` behind it.
+fn texts(case: &Case, rest: &str) {
+    let mut copies = Vec::new(case.alloc);
+    for text in rest.split_terminator('|') {
+        case.push(&mut copies, case.text(text));
+    }
+    say!(case; Texts(&copies));
+}
+
+/// `schedule TEXT`: how many members and lines a schedule has, or its first fault.
+fn schedule(case: &Case, text: &str) {
+    let text = case.unescaped(text);
+    match parse(case.alloc, text.as_slice()) {
+        Ok(schedule) => {
+            put!(case; schedule.names.as_slice().len(), " members, ");
+            say!(case; schedule.lines.as_slice().len(), " lines");
         }
+        Err(error) if error.kind == FaultKind::Memory => case.fail(Fault::Memory),
+        Err(error) => say!(case; ?error.kind, " ", error.line),
     }
-}
-
-/// `receive HOW: TEXT`: what a reader gives.
-pub fn receive_from(rt: &HostRuntime, rest: &str) -> Result<(), Fault> {
-    let (how, text) = parts(rest, ": ")?;
-    let how = how_of(how)?;
-    let bytes = spelled(rt.alloc(), text)?;
-    match how.each {
-        Each::Once => say_received(rt, Pieces::new(bytes.as_slice(), how.gives, 0)),
-        _ => say_tries(rt, bytes.as_slice(), &how),
-    }
-}
-
-fn say_tries(rt: &HostRuntime, bytes: &[u8], how: &How) -> Result<(), Fault> {
-    let mut writer = writer(rt.alloc(), how, 0)?;
-    make(rt, &Receiving, bytes, how, &mut writer)
-}
-
-/// Says what a reader gives, and how it stands then.
-fn say_received(rt: &HostRuntime, mut reader: Pieces<'_>) -> Result<(), Fault> {
-    match receive(rt.alloc(), &mut reader) {
-        Ok(read) => say_read(rt, &read)?,
-        Err(_) => return Err(Fault::Words),
-    }
-    say!(rt; "calls ", reader.calls, ", left ", reader.left.len())
 }

@@ -1,186 +1,138 @@
 //! Versions of either state: read, written, copied and compared; matchers, identifiers and receivers.
 
-use crate::common::{
-    Fault, Told, bytes, first, matchers, moment, parts, print, print_debug, print_line,
-    print_matcher, print_matchers, print_moment, say, say_bytes, say_refusal, silence, version,
-    versions,
-};
-use am_nflog::Receiver;
+use crate::common::{Case, Printed, Spelled, Told, cut, first};
+use crate::parts::frames;
+use am_nflog::{MeshEntry, Receiver};
 use am_silence::{Matcher, MeshSilence, fresh_id, state_at};
-use am_version_order::{Moment, Version};
+use am_version_order::Version;
 use am_wire::{Message, WireError};
 
-/// `sil VERB WORDS` of silences.
-pub fn of_silences(rt: &HostRuntime, text: &str) -> Result<(), Fault> {
+/// Cases of versions; of the matcher or the receiver that bytes are read as, and its bytes, twice; of a copy of matchers; of the
+/// identifier that random bits give.
+pub fn answer(case: &Case, verb: &str, rest: &str) {
+    match verb {
+        "sil" if rest.starts_with("state ") => states(case, first(rest).1),
+        "sil" => of_state::<MeshSilence>(case, rest),
+        "nfl" => of_state::<MeshEntry>(case, rest),
+        "matcher" => matcher(case, rest),
+        "matchers" => matchers_copied(case, rest),
+        "receiver" => receiver(case, rest),
+        "fresh" => {
+            let bytes = case.bytes(rest);
+            let bits: [u8; 16] = case.or(bytes.as_slice().try_into().ok(), [0; 16]);
+            say!(case; fresh_id(u128::from_be_bytes(bits)).as_str());
+        }
+        _ => frames::answer(case, verb, rest),
+    }
+}
+
+/// `nfl VERB WORDS` of log entries, and `sil VERB WORDS` of silences.
+fn of_state<V: Told>(case: &Case, text: &str)
+where
+    V::Key: Drop,
+{
     match first(text) {
-        ("state", rest) => states(rt, rest),
-        _ => of_state::<MeshSilence>(rt, text),
+        ("order", list) => orders::<V>(case, false, list),
+        ("keys", list) => orders::<V>(case, true, list),
+        ("made", words) => {
+            given!(version = V::spelled(case, words));
+            say_written(case, &version);
+        }
+        ("bucket", words) => {
+            given!(version = V::spelled(case, words));
+            case.say_bytes(version.bucket());
+        }
+        ("copied", words) => copied::<V>(case, words),
+        _ => say_read::<V>(case, text),
     }
 }
 
-/// `nfl VERB WORDS` of log entries, and other such cases of silences.
-pub fn of_state<V: Told>(rt: &HostRuntime, text: &str) -> Result<(), Fault>
-where
-    V::Key: Drop,
-{
-    let (verb, rest) = first(text);
-    match verb {
-        "made" | "bucket" | "copied" => of_version::<V>(rt, verb, rest),
-        "order" | "keys" => orders::<V>(rt, verb, rest),
-        _ => read::<V>(rt, text),
-    }
+/// What bytes are read as, unless they are refused.
+fn read<M: Message>(case: &Case, hex: &str) -> Option<M> {
+    let bytes = case.bytes(hex);
+    case.got(M::decode(case.alloc, bytes.as_slice()), WireError::Memory)
 }
 
-fn of_version<V: Told>(rt: &HostRuntime, verb: &str, words: &str) -> Result<(), Fault>
-where
-    V::Key: Drop,
-{
-    let version = version::<V>(rt.alloc(), words)?;
-    match verb {
-        "made" => say_written(rt, &version),
-        "bucket" => say_bytes(rt, version.bucket()),
-        _ => copied(rt, &version),
-    }
-}
-
-/// The version that bytes are read as.
-fn read<V: Told>(rt: &HostRuntime, hex: &str) -> Result<(), Fault> {
-    let bytes = bytes(rt.alloc(), hex)?;
-    match V::decode(rt.alloc(), bytes.as_slice()) {
-        Ok(version) => say_version(rt, &version),
-        Err(fault) => say_refusal(rt, fault, WireError::Memory),
-    }
-}
-
-/// Says a version, and how the version order and the wire form see it: its moments, its bucket and its canonical text.
-fn say_version<V: Told>(rt: &HostRuntime, version: &V) -> Result<(), Fault> {
-    say(rt, version)?;
-    print_moment(rt, "order: updated ", version.updated())?;
-    print_moment(rt, ", expires ", version.expires())?;
-    print(rt, ", bucket ")?;
-    say_bytes(rt, version.bucket())?;
-    print(rt, "written ")?;
-    say_bytes(rt, version.canonical())
+fn say_read<V: Told>(case: &Case, hex: &str) {
+    given!(version = read::<V>(case, hex));
+    say!(case; @version);
+    put!(case; "order: updated ", @version.updated(), ", expires ", @version.expires());
+    case.put(", bucket ");
+    case.say_bytes(version.bucket());
+    case.put("written ");
+    case.say_bytes(version.canonical());
 }
 
 /// Says the bytes of a message that is written twice into one vector.
-fn say_written<M: Message>(rt: &HostRuntime, message: &M) -> Result<(), Fault> {
-    let mut bytes = Vec::new(rt.alloc());
-    message.encode(&mut bytes)?;
-    message.encode(&mut bytes)?;
-    say_bytes(rt, bytes.as_slice())
+fn say_written<M: Message>(case: &Case, message: &M) {
+    let mut bytes = Vec::new(case.alloc);
+    case.made(message.encode(&mut bytes));
+    case.made(message.encode(&mut bytes));
+    case.say_bytes(bytes.as_slice());
 }
 
 /// Says how the copies of the key and of a version compare with them, and the version's copy.
-fn copied<V: Told>(rt: &HostRuntime, version: &V) -> Result<(), Fault>
+fn copied<V: Told>(case: &Case, words: &str)
 where
     V::Key: Drop,
 {
-    print_key_order(rt, version)?;
-    let copy = version.try_clone(rt.alloc())?;
-    say!(rt; " ", ?version.compare(&copy))?;
-    say(rt, &copy)
+    given!(version = V::spelled(case, words));
+    given!(key = case.made(version.try_key(case.alloc)));
+    given!(copy = case.made(version.try_clone(case.alloc)));
+    say!(case; ?key.cmp(version.key()), " ", ?version.compare(&copy));
+    say!(case; @copy);
 }
 
-fn print_key_order<V: Told>(rt: &HostRuntime, version: &V) -> Result<(), Fault>
-where
-    V::Key: Drop,
-{
-    let copy = version.try_key(rt.alloc())?;
-    print_debug(rt, copy.cmp(version.key()))
-}
-
-/// Says in a line for each version of a list how it, or its key, compares with each.
-fn orders<V: Told>(rt: &HostRuntime, verb: &str, text: &str) -> Result<(), Fault> {
-    let list = versions::<V>(rt.alloc(), text)?;
+fn orders<V: Told>(case: &Case, are_keys: bool, text: &str) {
+    let list = case.list::<V>(text, ", ");
     for version in &list {
-        say_orders(rt, verb, version, list.as_slice())?;
+        say_orders(case, are_keys, version, list.as_slice());
     }
-    Ok(())
 }
 
-fn say_orders<V: Told>(
-    rt: &HostRuntime,
-    verb: &str,
-    version: &V,
-    others: &[V],
-) -> Result<(), Fault> {
-    for (place, other) in others.iter().enumerate() {
-        let blank = if place == 0 { "" } else { " " };
-        let order = match verb {
-            "keys" => version.key().cmp(other.key()),
-            _ => version.compare(other),
+fn say_orders<V: Told>(case: &Case, are_keys: bool, version: &V, others: &[V]) {
+    let mut blank = "";
+    for other in others {
+        let order = match are_keys {
+            true => version.key().cmp(other.key()),
+            false => version.compare(other),
         };
-        put!(rt; blank, ?order)?;
+        put!(case; blank, ?order);
+        blank = " ";
     }
-    print_line(rt, "")
+    case.put("\n");
 }
 
 /// `state WORDS at MOMENT ..`: the state at each of the moments, of the silence and of its version.
-fn states(rt: &HostRuntime, text: &str) -> Result<(), Fault> {
-    let (words, moments) = parts(text, " at ")?;
+fn states(case: &Case, text: &str) {
+    let (words, moments) = cut(text, " at ");
+    let silence = case.silence(words);
+    given!(version = MeshSilence::spelled(case, words));
     for word in moments.split(' ') {
-        let now = moment(word)?;
-        print_state(rt, words, now)?;
-        say_version_state(rt, words, now)?;
-    }
-    Ok(())
-}
-
-fn print_state(rt: &HostRuntime, words: &str, now: Moment) -> Result<(), Fault> {
-    let silence = silence(rt.alloc(), words)?;
-    put!(rt; ?state_at(&silence, now), " ")
-}
-
-fn say_version_state(rt: &HostRuntime, words: &str, now: Moment) -> Result<(), Fault> {
-    let version = version::<MeshSilence>(rt.alloc(), words)?;
-    say!(rt; ?version.state_at(now))
-}
-
-/// `matcher BYTES`: the matcher that bytes are read as, and its bytes, twice.
-pub fn matcher(rt: &HostRuntime, hex: &str) -> Result<(), Fault> {
-    let bytes = bytes(rt.alloc(), hex)?;
-    match Matcher::decode(rt.alloc(), bytes.as_slice()) {
-        Ok(matcher) => say_matcher(rt, &matcher),
-        Err(fault) => say_refusal(rt, fault, WireError::Memory),
+        let now = case.moment(word);
+        say!(case; ?state_at(&silence, now), " ", ?version.state_at(now));
     }
 }
 
-fn say_matcher(rt: &HostRuntime, matcher: &Matcher) -> Result<(), Fault> {
-    let (wants, regexp) = (matcher.wants_label(), matcher.kind.is_regexp());
-    print_matcher(rt, "", &matcher.borrowed())?;
-    say!(rt; ", wants the label: ", wants, ", regular expression: ", regexp)?;
-    say_written(rt, matcher)
+fn matcher(case: &Case, hex: &str) {
+    given!(matcher = read::<Matcher>(case, hex));
+    case.print_matcher("", &matcher.borrowed());
+    put!(case; ", wants the label: ", matcher.wants_label());
+    say!(case; ", regular expression: ", matcher.kind.is_regexp());
+    say_written(case, &matcher);
 }
 
-/// `matchers WORDS`: a copy of matchers.
-pub fn matchers_copied(rt: &HostRuntime, words: &str) -> Result<(), Fault> {
-    let matchers = matchers(rt.alloc(), words)?;
-    let copy = matchers.try_clone(rt.alloc())?;
-    put!(rt; "empty ", copy.is_empty(), ":")?;
-    print_matchers(rt, copy.iter())?;
-    print_line(rt, "")
+fn matchers_copied(case: &Case, words: &str) {
+    let matchers = case.matchers(words);
+    given!(copy = case.made(matchers.try_clone(case.alloc)));
+    put!(case; "empty ", copy.is_empty(), ":");
+    case.print_matchers(copy.iter());
+    case.put("\n");
 }
 
-/// `fresh BITS`: the identifier that random bits give.
-pub fn fresh(rt: &HostRuntime, word: &str) -> Result<(), Fault> {
-    let bytes = bytes(rt.alloc(), word)?;
-    let bits: [u8; 16] = bytes.as_slice().try_into().ok().ok_or(Fault::Words)?;
-    let id = fresh_id(u128::from_be_bytes(bits));
-    print_line(rt, id.as_str())
-}
-
-/// `receiver BYTES`: the receiver that bytes are read as, and its bytes, twice.
-pub fn receiver(rt: &HostRuntime, hex: &str) -> Result<(), Fault> {
-    let bytes = bytes(rt.alloc(), hex)?;
-    match Receiver::decode(rt.alloc(), bytes.as_slice()) {
-        Ok(receiver) => say_receiver(rt, &receiver),
-        Err(fault) => say_refusal(rt, fault, WireError::Memory),
-    }
-}
-
-fn say_receiver(rt: &HostRuntime, receiver: &Receiver) -> Result<(), Fault> {
-    let (name, integration) = (receiver.group_name.as_str(), receiver.integration.as_str());
-    say!(rt; name, "/", integration, "/", receiver.idx)?;
-    say_written(rt, receiver)
+fn receiver(case: &Case, hex: &str) {
+    given!(receiver = read::<Receiver>(case, hex));
+    put!(case; receiver.group_name.as_str(), "/", receiver.integration.as_str());
+    say!(case; "/", receiver.idx);
+    say_written(case, &receiver);
 }

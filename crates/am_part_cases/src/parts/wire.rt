@@ -1,104 +1,146 @@
-//! Varints, fields, rows and timestamps.
+//! Moments and intervals; varints, fields, timestamps, and rows, also over readers that give few bytes, or fail.
 
-use crate::common::{
-    Fault, bytes, cut, first, moment, number, say_bytes, say_moment, say_refusal, size,
-};
-use am_version_order::Moment;
+use crate::common::{Case, Fault, Pieces, Printed, behind, cut, first, moment_of};
+use crate::parts::versions;
+use am_version_order::{Interval, Moment};
 use am_wire::reading::{AnyField, Scan, Schema, TimestampDraft};
 use am_wire::writing::append_text;
-use am_wire::{Field, Message, Rows, Value, WireError, read_varint, write_varint};
-use std::alloc::Global;
+use am_wire::{Message, RowFault, RowReader, Rows, Value, WireError, read_varint, write_varint};
+use std::io::{self, Read};
 
-/// `wire WHAT: BYTES` reads what the words say.
-pub fn wire(rt: &HostRuntime, rest: &str) -> Result<(), Fault> {
+/// Cases of moments, and of bytes on the wire.
+pub fn answer(case: &Case, verb: &str, rest: &str) {
+    let (one, other) = first(rest);
+    match verb {
+        "parts" => match moment_of(rest) {
+            Some(moment) => say!(case; ?moment.parts()),
+            None => case.put("none\n"),
+        },
+        "order" => say!(case; ?case.moment(one).cmp(&case.moment(other))),
+        "interval" => say!(case; Interval::from_nanos(case.number(rest)).is_some()),
+        "sum" | "sums" => sum(case, case.moment(one), other),
+        "wire" => wire(case, rest),
+        "put" => put(case, rest),
+        "timestamps" => timestamps(case, rest),
+        _ => versions::answer(case, verb, rest),
+    }
+}
+
+/// `sum MOMENT NANOSECONDS`: the sum of a moment and an interval, and the sum that ends at the last moment; `sums MOMENT
+/// NANOSECONDS COUNT`: that of a moment and so many intervals.
+fn sum(case: &Case, start: Moment, rest: &str) {
+    let (length, count) = first(rest);
+    match case.wanted(Interval::from_nanos(case.number(length))) {
+        Some(length) if count.is_empty() => {
+            case.say_if_any(start.checked_add(length));
+            say!(case; @start.capped_add(length));
+        }
+        Some(length) => case.say_if_any(start.checked_add_times(length, case.number(count))),
+        None => {}
+    }
+}
+
+/// `wire WHAT: BYTES` reads what the words say; `timestamp at 5` one whose bytes begin at that offset.
+fn wire(case: &Case, rest: &str) {
     let (what, pairs) = cut(rest, ": ");
-    let bytes = bytes(rt.alloc(), pairs)?;
-    let (kind, which) = first(what);
-    read(rt, kind, which, bytes.as_slice())
-}
-
-fn read(rt: &HostRuntime, kind: &str, which: &str, bytes: &[u8]) -> Result<(), Fault> {
-    match kind {
-        "varint" => say_varint(rt, bytes),
-        "fields" if which.is_empty() => say_fields::<AnyField>(rt, bytes),
-        "fields" => say_fields::<TimestampDraft>(rt, bytes),
-        "rows" => say_rows(rt, bytes),
-        "timestamp" => say_timestamp(rt, bytes, which),
-        _ => Err(Fault::Words),
+    let bytes = case.bytes(pairs);
+    let bytes = bytes.as_slice();
+    match first(what) {
+        ("varint", _) => {
+            given!((value, len) = case.got(read_varint(bytes), WireError::Memory));
+            say!(case; value, " in ", len);
+        }
+        ("fields", "") => say_fields::<AnyField>(case, bytes),
+        ("fields", _) => say_fields::<TimestampDraft>(case, bytes),
+        ("rows", _) => say_rows(case, bytes),
+        (_, which) => {
+            let at = case.number(which.strip_prefix("at ").unwrap_or("0")) as usize % (1 << 32);
+            let read = Moment::decode_at(case.alloc, bytes, at);
+            given!(moment = case.got(read, WireError::Memory));
+            say!(case; @moment);
+        }
     }
 }
 
-fn say_varint(rt: &HostRuntime, bytes: &[u8]) -> Result<(), Fault> {
-    match read_varint(bytes) {
-        Ok((value, len)) => say!(rt; value, " in ", len),
-        Err(fault) => say_refusal(rt, fault, WireError::Memory),
-    }
-}
-
-fn say_field(rt: &HostRuntime, field: &Field<'_>) -> Result<(), Fault> {
-    let (number, at, inside) = (field.number, field.at, field.inside);
-    put!(rt; number, " at ", at, ", payload at ", inside, ": ")?;
-    match field.value {
-        Value::Bytes(bytes) => say_bytes(rt, bytes),
-        value => say!(rt; ?value),
-    }
-}
-
-/// Says each field, and the fault behind them, if there is one.
-fn say_fields<K: Schema>(rt: &HostRuntime, bytes: &[u8]) -> Result<(), Fault> {
+fn say_fields<K: Schema>(case: &Case, bytes: &[u8]) {
     for field in Scan::<K>::new(bytes) {
-        match field {
-            Ok(field) => say_field(rt, &field)?,
-            Err(fault) => say_refusal(rt, fault, WireError::Memory)?,
+        if let Some(field) = case.got(field, WireError::Memory) {
+            put!(case; field.number, " at ", field.at, ", payload at ", field.inside, ": ");
+            match field.value {
+                Value::Bytes(bytes) => case.say_bytes(bytes),
+                value => say!(case; ?value),
+            }
         }
     }
-    Ok(())
 }
 
-/// Says each message of a row, and the fault behind them, if there is one.
-fn say_rows(rt: &HostRuntime, bytes: &[u8]) -> Result<(), Fault> {
+fn say_rows(case: &Case, bytes: &[u8]) {
     for row in Rows::new(bytes) {
-        match row {
-            Ok(message) => say_bytes(rt, message)?,
-            Err(fault) => say_refusal(rt, fault, WireError::Memory)?,
+        if let Some(message) = case.got(row, WireError::Memory) {
+            case.say_bytes(message);
         }
     }
-    Ok(())
 }
 
-/// Reads a timestamp from bytes that begin at the offset that the words name, as `at 5`, or at 0.
-fn say_timestamp(rt: &HostRuntime, bytes: &[u8], which: &str) -> Result<(), Fault> {
-    let at = match which.strip_prefix("at ") {
-        Some(at) => size(at)? % (1 << 32),
-        None => 0,
-    };
-    match Moment::decode_at(rt.alloc(), bytes, at) {
-        Ok(moment) => say_moment(rt, "", moment),
-        Err(fault) => say_refusal(rt, fault, WireError::Memory),
-    }
-}
-
-/// `put PART; PART ..` writes `append BYTES`, `varint NUMBER` and `timestamp MOMENT`.
-pub fn put(rt: &HostRuntime, rest: &str) -> Result<(), Fault> {
-    let mut out = Vec::new(rt.alloc());
+/// `put PART; PART ..` writes `append BYTES`, which were written before, `varint NUMBER` and `timestamp MOMENT`.
+fn put(case: &Case, rest: &str) {
+    let mut out = Vec::new(case.alloc);
     for part in rest.split("; ") {
-        let (kind, what) = first(part);
-        put_part(rt.alloc(), &mut out, kind, what)?;
+        match first(part) {
+            ("append", what) => {
+                let bytes = case.bytes(what);
+                case.made(append_text(&mut out, bytes.as_slice()));
+            }
+            ("varint", what) => case.append(&mut out, write_varint(case.number(what)).as_slice()),
+            (_, what) => {
+                case.made(case.moment(what).encode(&mut out));
+            }
+        }
     }
-    say_bytes(rt, out.as_slice())
+    case.say_bytes(out.as_slice());
 }
 
-fn put_part(alloc: Global, out: &mut Vec<u8>, kind: &str, what: &str) -> Result<(), Fault> {
-    match kind {
-        "append" => append(alloc, out, what),
-        "varint" => Ok(out.extend_from_slice(write_varint(number(what)?).as_slice())?),
-        "timestamp" => Ok(moment(what)?.encode(out)?),
-        _ => Err(Fault::Words),
+/// `timestamps in pieces of N: BYTES` reads a row of timestamps, `timestamps in pieces of N, read N fails: BYTES` so that a read
+/// fails, and `timestamps and zeros behind it: BYTES` up to a byte more than an input may have.
+fn timestamps(case: &Case, rest: &str) {
+    let (how, pairs) = cut(rest, ": ");
+    let bytes = case.bytes(pairs);
+    match how.strip_prefix("in pieces of ") {
+        Some(how) => {
+            let (step, fails) = cut(how, ", ");
+            let fails_at = case.number(behind(fails, "read ", "0")) as usize;
+            say_moments(
+                case,
+                &mut Pieces::new(&bytes, case.number(step) as usize, fails_at),
+            );
+        }
+        None => {
+            let mut reader = bytes.as_slice().chain(io::repeat(0)).take(67_108_865);
+            say_moments(case, &mut reader);
+        }
     }
 }
 
-/// Puts bytes that were written before at the end.
-fn append(alloc: Global, out: &mut Vec<u8>, what: &str) -> Result<(), Fault> {
-    let bytes = bytes(alloc, what)?;
-    Ok(append_text(out, bytes.as_slice())?)
+/// Says the timestamps, up to the end or a fault, and what is answered behind that.
+fn say_moments<R: Read>(case: &Case, reader: &mut R) {
+    let mut rows = RowReader::new(case.alloc);
+    for _ in 0..1_000 {
+        if !says_next(case, &mut rows, reader) {
+            break;
+        }
+    }
+    says_next(case, &mut rows, reader);
+}
+
+fn says_next<R: Read>(case: &Case, rows: &mut RowReader<Moment>, reader: &mut R) -> bool {
+    match rows.next(reader) {
+        Ok(Some(moment)) => {
+            say!(case; @moment);
+            return true;
+        }
+        Ok(None) => case.put("the end\n"),
+        Err(RowFault::Memory) => case.fail(Fault::Memory),
+        Err(fault) => say!(case; ?fault),
+    }
+    false
 }

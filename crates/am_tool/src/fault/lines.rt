@@ -1,6 +1,5 @@
 //! Faults of the libraries, as their names and numbers.
 
-use super::snapshot_error;
 use am_gossip::FrameError;
 use am_instance::{ConfigError, StepError};
 use am_member::{Fault, FileFault, ServerFault};
@@ -9,7 +8,7 @@ use am_reactor::LinkFault;
 use am_replay::ReplayError;
 use am_schedule::{FaultKind, ScheduleError};
 use am_silence_json::ListError;
-use am_snapshot::{FoldError, SnapshotError};
+use am_snapshot::SnapshotError;
 use am_wire::WireError;
 use std::fmt::{self, Display, Formatter};
 use std::io::ErrorKind;
@@ -40,10 +39,6 @@ pub fn write_snapshot_error<W: fmt::Write>(
         SnapshotError::TooLarge => f.write_str("TooLarge"),
         SnapshotError::Memory => f.write_str("Memory"),
     }
-}
-
-pub fn write_fold_error<W: fmt::Write>(error: &FoldError, f: &mut Formatter<W>) -> fmt::Result {
-    write_snapshot_error(&snapshot_error(*error), f)
 }
 
 pub fn write_replay_error<W: fmt::Write>(error: &ReplayError, f: &mut Formatter<W>) -> fmt::Result {
@@ -135,6 +130,8 @@ pub fn write_file_fault<W: fmt::Write>(fault: &FileFault, f: &mut Formatter<W>) 
     match *fault {
         FileFault::File(kind) => of_kind(f, "File", kind),
         FileFault::Snapshot(error) => write_snapshot_error(&error, f),
+        FileFault::NotAFile => f.write_str("NotAFile"),
+        FileFault::Locked => f.write_str("Locked"),
     }
 }
 

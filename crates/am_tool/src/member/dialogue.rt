@@ -3,7 +3,7 @@
 ghost use Rattle.std.specs.Prelude.{◌≡◌, ◌≤◌, drop, length};
 ghost use Rattle.am_api_silences.specs.Replies.{bytes_of};
 
-use am_api_silences::{Making, Read, ReplyBytes};
+use am_api_silences::{Begun, Making, Read, Refusal, ReplyBytes, turn_away};
 use am_gossip::Frame;
 use am_http::session::{Said, Session};
 use am_member::is_dear;
@@ -44,6 +44,14 @@ impl Dialogue {
             return None;
         }
         Some(said)
+    }
+
+    /// Answers a request that waits for the first pull that nobody waits for any more, or not as long as the pull may take.
+    pub fn turn_away(&mut self, alloc: Global) {
+        self.waiting = None;
+        let refusal = Refusal::new(503, "not ready");
+        let Begun { making, .. } = turn_away(alloc, &refusal);
+        self.reply_with(alloc, Some(making));
     }
 
     /// Has a reply go out, where there is one. A list waits until it is written.

@@ -6,8 +6,15 @@ use std::time::{Duration, Instant};
 /// After how many milliseconds a member looks again whether it is told to end.
 const SIGNAL_EVERY: u64 = 100;
 
+/// After how many milliseconds a member looks again whether the clock is behind its last moment.
+const CLOCK_EVERY: u64 = 1_000;
+
 /// After how many milliseconds a member asks its peers again for all they have, as long as none has answered.
 const ASK_EVERY: u64 = 1_000;
+
+/// After how many milliseconds at the latest a member looks again for requests that wait for the first pull, and whose time is
+/// nearly over.
+const HURRY_EVERY: u64 = 100;
 
 /// Something that is done every so often.
 #[derive(Clone, Copy)]
@@ -62,6 +69,7 @@ pub struct Duties {
     pull: Timer,
     save: Timer,
     signal: Timer,
+    clock: Timer,
     /// Until when nothing is answered before a peer has answered.
     first_pull: Option<Instant>,
 }
@@ -74,6 +82,7 @@ impl Duties {
             pull: Timer::every(now, options.pull_every),
             save: Timer::every(now, options.save_every),
             signal: Timer::every(now, signals.then_some(Duration::from_millis(SIGNAL_EVERY))),
+            clock: Timer::every(now, Some(Duration::from_millis(CLOCK_EVERY))),
             first_pull: None,
         };
         if options.pull_first && !options.peers.is_empty() {
@@ -112,6 +121,10 @@ impl Duties {
         self.signal.is_due(now)
     }
 
+    pub fn is_clock_due(&mut self, now: Instant) -> bool {
+        self.clock.is_due(now)
+    }
+
     /// Whether no peer has answered in time.
     pub fn is_first_pull_over(&self, now: Instant) -> bool {
         match self.first_pull {
@@ -123,11 +136,16 @@ impl Duties {
     /// How long it is until something is due.
     pub fn left(&self, now: Instant) -> Option<Duration> {
         let mut left = None;
-        for timer in [self.tick, self.pull, self.save, self.signal] {
+        for timer in [self.tick, self.pull, self.save, self.signal, self.clock] {
             left = timer.left(now, left);
         }
         match self.first_pull {
-            Some(end) => Timer::from(Some(end), Duration::from_millis(ASK_EVERY)).left(now, left),
+            Some(end) => {
+                let most = end
+                    .saturating_duration_since(now)
+                    .min(Duration::from_millis(HURRY_EVERY));
+                Some(left.unwrap_or(most).min(most))
+            }
             None => left,
         }
     }

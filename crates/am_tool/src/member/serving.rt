@@ -6,25 +6,21 @@ ghost use Rattle.am_api_silences.specs.Replies.{bytes_of};
 use super::Member;
 use super::dialogue::{Dialogue, has_pull, has_push, is_nothing, may_change};
 use crate::fault::Fault;
-use am_gossip::{Frame, append_frame};
 use am_http::session::Said;
 use am_member::{
-    Ended, Exchanged, Fault as ConnectionFault, Parted, exchange, next_moment, part_frames,
+    Exchanged, Fault as ConnectionFault, Parted, exchange, frames_text, next_moment, part_frames,
 };
 use am_reactor::{Broken, Failure, LinkFault, Outgoing, Service, Wake};
-use std::alloc::{AllocError, Global};
 use std::io::ErrorKind;
-use std::time::Instant;
+use std::time::{Duration, Instant};
 
-/// The bytes of frames.
-fn text_of(alloc: Global, frames: &[Frame]) -> Result<Vec<u8>, AllocError> {
-    let mut text = Vec::new(alloc);
-    for frame in frames {
-        if append_frame(&mut text, frame).is_err() {
-            return Err(AllocError);
-        }
+/// The shorter one of two times, where there are such.
+fn sooner(one: Option<Duration>, other: Option<Duration>) -> Option<Duration> {
+    match (one, other) {
+        (Some(one), Some(other)) => Some(one.min(other)),
+        (one, None) => one,
+        (None, other) => other,
     }
-    Ok(text)
 }
 
 /// A connection that was closed before its end, as a fault.
@@ -55,32 +51,33 @@ impl Member<'_> {
         let pulled = has_pull(&said);
         let pushed = has_push(&said);
         self.is_changed |= may_change(&said);
-        let ended = self.make_steps(dialogue, said);
-        if ended.fault.is_none() && self.duties.waits_for_pull() {
+        let exchanged = self.make_steps(dialogue, said);
+        if exchanged.fault.is_none() && self.duties.waits_for_pull() {
             let all = pushed && self.has_all_with(dialogue.session.name());
             if pulled || all {
                 self.end_first_pull();
             }
         }
-        self.follow(ended);
+        dialogue.reply_with(self.rt.alloc(), exchanged.reply);
+        self.follow(exchanged.effects, exchanged.fault);
     }
 
-    /// Makes the steps of what was said, and has the reply go out, or wait until it is written.
-    fn make_steps(&mut self, dialogue: &mut Dialogue, said: Said) -> Ended {
+    /// Answers what has waited: where it waited for a first pull that a stop has ended, that nothing is answered.
+    fn answer_late(&mut self, dialogue: &mut Dialogue, said: Said) {
+        if self.turns_away {
+            dialogue.turn_away(self.rt.alloc());
+        } else {
+            self.answer(dialogue, said);
+        }
+    }
+
+    /// Makes the steps of what was said.
+    fn make_steps(&mut self, dialogue: &mut Dialogue, said: Said) -> Exchanged {
         let bits = self.random_bits();
         let now = next_moment(self.rt, self.instance.last());
         let alloc = self.rt.alloc();
         let session = &mut dialogue.session;
-        let Exchanged { reply, ended } = exchange(
-            alloc,
-            &mut self.instance,
-            session,
-            said,
-            bits,
-            now,
-        );
-        dialogue.reply_with(alloc, reply);
-        ended
+        exchange(alloc, &mut self.instance, session, said, bits, now)
     }
 
     /// Whether each peer has pushed all that it has, now that the one of this name did.
@@ -106,6 +103,14 @@ impl Member<'_> {
         }
     }
 
+    /// A stop ends the first pull. What waits for it is turned away.
+    fn give_up_first_pull(&mut self, now: Instant) {
+        if self.duties.waits_for_pull() {
+            self.turns_away = true;
+            self.duties.end_first_pull(self.options, now);
+        }
+    }
+
     /// The frames that wait for the peer of the first of them, as they go out.
     fn next_outgoing(&mut self) -> Option<Outgoing> {
         let place = self.queue.first()?.0;
@@ -117,7 +122,7 @@ impl Member<'_> {
             return None;
         };
         self.queue = others;
-        match text_of(alloc, &own) {
+        match frames_text(alloc, &own) {
             Ok(bytes) => Some(Outgoing {
                 peer: place as usize,
                 bytes,
@@ -169,8 +174,12 @@ impl Service for Member<'_> {
         if let Some(making) = session.making.take() {
             session.go_on(self.rt.alloc(), making);
         } else if let Some(said) = session.waiting.take() {
-            self.answer(session, said);
+            self.answer_late(session, said);
         }
+    }
+
+    fn hurry(&mut self, session: &mut Dialogue) {
+        session.turn_away(self.rt.alloc());
     }
 
     fn output<'a>(&self, session: &'a Dialogue) -> &'a [u8] {
@@ -197,9 +206,10 @@ impl Service for Member<'_> {
     fn wake(&mut self, now: Instant) -> Wake {
         self.do_duties(now);
         if self.stops {
+            self.give_up_first_pull(now);
             return Wake::Stop;
         }
-        Wake::GoOn(self.duties.left(now))
+        Wake::GoOn(sooner(self.duties.left(now), self.lines.left(now)))
     }
 
     fn input_ended(&mut self) {

@@ -1,12 +1,16 @@
 //! The start of a member.
 
+use super::clock::Watch;
 use super::duties::Duties;
+use super::files::{StateFile, open_state};
 use super::started::Started;
+use super::told::Lines;
 use super::{Member, signals, times};
-use crate::fault::Fault;
+use crate::fault::{self, Fault};
+use crate::status;
 use crate::words::Options;
 use am_instance::{Config, ConfigError, Instance, Place};
-use am_member::{Peer, load_file, next_moment, send};
+use am_member::{Peer, greeting, next_moment};
 use am_reactor::{Limits, listen};
 use am_version_order::Moment;
 use am_wire::Text;
@@ -19,12 +23,22 @@ use std::time::Instant;
 /// The most bytes that wait for a peer while a connection to it is open.
 const MOST_WAITING: usize = 134_217_728;
 
-/// Runs a member until it is told to end, or has taken its connections; then it saves both states.
+/// Runs a member, prints why it ends early, and answers the exit status of the program.
+pub fn run<'a>(rt: &'a HostRuntime, options: &'a Options<'a>) -> u8 {
+    match run_on(rt, options) {
+        Ok(None) => status::DONE,
+        Ok(Some(unsaved)) => unsaved.status(),
+        Err(fault) => fault::report(rt, fault),
+    }
+}
+
+/// Runs a member until it is told to end, or has taken its connections; then it saves both states. Answers why the last save
+/// failed, which is told.
 ///
 /// # Errors
 ///
 /// The first [`Fault`] of the start, in the order of names, silences, log, listener; or that of the listener later.
-pub fn run<'a>(rt: &'a HostRuntime, options: &'a Options<'a>) -> Result<(), Fault> {
+fn run_on<'a>(rt: &'a HostRuntime, options: &'a Options<'a>) -> Result<Option<Fault>, Fault> {
     let mut member = member(rt, options)?;
     let listener = match listen(rt, options.port) {
         Ok(listener) => listener,
@@ -32,8 +46,10 @@ pub fn run<'a>(rt: &'a HostRuntime, options: &'a Options<'a>) -> Result<(), Faul
     };
     tell_start(&member);
     let served = serve(&mut member, listener);
-    member.save();
-    served
+    let unsaved = member.save();
+    member.lines.settle_all(rt);
+    served?;
+    Ok(unsaved)
 }
 
 /// Prints that a member listens, and the times that it keeps.
@@ -71,15 +87,6 @@ fn serve(member: &mut Member<'_>, listener: TcpListener) -> Result<(), Fault> {
     }
 }
 
-/// What a connection to a peer begins with.
-fn greeting(alloc: Global, name: &str) -> Result<Vec<u8>, AllocError> {
-    let mut bytes = Vec::new(alloc);
-    match send(alloc, name, &[], &mut bytes) {
-        Ok(_) => Ok(bytes),
-        Err(_) => Err(AllocError),
-    }
-}
-
 /// The member before it listens.
 fn member<'a>(rt: &'a HostRuntime, options: &'a Options<'a>) -> Result<Member<'a>, Fault> {
     let config = config(rt.alloc(), options)?;
@@ -89,7 +96,7 @@ fn member<'a>(rt: &'a HostRuntime, options: &'a Options<'a>) -> Result<Member<'a
     let Ok(awaited) = peer_places(rt.alloc(), &ports) else {
         return Err(Fault::Config(ConfigError::Memory));
     };
-    let instance = instance(rt, config, options)?;
+    let (instance, silences, log) = instance(rt, config, options)?;
     let random = random(rt)?;
     let duties = match Instant::now(rt) {
         Ok(now) => Duties::new(options, signals::are_blocked(rt), now),
@@ -99,13 +106,18 @@ fn member<'a>(rt: &'a HostRuntime, options: &'a Options<'a>) -> Result<Member<'a
         rt,
         options,
         instance,
+        silences,
+        log,
         ports,
         random,
         queue: Vec::new(rt.alloc()),
         duties,
+        lines: Lines::new(options.lines),
+        watch: Watch::new(),
         awaited,
         is_changed: false,
         stops: false,
+        turns_away: false,
     })
 }
 
@@ -157,16 +169,20 @@ fn peer_places(alloc: Global, ports: &[u16]) -> Result<Vec<Place>, AllocError> {
     Ok(places)
 }
 
-/// The instance that holds what its files hold.
-fn instance(rt: &HostRuntime, config: Config, options: &Options<'_>) -> Result<Instance, Fault> {
-    let silences = match load_file(rt, options.silences) {
-        Ok(silences) => silences,
+/// The instance that holds what its files hold, and the files of the silences and of the log.
+fn instance(
+    rt: &HostRuntime,
+    config: Config,
+    options: &Options<'_>,
+) -> Result<(Instance, StateFile, StateFile), Fault> {
+    let (silences, held) = match open_state(rt, options.silences) {
+        Ok(opened) => opened,
         Err(fault) => return Err(Fault::Silences(fault)),
     };
-    let log = match load_file(rt, options.log) {
-        Ok(log) => log,
+    let (log, entries) = match open_state(rt, options.log) {
+        Ok(opened) => opened,
         Err(fault) => return Err(Fault::Log(fault)),
     };
     let now = next_moment(rt, Moment::LEAST);
-    Ok(Instance::start(config, silences, log, now))
+    Ok((Instance::start(config, held, entries, now), silences, log))
 }

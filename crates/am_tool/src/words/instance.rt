@@ -3,7 +3,7 @@
 ghost use Rattle.std.specs.Prelude.{◌≤◌, IfSome};
 
 use super::{WordsError, mistake};
-use am_member::{Peer, number_within, peer_of};
+use am_member::{Peer, are_one_file, number_within, peer_of};
 use am_version_order::Interval;
 use clap::{Arg, ArgAction, ArgMatches, Command};
 use std::alloc::{AllocError, Global};
@@ -33,6 +33,8 @@ pub struct Options<'a> {
     pub time_limit: Duration,
     /// How many connections it serves at once.
     pub at_once: u16,
+    /// The most lines of faults of one kind in a second.
+    pub lines: u32,
     /// How often it ticks, pulls and saves by itself.
     pub tick_every: Option<Duration>,
     pub pull_every: Option<Duration>,
@@ -55,6 +57,7 @@ struct Numbers {
     connections: u64,
     time_limit: Duration,
     at_once: u16,
+    lines: u32,
     own: OwnNumbers,
 }
 
@@ -88,7 +91,8 @@ fn limits<'a>(alloc: Global, command: Command<'a>) -> Result<Command<'a>, AllocE
         .arg(option(alloc, "peer-timeout", "S", PEER_TIMEOUT_HELP).default_value("15"))?
         .arg(option(alloc, "connections", "N", CONNECTIONS_HELP))?
         .arg(option(alloc, "time-limit", "S", TIME_LIMIT_HELP).default_value("5"))?
-        .arg(option(alloc, "at-once", "N", AT_ONCE_HELP).default_value("256"))
+        .arg(option(alloc, "at-once", "N", AT_ONCE_HELP).default_value("256"))?
+        .arg(option(alloc, "lines-a-second", "N", LINES_HELP).default_value("10"))
 }
 
 /// The options of what it does by itself.
@@ -121,7 +125,7 @@ pub fn option<'a>(alloc: Global, name: &'a str, value: &'a str, help: &'a str) -
 /// The options that the words name. Numbers are judged in the order in which the help has them, then the files, and then
 /// the peers.
 pub fn read_options<'a>(
-    alloc: Global,
+    rt: &HostRuntime,
     command: &mut Command<'a>,
     flags: &ArgMatches<'a>,
 ) -> Result<Options<'a>, WordsError> {
@@ -129,13 +133,13 @@ pub fn read_options<'a>(
         Ok(numbers) => numbers,
         Err(text) => return Err(mistake(command, text)),
     };
-    if text(flags, "sil") == text(flags, "nfl") {
+    if are_one_file(rt, text(flags, "sil"), text(flags, "nfl"))? {
         return Err(mistake(command, ONE_FILE));
     }
     Ok(Options {
         name: text(flags, "name"),
         port: numbers.port,
-        peers: peers(alloc, flags.get_strs("peer").unwrap_or(&[]))?,
+        peers: peers(rt.alloc(), flags.get_strs("peer").unwrap_or(&[]))?,
         silences: text(flags, "sil"),
         log: text(flags, "nfl"),
         retention: numbers.retention,
@@ -144,6 +148,7 @@ pub fn read_options<'a>(
         connections: numbers.connections,
         time_limit: numbers.time_limit,
         at_once: numbers.at_once,
+        lines: numbers.lines,
         tick_every: numbers.own.tick_every,
         pull_every: numbers.own.pull_every,
         save_every: numbers.own.save_every,
@@ -167,6 +172,7 @@ fn read_numbers(flags: &ArgMatches<'_>) -> Result<Numbers, &'static str> {
     let connections = connections(flags).ok_or(BAD_CONNECTIONS)?;
     let time_limit = time_limit(flags)?;
     let at_once = number(flags, "at-once", 65_535).ok_or(BAD_AT_ONCE)?;
+    let lines = number(flags, "lines-a-second", 65_535).ok_or(BAD_LINES)?;
     Ok(Numbers {
         port: port as u16,
         retention,
@@ -174,6 +180,7 @@ fn read_numbers(flags: &ArgMatches<'_>) -> Result<Numbers, &'static str> {
         connections,
         time_limit,
         at_once: at_once as u16,
+        lines: lines as u32,
         own: read_own(flags)?,
     })
 }
@@ -287,6 +294,9 @@ const TIME_LIMIT_HELP: &str =
 const AT_ONCE_HELP: &str =
     "How many connections it serves at once, 1 to 65535; those beyond wait until one of them ends";
 
+const LINES_HELP: &str =
+    "How many lines of one kind of fault it prints in a second, 1 to 65535; further ones are counted in a line";
+
 const TICK_EVERY_HELP: &str =
     "Ticks by itself every so many seconds, 1 to 999999999: drops what has expired, and saves both files";
 
@@ -333,6 +343,9 @@ const BAD_TIME_LIMIT: &str =
 
 const BAD_AT_ONCE: &str =
     "invalid value for '--at-once <N>': a whole number from 1 to 65535 is wanted, in digits alone";
+
+const BAD_LINES: &str =
+    "invalid value for '--lines-a-second <N>': a whole number from 1 to 65535 is wanted, in digits alone";
 
 const BAD_TICK_EVERY: &str =
     "invalid value for '--tick-every <S>': a whole number from 1 to 999999999 is wanted, in digits alone";

@@ -1,6 +1,6 @@
 use Rattle.std.proofs.Common.{List, ℕ, None, ap, sym, ◌∙◌}
 use Rattle.am_http.specs.Replies.{reply_bytes}
-use Rattle.am_api_silences.proofs.Statuses.{memory_text}
+use Rattle.am_api_silences.proofs.Bodies.{memory_text}
 use Rattle.am_api_silences.proofs.replies.no_memory.Goals as goal
 
 pub returns : goal.returns

@@ -1,6 +1,6 @@
 use Rattle.std.proofs.Common.{None}
 use Rattle.serde_json.specs.Written.{compact_text}
-use Rattle.am_api_silences.proofs.Statuses.{written}
+use Rattle.am_api_silences.proofs.Bodies.{written}
 use Rattle.am_api_silences.proofs.replies.one.Goals as goal
 
 pub returns : goal.returns

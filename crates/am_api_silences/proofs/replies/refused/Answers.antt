@@ -1,7 +1,7 @@
 use Rattle.std.specs.Option.{option_copied}
 use Rattle.serde_json.specs.Data.{string}
 use Rattle.serde_json.specs.Written.{compact_text}
-use Rattle.am_api_silences.proofs.Statuses.{written}
+use Rattle.am_api_silences.proofs.Bodies.{written}
 use Rattle.am_api_silences.proofs.replies.refused.Goals as goal
 
 pub returns : goal.returns

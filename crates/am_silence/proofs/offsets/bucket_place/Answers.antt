@@ -11,7 +11,7 @@ returns-in-Ok c = λ front at.
     let offset = c.in-Some.offset in
     let ms = c.args.matchers.now in
     let h : (0 < offset) × Follows offset (bucket_of ms) (writes_matchers ms) =
-    subst (λ (xs : List Matcher). (0 < offset) × Follows offset (bucket_of xs) (writes_matchers xs)) c.again.ensures c.in-Some.ensures in
+    subst (λ (xs : List Matcher). (0 < offset) × Follows offset (bucket_of xs) (writes_matchers xs)) c.lent.ensures c.in-Some.ensures in
     let low : c.in-Ok.start < 4294967296 = search rules in
     let place : c.in-Ok.start ≡ length front + offset = omega (arith, c.in-Ok.ensures, c.saturating_add.ensures, at, low) in
     let some : 0 < c.in-Ok.start = omega (arith, place, h.0) in

@@ -13,4 +13,4 @@ returns-in_err-written-clause-stopped g c =
     let p = err_from_is_err_and c.from_residual-in_err-written.result c.from_residual-in_err-written.ensures.1 in
     let fold = is_fold g.V.Version.seen g.V.Key.Ord.cmp g.V.Message.reads (g.R.Read.remaining c.args.reader.now) (g.R.Read.remaining c.take_row.new.reader) c.in_ok-held.held _ refl c.in_ok-held.ensures.order c.in_ok-held.ensures.best in
     let within = fold_within g.V.Version.seen g.V.Key.Ord.cmp g.V.Message.reads (g.R.Read.remaining c.args.reader.now) (g.R.Read.remaining c.take_row.new.reader) _ fold c.in_ok-held.ensures.size in
-    rw (p.1, p.2) (fold_writing g.V.Version.seen g.V.Key.Ord.cmp g.V.Message.reads _ _ g.W.Write.contents _ _ _ c.in_err-written.field-0.0 within c.in_err-written.ensures.written)
+    rw (p.1, p.2) (fold_writing g.V.Version.seen g.V.Key.Ord.cmp g.V.Message.reads _ _ g.W.Write.contents _ _ _ c.in_err-written.field-0.0 within c.in_err-written.ensures.stopped c.in_err-written.ensures.too_large)

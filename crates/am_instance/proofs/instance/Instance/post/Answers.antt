@@ -2,7 +2,8 @@ use Rattle.std.proofs.Common.{◌≡◌, ◌∙◌, None, subst, sym}
 use Rattle.std.proofs.lemmas.Result.{err_from_is_err_and}
 use Rattle.am_instance.specs.declared.event.Event.TheVariants as events
 use Rattle.am_instance.specs.declared.event.Request.TheVariants as requests
-use Rattle.am_instance.specs.Replies.{posted_over, unread_refusal}
+use Rattle.am_silence.specs.Refusals.{unread_refusal}
+use Rattle.am_instance.specs.Replies.{posted_over}
 use Rattle.am_instance.specs.Steps.{IsWork}
 use Rattle.am_instance.proofs.RequestWorks.{compiled_anyway, judged_anyway, post_done, post_refused, unread_is_told, unread_planned}
 use Rattle.am_instance.proofs.Works.{stopped_work}

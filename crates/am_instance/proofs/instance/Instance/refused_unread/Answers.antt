@@ -2,7 +2,8 @@ use Rattle.std.proofs.Common.{◌≡◌, ℕ, List, ap, ◌∙◌}
 use Rattle.std.specs.Prelude.{Option}
 use Rattle.std.specs.Option.{option_copied}
 use Rattle.am_silence.specs.Mesh.{Mesh}
-use Rattle.am_instance.specs.Replies.{posted_over, unread_refusal}
+use Rattle.am_silence.specs.Refusals.{unread_refusal}
+use Rattle.am_instance.specs.Replies.{posted_over}
 use Rattle.am_instance.specs.InstanceStates.{InstanceState}
 use Rattle.am_instance.proofs.instance.Instance.refused_unread.Goals as goal
 

@@ -1,17 +1,18 @@
 use Rattle.std.proofs.Common.{rules, ◌≡◌, ℕ, ◌≤◌, ◌^◌, List, length, sym, ap, subst, ◌∙◌}
 use Rattle.am_wire.specs.Timestamps.{writes_moment}
 use Rattle.am_wire.specs.Writing.{writes_delimited}
-use Rattle.am_silence.specs.Fields.{silence_in}
+use Rattle.am_silence.specs.declared.silence.Silence.{Silence}
 use Rattle.am_silence.specs.Mesh.{Mesh, IsMesh, writes_mesh_silence}
 use Rattle.am_silence.specs.Offsets.{StandIn}
 use Rattle.am_silence.specs.Spelled.{version_in, version_spelled}
 use Rattle.am_silence.proofs.Spelling.{written_version}
 use Rattle.am_silence.proofs.Standing.{stand_before}
+use Rattle.am_silence.proofs.mesh.MeshSilence.of_sized.Given as given
 use Rattle.am_silence.proofs.mesh.MeshSilence.of_sized.Goals as goal
 
-module _ (c : goal.After-result-4-1) where
+module _ (g : given.Over) (c : goal.After-result-4-1 g) where
   abbrev version : Mesh
-  version = record { silence = silence_in c.args.fields.now; expires_at = c.args.expires_at }
+  version = record { silence = c.args.fields.now; expires_at = c.args.expires_at }
 
   abbrev text : List ℕ
   text = c.write_message.new.out.items
@@ -34,16 +35,18 @@ module _ (c : goal.After-result-4-1) where
       (stand_before c.in_ok-places.ensures.places (writes_delimited 2 (writes_moment c.args.expires_at)))
 
 pub invariant_of-result : goal.invariant_of-result
-invariant_of-result c = record {
-  canonical = written c ∙ ap writes_mesh_silence (sym (spelled c));
-  value = subst IsMesh (sym (spelled c)) (sound c);
-  id = c.in_ok-copied.ensures ∙ ap (λ (m : Mesh). m.silence.id) (sym (spelled c));
-  starts_at = ap (λ (m : Mesh). m.silence.starts_at) (sym (spelled c));
-  ends_at = ap (λ (m : Mesh). m.silence.ends_at) (sym (spelled c));
-  updated_at = ap (λ (m : Mesh). m.silence.updated_at) (sym (spelled c));
-  expires_at = ap (λ (m : Mesh). m.expires_at) (sym (spelled c));
-  places = subst (λ (m : Mesh). StandIn m.silence c.in_ok-places.places (text c)) (sym (spelled c)) (standing c);
-}
+invariant_of-result g c =
+    let same = c.fields.view_is ∙ ap (λ (m : Mesh). m.silence) (sym (spelled g c)) in
+    record {
+      canonical = written g c ∙ ap writes_mesh_silence (sym (spelled g c));
+      value = subst IsMesh (sym (spelled g c)) (sound g c);
+      id = c.in_ok-copied.ensures ∙ ap (λ (s : Silence). s.id) same;
+      starts_at = ap (λ (s : Silence). s.starts_at) same;
+      ends_at = ap (λ (s : Silence). s.ends_at) same;
+      updated_at = ap (λ (s : Silence). s.updated_at) same;
+      expires_at = ap (λ (m : Mesh). m.expires_at) (sym (spelled g c));
+      places = subst (λ (m : Mesh). StandIn m.silence c.in_ok-places.places (text g c)) (sym (spelled g c)) (standing g c);
+    }
 
 pub returns : goal.returns
-returns c = spelled c
+returns g c = spelled g c

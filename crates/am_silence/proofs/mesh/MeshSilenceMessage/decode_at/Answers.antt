@@ -3,8 +3,8 @@ use Rattle.am_wire.proofs.Judging.{same_fault}
 use Rattle.am_silence.specs.MeshTable.{reads_mesh_silence}
 use Rattle.am_silence.proofs.mesh.MeshSilenceMessage.decode_at.Goals as goal
 
-pub returns-in_err-silence : goal.returns-in_err-silence
+pub returns-in_err-fields : goal.returns-in_err-fields
 unfolding reads_mesh_silence
-returns-in_err-silence c =
+returns-in_err-fields c =
     let p = err_from_is_err_and c.from_residual.result c.from_residual.ensures.1 in
-    rw (p.1, p.2) (λ other. same_fault _ _ _ _ (c.in_err-silence.ensures other))
+    rw (p.1, p.2) (λ other. same_fault _ _ _ _ (c.in_err-fields.ensures other))

@@ -1,0 +1,181 @@
+//! Clusters in which nothing has happened yet, how they stand behind each line of a schedule, schedules that are played over
+//! readers and writers which fail, and what frames carry.
+
+use crate::connections::say_written;
+use crate::events::{fed, schedule_of};
+use crate::members::{name_at, print_held, say_config, times};
+use am_cluster::{Cluster, ClusterError, SettleError};
+use am_instance::ConfigError;
+use am_part_cases::common::{Brittle, Call, Case, Fault, Pieces, cut};
+use am_part_cases::{given, put, say};
+use am_replay::{OutputLine, Refusal, ReplayError, append_line, run};
+use am_schedule::Line;
+use am_silence::SilenceError;
+use am_steps::carried::{AnyVersion, ByState, carried_by};
+
+fn made(case: &Case, words: &str) -> Option<Cluster> {
+    let (retention, peer_timeout) = times(case)?;
+    let names = case.list(words, " ");
+    let cluster = Cluster::new(case.alloc, names, retention, peer_timeout);
+    case.got(cluster, ConfigError::Memory)
+}
+
+/// `cluster NAME ..`: each member, and what is told of the cluster; or why there is none.
+pub fn cluster(case: &Case, rest: &str) {
+    given!(cluster = made(case, rest));
+    for place in 0..u64::MAX {
+        let Some(instance) = cluster.instance(place) else {
+            break;
+        };
+        say_config(case, instance.config());
+        print_held(case, "holds ", instance);
+        say!(case; "\n", ?cluster.calm(place));
+    }
+    say!(case; "at place 9 ", ?cluster.calm(9));
+    put!(case; cluster.in_flight().len(), " frames, ");
+    say_timely(case, &cluster);
+}
+
+fn say_timely(case: &Case, cluster: &Cluster) {
+    given!((_, time) = times(case));
+    say!(case; "timely ", cluster.timely(time, time));
+}
+
+/// `settle MOMENT ..: NAME ..`: what such a cluster answers to a settle at each of the moments in turn, and whether its run
+/// is timely then.
+pub fn settle(case: &Case, rest: &str) {
+    let (moments, names) = cut(rest, ":");
+    given!(mut cluster = made(case, names));
+    for word in moments.split(' ') {
+        let settled = cluster.settle(case.moment(word), 1);
+        if case.got(settled, SettleError::Memory).is_some() {
+            case.put("settled\n");
+        }
+    }
+    say_timely(case, &cluster);
+}
+
+/// `steps LINE; ..`: how the members of a schedule's cluster stand behind each of its lines.
+pub fn steps(case: &Case, rest: &str) {
+    given!(schedule = schedule_of(case, rest));
+    let mut names = Vec::new(case.alloc);
+    for name in schedule.names.as_slice() {
+        case.push(&mut names, case.text(name.as_str()));
+    }
+    let cluster = Cluster::new(case.alloc, names, schedule.retention, schedule.peer_timeout);
+    given!(mut cluster = case.made(cluster));
+    for (line, number) in schedule.lines.as_slice() {
+        play_line(case, &mut cluster, line, *number);
+    }
+}
+
+/// Makes a line, and says how the members stand then; twice where it finds no memory.
+fn play_line(case: &Case, cluster: &mut Cluster, line: &Line, number: u64) {
+    if finds_no_memory(cluster, line, number) {
+        case.put("no memory at ");
+        say_members(case, cluster, number);
+        if finds_no_memory(cluster, line, number) {
+            case.fail(Fault::Memory);
+        }
+    }
+    say_members(case, cluster, number);
+}
+
+fn finds_no_memory(cluster: &mut Cluster, line: &Line, number: u64) -> bool {
+    match line {
+        Line::Step(step) => matches!(cluster.step(step, number), Err(ClusterError::Memory)),
+        Line::Settle(now) => cluster.settle(*now, number) == Err(SettleError::Memory),
+        _ => false,
+    }
+}
+
+fn say_members(case: &Case, cluster: &Cluster, number: u64) {
+    put!(case; "line ", number, ":");
+    for place in 0..u64::MAX {
+        let Some(instance) = cluster.instance(place) else {
+            break;
+        };
+        put!(case; " ", name_at(instance.config(), place));
+        print_held(case, " ", instance);
+        let is_calm = cluster.calm(place).calm;
+        case.put(if is_calm { "," } else { " uncalm," });
+    }
+    say!(case; " ", cluster.in_flight().len(), " frames");
+}
+
+#[derive(Clone, Copy)]
+struct Playing;
+
+impl Call for Playing {
+    fn make(&self, case: &Case, reader: &mut Pieces<'_>, writer: &mut Brittle) -> Option<u64> {
+        match run(case.alloc, reader, writer) {
+            Ok(()) => case.put("played"),
+            Err(ReplayError::Memory { .. }) => case.fail(Fault::Memory),
+            Err(ReplayError::Read { at }) => {
+                case.put("Read");
+                return Some(at as u64);
+            }
+            Err(ReplayError::Write { written }) => {
+                case.put("Write");
+                return Some(written);
+            }
+            Err(ReplayError::Schedule(error)) => put!(case; ?error.kind, " ", error.line),
+            Err(error) => case.debug(error),
+        }
+        None
+    }
+}
+
+/// `replay PHRASES: TEXT`
+pub fn replay(case: &Case, rest: &str) {
+    let (phrases, text) = cut(rest, ":");
+    let text = case.unescaped(text.strip_prefix(' ').unwrap_or(text));
+    let writer = case.make(&Playing, text.as_slice(), &case.how(phrases));
+    say_written(case, writer.taken.as_slice());
+}
+
+/// `refused`: the lines of refusals that no schedule reaches.
+pub fn refused(case: &Case) {
+    let mut text = String::new(case.alloc);
+    for error in [
+        SilenceError::NoMatcher,
+        SilenceError::BadPattern,
+        SilenceError::TooLarge,
+        SilenceError::Memory,
+    ] {
+        let (name, refusal) = (Some("a"), Refusal::from(error));
+        case.made(append_line(&mut text, &OutputLine::Refused { name, refusal }));
+    }
+    case.put(text);
+}
+
+/// `carried BYTES` and `carried first COUNT of BYTES`: the versions that a frame carries, or the first so many, by state.
+pub fn carried(case: &Case, rest: &str) {
+    let (count, digits) = match rest.strip_prefix("first ") {
+        Some(rest) => cut(rest, " of "),
+        None => ("100", rest),
+    };
+    given!(fed = fed(case, digits));
+    for frame in &fed.frames {
+        given!(versions = case.made(carried_by(case.alloc, frame)));
+        say_first(case, versions, case.number(count) as usize);
+    }
+}
+
+fn say_first(case: &Case, versions: Vec<AnyVersion>, count: usize) {
+    match ByState::with_room(case.alloc, versions.len()) {
+        Ok(mut sorted) => {
+            sorted.put_first(versions, count);
+            say_sorted(case, sorted);
+        }
+        Err(_) => case.fail(Fault::Memory),
+    }
+}
+
+fn say_sorted(case: &Case, sorted: ByState) {
+    let (silences, log) = sorted.into_parts();
+    case.put("silences\n");
+    case.say_versions(silences.as_slice());
+    case.put("entries\n");
+    case.say_versions(log.as_slice());
+}

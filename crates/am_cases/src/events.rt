@@ -1,0 +1,228 @@
+//! What happens to a member, in words, and what a schedule's line asks of it.
+
+use am_gossip::{Fed, Feeder, Frame, FrameError};
+use am_instance::{Config, Event, Place, Request};
+use am_matcher::Labels;
+use am_nflog::{Hashes, Receiver};
+use am_part_cases::common::{Case, Fault, Printed, first};
+use am_part_cases::{given, put, say};
+use am_runs::Source;
+use am_schedule::{Action, FaultKind, Line, Schedule, parse};
+use am_silence::Posted;
+use am_steps::{Asked, to_event};
+use am_wire::{Bytes, Text};
+
+/// The event of words.
+pub fn event(case: &Case, config: &Config, verb: &str, rest: &str) -> Option<Event> {
+    match verb {
+        "pull" => Some(Event::PullFrom(place(case, config, rest))),
+        "show" => Some(Event::Show),
+        "tick" => Some(Event::Tick),
+        "mutes" => Some(Event::Mutes {
+            labels: Labels::new(case.list(rest, " ")),
+        }),
+        "notified" => of_group(case, rest, None),
+        "decide" => {
+            let (wanted, rest) = first(rest);
+            of_group(case, rest, Some(wanted == "yes"))
+        }
+        _ => Some(Event::Request(request(case, verb, rest)?)),
+    }
+}
+
+fn request(case: &Case, verb: &str, rest: &str) -> Option<Request> {
+    match verb {
+        "list" => Some(Request::List {
+            filters: case.list(rest, " "),
+        }),
+        "get" => Some(Request::Get {
+            id: case.text(rest),
+        }),
+        "expire" => Some(Request::Delete {
+            id: case.text(rest),
+        }),
+        "post" => Some(post(case, rest)),
+        _ => case.wanted(None),
+    }
+}
+
+/// The place of a member, by its name; another place is a number.
+pub fn place(case: &Case, config: &Config, word: &str) -> Place {
+    match config.place_named(word) {
+        Some(place) => place,
+        None => case.number(word),
+    }
+}
+
+/// `post ID BITS START END MATCHER ..`, without author and comment. No identifier is `-`.
+fn post(case: &Case, text: &str) -> Request {
+    let (id, text) = first(text);
+    let (bits, text) = first(text);
+    let (starts_at, text) = first(text);
+    let (ends_at, text) = first(text);
+    let posted = Posted {
+        id: if id == "-" { None } else { Some(case.text(id)) },
+        matchers: case.matchers(text),
+        starts_at: case.moment(starts_at),
+        ends_at: case.moment(ends_at),
+        created_by: Text::new(String::new(case.alloc)),
+        comment: Text::new(String::new(case.alloc)),
+    };
+    let bits = case.number(bits).into();
+    Request::Post { posted, bits }
+}
+
+/// `GROUP RECEIVER FIRING RESOLVED REPEAT`, as `g r/w/0 1,2 - 60`: what is told of a group, or asked, with whether resolved
+/// alerts are wanted.
+fn of_group(case: &Case, text: &str, wanted: Option<bool>) -> Option<Event> {
+    let (group, text) = first(text);
+    let (name, text) = first(text);
+    let (firing, text) = first(text);
+    let (resolved, repeat) = first(text);
+    let repeat = case.seconds(repeat)?;
+    let (group_key, receiver) = (group_key(case, group), case.receiver(name));
+    let firing = Hashes::new(case.numbers(firing));
+    let resolved = Hashes::new(case.numbers(resolved));
+    Some(match wanted {
+        Some(send_resolved) => Event::Decide {
+            group_key,
+            receiver,
+            firing,
+            resolved,
+            repeat,
+            send_resolved,
+        },
+        None => Event::Notified {
+            group_key,
+            receiver,
+            firing,
+            resolved,
+            repeat,
+        },
+    })
+}
+
+/// The key of a group; a long one is a number and a letter, as `3*g`.
+fn group_key(case: &Case, word: &str) -> Bytes {
+    let key = match word.split_once('*') {
+        Some((times, text)) => {
+            let byte = text.as_bytes().first().copied().unwrap_or(0);
+            case.made(vec![in case.alloc; byte; case.number(times) as usize])
+        }
+        None => Some(case.unescaped(word)),
+    };
+    Bytes::new(key.unwrap_or(Vec::new(case.alloc)))
+}
+
+/// What a feeder makes of the bytes that digits spell.
+pub fn fed(case: &Case, digits: &str) -> Option<Fed> {
+    let stream = case.bytes(digits);
+    let fed = Feeder::new(case.alloc).feed(stream.as_slice());
+    case.sound(fed, FrameError::Memory)
+}
+
+/// The schedule of lines with `; ` between them.
+pub fn schedule_of(case: &Case, text: &str) -> Option<Schedule> {
+    let lines = case.made(text.replace(case.alloc, "; ", "\n"))?;
+    let schedule = parse(case.alloc, lines.as_bytes()).map_err(|error| error.kind);
+    case.sound(schedule, FaultKind::Memory)
+}
+
+/// `asks LINE; ..`: what the last line of a schedule asks of a member.
+pub fn asks(case: &Case, config: &Config, text: &str) {
+    given!(schedule = schedule_of(case, text));
+    if let Some((Line::Step(step), _)) = schedule.lines.as_slice().last()
+        && let Action::Event { event, .. } = step.action()
+    {
+        given!(asked = case.made(to_event(case.alloc, config, event)));
+        say_asked(case, &asked);
+    }
+}
+
+fn say_asked(case: &Case, asked: &Asked) {
+    match asked {
+        Asked::Start => case.put("start\n"),
+        Asked::NoMember => case.put("no member\n"),
+        Asked::Event { event, source } => {
+            say_event(case, event);
+            match source {
+                Source::Made => {}
+                Source::Written(sent) => say!(case; "sent at ", @sent),
+                other => say!(case; ?other),
+            }
+        }
+    }
+}
+
+fn say_event(case: &Case, event: &Event) {
+    match event {
+        Event::Request(request) => say_request(case, request),
+        Event::Frame { sender, frame } => say_frame(case, *sender, frame),
+        Event::Notified {
+            group_key,
+            receiver,
+            firing,
+            resolved,
+            repeat,
+        } => {
+            case.put("notified");
+            print_group(case, group_key, receiver, firing, resolved);
+            say!(case; " repeat ", ?repeat);
+        }
+        Event::Decide {
+            group_key,
+            receiver,
+            firing,
+            resolved,
+            repeat,
+            send_resolved,
+        } => {
+            case.put("decide");
+            print_group(case, group_key, receiver, firing, resolved);
+            say!(case; " repeat ", ?repeat, ", resolved wanted ", *send_resolved);
+        }
+        Event::Mutes { labels } => {
+            case.put("mutes");
+            for label in labels.as_slice() {
+                put!(case; " ", ?label.name.as_str(), "=", ?label.value.as_str());
+            }
+            case.put("\n");
+        }
+        Event::Show => case.put("show\n"),
+        Event::Tick => case.put("tick\n"),
+        Event::PullFrom(place) => say!(case; "pull from ", place),
+    }
+}
+
+fn print_group(case: &Case, group: &Bytes, to: &Receiver, firing: &Hashes, resolved: &Hashes) {
+    case.put(" ");
+    case.print_text(group.as_slice());
+    put!(case; " to ", to.group_name.as_str(), "/", to.integration.as_str(), "/", to.idx, ",");
+    put!(case; " firing ", ?firing.as_slice(), ", resolved ", ?resolved.as_slice(), ",");
+}
+
+fn say_frame(case: &Case, sender: u64, frame: &Frame) {
+    put!(case; "from ", sender, " ", ?frame.kind());
+    if let Frame::Delta(part) = frame {
+        put!(case; " ", ?part.key, " ");
+        case.print_bytes("", part.bytes.as_slice(), "none");
+    }
+    case.put("\n");
+}
+
+fn say_request(case: &Case, request: &Request) {
+    match request {
+        Request::Delete { id } => say!(case; "expire ", ?id.as_str()),
+        Request::Post { posted, bits } => {
+            case.put(format_args!("post {bits:032x},"));
+            match &posted.id {
+                Some(id) => put!(case; " id ", ?id.as_str(), ","),
+                None => case.put(" no id,"),
+            }
+            case.print_matchers(posted.matchers.iter());
+            put!(case; " ", @posted.starts_at, "..", @posted.ends_at);
+            say!(case; ", by ", ?posted.created_by.as_str(), " ", ?posted.comment.as_str());
+        }
+        _ => case.fail(Fault::Words),
+    }
+}

@@ -1,0 +1,98 @@
+//! The member that the cases go through: how it begins, and what it holds.
+
+use am_instance::{Config, ConfigError, Instance};
+use am_merge::Held;
+use am_part_cases::common::{Case, Printed, Spelled, cut, first};
+use am_part_cases::{given, put, say};
+use am_version_order::{Interval, Moment};
+use am_wire::Text;
+
+/// How long members keep versions after their end, 100 s, and how long they wait for one another, 15 s.
+pub fn times(case: &Case) -> Option<(Interval, Interval)> {
+    Some((case.seconds("100")?, case.seconds("15")?))
+}
+
+/// `new at MOMENT NAME PEER ..`: a member that holds nothing; says its configuration, or why there is none.
+pub fn begin(case: &Case, member: &mut Option<Instance>, text: &str) {
+    let (_, text) = first(text);
+    let (now, names) = first(text);
+    let (own, peers) = first(names);
+    given!((retention, peer_timeout) = times(case));
+    given!(name = Text::spelled(case, own));
+    let (now, peers) = (case.moment(now), case.list(peers, " "));
+    let config = Config::new(case.alloc, name, peers, retention, peer_timeout);
+    given!(config = case.got(config, ConfigError::Memory));
+    say_config(case, &config);
+    if case.is_fine() {
+        *member = Some(empty(case, config, now));
+    }
+}
+
+fn empty(case: &Case, config: Config, now: Moment) -> Instance {
+    Instance::start(config, Held::new(case.alloc), Held::new(case.alloc), now)
+}
+
+/// The same member, which holds nothing.
+pub fn anew(case: &Case, instance: &Instance) -> Option<Instance> {
+    let config = case.made(instance.config().try_clone())?;
+    Some(empty(case, config, instance.last()))
+}
+
+/// The same member, which holds the same.
+pub fn copied(case: &Case, instance: &Instance) -> Option<Instance> {
+    let config = case.made(instance.config().try_clone())?;
+    let silences = case.made(instance.silences().try_clone())?;
+    let log = case.made(instance.log().try_clone())?;
+    Some(Instance::start(config, silences, log, instance.last()))
+}
+
+/// `hold at MOMENT SILENCES / ENTRIES`: the member begins anew, with these versions.
+pub fn hold(case: &Case, instance: &mut Instance, text: &str) {
+    let (now, versions) = first(first(text).1);
+    let (silences, log) = cut(versions, " / ");
+    given!(config = case.made(instance.config().try_clone()));
+    let (silences, log) = (case.held(silences), case.held(log));
+    let holding = Instance::start(config, silences, log, case.moment(now));
+    if case.is_fine() {
+        *instance = holding;
+    }
+}
+
+/// Says place and names of the members, how long versions are kept, and when the member is due that began to wait at 0 s.
+pub fn say_config(case: &Case, config: &Config) {
+    put!(case; "place ", config.place(), " of");
+    for name in config.members() {
+        put!(case; " ", name.as_str());
+    }
+    put!(case; ", keeps ", ?config.retention());
+    match config.due_from(case.moment("0")) {
+        Some(due) => say!(case; ", due ", @due),
+        None => case.put(", never due\n"),
+    }
+}
+
+/// The name of the member at a place.
+pub fn name_at(config: &Config, place: u64) -> &str {
+    match config.members().get(place as usize) {
+        Some(name) => name.as_str(),
+        None => "nobody",
+    }
+}
+
+/// Says all that is held.
+pub fn say_state(case: &Case, instance: &Instance) {
+    for version in instance.silences().iter() {
+        say!(case; @version);
+    }
+    for entry in instance.log().iter() {
+        say!(case; @entry);
+    }
+    print_held(case, "holds ", instance);
+    case.put("\n");
+}
+
+/// Prints a text, how many silences and entries are held, and the moment of the last event.
+pub fn print_held(case: &Case, before: &str, instance: &Instance) {
+    put!(case; before, instance.silences().len(), " ", instance.log().len());
+    put!(case; " at ", @instance.last());
+}

@@ -1,0 +1,64 @@
+//! What comes of what a connection said.
+
+ghost use Rattle.std.specs.Prelude.{◌≡◌, None};
+ghost use Rattle.am_instance.specs.Sendings.{sent_by};
+ghost use Rattle.am_member.specs.Incoming.{Adds, no_effects};
+
+use crate::fault::Fault;
+use am_api_silences::Making;
+use am_instance::{Outbox, Outcome};
+use std::alloc::Global;
+
+/// What steps have for effects besides those on the instance.
+#[derive(Drop)]
+pub struct Effects {
+    pub outbox: Outbox,
+    /// A Tick was among the steps that were made.
+    pub ticked: bool,
+}
+
+impl Effects {
+    /// No step was made. It takes no memory.
+    pub(crate) fn none(alloc: Global) -> Effects
+        ensures { result ≡ no_effects }
+    {
+        Effects {
+            outbox: Outbox::new(alloc),
+            ticked: false,
+        }
+    }
+
+    /// Adds the effects of one more step. Frames that there is no memory for are counted.
+    pub(crate) fn add(&mut self, outcome: Outcome, ticks: bool)
+        ensures { Adds (sent_by outcome) ticks self.old self.new }
+    {
+        let (_, outbox) = outcome.into_parts();
+        self.ticked |= ticks;
+        self.outbox.add(outbox);
+    }
+}
+
+/// What came of what a connection said.
+#[derive(Drop)]
+pub struct Exchanged {
+    /// The reply, where a request was answered. That of a list is still to be written.
+    pub reply: Option<Making>,
+    pub effects: Effects,
+    /// Why no more is heard of the connection.
+    pub fault: Option<Fault>,
+}
+
+impl Exchanged {
+    /// Nothing was answered, and no step was made. It takes no memory.
+    pub(crate) fn nothing(alloc: Global) -> Exchanged
+        ensures reply { result.reply ≡ None }
+        ensures effects { result.effects ≡ no_effects }
+        ensures fault { result.fault ≡ None }
+    {
+        Exchanged {
+            reply: None,
+            effects: Effects::none(alloc),
+            fault: None,
+        }
+    }
+}

@@ -1,0 +1,122 @@
+//! Bytes as pairs of hexadecimal digits, and as text of one line, with `\r`, `\n`, `\\` and `\x1f` for those that can't stand
+//! for themselves.
+
+use crate::common::case::{Case, Fault};
+
+/// The byte that two hexadecimal digits spell.
+fn byte(pair: &[u8]) -> Option<u8> {
+    u8::from_str_radix(str::from_utf8(pair).ok()?, 16).ok()
+}
+
+impl Case {
+    /// The bytes that pairs of hexadecimal digits spell, with any blanks between the pairs, in parts with ` + ` between them.
+    /// `64 x 0a` is a part that stands 64 times.
+    pub fn bytes(&self, text: &str) -> Vec<u8> {
+        self.repeated(text, true)
+    }
+
+    /// The bytes that a text spells, in such parts.
+    pub fn spelled(&self, text: &str) -> Vec<u8> {
+        self.repeated(text, false)
+    }
+
+    fn repeated(&self, text: &str, are_pairs: bool) -> Vec<u8> {
+        let mut bytes = Vec::new(self.alloc);
+        for part in text.split(" + ") {
+            self.append_part(&mut bytes, part, are_pairs);
+        }
+        bytes
+    }
+
+    fn append_part(&self, bytes: &mut Vec<u8>, part: &str, are_pairs: bool) {
+        let (count, once) = part.split_once(" x ").unwrap_or(("1", part));
+        for _ in 0..count.parse::<u64>().unwrap_or(0) {
+            if are_pairs {
+                self.append_pairs(bytes, once);
+            } else {
+                self.append_unescaped(bytes, once);
+            }
+        }
+    }
+
+    fn append_pairs(&self, bytes: &mut Vec<u8>, text: &str) {
+        given!(digits = self.made(text.replace(self.alloc, " ", "")));
+        for pair in digits.as_bytes().chunks(2) {
+            self.push(bytes, self.or(byte(pair), 0));
+        }
+    }
+
+    /// Appends bytes.
+    pub fn append(&self, bytes: &mut Vec<u8>, more: &[u8]) {
+        if bytes.extend_from_slice(more).is_err() {
+            self.fail(Fault::Memory);
+        }
+    }
+
+    /// The bytes that a text spells.
+    pub fn unescaped(&self, text: &str) -> Vec<u8> {
+        let mut bytes = Vec::new(self.alloc);
+        self.append_unescaped(&mut bytes, text);
+        bytes
+    }
+
+    fn append_unescaped(&self, bytes: &mut Vec<u8>, text: &str) {
+        let mut is_plain = true;
+        for part in text.split('\\') {
+            if is_plain {
+                self.append(bytes, part.as_bytes());
+                is_plain = false;
+            } else {
+                is_plain = part.is_empty();
+                self.append_escape(bytes, part.as_bytes());
+            }
+        }
+    }
+
+    fn append_escape(&self, bytes: &mut Vec<u8>, text: &[u8]) {
+        let (first, size) = match text.first() {
+            None => (Some(b'\\'), 0),
+            Some(b'r') => (Some(b'\r'), 1),
+            Some(b'n') => (Some(b'\n'), 1),
+            Some(b'x') => (byte(text.get(1..3).unwrap_or(&[])), 3),
+            Some(_) => (None, 0),
+        };
+        self.push(bytes, self.or(first, 0));
+        self.append(bytes, text.get(size..).unwrap_or(&[]));
+    }
+
+    /// Prints bytes as they are spelled.
+    pub fn print_text(&self, bytes: &[u8]) {
+        for byte in bytes {
+            match byte {
+                b'\r' => self.put("\\r"),
+                b'\n' => self.put("\\n"),
+                b'\\' => self.put("\\\\"),
+                b' '..=b'~' => self.put(char::from(*byte)),
+                _ => self.put(format_args!("\\x{byte:02x}")),
+            }
+        }
+    }
+
+    /// Says bytes as they are spelled.
+    pub fn say_text(&self, bytes: &[u8]) {
+        self.print_text(bytes);
+        self.put("\n");
+    }
+
+    /// Prints bytes as pairs of hexadecimal digits behind a mark, or a word for no bytes.
+    pub fn print_bytes(&self, mark: &str, bytes: &[u8], none: &str) {
+        let mut before = mark;
+        for byte in bytes {
+            self.put(format_args!("{before}{byte:02x}"));
+            before = " ";
+        }
+        self.put(if bytes.is_empty() { none } else { "" });
+    }
+
+    /// Says bytes as pairs of hexadecimal digits, or `none`.
+    pub fn say_bytes(&self, bytes: &[u8]) {
+        self.print_bytes("", bytes, "none");
+        self.put("\n");
+    }
+}

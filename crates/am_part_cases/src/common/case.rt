@@ -1,0 +1,135 @@
+//! A case: its answer so far, and why it has none.
+
+use am_wire::Text;
+use std::alloc::Global;
+use std::cell::{Cell, RefCell};
+use std::fmt::{Debug, Display, Write};
+
+/// Why a case has no answer.
+#[derive(Clone, Copy, Debug, PartialEq, Eq)]
+pub enum Fault {
+    /// The words say no case.
+    Words,
+    /// Memory ran out.
+    Memory,
+}
+
+/// A case that is answered. The first fault is kept, and behind it nothing is printed and no step is made: what words spell
+/// is then another value.
+#[derive(Drop)]
+pub struct Case {
+    pub alloc: Global,
+    fault: Cell<Option<Fault>>,
+    text: RefCell<String>,
+}
+
+impl Case {
+    /// A case without an answer yet, with room for one of so many bytes.
+    pub fn new(alloc: Global, room: usize) -> Case {
+        let (fault, text) = match String::with_capacity(alloc, room) {
+            Ok(text) => (None, text),
+            Err(_) => (Some(Fault::Memory), String::new(alloc)),
+        };
+        let (fault, text) = (Cell::new(fault), RefCell::new(text));
+        Case { alloc, fault, text }
+    }
+
+    /// The answer.
+    pub fn into_text(self) -> String {
+        self.text.into_inner()
+    }
+
+    pub fn fault(&self) -> Option<Fault> {
+        self.fault.get()
+    }
+
+    pub fn is_fine(&self) -> bool {
+        self.fault.get().is_none()
+    }
+
+    /// Keeps a fault, unless one came before.
+    pub fn fail(&self, fault: Fault) {
+        if self.is_fine() {
+            self.fault.set(Some(fault));
+        }
+    }
+
+    /// Keeps the fault of a part, if it has one.
+    pub fn fail_as(&self, part: &Case) {
+        if let Some(fault) = part.fault() {
+            self.fail(fault);
+        }
+    }
+
+    /// Prints a value.
+    pub fn put<T: Display + Drop>(&self, value: T) {
+        let Ok(mut text) = self.text.try_borrow_mut() else {
+            return self.fail(Fault::Words);
+        };
+        if self.is_fine() && write!(text, "{value}").is_err() {
+            self.fail(Fault::Memory);
+        }
+    }
+
+    /// Prints a value as code spells it.
+    pub fn debug<T: Debug + Drop>(&self, value: T) {
+        self.put(format_args!("{value:?}"));
+    }
+
+    /// The value of words, if they say one.
+    pub fn wanted<T: Drop>(&self, value: Option<T>) -> Option<T> {
+        if value.is_none() {
+            self.fail(Fault::Words);
+        }
+        value
+    }
+
+    /// The value of words, or another one where they say none.
+    pub fn or<T: Drop>(&self, value: Option<T>, other: T) -> T {
+        self.wanted(value).unwrap_or(other)
+    }
+
+    /// What was made, if memory was there for it.
+    pub fn made<T: Drop, E: Drop>(&self, made: Result<T, E>) -> Option<T> {
+        if made.is_err() {
+            self.fail(Fault::Memory);
+        }
+        made.ok()
+    }
+
+    /// What words spell; a fault other than `memory` is theirs.
+    pub fn sound<T: Drop, E: Copy + PartialEq>(&self, read: Result<T, E>, memory: E) -> Option<T> {
+        match read {
+            Err(fault) if fault != memory => self.wanted(None),
+            read => self.made(read),
+        }
+    }
+
+    /// What a call is answered. Says what it is refused for, unless that is `memory`.
+    pub fn got<T: Drop, E: Copy + Debug + PartialEq>(
+        &self,
+        got: Result<T, E>,
+        memory: E,
+    ) -> Option<T> {
+        match got {
+            Err(refusal) if refusal != memory => {
+                say!(self; ?refusal);
+                None
+            }
+            got => self.made(got),
+        }
+    }
+
+    /// Puts a value at the end of a list.
+    pub fn push<T: Drop>(&self, list: &mut Vec<T>, value: T) {
+        if list.push(value).is_err() {
+            self.fail(Fault::Memory);
+        }
+    }
+
+    /// A text.
+    pub fn text(&self, word: &str) -> Text {
+        self.made(Text::copied(self.alloc, word))
+            .unwrap_or(Text::new(String::new(self.alloc)))
+    }
+}

@@ -1,0 +1,215 @@
+//! Values that words spell, and versions of either state, as words, as bytes, and printed.
+//!
+//! A silence is `a job=x env!~y|z 10..100 updated 10 expires 200 by ops saying hi`, where what isn't said is as here, but for
+//! matchers, author and comment, which then are none. A log entry is `g r/w/0 updated 10 expires 200 firing 1,2 resolved 3
+//! hash 0a, all resolved`, where an empty list or hash is left out.
+
+use crate::common::case::Case;
+use crate::common::matching::matcher_parts;
+use crate::common::words::{behind, cut, first};
+use am_merge::{Held, Taken};
+use am_nflog::{Bytes, Entry, HashIter, Hashes, LogKey, MeshEntry, Receiver};
+use am_silence::{MeshSilence, Silence};
+use am_version_order::{Moment, Version};
+use am_wire::{Message, Text, WireError};
+
+/// A value that words spell.
+pub trait Spelled: Sized + Drop {
+    /// The value, unless memory ran out or the words say none.
+    fn spelled(case: &Case, words: &str) -> Option<Self>;
+}
+
+impl Spelled for Text {
+    fn spelled(case: &Case, word: &str) -> Option<Text> {
+        Some(case.text(if word == "-" { "" } else { word }))
+    }
+}
+
+/// A value that is printed as cases name it.
+pub trait Printed {
+    fn print(&self, case: &Case);
+}
+
+/// A version that cases name, and that is printed as they name it; behind `bytes` it is named by its bytes.
+pub trait Told: Version + Message + Spelled + Printed {}
+
+impl Told for MeshSilence {}
+
+impl Told for MeshEntry {}
+
+/// The first word that is a start and an end.
+fn span_word(words: &str) -> &str {
+    for word in words.split(' ') {
+        if matcher_parts(word).is_none() && word.contains("..") {
+            return word;
+        }
+    }
+    "10..100"
+}
+
+impl Case {
+    fn decoded<M: Message>(&self, hex: &str) -> Option<M> {
+        let bytes = self.bytes(hex);
+        self.sound(M::decode(self.alloc, bytes.as_slice()), WireError::Memory)
+    }
+
+    /// The values of a text, parted by a mark; none of an empty text.
+    pub fn list<T: Spelled>(&self, text: &str, mark: &str) -> Vec<T> {
+        let mut list = Vec::new(self.alloc);
+        for words in text.split(mark) {
+            if !words.is_empty()
+                && self.is_fine()
+                && let Some(value) = T::spelled(self, words)
+            {
+                self.push(&mut list, value);
+            }
+        }
+        list
+    }
+
+    /// Says each of these versions.
+    pub fn say_versions<V: Told>(&self, versions: &[V]) {
+        for version in versions {
+            say!(self; @version);
+        }
+    }
+
+    /// Takes the version of words at a moment.
+    pub fn take<V: Told>(&self, held: &mut Held<V>, words: &str, now: Moment) -> Option<Taken> {
+        self.made(held.take(V::spelled(self, words)?, now))
+    }
+
+    /// The map of versions that are parted by `, `.
+    pub fn held<V: Told>(&self, text: &str) -> Held<V> {
+        let mut held = Held::new(self.alloc);
+        for words in text.split(", ") {
+            if !words.is_empty() {
+                self.take(&mut held, words, Moment::LEAST);
+            }
+        }
+        held
+    }
+
+    /// Says all versions of a map.
+    pub fn say_held<V: Told>(&self, held: &Held<V>) {
+        put!(self; held.len(), " held");
+        for version in held.iter() {
+            put!(self; ", ", @version);
+        }
+        self.put("\n");
+    }
+
+    /// The silence of words.
+    pub fn silence(&self, words: &str) -> Silence {
+        let (starts, ends) = cut(span_word(words), "..");
+        let (front, comment) = cut(words, " saying ");
+        let (front, author) = cut(front, " by ");
+        Silence {
+            id: self.text(first(front).0),
+            matchers: self.matchers(cut(words, " by ").0),
+            starts_at: self.moment(starts),
+            ends_at: self.moment(ends),
+            updated_at: self.moment(behind(words, " updated ", "10")),
+            created_by: self.text(author),
+            comment: self.text(comment),
+        }
+    }
+
+    /// The receiver of a word such as `r/w/0`.
+    pub fn receiver(&self, word: &str) -> Receiver {
+        let (name, rest) = cut(word, "/");
+        let (integration, index) = cut(rest, "/");
+        Receiver {
+            group_name: self.text(name),
+            integration: self.text(integration),
+            idx: self.or(index.parse::<u32>().ok(), 0),
+        }
+    }
+
+    fn log_key(&self, words: &str) -> Option<LogKey> {
+        let (group, rest) = first(words);
+        let receiver = self.receiver(first(rest).0);
+        self.made(LogKey::new(self.alloc, group.as_bytes(), &receiver))
+    }
+
+    /// The entry of words, without a hash of its group. What isn't said is 10 s as the moment, and no hashes.
+    pub fn entry(&self, words: &str) -> Option<Entry> {
+        let key = self.log_key(words)?;
+        Some(Entry {
+            key,
+            group_hash: Bytes::new(Vec::new(self.alloc)),
+            resolved: false,
+            timestamp: self.moment(behind(words, " updated ", "10")),
+            firing_alerts: Hashes::new(self.numbers(behind(words, " firing ", "-"))),
+            resolved_alerts: Hashes::new(self.numbers(behind(words, " resolved ", "-"))),
+        })
+    }
+
+    fn print_unless_empty(&self, word: &str, text: &str) {
+        if !text.is_empty() {
+            put!(self; word, text);
+        }
+    }
+
+    fn print_hashes(&self, word: &str, hashes: HashIter<'_>) {
+        let mut is_first = true;
+        for hash in hashes {
+            put!(self; if is_first { word } else { "," }, hash);
+            is_first = false;
+        }
+    }
+}
+
+impl Spelled for MeshSilence {
+    fn spelled(case: &Case, words: &str) -> Option<MeshSilence> {
+        if let Some(hex) = words.strip_prefix("bytes ") {
+            return case.decoded(hex);
+        }
+        let expires = case.moment(behind(words, " expires ", "200"));
+        let version = MeshSilence::new(case.alloc, case.silence(words), expires);
+        case.sound(version, WireError::Memory)
+    }
+}
+
+impl Printed for MeshSilence {
+    fn print(&self, case: &Case) {
+        case.put(self.key().as_str());
+        case.print_matchers(self.matchers());
+        put!(case; " ", @self.starts_at(), "..", @self.ends_at());
+        put!(case; " updated ", @self.updated_at(), " expires ", @self.expires_at());
+        case.print_unless_empty(" by ", self.created_by());
+        case.print_unless_empty(" saying ", self.comment());
+    }
+}
+
+impl Spelled for MeshEntry {
+    fn spelled(case: &Case, words: &str) -> Option<MeshEntry> {
+        if let Some(hex) = words.strip_prefix("bytes ") {
+            return case.decoded(hex);
+        }
+        let expires = case.moment(behind(words, " expires ", "200"));
+        let version = MeshEntry::new(case.alloc, case.entry(words)?, expires);
+        case.sound(version, WireError::Memory)
+    }
+}
+
+impl Printed for MeshEntry {
+    fn print(&self, case: &Case) {
+        let key = self.key();
+        match str::from_utf8(key.group_key()) {
+            Ok(text) => case.put(text),
+            Err(_) => case.debug(key.group_key()),
+        }
+        put!(case; " ", key.group_name(), "/", key.integration(), "/", key.idx());
+        put!(case; " updated ", @self.timestamp(), " expires ", @self.expires_at());
+        case.print_hashes(" firing ", self.firing_alerts());
+        case.print_hashes(" resolved ", self.resolved_alerts());
+        case.print_bytes(" hash ", self.group_hash(), "");
+        let resolved = if self.resolved() {
+            ", all resolved"
+        } else {
+            ""
+        };
+        case.put(resolved);
+    }
+}
