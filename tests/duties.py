@@ -19,8 +19,8 @@ import tempfile
 import time
 
 import members
-from members import PATIENCE, Member, free_ports, parted, received, run
-from tally import check, compare, finish
+from members import PATIENCE, Member, eventually, free_ports, parted, received, run
+from tally import check, compare, finish, try_each
 from wire import EMPTY_PUSH, greeting
 
 GET = b"GET /api/v2/silences HTTP/1.1\r\n\r\n"
@@ -57,16 +57,6 @@ def silence(value):
 def post(member, value):
     status, _ = member.ask("POST", "/api/v2/silences", json.dumps(silence(value)).encode())
     return status
-
-
-def eventually(look, patience=PATIENCE):
-    """What `look` answers as soon as that counts as true, or the last of its answers."""
-    end = time.monotonic() + patience
-    while True:
-        found = look()
-        if found or time.monotonic() > end:
-            return found
-        time.sleep(0.05)
 
 
 def comments(member):
@@ -205,7 +195,8 @@ def test_unanswered_push(folder):
         member.send(greeting("p") + EMPTY_PUSH)
         compare("it asks, and answers no Push", asked_of(peer, 3), [2, 2, 2])
         compare("a request is answered when it waits no more", comments(member), [])
-        check("which is at the limit", time.monotonic() - begun > 2 and "am_tool: NoPull" in member.lines, member.lines)
+        check("which is at the limit", time.monotonic() - begun > 2, member.lines)
+        check("and it is told", eventually(lambda: "am_tool: NoPull" in member.lines), member.lines)
         member.send(greeting("p") + EMPTY_PUSH)
         compare("then it answers a Push", answer_to(peer), [3])
         member.kill()
@@ -326,7 +317,7 @@ def test_silent_clients(folder):
 def main():
     members.choose("duties", sys.argv[1:])
     with tempfile.TemporaryDirectory(prefix="am_duties_") as folder:
-        for test in [
+        tests = [
             test_words,
             test_times,
             test_saves,
@@ -339,13 +330,8 @@ def main():
             test_stop_under_way,
             test_at_once,
             test_silent_clients,
-        ]:
-            place = f"{folder}/{test.__name__}"
-            os.mkdir(place)
-            try:
-                test(place)
-            except Exception as fault:
-                check(f"{test.__name__} runs", False, repr(fault))
+        ]
+        try_each(tests, folder)
     finish("duties")
 
 

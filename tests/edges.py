@@ -22,8 +22,8 @@ import tempfile
 import time
 
 import members
-from members import PATIENCE, TOP, Member, free_ports, parted, received, run
-from tally import check, compare, finish, give_up
+from members import PATIENCE, TOP, Member, eventually, free_ports, parted, received, run
+from tally import check, compare, finish, give_up, try_each
 from wire import greeting
 
 # Words in front of a member's that have it see SIGTERM and SIGINT.
@@ -59,16 +59,6 @@ def alone(name, folder, options=(), **how):
 
 def under_library(**values):
     return {"env": {**os.environ, "LD_PRELOAD": library, **values}}
-
-
-def eventually(look, patience=PATIENCE):
-    """What `look` answers as soon as that counts as true, or the last of its answers."""
-    end = time.monotonic() + patience
-    while True:
-        found = look()
-        if found or time.monotonic() > end:
-            return found
-        time.sleep(0.02)
 
 
 def silence(value, now):
@@ -361,7 +351,7 @@ def main():
     members.choose("edges", sys.argv[1:])
     with tempfile.TemporaryDirectory(prefix="am_edges_") as folder:
         library = compiled(folder)
-        for test in [
+        tests = [
             test_last_save,
             test_directory,
             test_owners,
@@ -373,13 +363,8 @@ def main():
             test_time_of_wait,
             test_clock,
             test_lines,
-        ]:
-            place = f"{folder}/{test.__name__}"
-            os.mkdir(place)
-            try:
-                test(place)
-            except Exception as fault:
-                check(f"{test.__name__} runs", False, repr(fault))
+        ]
+        try_each(tests, folder)
     finish("edges")
 
 

@@ -75,6 +75,16 @@ def free_ports(count):
     return ports
 
 
+def eventually(look, patience=PATIENCE):
+    """What `look` answers as soon as that counts as true, or the last of its answers."""
+    end = time.monotonic() + patience
+    while True:
+        found = look()
+        if found or time.monotonic() > end:
+            return found
+        time.sleep(0.02)
+
+
 def silent_peer():
     """A listener that takes what comes on each connection, one after the other, and says nothing."""
     listener = socket.create_server(("127.0.0.1", 0))

@@ -24,9 +24,9 @@ import time
 import urllib.request
 
 import members
-from members import PATIENCE, free_ports, run
+from members import PATIENCE, eventually, free_ports, run
 from tally import check, compare, count, finish
-from three_members import eventually, silence
+from three_members import silence
 
 TITLE = "real replicas"
 ALERTMANAGER, AMTOOL = shutil.which("prometheus-alertmanager"), shutil.which("amtool")

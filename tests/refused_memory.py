@@ -224,8 +224,7 @@ def how_refused(lines, wanted):
         # the moment of a step that found no memory stands, also where the step is then refused
         if told and MOMENT.sub(r"\1", again) == MOMENT.sub(r"\1", text):
             return "made again"
-        # (a feeder is fed the same piece again, and goes on)
-        return "made again" if again == text and text.startswith(begun) or begun + again == text else None
+        return "made again" if again == text and text.startswith(begun) else None
     # a step whose frame found no memory stands, and the frame is counted
     counted = [UNSENT.fullmatch(line) for line in lines if UNSENT.fullmatch(line)]
     missing = len(wanted) - len(without_frames(wanted)) - (len(lines) - len(without_frames(lines)))

@@ -1,6 +1,8 @@
 """What a script of this folder passed and failed, and its last line, which .ci/run reads."""
 
+import os
 import sys
+import time
 
 passed, failed = 0, 0
 
@@ -23,6 +25,20 @@ def compare(name, found, wanted):
 def check(name, holds, said=""):
     if not count(bool(holds)):
         print(f"{name}: not so; {said}", flush=True)
+
+
+def try_each(tests, folder):
+    """Runs tests, each in a folder of its own; where one can't go on it fails, and the others are tried."""
+    for test in tests:
+        place = f"{folder}/{test.__name__}"
+        os.mkdir(place)
+        begun = time.monotonic()
+        try:
+            test(place)
+        except Exception as fault:
+            check(f"{test.__name__} runs", False, repr(fault))
+        if os.environ.get("TIMES"):
+            print(f"{test.__name__}: {time.monotonic() - begun:.1f} s", flush=True)
 
 
 def finish(title):

@@ -23,9 +23,9 @@ import threading
 import time
 
 import members
-from members import PATIENCE, free_ports, outcome, parted, received, run
+from members import PATIENCE, eventually, free_ports, outcome, parted, received, run
 from samples import FIRST
-from tally import check, compare, finish
+from tally import check, compare, finish, try_each
 from wire import EMPTY_PUSH, TICK, delta, field, greeting, timestamp, varint
 
 # The names of the members.
@@ -33,16 +33,6 @@ NAMES = ["a", "b", "c"]
 
 # What is said where the silences and the log are to stand in one file.
 ONE_FILE = "error: '--sil <FILE>' and '--nfl <FILE>' name one file"
-
-
-def eventually(look):
-    """What `look` answers as soon as that counts as true, or the last of its answers."""
-    end = time.monotonic() + PATIENCE
-    while True:
-        found = look()
-        if found or time.monotonic() > end:
-            return found
-        time.sleep(0.05)
 
 
 def entry(group, updated, expires):
@@ -512,16 +502,7 @@ def main():
     with tempfile.TemporaryDirectory() as top:
         os.chmod(top, 0o755)
         members.program = shutil.copy(members.program, f"{top}/am_tool")
-        for test in TESTS:
-            folder = f"{top}/{test.__name__}"
-            os.mkdir(folder)
-            begun = time.monotonic()
-            try:
-                test(folder)
-            except Exception as error:  # a case that can't go on is one that fails, and the others are tried
-                check(test.__name__, False, repr(error))
-            if os.environ.get("TIMES"):
-                print(f"{test.__name__}: {time.monotonic() - begun:.1f} s", flush=True)
+        try_each(TESTS, top)
     finish("three members")
 
 

@@ -1,16 +1,14 @@
-//! Clusters in which nothing has happened yet, how they stand behind each line of a schedule, schedules that are played over
-//! readers and writers which fail, and what frames carry.
+//! Clusters, new and behind each line of a schedule; schedules that are played; and what frames carry.
 
-use crate::connections::say_written;
 use crate::events::{fed, schedule_of};
 use crate::members::{name_at, print_held, say_config, times};
 use am_cluster::{Cluster, ClusterError, SettleError};
 use am_instance::ConfigError;
-use am_part_cases::common::{Brittle, Call, Case, Fault, Pieces, cut};
+use am_part_cases::common::{Brittle, Call, Case, Cut, Fault, Pieces, cut};
 use am_part_cases::{given, put, say};
 use am_replay::{OutputLine, Refusal, ReplayError, append_line, run};
 use am_schedule::Line;
-use am_silence::SilenceError;
+use am_silence::SilenceError::{BadPattern, Memory, NoMatcher, TooLarge};
 use am_steps::carried::{AnyVersion, ByState, carried_by};
 
 fn made(case: &Case, words: &str) -> Option<Cluster> {
@@ -41,8 +39,7 @@ fn say_timely(case: &Case, cluster: &Cluster) {
     say!(case; "timely ", cluster.timely(time, time));
 }
 
-/// `settle MOMENT ..: NAME ..`: what such a cluster answers to a settle at each of the moments in turn, and whether its run
-/// is timely then.
+/// `settle MOMENT ..: NAME ..`: what such a cluster answers to a settle at each moment, and whether its run is timely then.
 pub fn settle(case: &Case, rest: &str) {
     let (moments, names) = cut(rest, ":");
     given!(mut cluster = made(case, names));
@@ -107,18 +104,12 @@ fn say_members(case: &Case, cluster: &Cluster, number: u64) {
 struct Playing;
 
 impl Call for Playing {
-    fn make(&self, case: &Case, reader: &mut Pieces<'_>, writer: &mut Brittle) -> Option<u64> {
+    fn make(&self, case: &Case, reader: &mut Pieces<'_>, writer: &mut Brittle) -> Option<Cut> {
         match run(case.alloc, reader, writer) {
             Ok(()) => case.put("played"),
+            Err(ReplayError::Read { at }) => return Some(("Read", at as u64)),
+            Err(ReplayError::Write { written }) => return Some(("Write", written)),
             Err(ReplayError::Memory { .. }) => case.fail(Fault::Memory),
-            Err(ReplayError::Read { at }) => {
-                case.put("Read");
-                return Some(at as u64);
-            }
-            Err(ReplayError::Write { written }) => {
-                case.put("Write");
-                return Some(written);
-            }
             Err(ReplayError::Schedule(error)) => put!(case; ?error.kind, " ", error.line),
             Err(error) => case.debug(error),
         }
@@ -130,19 +121,14 @@ impl Call for Playing {
 pub fn replay(case: &Case, rest: &str) {
     let (phrases, text) = cut(rest, ":");
     let text = case.unescaped(text.strip_prefix(' ').unwrap_or(text));
-    let writer = case.make(&Playing, text.as_slice(), &case.how(phrases));
-    say_written(case, writer.taken.as_slice());
+    let writer = case.make(&Playing, &case.how(phrases, text.as_slice()));
+    case.say_text(writer.taken.as_slice());
 }
 
 /// `refused`: the lines of refusals that no schedule reaches.
 pub fn refused(case: &Case) {
     let mut text = String::new(case.alloc);
-    for error in [
-        SilenceError::NoMatcher,
-        SilenceError::BadPattern,
-        SilenceError::TooLarge,
-        SilenceError::Memory,
-    ] {
+    for error in [NoMatcher, BadPattern, TooLarge, Memory] {
         let (name, refusal) = (Some("a"), Refusal::from(error));
         case.made(append_line(&mut text, &OutputLine::Refused { name, refusal }));
     }
@@ -163,16 +149,10 @@ pub fn carried(case: &Case, rest: &str) {
 }
 
 fn say_first(case: &Case, versions: Vec<AnyVersion>, count: usize) {
-    match ByState::with_room(case.alloc, versions.len()) {
-        Ok(mut sorted) => {
-            sorted.put_first(versions, count);
-            say_sorted(case, sorted);
-        }
-        Err(_) => case.fail(Fault::Memory),
-    }
-}
-
-fn say_sorted(case: &Case, sorted: ByState) {
+    let Ok(mut sorted) = ByState::with_room(case.alloc, versions.len()) else {
+        return case.fail(Fault::Memory);
+    };
+    sorted.put_first(versions, count);
     let (silences, log) = sorted.into_parts();
     case.put("silences\n");
     case.say_versions(silences.as_slice());

@@ -31,17 +31,15 @@ pub fn event(case: &Case, config: &Config, verb: &str, rest: &str) -> Option<Eve
 }
 
 fn request(case: &Case, verb: &str, rest: &str) -> Option<Request> {
+    let id = case.text(rest);
     match verb {
-        "list" => Some(Request::List {
-            filters: case.list(rest, " "),
-        }),
-        "get" => Some(Request::Get {
-            id: case.text(rest),
-        }),
-        "expire" => Some(Request::Delete {
-            id: case.text(rest),
-        }),
+        "get" => Some(Request::Get { id }),
+        "expire" => Some(Request::Delete { id }),
         "post" => Some(post(case, rest)),
+        "list" => {
+            let filters = case.list(rest, " ");
+            Some(Request::List { filters })
+        }
         _ => case.wanted(None),
     }
 }
@@ -72,8 +70,7 @@ fn post(case: &Case, text: &str) -> Request {
     Request::Post { posted, bits }
 }
 
-/// `GROUP RECEIVER FIRING RESOLVED REPEAT`, as `g r/w/0 1,2 - 60`: what is told of a group, or asked, with whether resolved
-/// alerts are wanted.
+/// `GROUP RECEIVER FIRING RESOLVED REPEAT`, as `g r/w/0 1,2 - 60`: what is told of a group, or asked.
 fn of_group(case: &Case, text: &str, wanted: Option<bool>) -> Option<Event> {
     let (group, text) = first(text);
     let (name, text) = first(text);
@@ -145,10 +142,8 @@ fn say_asked(case: &Case, asked: &Asked) {
         Asked::NoMember => case.put("no member\n"),
         Asked::Event { event, source } => {
             say_event(case, event);
-            match source {
-                Source::Made => {}
-                Source::Written(sent) => say!(case; "sent at ", @sent),
-                other => say!(case; ?other),
+            if let Source::Written(sent) = source {
+                say!(case; "sent at ", @sent);
             }
         }
     }
@@ -157,7 +152,15 @@ fn say_asked(case: &Case, asked: &Asked) {
 fn say_event(case: &Case, event: &Event) {
     match event {
         Event::Request(request) => say_request(case, request),
-        Event::Frame { sender, frame } => say_frame(case, *sender, frame),
+        Event::Frame {
+            sender,
+            frame: Frame::Delta(part),
+        } => {
+            put!(case; "from ", sender, " Delta ", ?part.key);
+            case.print_bytes(" ", part.bytes.as_slice(), " none");
+            case.put("\n");
+        }
+        Event::Frame { .. } => case.fail(Fault::Words),
         Event::Notified {
             group_key,
             receiver,
@@ -199,15 +202,6 @@ fn print_group(case: &Case, group: &Bytes, to: &Receiver, firing: &Hashes, resol
     case.print_text(group.as_slice());
     put!(case; " to ", to.group_name.as_str(), "/", to.integration.as_str(), "/", to.idx, ",");
     put!(case; " firing ", ?firing.as_slice(), ", resolved ", ?resolved.as_slice(), ",");
-}
-
-fn say_frame(case: &Case, sender: u64, frame: &Frame) {
-    put!(case; "from ", sender, " ", ?frame.kind());
-    if let Frame::Delta(part) = frame {
-        put!(case; " ", ?part.key, " ");
-        case.print_bytes("", part.bytes.as_slice(), "none");
-    }
-    case.put("\n");
 }
 
 fn say_request(case: &Case, request: &Request) {

@@ -18,13 +18,9 @@ pub fn answer(case: &Case, member: &mut Option<Instance>, is_whole: bool, verb: 
     if verb == "new" {
         return begin(case, member, rest);
     }
-    match member {
-        Some(instance) => by_member(case, instance, is_whole, verb, rest),
-        None => alone(case, verb, rest),
-    }
-}
-
-fn by_member(case: &Case, instance: &mut Instance, is_whole: bool, verb: &str, rest: &str) {
+    let Some(instance) = member else {
+        return alone(case, verb, rest);
+    };
     match verb {
         "hold" => hold(case, instance, rest),
         "config" => {

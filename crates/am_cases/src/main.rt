@@ -13,9 +13,6 @@ use am_part_cases::common::{Case, Fault, first};
 use std::io::Read;
 use std::process::ExitCode;
 
-/// An answer of so many bytes needs no memory once its case has begun.
-const ROOM: usize = 80_000;
-
 fn main(rt: HostRuntime) -> ExitCode {
     match input(&rt) {
         Some(text) if answer_all(&rt, text.as_slice()) => ExitCode::SUCCESS,
@@ -45,8 +42,7 @@ fn append(rt: &HostRuntime, text: &mut Vec<u8>, piece: &[u8]) -> Option<()> {
     Some(())
 }
 
-/// Answers the cases of a text by one member, once there is one; whether all is printed. Behind a line `whole` connections are
-/// not tried in pieces.
+/// Answers the cases of a text by one member; whether all is printed. Behind `whole` connections are not tried in pieces.
 fn answer_all(rt: &HostRuntime, text: &[u8]) -> bool {
     let (mut member, mut is_whole) = (None, false);
     for line in str::from_utf8(text).unwrap_or("no text").lines() {
@@ -62,7 +58,7 @@ fn answer_all(rt: &HostRuntime, text: &[u8]) -> bool {
 fn answer(rt: &HostRuntime, member: &mut Option<Instance>, is_whole: bool, line: &str) -> bool {
     let mut is_printed = println!(rt; "> {line}").is_ok();
     for _ in 0..2 {
-        let case = Case::new(rt.alloc(), ROOM);
+        let case = Case::new(rt.alloc());
         let (verb, rest) = first(line);
         instances::answer(&case, member, is_whole, verb, rest);
         let fault = case.fault();

@@ -3,8 +3,8 @@
 use am_instance::{Config, ConfigError, Instance};
 use am_merge::Held;
 use am_part_cases::common::{Case, Printed, Spelled, cut, first};
-use am_part_cases::{given, put, say};
-use am_version_order::{Interval, Moment};
+use am_part_cases::{given, put, say, say_some};
+use am_version_order::Interval;
 use am_wire::Text;
 
 /// How long members keep versions after their end, 100 s, and how long they wait for one another, 15 s.
@@ -14,8 +14,7 @@ pub fn times(case: &Case) -> Option<(Interval, Interval)> {
 
 /// `new at MOMENT NAME PEER ..`: a member that holds nothing; says its configuration, or why there is none.
 pub fn begin(case: &Case, member: &mut Option<Instance>, text: &str) {
-    let (_, text) = first(text);
-    let (now, names) = first(text);
+    let (now, names) = first(first(text).1);
     let (own, peers) = first(names);
     given!((retention, peer_timeout) = times(case));
     given!(name = Text::spelled(case, own));
@@ -23,19 +22,10 @@ pub fn begin(case: &Case, member: &mut Option<Instance>, text: &str) {
     let config = Config::new(case.alloc, name, peers, retention, peer_timeout);
     given!(config = case.got(config, ConfigError::Memory));
     say_config(case, &config);
+    let instance = Instance::start(config, Held::new(case.alloc), Held::new(case.alloc), now);
     if case.is_fine() {
-        *member = Some(empty(case, config, now));
+        *member = Some(instance);
     }
-}
-
-fn empty(case: &Case, config: Config, now: Moment) -> Instance {
-    Instance::start(config, Held::new(case.alloc), Held::new(case.alloc), now)
-}
-
-/// The same member, which holds nothing.
-pub fn anew(case: &Case, instance: &Instance) -> Option<Instance> {
-    let config = case.made(instance.config().try_clone())?;
-    Some(empty(case, config, instance.last()))
 }
 
 /// The same member, which holds the same.
@@ -64,11 +54,8 @@ pub fn say_config(case: &Case, config: &Config) {
     for name in config.members() {
         put!(case; " ", name.as_str());
     }
-    put!(case; ", keeps ", ?config.retention());
-    match config.due_from(case.moment("0")) {
-        Some(due) => say!(case; ", due ", @due),
-        None => case.put(", never due\n"),
-    }
+    put!(case; ", keeps ", ?config.retention(), ", due ");
+    say_some!(case; due = config.due_from(case.moment("0")); @due);
 }
 
 /// The name of the member at a place.

@@ -18,9 +18,8 @@ pub fn happen(case: &Case, instance: &mut Instance, text: &str) {
     match first(text) {
         ("from", rest) => hear(case, instance, rest, now),
         (verb, rest) => {
-            if let Some(event) = event(case, instance.config(), verb, rest) {
-                step(case, instance, event, now);
-            }
+            given!(event = event(case, instance.config(), verb, rest));
+            step(case, instance, event, now);
         }
     }
 }
@@ -86,7 +85,7 @@ fn say_outcome(case: &Case, config: &Config, outcome: &Outcome) {
 fn say_reply(case: &Case, reply: &Reply) {
     match reply {
         Reply::Silences(rows) => say_rows(case, rows.as_slice()),
-        Reply::Silence(version, state) => say_row(case, version, *state),
+        Reply::Silence(version, state) => say!(case; ?*state, " ", @version),
         Reply::Posted(id) => say!(case; "posted ", id.as_str()),
         Reply::Deleted => case.put("deleted\n"),
         Reply::Refused(SilenceError::Newer { held }) => say!(case; "Newer ", @held),
@@ -108,12 +107,8 @@ fn say_reply(case: &Case, reply: &Reply) {
 
 fn say_rows(case: &Case, rows: &[(MeshSilence, State)]) {
     for (version, state) in rows {
-        say_row(case, version, *state);
+        say!(case; ?*state, " ", @version);
     }
-}
-
-fn say_row(case: &Case, version: &MeshSilence, state: State) {
-    say!(case; ?state, " ", @version);
 }
 
 fn print_ids(case: &Case, word: &str, ids: &Ids) {

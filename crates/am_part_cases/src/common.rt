@@ -9,6 +9,6 @@ mod words;
 
 pub use crate::common::case::{Case, Fault};
 pub use crate::common::matching::matcher_parts;
-pub use crate::common::tries::{Brittle, Call, How, Pieces};
+pub use crate::common::tries::{Brittle, Call, Cut, How, Pieces};
 pub use crate::common::versions::{Printed, Spelled, Told};
-pub use crate::common::words::{behind, cut, first, moment_of};
+pub use crate::common::words::{behind, cut, first, moment_of, phrase};

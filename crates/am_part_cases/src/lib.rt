@@ -16,6 +16,14 @@ macro_rules! say {
     ($case:expr; $($rest:tt)+) => {{ $crate::put!($case; $($rest)+); $case.put("\n") }};
 }
 
+/// Names a value, and says others of it; or `none` where there is none.
+#[macro_export]
+macro_rules! say_some {
+    ($case:expr; $name:pat = $value:expr; $($rest:tt)+) => {
+        match $value { Some($name) => $crate::say!($case; $($rest)+), None => $case.put("none\n") }
+    };
+}
+
 /// Names a value, and returns where there is none.
 #[macro_export]
 macro_rules! given {

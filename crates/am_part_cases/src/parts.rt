@@ -1,5 +1,4 @@
-//! Cases of what stands below an instance. Nothing goes on from one to the next. The functions `answer` hand on to one another
-//! what is no verb of theirs.
+//! Cases of what stands below an instance. The functions `answer` hand on to one another what is no verb of theirs.
 
 mod frames;
 mod json;

@@ -1,5 +1,4 @@
-//! Bytes as pairs of hexadecimal digits, and as text of one line, with `\r`, `\n`, `\\` and `\x1f` for those that can't stand
-//! for themselves.
+//! Bytes as pairs of hexadecimal digits, and as text of one line, with `\r`, `\n`, `\\` and `\x1f` (docs/CASES.md).
 
 use crate::common::case::{Case, Fault};
 
@@ -9,8 +8,7 @@ fn byte(pair: &[u8]) -> Option<u8> {
 }
 
 impl Case {
-    /// The bytes that pairs of hexadecimal digits spell, with any blanks between the pairs, in parts with ` + ` between them.
-    /// `64 x 0a` is a part that stands 64 times.
+    /// The bytes that pairs of hexadecimal digits spell, in parts with ` + ` between them; `64 x 0a` stands 64 times.
     pub fn bytes(&self, text: &str) -> Vec<u8> {
         self.repeated(text, true)
     }
@@ -98,10 +96,10 @@ impl Case {
         }
     }
 
-    /// Says bytes as they are spelled.
+    /// Says bytes as they are spelled, if there are any.
     pub fn say_text(&self, bytes: &[u8]) {
         self.print_text(bytes);
-        self.put("\n");
+        self.put(if bytes.is_empty() { "" } else { "\n" });
     }
 
     /// Prints bytes as pairs of hexadecimal digits behind a mark, or a word for no bytes.
@@ -114,9 +112,12 @@ impl Case {
         self.put(if bytes.is_empty() { none } else { "" });
     }
 
-    /// Says bytes as pairs of hexadecimal digits, or `none`.
+    /// Says bytes as pairs of hexadecimal digits, or `none`; of over 1,000, how many they are.
     pub fn say_bytes(&self, bytes: &[u8]) {
-        self.print_bytes("", bytes, "none");
+        match bytes.len() {
+            0..=1000 => self.print_bytes("", bytes, "none"),
+            count => put!(self; count, " bytes"),
+        }
         self.put("\n");
     }
 }

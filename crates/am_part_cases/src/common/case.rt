@@ -14,6 +14,9 @@ pub enum Fault {
     Memory,
 }
 
+/// An answer of so many bytes needs no memory once its case has begun.
+pub const ROOM: usize = 80_000;
+
 /// A case that is answered. The first fault is kept, and behind it nothing is printed and no step is made: what words spell
 /// is then another value.
 #[derive(Drop)]
@@ -24,13 +27,11 @@ pub struct Case {
 }
 
 impl Case {
-    /// A case without an answer yet, with room for one of so many bytes.
-    pub fn new(alloc: Global, room: usize) -> Case {
-        let (fault, text) = match String::with_capacity(alloc, room) {
-            Ok(text) => (None, text),
-            Err(_) => (Some(Fault::Memory), String::new(alloc)),
-        };
-        let (fault, text) = (Cell::new(fault), RefCell::new(text));
+    /// A case without an answer yet.
+    pub fn new(alloc: Global) -> Case {
+        let made = String::with_capacity(alloc, ROOM);
+        let fault = Cell::new(made.is_err().then_some(Fault::Memory));
+        let text = RefCell::new(made.unwrap_or(String::new(alloc)));
         Case { alloc, fault, text }
     }
 
@@ -44,21 +45,17 @@ impl Case {
     }
 
     pub fn is_fine(&self) -> bool {
-        self.fault.get().is_none()
+        self.fault().is_none()
     }
 
     /// Keeps a fault, unless one came before.
     pub fn fail(&self, fault: Fault) {
-        if self.is_fine() {
-            self.fault.set(Some(fault));
-        }
+        self.fault.set(self.fault().or(Some(fault)));
     }
 
     /// Keeps the fault of a part, if it has one.
     pub fn fail_as(&self, part: &Case) {
-        if let Some(fault) = part.fault() {
-            self.fail(fault);
-        }
+        self.fault.set(self.fault().or(part.fault()));
     }
 
     /// Prints a value.
@@ -106,11 +103,7 @@ impl Case {
     }
 
     /// What a call is answered. Says what it is refused for, unless that is `memory`.
-    pub fn got<T: Drop, E: Copy + Debug + PartialEq>(
-        &self,
-        got: Result<T, E>,
-        memory: E,
-    ) -> Option<T> {
+    pub fn got<T: Drop, E: Copy + Debug + Eq>(&self, got: Result<T, E>, memory: E) -> Option<T> {
         match got {
             Err(refusal) if refusal != memory => {
                 say!(self; ?refusal);

@@ -1,10 +1,10 @@
-//! Calls over readers and writers that give or take few bytes at a time, made once, or many times: with each read or write
-//! failing in turn, over each front of the input, or in pieces of each size.
+//! Calls over readers and writers that give or take few bytes at a time, or fail, made once or tried in turn (docs/CASES.md).
 
 ghost use Rattle.std.specs.Prelude.{Some};
 
-use crate::common::case::Case;
-use crate::common::words::cut;
+use crate::common::case::{Case, ROOM};
+use crate::common::words::{first, phrase};
+use am_http::session::{Said, Session};
 use std::io::{self, Read, Write};
 
 /// A reader over bytes that gives at most so many a call, and fails at a call (0: at none).
@@ -26,15 +26,15 @@ impl<'a> Pieces<'a> {
         }
     }
 
-    /// The next piece of so many bytes at most, and one at least; none where all were given.
-    pub fn piece(&mut self, most: usize) -> Option<&'a [u8]> {
+    /// Feeds a session the next piece, of so many bytes at most and one at least, or the end where all were given.
+    pub fn feed(&mut self, session: &mut Session, most: usize) -> Said {
         if self.left.is_empty() {
-            return None;
+            return session.end();
         }
         self.calls = self.calls.saturating_add(1);
         let (piece, left) = self.left.split_at(most.max(1).min(self.left.len()));
         self.left = left;
-        Some(piece)
+        session.feed(piece)
     }
 }
 
@@ -82,9 +82,10 @@ impl Write for Brittle {
     }
 }
 
-/// How a call is made.
+/// The input of a call, and how it is made.
 #[derive(Clone, Copy)]
 pub struct How<'a> {
+    pub input: &'a [u8],
     /// The most bytes that a read gives or a write takes.
     pub step: usize,
     /// What is tried in turn: nothing, `read fails`, `write fails`, `write takes nothing`, `front` or `size of pieces`.
@@ -93,8 +94,10 @@ pub struct How<'a> {
     pub again: bool,
 }
 
-impl How<'_> {
-    fn reader<'b>(&self, input: &'b [u8], number: usize) -> Pieces<'b> {
+impl<'a> How<'a> {
+    /// The reader of a try.
+    fn reader(&self, number: usize) -> Pieces<'a> {
+        let input = self.input;
         match self.each {
             "read fails" => Pieces::new(input, self.step, number),
             "front" => Pieces::new(&input[..number.min(input.len())], self.step, 0),
@@ -102,56 +105,34 @@ impl How<'_> {
             _ => Pieces::new(input, self.step, 0),
         }
     }
+
+    /// How many calls were made of those of which one was to fail.
+    fn calls(&self, reader: &Pieces<'_>, writer: &Brittle, number: usize) -> usize {
+        match self.each {
+            "front" | "size of pieces" => number,
+            "read fails" => reader.calls,
+            _ => writer.calls,
+        }
+    }
 }
 
 /// A call over a reader and a writer.
 pub trait Call {
-    /// Makes the call, and prints its answer without the number of bytes that a failed read or write is told with; gives that
-    /// number.
-    fn make(&self, case: &Case, reader: &mut Pieces<'_>, writer: &mut Brittle) -> Option<u64>;
+    /// Makes the call, and prints its answer; a fault that is told with a number of bytes is given in its place.
+    fn make(&self, case: &Case, reader: &mut Pieces<'_>, writer: &mut Brittle) -> Option<Cut>;
 }
 
-/// For how many bytes a writer has room from the start on, so that it needs no memory later.
-const ROOM: usize = 80_000;
-
-/// For how many bytes the answer to a try has room.
-const ROW: usize = 400;
-
-/// Prints where a call says that it failed, if that is not behind so many bytes.
-fn print_told(case: &Case, told: Option<u64>, right: usize) {
-    match told {
-        None => {}
-        Some(number) if number == right as u64 => case.put(" where it failed"),
-        Some(number) => put!(case; " at ", number),
-    }
-}
-
-/// Prints what went out, against what goes out where nothing fails; of that a front only where no number is told.
-fn print_out(case: &Case, taken: &[u8], whole: &[u8], is_told: bool) {
-    match (taken.len(), whole.starts_with(taken)) {
-        (0, _) => {}
-        (size, true) if size == whole.len() => case.put(", all out"),
-        (_, true) if is_told => {}
-        (size, true) => put!(case; ", the first ", size, " bytes out"),
-        (size, false) => put!(case; ", ", size, " other bytes out"),
-    }
-}
-
-/// A call, its input, how it is made, and what goes out where nothing fails.
-type Trying<'a, C> = (&'a C, &'a [u8], &'a How<'a>, &'a [u8]);
+/// A read or a write that failed, by its name, and how many bytes came or went out before it.
+pub type Cut = (&'static str, u64);
 
 impl Case {
     /// How the words before `: ` say that a call is made: phrases, parted by `, `.
-    pub fn how<'a>(&self, phrases: &'a str) -> How<'a> {
-        let size = cut(cut(phrases, "in pieces of ").1, ",").0;
-        let all = size.is_empty();
+    pub fn how<'a>(&self, phrases: &'a str, input: &'a [u8]) -> How<'a> {
+        let size = phrase(phrases, "in pieces of ");
         How {
-            step: if all {
-                usize::MAX
-            } else {
-                self.number(size) as usize
-            },
-            each: cut(cut(phrases, "each ").1, ",").0,
+            input,
+            step: size.parse::<usize>().unwrap_or(usize::MAX),
+            each: phrase(phrases, "each "),
             again: phrases.contains("again"),
         }
     }
@@ -167,44 +148,57 @@ impl Case {
         }
     }
 
+    /// Prints a cut, and whether it is told with the right number of bytes.
+    fn print_cut(&self, cut: Option<Cut>, right: usize) {
+        match cut {
+            Some((name, number)) if number == right as u64 => put!(self; name, " where it failed"),
+            Some((name, number)) => put!(self; name, " at ", number),
+            None => {}
+        }
+    }
+
+    /// Prints what went out, against what goes out where nothing fails; of that a front only where no number is told.
+    fn print_out(&self, taken: &[u8], whole: &[u8], is_cut: bool) {
+        match (taken.len(), whole.starts_with(taken)) {
+            (0, _) => {}
+            (size, true) if size == whole.len() => self.put(", all out"),
+            (_, true) if is_cut => {}
+            (size, true) => put!(self; ", the first ", size, " bytes out"),
+            (size, false) => put!(self; ", ", size, " other bytes out"),
+        }
+    }
+
     /// Makes a try, and prints what came of it; whether the read or the write that was to fail is made.
-    fn is_tried<C: Call>(&self, trying: &Trying<'_, C>, number: usize) -> bool {
-        let (call, input, how, whole) = *trying;
-        let mut reader = how.reader(input, number);
+    fn is_tried<C: Call>(&self, call: &C, how: &How<'_>, whole: &[u8], number: usize) -> bool {
         let is_write = how.each.starts_with("write");
+        let mut reader = how.reader(number);
         let mut writer = self.writer(how, if is_write { number } else { 0 });
         let size = reader.left.len();
-        let told = call.make(self, &mut reader, &mut writer);
+        let cut = call.make(self, &mut reader, &mut writer);
         let came = size.saturating_sub(reader.left.len());
-        let (calls, right, rest) = match how.each {
-            "read fails" => (reader.calls, came, reader.left),
-            _ if is_write => (writer.calls, writer.taken.len(), input),
-            _ => (number, came, reader.left),
-        };
-        print_told(self, told, right);
-        let again = if calls > number { ", tried again" } else { "" };
-        self.put(again);
-        print_out(self, writer.taken.as_slice(), whole, told.is_some());
+        self.print_cut(cut, if is_write { writer.taken.len() } else { came });
+        let calls = how.calls(&reader, &writer, number);
+        self.put(if calls > number { ", tried again" } else { "" });
+        self.print_out(writer.taken.as_slice(), whole, cut.is_some());
         if how.again && calls >= number {
+            let rest = if is_write { how.input } else { reader.left };
             self.put(", then ");
             call.make(self, &mut Pieces::new(rest, how.step, 0), &mut writer);
         }
         calls >= number
     }
 
-    fn say_tries<C: Call>(&self, trying: &Trying<'_, C>) {
-        let (_, input, how, _) = *trying;
-        let (name, first, end) = match how.each {
-            "front" => ("front", 0, input.len().saturating_add(1)),
+    fn say_tries<C: Call>(&self, call: &C, how: &How<'_>, whole: &[u8]) {
+        let (name, start, end) = match how.each {
+            "front" => ("front", 0, how.input.len().saturating_add(1)),
             "size of pieces" => ("pieces of", 1, 51),
-            "read fails" => ("read", 1, 100_000),
-            _ => ("write", 1, 100_000),
+            each => (first(each).0, 1, 100_000),
         };
         let mut answer = String::new(self.alloc);
-        let (mut from, mut to) = (first, first);
-        for number in first..end {
-            let row = Case::new(self.alloc, ROW);
-            if !row.is_tried(trying, number) || !row.is_fine() {
+        let (mut from, mut to) = (start, start);
+        for number in start..end {
+            let row = Case::new(self.alloc);
+            if !row.is_tried(call, how, whole, number) || !row.is_fine() {
                 self.fail_as(&row);
                 break;
             }
@@ -226,16 +220,15 @@ impl Case {
         }
     }
 
-    /// Makes a call with nothing failing, and the tries that are asked. Says what came of each try, and then what the call is
-    /// answered where nothing fails; gives what was written then.
-    pub fn make<C: Call>(&self, call: &C, input: &[u8], how: &How<'_>) -> Brittle {
+    /// Makes the tries that are asked, says what the call is answered where nothing fails, and gives what was written then.
+    pub fn make<C: Call>(&self, call: &C, how: &How<'_>) -> Brittle {
         let mut writer = self.writer(how, 0);
-        let answer = Case::new(self.alloc, ROW);
-        call.make(&answer, &mut Pieces::new(input, how.step, 0), &mut writer);
+        let answer = Case::new(self.alloc);
+        let mut reader = Pieces::new(how.input, how.step, 0);
+        call.make(&answer, &mut reader, &mut writer);
         self.fail_as(&answer);
         if !how.each.is_empty() {
-            let whole = writer.taken.as_slice();
-            self.say_tries(&(call, input, how, whole));
+            self.say_tries(call, how, writer.taken.as_slice());
         }
         say!(self; answer.into_text());
         writer

@@ -1,11 +1,6 @@
-//! Values that words spell, and versions of either state, as words, as bytes, and printed.
-//!
-//! A silence is `a job=x env!~y|z 10..100 updated 10 expires 200 by ops saying hi`, where what isn't said is as here, but for
-//! matchers, author and comment, which then are none. A log entry is `g r/w/0 updated 10 expires 200 firing 1,2 resolved 3
-//! hash 0a, all resolved`, where an empty list or hash is left out.
+//! Values that words spell, and versions of either state: as words, as bytes, and printed (docs/CASES.md).
 
 use crate::common::case::Case;
-use crate::common::matching::matcher_parts;
 use crate::common::words::{behind, cut, first};
 use am_merge::{Held, Taken};
 use am_nflog::{Bytes, Entry, HashIter, Hashes, LogKey, MeshEntry, Receiver};
@@ -33,18 +28,15 @@ pub trait Printed {
 /// A version that cases name, and that is printed as they name it; behind `bytes` it is named by its bytes.
 pub trait Told: Version + Message + Spelled + Printed {}
 
-impl Told for MeshSilence {}
+impl<V: Version + Message + Spelled + Printed> Told for V {}
 
-impl Told for MeshEntry {}
-
-/// The first word that is a start and an end.
-fn span_word(words: &str) -> &str {
-    for word in words.split(' ') {
-        if matcher_parts(word).is_none() && word.contains("..") {
-            return word;
-        }
-    }
-    "10..100"
+/// The start and the end among the words. No `..` stands before it.
+fn span(words: &str) -> (&str, &str) {
+    let (front, rest) = words.split_once("..").unwrap_or(("10", "100"));
+    (
+        front.rsplit_once(' ').unwrap_or(("", front)).1,
+        first(rest).0,
+    )
 }
 
 impl Case {
@@ -82,10 +74,8 @@ impl Case {
     /// The map of versions that are parted by `, `.
     pub fn held<V: Told>(&self, text: &str) -> Held<V> {
         let mut held = Held::new(self.alloc);
-        for words in text.split(", ") {
-            if !words.is_empty() {
-                self.take(&mut held, words, Moment::LEAST);
-            }
+        for version in self.list::<V>(text, ", ") {
+            self.made(held.take(version, Moment::LEAST));
         }
         held
     }
@@ -101,7 +91,7 @@ impl Case {
 
     /// The silence of words.
     pub fn silence(&self, words: &str) -> Silence {
-        let (starts, ends) = cut(span_word(words), "..");
+        let (starts, ends) = span(words);
         let (front, comment) = cut(words, " saying ");
         let (front, author) = cut(front, " by ");
         Silence {
@@ -126,29 +116,18 @@ impl Case {
         }
     }
 
-    fn log_key(&self, words: &str) -> Option<LogKey> {
-        let (group, rest) = first(words);
-        let receiver = self.receiver(first(rest).0);
-        self.made(LogKey::new(self.alloc, group.as_bytes(), &receiver))
-    }
-
     /// The entry of words, without a hash of its group. What isn't said is 10 s as the moment, and no hashes.
     pub fn entry(&self, words: &str) -> Option<Entry> {
-        let key = self.log_key(words)?;
+        let (group, rest) = first(words);
+        let receiver = self.receiver(first(rest).0);
         Some(Entry {
-            key,
+            key: self.made(LogKey::new(self.alloc, group.as_bytes(), &receiver))?,
             group_hash: Bytes::new(Vec::new(self.alloc)),
             resolved: false,
             timestamp: self.moment(behind(words, " updated ", "10")),
             firing_alerts: Hashes::new(self.numbers(behind(words, " firing ", "-"))),
             resolved_alerts: Hashes::new(self.numbers(behind(words, " resolved ", "-"))),
         })
-    }
-
-    fn print_unless_empty(&self, word: &str, text: &str) {
-        if !text.is_empty() {
-            put!(self; word, text);
-        }
     }
 
     fn print_hashes(&self, word: &str, hashes: HashIter<'_>) {
@@ -177,8 +156,9 @@ impl Printed for MeshSilence {
         case.print_matchers(self.matchers());
         put!(case; " ", @self.starts_at(), "..", @self.ends_at());
         put!(case; " updated ", @self.updated_at(), " expires ", @self.expires_at());
-        case.print_unless_empty(" by ", self.created_by());
-        case.print_unless_empty(" saying ", self.comment());
+        let (author, comment) = (self.created_by(), self.comment());
+        put!(case; if author.is_empty() { "" } else { " by " }, author);
+        put!(case; if comment.is_empty() { "" } else { " saying " }, comment);
     }
 }
 
@@ -196,20 +176,14 @@ impl Spelled for MeshEntry {
 impl Printed for MeshEntry {
     fn print(&self, case: &Case) {
         let key = self.key();
-        match str::from_utf8(key.group_key()) {
-            Ok(text) => case.put(text),
-            Err(_) => case.debug(key.group_key()),
-        }
+        case.print_text(key.group_key());
         put!(case; " ", key.group_name(), "/", key.integration(), "/", key.idx());
         put!(case; " updated ", @self.timestamp(), " expires ", @self.expires_at());
         case.print_hashes(" firing ", self.firing_alerts());
         case.print_hashes(" resolved ", self.resolved_alerts());
         case.print_bytes(" hash ", self.group_hash(), "");
-        let resolved = if self.resolved() {
-            ", all resolved"
-        } else {
-            ""
-        };
-        case.put(resolved);
+        if self.resolved() {
+            case.put(", all resolved");
+        }
     }
 }

@@ -1,7 +1,4 @@
-//! The words of a case: parts of a text, numbers and moments.
-//!
-//! A moment is seconds since 1970, perhaps with a point and up to nine digits behind it, or `least` or `greatest`. The
-//! fraction is added to the seconds, also before 1970.
+//! The words of a case: parts of a text, numbers and moments (docs/CASES.md).
 
 use crate::common::case::Case;
 use crate::common::versions::Printed;
@@ -23,6 +20,11 @@ pub fn behind<'a>(text: &'a str, name: &str, otherwise: &'a str) -> &'a str {
         Some((_, rest)) => first(rest).0,
         None => otherwise,
     }
+}
+
+/// The phrase that begins with a name, among phrases that commas part; what stands behind the name.
+pub fn phrase<'a>(phrases: &'a str, name: &str) -> &'a str {
+    cut(cut(phrases, name).1, ",").0
 }
 
 fn nanos(digits: &str) -> Option<u32> {
@@ -79,14 +81,6 @@ impl Case {
     /// The interval of so many seconds, if there is one.
     pub fn seconds(&self, word: &str) -> Option<Interval> {
         self.wanted(Interval::from_seconds(self.number(word)))
-    }
-
-    /// Says a moment, or that there is none.
-    pub fn say_if_any(&self, moment: Option<Moment>) {
-        match moment {
-            Some(moment) => say!(self; @moment),
-            None => self.put("none\n"),
-        }
     }
 }
 

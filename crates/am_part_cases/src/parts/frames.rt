@@ -1,14 +1,15 @@
 //! Frames as they are read, in any cut, and as they are made and written; sessions, piece by piece.
 
-use crate::common::{Brittle, Call, Case, Fault, Pieces, Spelled, cut, first};
+use crate::common::{Brittle, Call, Case, Cut, Fault, Pieces, Spelled, cut, first};
 use crate::parts::maps;
 use crate::parts::requests::print_read;
 use am_gossip::{
-    Bytes, Fed, Feeder, Frame, FrameError, FrameKind, FullState, Part, StateKey, encode_frame,
+    Bytes, Feeder, Frame, FrameError, FrameKind, FullState, Part, StateKey, encode_frame,
     read_hello,
 };
 use am_http::Read;
 use am_http::session::{Said, Session, SessionFault};
+use std::slice;
 
 /// Cases of frames and sessions.
 pub fn answer(case: &Case, verb: &str, rest: &str) {
@@ -23,14 +24,9 @@ pub fn answer(case: &Case, verb: &str, rest: &str) {
                 None => case.put("more is wanted\n"),
             }
         }
-        "kind" => match FrameKind::from_code((case.number(rest) % 256) as u8) {
-            Some(kind) => say!(case; ?kind, " ", kind.code(), ", at most ", kind.limit()),
-            None => case.put("none\n"),
-        },
-        "key" => match StateKey::from_text(rest) {
-            Some(key) => say!(case; ?key, " ", key.as_str()),
-            None => case.put("none\n"),
-        },
+        "kind" => say_some!(case; kind = FrameKind::from_code((case.number(rest) % 256) as u8);
+            ?kind, " ", kind.code(), ", at most ", kind.limit()),
+        "key" => say_some!(case; key = StateKey::from_text(rest); ?key, " ", key.as_str()),
         "full-state" => {
             let parts = FullState::new(case.list(rest, " + ")).into_vec();
             put!(case; parts.len(), ":");
@@ -52,38 +48,27 @@ fn feed(case: &Case, pieces: &str) {
     }
 }
 
-/// Feeds a piece; where no memory is there for it, says so, and feeds it once more, to the feeder as it then is.
-fn fed(case: &Case, feeder: &mut Feeder, piece: &[u8]) -> Result<Fed, FrameError> {
-    match feeder.feed(piece) {
-        Err(FrameError::Memory) => {
-            case.put("! Memory\n");
-            feeder.feed(piece)
-        }
-        answer => answer,
-    }
-}
-
 /// Says in a line what a piece brings: its frames, the fault behind them, and how many bytes wait then.
 fn feed_piece(case: &Case, feeder: &mut Feeder, piece: &[u8]) {
-    given!(fed = case.got(fed(case, feeder, piece), FrameError::Memory));
+    given!(fed = case.got(feeder.feed(piece), FrameError::Memory));
     for frame in &fed.frames {
         print_frame(case, frame, " +", "");
         case.put(", ");
     }
     if let Some(fault) = fed.fault {
-        put!(case; ?fault, ", ", feeder.waiting(), " wait");
+        put!(case; ?fault, ", ");
+    }
+    put!(case; feeder.waiting(), " wait");
+    if fed.fault.is_some() {
         print_end(case, feeder, &[0x04, 0x00]);
         print_end(case, feeder, &[]);
-        case.put("\n");
-    } else {
-        say!(case; feeder.waiting(), " wait");
     }
+    case.put("\n");
 }
 
 fn print_end(case: &Case, feeder: &mut Feeder, piece: &[u8]) {
-    match feeder.feed(piece) {
-        Err(fault) => put!(case; ", ", ?fault),
-        Ok(_) => case.put(", read on"),
+    if let Err(fault) = feeder.feed(piece) {
+        put!(case; ", ", ?fault);
     }
 }
 
@@ -92,33 +77,23 @@ pub fn print_frame(case: &Case, frame: &Frame, mark: &str, none: &str) {
     case.debug(frame.kind());
     match frame {
         Frame::Tick => {}
-        Frame::Delta(part) => print_part(case, part, none),
+        Frame::Delta(part) => print_parts(case, slice::from_ref(part), mark, none),
         Frame::Push(state) | Frame::Pull(state) => print_parts(case, state.parts(), mark, none),
     }
 }
 
 fn print_parts(case: &Case, parts: &[Part], mark: &str, none: &str) {
-    let mut before = "";
-    for part in parts {
-        case.put(before);
-        print_part(case, part, none);
-        before = mark;
+    for (place, part) in parts.iter().enumerate() {
+        put!(case; if place > 0 { mark } else { "" }, " ", part.key.as_str());
+        case.print_bytes(" ", part.bytes.as_slice(), none);
     }
 }
 
-fn print_part(case: &Case, part: &Part, none: &str) {
-    put!(case; " ", part.key.as_str());
-    case.print_bytes(" ", part.bytes.as_slice(), none);
-}
-
-/// `frame KIND PART + PART ..` writes a frame, and says its bytes; of a long one, how many they are.
+/// `frame KIND PART + PART ..` writes a frame, and says its bytes.
 fn frame(case: &Case, rest: &str) {
     given!(frame = Frame::spelled(case, rest));
     given!(bytes = case.got(encode_frame(case.alloc, &frame), FrameError::Memory));
-    match bytes.len() {
-        0..=1000 => case.say_bytes(bytes.as_slice()),
-        count => say!(case; count, " bytes"),
-    }
+    case.say_bytes(bytes.as_slice());
 }
 
 impl Spelled for Frame {
@@ -127,7 +102,6 @@ impl Spelled for Frame {
             ("Tick", _) => Some(Frame::Tick),
             ("Delta", what) => Some(Frame::Delta(Part::spelled(case, what)?)),
             ("Push", what) => Some(Frame::Push(FullState::new(case.list(what, " + ")))),
-            ("Pull", what) => Some(Frame::Pull(FullState::new(case.list(what, " + ")))),
             _ => case.wanted(None),
         }
     }
@@ -147,9 +121,7 @@ impl Spelled for Part {
     }
 }
 
-/// `session PIECE | PIECE ..`: feeds the pieces to a session, with a line for each that says the frames, the request and the
-/// fault, the sender where its greeting came, and whether no more is heard. A piece is bytes, or a text in quotes; `end` is the
-/// end of the input, and `stop` stops the session.
+/// `session PIECE | PIECE ..`: feeds a session pieces, which are bytes, a text in quotes, `end` or `stop`; a line for each.
 fn session(case: &Case, pieces: &str) {
     let mut session = Session::new(case.alloc);
     for word in pieces.split('|') {
@@ -199,28 +171,27 @@ fn print_said(case: &Case, said: &Said) {
     }
 }
 
-/// Prints what a request comes to whose pieces are given to a session until no more is heard, and then the end.
-fn print_received(case: &Case, reader: &mut Pieces<'_>, has_parts: bool) {
-    let mut session = Session::new(case.alloc);
-    let mut said = Said::nothing(case.alloc);
-    for _ in 0..=reader.left.len() {
-        if session.is_over() {
-            break;
-        }
-        said = match reader.piece(reader.step) {
-            Some(piece) => session.feed(piece),
-            None => session.end(),
-        };
-    }
-    print_read(case, &said.request.unwrap_or(Read::More), has_parts);
+/// Gives pieces to a session until no more is heard, and then the end.
+#[derive(Clone, Copy)]
+struct Receiving {
+    /// The parts of the request are told, and what is left of the pieces.
+    in_full: bool,
 }
 
-#[derive(Clone, Copy)]
-struct Receiving;
-
 impl Call for Receiving {
-    fn make(&self, case: &Case, reader: &mut Pieces<'_>, _writer: &mut Brittle) -> Option<u64> {
-        print_received(case, reader, false);
+    fn make(&self, case: &Case, reader: &mut Pieces<'_>, _writer: &mut Brittle) -> Option<Cut> {
+        let (mut session, step) = (Session::new(case.alloc), reader.step);
+        let mut said = Said::nothing(case.alloc);
+        for _ in 0..=reader.left.len() {
+            if session.is_over() {
+                break;
+            }
+            said = reader.feed(&mut session, step);
+        }
+        print_read(case, &said.request.unwrap_or(Read::More), self.in_full);
+        if self.in_full {
+            put!(case; "\ncalls ", reader.calls, ", left ", reader.left.len());
+        }
         None
     }
 }
@@ -228,13 +199,8 @@ impl Call for Receiving {
 /// `receive HOW: TEXT`: what a request comes to that comes in pieces, and what then is left of them.
 fn receive(case: &Case, rest: &str) {
     let (phrases, text) = cut(rest, ": ");
-    let how = case.how(phrases);
     let bytes = case.spelled(text);
-    if how.each.is_empty() {
-        let mut reader = Pieces::new(bytes.as_slice(), how.step, 0);
-        print_received(case, &mut reader, true);
-        say!(case; "\ncalls ", reader.calls, ", left ", reader.left.len());
-    } else {
-        case.make(&Receiving, bytes.as_slice(), &how);
-    }
+    let how = case.how(phrases, bytes.as_slice());
+    let in_full = how.each.is_empty();
+    case.make(&Receiving { in_full }, &how);
 }

@@ -15,38 +15,29 @@ use std::alloc::AllocError;
 pub fn answer(case: &Case, verb: &str, rest: &str) {
     match (verb, first(rest)) {
         ("json", (verb, rest)) => json(case, verb, rest),
-        ("moment-text", ("read", text)) => case.say_if_any(read_moment(text)),
+        ("moment-text", ("read", text)) => say_some!(case; now = read_moment(text); @now),
         ("moment-text", (_, word)) => say!(case; write_moment(case.moment(word)).as_str()),
         _ => snapshots::answer(case, verb, rest),
     }
 }
 
-/// `json shows STATE SILENCE`, `json lists STATE SILENCE, ..`, `json posted ID`, `json fault TEXT`, `json post BODY`,
-/// `json reads BODY`, `json cut SILENCE` and `json again STATE SILENCE, ..`. Bodies are texts with escapes.
+/// What is written of silences, of an identifier and of a fault, and what is read of a body, in which escapes are.
 fn json(case: &Case, verb: &str, rest: &str) {
+    let (alloc, out) = (case.alloc, Vec::new(case.alloc));
     match verb {
         "shows" => {
             given!((version, state) = Spelled::spelled(case, rest));
-            say_body(case, write_silence(Vec::new(case.alloc), &version, state));
+            say_body(case, write_silence(out, &version, state));
         }
-        "lists" => {
-            let rows = case.list(rest, ", ");
-            say_body(case, write_silences(Vec::new(case.alloc), rows.as_slice()));
-        }
-        "again" => {
-            let rows = case.list(rest, ", ");
-            say_read(case, reads_again(case.alloc, rows.as_slice()));
-        }
-        "reads" => {
-            let body = case.unescaped(rest);
-            say_read(case, read_silences(case.alloc, body.as_slice()));
-        }
-        "posted" => say_body(case, write_posted(Vec::new(case.alloc), rest)),
-        "fault" => say_body(case, write_error(Vec::new(case.alloc), rest)),
+        "lists" => say_body(case, write_silences(out, case.list(rest, ", ").as_slice())),
+        "again" => say_read(case, reads_again(alloc, case.list(rest, ", ").as_slice())),
+        "reads" => say_read(case, read_silences(alloc, case.unescaped(rest).as_slice())),
+        "posted" => say_body(case, write_posted(out, rest)),
+        "fault" => say_body(case, write_error(out, rest)),
         "post" => post(case, rest),
         "cut" => {
             given!(version = MeshSilence::spelled(case, rest));
-            given!(shown = case.made(cut_to_shown(case.alloc, &version)));
+            given!(shown = case.made(cut_to_shown(alloc, &version)));
             say!(case; @shown);
         }
         _ => case.fail(Fault::Words),
@@ -80,8 +71,7 @@ fn say_read(case: &Case, read: Result<Vec<MeshSilence>, ListError>) {
     }
 }
 
-/// What is posted by a body, as `- job=x 10..100 by "ops" saying "hi"`, or why it is refused, and how the key at fault is
-/// spelled.
+/// What is posted by a body, as `- job=x 10..100 by "ops" saying "hi"`, or why it is refused.
 fn post(case: &Case, body: &str) {
     let body = case.unescaped(body);
     let read = read_post(case.alloc, body.as_slice());

@@ -10,8 +10,7 @@ use std::fmt::Debug;
 
 type Map = Held<MeshSilence>;
 
-/// Cases of maps and keepers: `map STEP; STEP ..`, steps on an empty map; `versions SILENCE, ..`, what map a list of versions
-/// makes; and those of keepers below.
+/// Cases of maps and keepers: `map STEP; ..`, steps on an empty map; `versions SILENCE, ..`, the map that they make.
 pub fn answer(case: &Case, verb: &str, rest: &str) {
     match verb {
         "map" => {
@@ -37,7 +36,7 @@ fn step(case: &Case, held: &mut Map, text: &str) {
     let words = words.trim_end();
     match verb {
         "bucket" => say_bucket(case, held, rest),
-        "expiry" => case.say_if_any(held.next_expiry()),
+        "expiry" => say_some!(case; expiry = held.next_expiry(); @expiry),
         "held" => case.say_held(held),
         "take" => say_made(case, case.take(held, words, case.moment(word))),
         "pair" => take_pair(case, held, words, case.moment(word)),
@@ -102,11 +101,6 @@ impl Spelled for (Step<MeshSilence>, Moment) {
     }
 }
 
-fn keep(case: &Case, keeper: &mut Keeper<MeshSilence>, text: &str) {
-    given!((step, now) = Spelled::spelled(case, text));
-    say_kept(case, keeper.step(step, now));
-}
-
 fn keep_pair(case: &Case, keeper: &mut Keeper<MeshSilence>, text: &str) {
     let (words, word) = cut(text, " at ");
     given!((one, other) = Spelled::spelled(case, words));
@@ -128,16 +122,16 @@ fn run(case: &Case, keeper: &mut Keeper<MeshSilence>, text: &str) {
 fn view(case: &Case, keeper: &Keeper<MeshSilence>, text: &str) {
     let (id, word) = cut(text, " at ");
     let id = case.text(id);
-    match keeper.view(&id, case.moment(word)) {
-        Some(version) => say!(case; @version),
-        None => case.put("none\n"),
-    }
+    say_some!(case; version = keeper.view(&id, case.moment(word)); @version);
 }
 
 fn keeps(case: &Case, keeper: &mut Keeper<MeshSilence>, text: &str) {
     match first(text) {
-        ("take", _) => keep(case, keeper, text),
-        ("step", rest) => keep(case, keeper, rest),
+        ("take" | "step", _) => {
+            let words = text.strip_prefix("step ").unwrap_or(text);
+            given!((step, now) = Spelled::spelled(case, words));
+            say_kept(case, keeper.step(step, now));
+        }
         ("collect", rest) => say_kept(case, keeper.collect(case.moment(first(rest).1))),
         ("pair", rest) => keep_pair(case, keeper, rest),
         ("run", rest) => run(case, keeper, rest),
@@ -151,28 +145,21 @@ fn keeps(case: &Case, keeper: &mut Keeper<MeshSilence>, text: &str) {
 fn keeper(case: &Case, rest: &str) {
     let (map, text) = cut(rest, "; ");
     let (word, words) = first(map);
-    let now = case.moment(word);
-    let mut keeper = Keeper::of(map_at(case, words, now), now);
+    let (words, others) = cut(words, " merged with ");
+    let (mut map, now) = (case.held(words), case.moment(word));
+    if !others.is_empty() {
+        merge(case, &mut map, others, now);
+    }
+    let mut keeper = Keeper::of(map, now);
     for words in text.split("; ") {
         keeps(case, &mut keeper, words);
     }
 }
 
-/// The map of versions, into which a map of others is merged where words say so.
-fn map_at(case: &Case, words: &str, now: Moment) -> Map {
-    let (words, others) = cut(words, " merged with ");
-    let mut map = case.held(words);
-    if !others.is_empty() {
-        merge(case, &mut map, others, now);
-    }
-    map
-}
-
 /// `keeper-start MOMENT SILENCE, ..`: a keeper that starts with a list of versions, and what it holds.
 fn keeper_start(case: &Case, rest: &str) {
     let (word, words) = first(rest);
-    match Keeper::start(case.alloc, case.list(words, ", "), case.moment(word)) {
-        Ok(keeper) => case.say_held::<MeshSilence>(keeper.held()),
-        Err(refusal) => say_kept::<()>(case, Err(refusal)),
-    }
+    let keeper = Keeper::start(case.alloc, case.list(words, ", "), case.moment(word));
+    given!(keeper = case.got(keeper, KeeperError::Memory));
+    case.say_held::<MeshSilence>(keeper.held());
 }

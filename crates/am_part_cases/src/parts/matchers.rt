@@ -1,21 +1,19 @@
-//! What matchers say of values, the verdicts on them, which silences a filter passes, and which mute an alert; whether a group
-//! is notified, and when an instance is due.
+//! Matchers, filters and mutes; whether a group is notified, and when an instance is due.
 
-use crate::common::{Case, Spelled, behind, cut, first};
+use crate::common::{Case, Printed, Spelled, behind, cut, first};
 use crate::parts::requests;
 use am_dedup::{decide, decide_over, due};
 use am_matcher::{
     BuildError, Compiled, Filter, FilterError, Ids, Labels, Mutes, PatternCache, mutes, verdict,
 };
 use am_merge::Held;
-use am_nflog::{Entry, MeshEntry};
+use am_nflog::MeshEntry;
 use am_silence::{Matcher, MeshSilence};
 use am_version_order::Moment;
 
 type Map = Held<MeshSilence>;
 
-/// Cases of matchers, filters and mutes; `decide ENTRY; firing LIST resolved LIST wanted no repeat SECONDS at MOMENT`, with an
-/// entry such as `g r/w/0 updated 100 firing 1,2`, or `no entry`; and `due start MOMENT place N timeout SECONDS`.
+/// Cases of matchers, filters, mutes and decisions.
 pub fn answer(case: &Case, verb: &str, rest: &str) {
     match verb {
         "matches" => matches(case, rest),
@@ -24,24 +22,18 @@ pub fn answer(case: &Case, verb: &str, rest: &str) {
         "filter" => filter(case, rest),
         "mutes" => all_mutes(case, rest),
         "many-mutes" => many_mutes(case, rest),
-        "decide" => {
-            let (entry, words) = cut(rest, "; ");
-            if entry == "no entry" {
-                say_decisions(case, None, None, words);
-            } else if let Some(version) = MeshEntry::spelled(case, entry) {
-                let entry = case.entry(entry);
-                say_decisions(case, entry.as_ref(), Some(&version), words);
-            }
-        }
-        "due" => {
-            let start = case.moment(behind(rest, "start ", "-"));
-            let place = case.number(behind(rest, " place ", "-"));
-            if let Some(timeout) = case.seconds(behind(rest, " timeout ", "-")) {
-                case.say_if_any(due(start, place, timeout));
-            }
-        }
+        "decide" => say_decisions(case, rest),
+        "due" => say_due(case, rest),
         _ => requests::answer(case, verb, rest),
     }
+}
+
+/// `due start MOMENT place N timeout SECONDS`
+fn say_due(case: &Case, rest: &str) {
+    let start = case.moment(behind(rest, "start ", "-"));
+    let place = case.number(behind(rest, " place ", "-"));
+    given!(timeout = case.seconds(behind(rest, " timeout ", "-")));
+    say_some!(case; due = due(start, place, timeout); @due);
 }
 
 /// `matches MATCHER VALUE ..`: whether the matcher matches each of the values.
@@ -58,8 +50,7 @@ fn matches(case: &Case, rest: &str) {
     case.put("\n");
 }
 
-/// `verdicts LIST; LIST ..`: the verdict on each list of matchers; `kept-verdicts LIST; LIST ..`: the same by one cache, and how
-/// many bytes it keeps then.
+/// `verdicts LIST; LIST ..`: the verdict on each list of matchers; or by one cache, and how many bytes it keeps then.
 fn verdicts(case: &Case, lists: &str, is_kept: bool) {
     let mut patterns = PatternCache::new(case.alloc);
     for (place, words) in lists.split("; ").enumerate() {
@@ -91,8 +82,7 @@ fn filter(case: &Case, rest: &str) {
     say!(case; is_passed, ", its version ", is_version);
 }
 
-/// `mutes SILENCE, ..; at MOMENT LABEL ..; ..`: which silences mute labels at moments. A step may also be `forget`, for all
-/// patterns that are kept.
+/// `mutes SILENCE, ..; at MOMENT LABEL ..; ..`: which silences mute labels at moments. `forget` drops what is kept.
 fn all_mutes(case: &Case, rest: &str) {
     let (silences, text) = cut(rest, "; ");
     let held = case.held(silences);
@@ -129,16 +119,14 @@ fn print_mutes(case: &Case, mutes: Option<Mutes>) {
 
 /// Prints identifiers, parted by commas, or `-` for none.
 fn print_ids(case: &Case, ids: &Ids) {
-    let mut comma = "";
-    for id in ids.as_slice() {
-        put!(case; comma, id.as_str());
-        comma = ",";
+    let ids = ids.as_slice();
+    for (place, id) in ids.iter().enumerate() {
+        put!(case; if place > 0 { "," } else { "" }, id.as_str());
     }
-    case.put(if comma.is_empty() { "-" } else { "" });
+    case.put(if ids.is_empty() { "-" } else { "" });
 }
 
-/// `many-mutes COUNT`: asks one cache twice which of so many silences mute the job x at 50. Each has a pattern of its own,
-/// which is broken at those of odd numbers.
+/// `many-mutes COUNT`: asks one cache twice which of so many silences mute the job x; the patterns of odd numbers are broken.
 fn many_mutes(case: &Case, rest: &str) {
     let mut held = Held::new(case.alloc);
     for number in 0..case.number(rest) {
@@ -159,7 +147,14 @@ fn count_mutes(case: &Case, patterns: &mut PatternCache, held: &Map) {
     say!(case; ids, " mute, ", broken, " broken, ", patterns.size() >> 20, " MiB kept");
 }
 
-fn say_decisions(case: &Case, entry: Option<&Entry>, version: Option<&MeshEntry>, words: &str) {
+/// `decide ENTRY; firing LIST resolved LIST wanted no repeat SECONDS at MOMENT`, over an entry or `no entry`.
+fn say_decisions(case: &Case, rest: &str) {
+    let (held, words) = cut(rest, "; ");
+    let (entry, version) = match held {
+        "no entry" => (None, None),
+        _ => (case.entry(held), MeshEntry::spelled(case, held)),
+    };
+    let (entry, version) = (entry.as_ref(), version.as_ref());
     let firing = case.numbers(behind(words, "firing ", "-"));
     let resolved = case.numbers(behind(words, " resolved ", "-"));
     let (firing, resolved) = (firing.as_slice(), resolved.as_slice());

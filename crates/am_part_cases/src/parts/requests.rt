@@ -1,5 +1,4 @@
-//! Requests in bytes that came, the calls that they are, the table of statuses, and the bytes of replies; texts, numbers and
-//! lists as words, and schedules as they are read.
+//! Requests, calls, the table of statuses and replies; texts, numbers and lists as words; schedules as they are read.
 
 use crate::common::{Case, Fault, cut, first};
 use crate::parts::json;
@@ -13,13 +12,10 @@ use am_told::{ListedWord, Numbers, Texts, Word};
 pub fn answer(case: &Case, verb: &str, rest: &str) {
     match verb {
         "request" => request(case, rest),
-        "call" => {
-            let (method, target) = first(rest);
-            match call_of(method, target) {
-                Ok(call) => say!(case; ?call),
-                Err(cause) => say!(case; ?cause),
-            }
-        }
+        "call" => match call_of(first(rest).0, first(rest).1) {
+            Ok(call) => say!(case; ?call),
+            Err(cause) => say!(case; ?cause),
+        },
         "filters" => filters(case, rest),
         "refusals" => refusals(case),
         "reply" => say_reply(case, rest),

@@ -7,8 +7,7 @@ use am_silence::{Matcher, MeshSilence, fresh_id, state_at};
 use am_version_order::Version;
 use am_wire::{Message, WireError};
 
-/// Cases of versions; of the matcher or the receiver that bytes are read as, and its bytes, twice; of a copy of matchers; of the
-/// identifier that random bits give.
+/// Cases of versions, of a matcher and a receiver that are read, of matchers copied, of the identifier that bits give.
 pub fn answer(case: &Case, verb: &str, rest: &str) {
     match verb {
         "sil" if rest.starts_with("state ") => states(case, first(rest).1),
@@ -91,14 +90,12 @@ fn orders<V: Told>(case: &Case, are_keys: bool, text: &str) {
 }
 
 fn say_orders<V: Told>(case: &Case, are_keys: bool, version: &V, others: &[V]) {
-    let mut blank = "";
-    for other in others {
+    for (place, other) in others.iter().enumerate() {
         let order = match are_keys {
             true => version.key().cmp(other.key()),
             false => version.compare(other),
         };
-        put!(case; blank, ?order);
-        blank = " ";
+        put!(case; if place > 0 { " " } else { "" }, ?order);
     }
     case.put("\n");
 }

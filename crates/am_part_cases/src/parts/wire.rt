@@ -1,6 +1,6 @@
 //! Moments and intervals; varints, fields, timestamps, and rows, also over readers that give few bytes, or fail.
 
-use crate::common::{Case, Fault, Pieces, Printed, behind, cut, first, moment_of};
+use crate::common::{Case, Fault, Pieces, Printed, behind, cut, first, moment_of, phrase};
 use crate::parts::versions;
 use am_version_order::{Interval, Moment};
 use am_wire::reading::{AnyField, Scan, Schema, TimestampDraft};
@@ -12,10 +12,7 @@ use std::io::{self, Read};
 pub fn answer(case: &Case, verb: &str, rest: &str) {
     let (one, other) = first(rest);
     match verb {
-        "parts" => match moment_of(rest) {
-            Some(moment) => say!(case; ?moment.parts()),
-            None => case.put("none\n"),
-        },
+        "parts" => say_some!(case; moment = moment_of(rest); ?moment.parts()),
         "order" => say!(case; ?case.moment(one).cmp(&case.moment(other))),
         "interval" => say!(case; Interval::from_nanos(case.number(rest)).is_some()),
         "sum" | "sums" => sum(case, case.moment(one), other),
@@ -26,17 +23,15 @@ pub fn answer(case: &Case, verb: &str, rest: &str) {
     }
 }
 
-/// `sum MOMENT NANOSECONDS`: the sum of a moment and an interval, and the sum that ends at the last moment; `sums MOMENT
-/// NANOSECONDS COUNT`: that of a moment and so many intervals.
+/// `sum MOMENT NANOSECONDS`: the sum, and that which ends at the last moment; `sums MOMENT NANOSECONDS COUNT`: of so many.
 fn sum(case: &Case, start: Moment, rest: &str) {
     let (length, count) = first(rest);
-    match case.wanted(Interval::from_nanos(case.number(length))) {
-        Some(length) if count.is_empty() => {
-            case.say_if_any(start.checked_add(length));
-            say!(case; @start.capped_add(length));
-        }
-        Some(length) => case.say_if_any(start.checked_add_times(length, case.number(count))),
-        None => {}
+    given!(length = case.wanted(Interval::from_nanos(case.number(length))));
+    if count.is_empty() {
+        say_some!(case; sum = start.checked_add(length); @sum);
+        say!(case; @start.capped_add(length));
+    } else {
+        say_some!(case; sum = start.checked_add_times(length, case.number(count)); @sum);
     }
 }
 
@@ -100,25 +95,17 @@ fn put(case: &Case, rest: &str) {
     case.say_bytes(out.as_slice());
 }
 
-/// `timestamps in pieces of N: BYTES` reads a row of timestamps, `timestamps in pieces of N, read N fails: BYTES` so that a read
-/// fails, and `timestamps and zeros behind it: BYTES` up to a byte more than an input may have.
+/// `timestamps in pieces of N, read N fails: BYTES`; `timestamps and zeros behind it: BYTES`, over the limit of an input.
 fn timestamps(case: &Case, rest: &str) {
     let (how, pairs) = cut(rest, ": ");
     let bytes = case.bytes(pairs);
-    match how.strip_prefix("in pieces of ") {
-        Some(how) => {
-            let (step, fails) = cut(how, ", ");
-            let fails_at = case.number(behind(fails, "read ", "0")) as usize;
-            say_moments(
-                case,
-                &mut Pieces::new(&bytes, case.number(step) as usize, fails_at),
-            );
-        }
-        None => {
-            let mut reader = bytes.as_slice().chain(io::repeat(0)).take(67_108_865);
-            say_moments(case, &mut reader);
-        }
+    if how.contains("zeros") {
+        let mut reader = bytes.as_slice().chain(io::repeat(0)).take(67_108_865);
+        return say_moments(case, &mut reader);
     }
+    let step = case.number(phrase(how, "in pieces of ")) as usize;
+    let fails_at = case.number(behind(how, " read ", "0")) as usize;
+    say_moments(case, &mut Pieces::new(&bytes, step, fails_at));
 }
 
 /// Says the timestamps, up to the end or a fault, and what is answered behind that.
