@@ -6,7 +6,7 @@
 PROGRAM is crates/am_tool/out/am_tool if it isn't given; ./am_tool and rt ci build it. The members tick, pull and save by
 themselves. What one sends to a peer goes through a proxy, which may lose, delay, repeat, reorder and cut it; members are
 killed, frozen, stopped by signals and started again, and their disks are full at times; silent, slow and broken clients
-are there all along. In the end the network is healed and all members run, and then all have to show the same: what was
+are there all along, and now and then hundreds at once, floods of frames of two bytes, and pages of other sites. In the end the network is healed and all members run, and then all have to show the same: what was
 acknowledged and surely held by a member that lives, or stands in its file, and nothing that nobody made. Then all are
 stopped, and their files have to hold just that.
 
@@ -40,7 +40,7 @@ from ledger import Ledger, milliseconds, now, shown, versions_of
 from members import PATIENCE, free_ports, outcome, parted, received, run
 from proxies import WEATHERS, Proxy
 from tally import check, finish
-from wire import delta, field, greeting, timestamp, varint
+from wire import EMPTY_PUSH, TICK, delta, field, greeting, timestamp, varint
 
 NAMES = ["a", "b", "c"]
 STATES = {"sil": "silences", "nfl": "entries of the log"}
@@ -63,6 +63,9 @@ RETENTIONS = {1: 432_000, 0: 4}
 # The most that a round lasts, in seconds; how many clients post; and how much a disk holds, in bytes.
 ROUND, CLIENTS, DISK = 30, 10, 16 << 20
 
+# How many silent clients come at once, and how many frames that ask for something.
+CROWD, FLOOD = 300, 1000
+
 # What clients leave behind who mean no good.
 OPENINGS = [
     b"",
@@ -79,6 +82,9 @@ OPENINGS = [
 
 # The reply of a member that still waits for its first pull.
 NOT_READY = (503, b'"not ready"')
+
+# The reply to a page of another site.
+FOREIGN = (403, b'"foreign host"')
 
 # Replies that refuse a post, an update and an end for a cause that chaos may bring about.
 REFUSALS = [
@@ -428,7 +434,7 @@ class Round:
             # all begin with nothing; later starts pull before they answer
             it.words += AGAIN
         clients = [Client(self, f"client {number}") for number in range(CLIENTS)]
-        work = [it.work for it in [*clients, *self.meddlers]] + [self.change_weather, self.loiter, self.notify]
+        work = [it.work for it in [*clients, *self.meddlers]] + [self.change_weather, self.loiter, self.notify, self.pester]
         threads = [threading.Thread(target=self.guarded, args=(it,), daemon=True) for it in work]
         for it in threads:
             it.start()
@@ -483,6 +489,37 @@ class Round:
                     stream.shutdown(socket.SHUT_WR)
                     if stream.recv(1) == b"" and time.monotonic() - begun < TIME_LIMIT / 2:
                         self.ledger.taken(member, generation, data)
+
+    def pester(self):
+        """Hundreds of silent clients at once, floods of frames that ask for something, and pages of other sites."""
+        draw = random.Random(f"{self.seed} pests")
+        while not self.is_over.wait(draw.uniform(0.2, 1.5)):
+            act = draw.choice([self.crowd, self.flood, self.page])
+            self.acts[act.__name__] += 1
+            with contextlib.suppress(OSError):
+                act(draw, draw.choice(self.members))
+
+    def crowd(self, draw, member):
+        with contextlib.ExitStack() as stack:
+            for _ in range(CROWD):
+                stack.enter_context(socket.create_connection(("127.0.0.1", member.port), timeout=0.5))
+            self.is_over.wait(draw.uniform(0, 0.5))
+
+    def flood(self, draw, member):
+        peer = draw.choice([it for it in NAMES if it != member.name])
+        with socket.create_connection(("127.0.0.1", member.port), timeout=TIME_LIMIT) as stream:
+            stream.sendall(greeting(peer) + draw.choice([EMPTY_PUSH, TICK]) * FLOOD)
+            stream.shutdown(socket.SHUT_WR)
+            stream.recv(1)
+
+    def page(self, _, member):
+        begun, body = time.monotonic(), b'{"comment": "of a page"}'
+        head = f"POST /api/v2/silences HTTP/1.1\r\nHost: pages.example\r\nContent-Length: {len(body)}\r\n\r\n"
+        with socket.create_connection(("127.0.0.1", member.port), timeout=TIME_LIMIT) as stream:
+            stream.sendall(head.encode() + body)
+            reply = parted(received(stream))
+        if member.is_let_alone(begun) and reply != FOREIGN:
+            self.complain("pages", f"{member.name}: {reply}")
 
     # ---- the end
 
@@ -595,6 +632,7 @@ COMPLAINTS = {
     "lives": "no member ends by itself",
     "answers": "a member that is let alone answers each request",
     "refusals": "no request is refused without cause",
+    "pages": "a page of another site is refused",
     "lists": "each list has what was posted, and each silence once",
     "saves": "what was acknowledged is saved in time",
     "stops": "a stop by a signal ends well, and saves all",

@@ -113,25 +113,27 @@ INSTANCE_HELP = r"""Runs one member: serves the silences of API v2 to people and
 Usage: am_tool instance [OPTIONS] --name <NAME> --listen <PORT> --sil <FILE> --nfl <FILE>
 
 Options:
-      --name <NAME>           Its name among the members, 1 to 255 bytes
-      --listen <PORT>         The port at which it listens, 1 to 65535, for HTTP and for the frames of peers alike
-      --peer <NAME=PORT>      Another member and the port at which it listens, cut at the last '='; any number of times
-      --sil <FILE>            The file of the silences; where there is none, it holds none
-      --nfl <FILE>            The file of the notification log; where there is none, it is empty
-      --retention <S>         For how many seconds a silence is kept after its end, 1 to 999999999 [default: 432000]
-      --peer-timeout <S>      For how many seconds members wait for one another before they notify, 1 to 999999999 [default: 15]
-      --connections <N>       After how many connections it saves both files and ends, 1 to 18446744073709551615; without it, it goes on
-      --time-limit <S>        For how many seconds a connection may last, of a client or to a peer, 1 to 3600 [default: 5]
-      --at-once <N>           How many connections it serves at once, 1 to 65535; those beyond wait until one of them ends [default: 256]
-      --lines-a-second <N>    How many lines of one kind of fault it prints in a second, 1 to 65535; further ones are counted in a line [default: 10]
-      --tick-every <S>        Ticks by itself every so many seconds, 1 to 999999999: drops what has expired, and saves both files
-      --pull-every <S>        Asks each peer for all it has every so many seconds, 1 to 999999999, and says at the start which spread and flight time that keeps
-      --save-every <S>        Saves both files every so many seconds, 1 to 999999999, where something may have changed
-      --pull-first            Answers no request, and no peer that asks for all, before a peer has sent all it has
-      --pull-first-limit <S>  For how many seconds --pull-first waits at the most, 1 to 999999999 [default: 30]
-      --stop-at-input-end     Saves both files and ends where standard input ends
-      --least-repeat <S>      The smallest repeat interval in seconds, 1 to 999999999: warns where --pull-every asks for more
-  -h, --help                  Print help
+      --name <NAME>              Its name among the members, 1 to 255 bytes
+      --listen <PORT>            The port at which it listens, 1 to 65535, for HTTP and for the frames of peers alike
+      --peer <NAME=PORT>         Another member and the port at which it listens, cut at the last '='; any number of times
+      --host <NAME>              A name by which it is asked beside 127.0.0.1 and localhost, as that of a proxy; any number of times. Under any other it answers 403, and so it does the page of another site
+      --sil <FILE>               The file of the silences; where there is none, it holds none
+      --nfl <FILE>               The file of the notification log; where there is none, it is empty
+      --retention <S>            For how many seconds a silence is kept after its end, 1 to 999999999 [default: 432000]
+      --peer-timeout <S>         For how many seconds members wait for one another before they notify, 1 to 999999999 [default: 15]
+      --connections <N>          After how many connections it saves both files and ends, 1 to 18446744073709551615; without it, it goes on
+      --time-limit <S>           For how many seconds a connection may last, of a client or to a peer, 1 to 3600 [default: 5]
+      --at-once <N>              How many connections it serves at once, 1 to 65535; one that comes beyond gets the place of the one on which nothing has moved for longest [default: 256]
+      --most-unfinished <BYTES>  How many bytes of unfinished requests and frames it keeps in all, 1 to 18446744073709551615; beyond, the connection that has most of them is closed [default: 134217728]
+      --lines-a-second <N>       How many lines of one kind of fault it prints in a second, 1 to 65535; further ones are counted in a line [default: 10]
+      --tick-every <S>           Ticks by itself every so many seconds, 1 to 999999999: drops what has expired, and saves both files
+      --pull-every <S>           Asks each peer for all it has every so many seconds, 1 to 999999999, and says at the start which spread and flight time that keeps
+      --save-every <S>           Saves both files every so many seconds, 1 to 999999999, where something may have changed
+      --pull-first               Answers no request, and no peer that asks for all, before a peer has sent all it has
+      --pull-first-limit <S>     For how many seconds --pull-first waits at the most, 1 to 999999999 [default: 30]
+      --stop-at-input-end        Saves both files and ends where standard input ends
+      --least-repeat <S>         The smallest repeat interval in seconds, 1 to 999999999: warns where --pull-every asks for more
+  -h, --help                     Print help
 
 Without --tick-every, what has expired is dropped, and both files are saved, when a peer sends a Tick frame, and when the
 member ends: after --connections, at --stop-at-input-end, or by SIGTERM or SIGINT where it was started with them blocked:

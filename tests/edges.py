@@ -5,26 +5,32 @@
 
 PROGRAM is crates/am_tool/out/am_tool if it isn't given. A last save fails, a directory is handed to the disk, two processes want
 one file, a stop and the time limit come while nothing is answered yet, the clock goes ahead and comes back, links and what is
-no file stand in a file's place, and faults come by the hundred. tests/system.c stands between a member and the C library. What
-is wanted is written by hand, from docs/FORMATS.md and docs/OPERATING.md.
+no file stand in a file's place, faults and silent clients come by the hundred and the thousand, pages of other sites ask,
+frames ask for more than is good for anybody, and requests have many patterns. tests/system.c stands between a member and the
+C library. What is wanted is written by hand, from docs/FORMATS.md and docs/OPERATING.md.
 """
 
 import contextlib
 import json
 import os
 import re
+import resource
 import shutil
 import signal
 import socket
 import subprocess
 import sys
 import tempfile
+import threading
 import time
+from concurrent.futures import ThreadPoolExecutor
+from urllib.parse import quote
 
 import members
+import versions
 from members import PATIENCE, TOP, Member, eventually, free_ports, parted, received, run
 from tally import check, compare, finish, give_up, try_each
-from wire import greeting
+from wire import EMPTY_PUSH, PULL, PUSH, TICK, delimited, delta, field, frame, greeting, number_at, varint
 
 # Words in front of a member's that have it see SIGTERM and SIGINT.
 BLOCKED = ["env", "--block-signal=TERM", "--block-signal=INT"]
@@ -32,6 +38,12 @@ BLOCKED = ["env", "--block-signal=TERM", "--block-signal=INT"]
 ONE_FILE = "error: '--sil <FILE>' and '--nfl <FILE>' name one file"
 
 NOT_READY = (503, b'"not ready"')
+
+# How many clients say nothing, and in how many seconds others are answered beside them.
+CROWD, SOON = 5000, 0.1
+
+# What compiling one pattern, or reading the largest body, may take, in seconds: 0.05 where nothing else runs.
+ONE_TURN = 0.25
 
 library = None
 
@@ -337,6 +349,369 @@ def test_lines(folder):
         check("or all", most < count or left_out == 0, left_out)
 
 
+# ---- who asks
+
+
+def asks(member, fields, start="GET /api/v2/silences", body=b"", pieces=1):
+    """What is replied to a request with these fields, which comes in so many pieces."""
+    head = "".join(f"{field}\r\n" for field in [start + " HTTP/1.1", *fields, f"content-length: {len(body)}"])
+    data = head.encode() + b"\r\n" + body
+    size = -(-len(data) // pieces)
+    return parted(member.send(*(data[at : at + size] for at in range(0, len(data), size)), close=False))
+
+
+FOREIGN_HOST, FOREIGN_ORIGIN = (403, b'"foreign host"'), (403, b'"foreign origin"')
+
+# Fields of a request, and whether it is answered, or what it is answered instead.
+FIELDS = [
+    ([], True),
+    (["Host: 127.0.0.1:PORT"], True),
+    (["Host: 127.0.0.1"], True),
+    (["host: LocalHost:80"], True),
+    (["Host: localhost", "Origin: http://localhost:3000"], True),
+    (["Host: localhost", "origin: https://127.0.0.1"], True),
+    (["Host: evil.example"], FOREIGN_HOST),
+    (["Host: evil.example:PORT"], FOREIGN_HOST),
+    (["Host: localhost.evil.example"], FOREIGN_HOST),
+    (["Host:"], FOREIGN_HOST),
+    (["Host: localhost", "Host: evil.example"], FOREIGN_HOST),
+    (["Host: evil.example", "Origin: http://evil.example"], FOREIGN_HOST),
+    (["Host: localhost", "Origin: http://evil.example"], FOREIGN_ORIGIN),
+    (["Host: localhost", "Origin: null"], FOREIGN_ORIGIN),
+    (["Host: localhost", "Origin: http://localhost.evil.example:80"], FOREIGN_ORIGIN),
+    (["Host: alerts.example", "Origin: https://alerts.example:8443"], FOREIGN_HOST),
+    (["Host: localhost", "Origin: https://alerts.example"], FOREIGN_ORIGIN),
+]
+
+
+def test_foreign(folder):
+    """A request that names another host, or comes from a page of another site, is refused before anything else of it."""
+    member = alone("m", folder)
+    for fields, wanted in FIELDS:
+        fields = [field.replace("PORT", str(member.port)) for field in fields]
+        compare(f"a list with {fields}", asks(member, fields), (200, b"[]") if wanted is True else wanted)
+    body = json.dumps(silence("x", time.time())).encode()
+    page = ["Host: evil.example", "Content-Type: text/plain"]
+    compare("a page that posts", asks(member, page, "POST /api/v2/silences", body), FOREIGN_HOST)
+    compare("in pieces", asks(member, page, "POST /api/v2/silences", body, 40), FOREIGN_HOST)
+    compare("a path that names nothing", asks(member, page, "GET /nowhere"), FOREIGN_HOST)
+    compare("a body without a length", asks(member, [*page, "Transfer-Encoding: chunked"]), FOREIGN_HOST)
+    compare("nothing was posted", member.listed(), [])
+    compare("the end", (member.stop(), member.lines[1:]), (0, []))
+
+
+def test_hosts(folder):
+    """A member is asked by the names that it is given, too."""
+    member = alone("m", folder, ["--host", "alerts.example", "--host", "am"])
+    for fields in (["Host: Alerts.example", "Origin: https://alerts.example:8443"], ["Host: am:9093"]):
+        compare(f"a list with {fields}", asks(member, fields), (200, b"[]"))
+    compare("any other", asks(member, ["Host: www.alerts.example"]), FOREIGN_HOST)
+    compare("the end", (member.stop(), member.lines[1:]), (0, []))
+    for word in ("", "am:9093", "http://am"):
+        status, out, error = run([*words(f"{folder}/s", f"{folder}/n"), "--host", word])
+        told = "error: invalid value for '--host <NAME>': letters, digits, '-', '.' and '_' are wanted, and no port"
+        compare(f"the name {word!r}", (status, out, error.splitlines()[:1]), (2, b"", [told]))
+
+
+# ---- what frames ask for
+
+
+def peak(member):
+    """The most memory that a member had so far, in MB."""
+    with open(f"/proc/{member.process.pid}/status", encoding="ascii") as file:
+        return int(re.search(r"VmHWM:\s+(\d+)", file.read()).group(1)) / 1024
+
+
+def slowest(member, look):
+    """How long the slowest request took, in seconds, while something goes on."""
+    slow = 0
+    while look():
+        start = time.monotonic()
+        compare("a request meanwhile", member.ask("GET", "/api/v2/silence/none")[0], 404)
+        slow = max(slow, time.monotonic() - start)
+    return slow
+
+
+def part(state, row):
+    """A part of what frames bring of a state."""
+    return field(1, field(1, state.encode()) + (field(2, row) if row else b""))
+
+
+def frames_in(data, name):
+    """The kinds and the payloads of the frames behind the greeting of a name."""
+    frames, at = [], len(greeting(name))
+    while at < len(data):
+        size, begin = number_at(data, at + 1)
+        frames.append((data[at], data[begin : begin + size]))
+        at = begin + size
+    return frames
+
+
+class Taker:
+    """A listener that takes what a member sends to a peer."""
+
+    def __init__(self):
+        self.listener = socket.create_server(("127.0.0.1", 0))
+        self.port = self.listener.getsockname()[1]
+        self.taken = []
+        threading.Thread(target=self.take, daemon=True).start()
+
+    def take(self):
+        while True:
+            stream, _ = self.listener.accept()
+            with stream:
+                self.taken.append(received(stream))
+
+
+def test_pushes(folder):
+    """Peers that ask for all again and again are answered as the link takes it, and from a state that is made once at a time."""
+    taker = Taker()
+    member = begun(Stoppable("m", *free_ports(1), [("p", taker.port)], folder))
+    for number in range(1000):
+        compare("a post", post(member, "x" * 3000 + str(number))[0], 200)
+    before = peak(member)
+    start = time.monotonic()
+    pushes = asked(member, greeting("p") + EMPTY_PUSH * 8000)
+    pushes.shutdown(socket.SHUT_WR)
+    slow = slowest(member, lambda: time.monotonic() < start + 2)
+    pushes.close()
+    check("nobody waits", slow < 2, slow)
+    check("8,000 Pushes take no memory", peak(member) - before < 50, peak(member) - before)
+    pulls = lambda: [brought for data in taker.taken for kind, brought in frames_in(data, "m") if kind == PULL]
+    ends = lambda: [part("nfl", b"") in brought for brought in pulls()]
+    check("all is sent", eventually(lambda: any(ends())))
+    check("in parts, of which the last one alone names both states", True in ends() and ends().index(True) == 5, ends())
+    check("each of about 1 MiB", max(len(brought) for brought in pulls()) < 1_050_000, [len(brought) for brought in pulls()])
+    compare("the end", (member.stop(), member.lines[1:]), (0, []))
+    check("and no more than the link took", len(pulls()) < 4000, len(pulls()))
+
+
+def test_parts(folder):
+    """The first pull lasts until the part came that names both states."""
+    member = with_peer("f", folder, ["--pull-first", "--pull-first-limit", "600", "--time-limit", "60"])
+    with asked(member, request("GET", "/api/v2/silences")) as stream:
+        member.send(greeting("p") + frame(PULL, part("sil", delimited(version("x")))))
+        stream.settimeout(1)
+        with contextlib.suppress(TimeoutError):
+            check("a part of the silences alone ends nothing", not stream.recv(1))
+        stream.settimeout(PATIENCE)
+        member.send(greeting("p") + frame(PULL, part("sil", delimited(version("y"))) + part("nfl", b"")))
+        status, body = parted(received(stream))
+    compare("the last part ends it", (status, sorted(each["comment"] for each in json.loads(body))), (200, ["x", "y"]))
+    compare("the stop", (member.stop(), faults(member)), (0, []))
+
+
+def test_ticks(folder):
+    """However many Ticks come, a member collects and saves once a second."""
+    calls = f"{folder}/calls"
+    member = Stoppable("m", *free_ports(1), [("p", free_ports(1)[0])], folder, **under_library(CALLS=calls))
+    begun(member)
+    start = time.monotonic()
+    for _ in range(40):
+        member.send(greeting("p") + TICK * 4000)
+    saves = lambda: (bytes_of(calls) or b"").count(b"rename " + member.sil.encode())
+    check("a Tick saves", eventually(saves))
+    time.sleep(1.2)
+    seconds = time.monotonic() - start
+    check("Ticks that come at once save once a second", saves() <= seconds + 1, (saves(), seconds))
+    compare("the end", (member.stop(), member.lines[1:]), (0, []))
+# ---- crowds
+
+
+@contextlib.contextmanager
+def crowd(member, count):
+    """So many clients that connect and say nothing, for as long as this lasts."""
+    _, most = resource.getrlimit(resource.RLIMIT_NOFILE)
+    resource.setrlimit(resource.RLIMIT_NOFILE, (most, most))
+    with contextlib.ExitStack() as streams:
+        for _ in range(count):
+            stream = streams.enter_context(socket.socket())
+            stream.setblocking(False)
+            stream.connect_ex(("127.0.0.1", member.port))
+        yield
+
+
+def took(deed):
+    """What comes of a deed, and in how many seconds."""
+    start = time.monotonic()
+    return deed(), time.monotonic() - start
+
+
+def version(value):
+    """The bytes of a silence's version, which holds for two hours from now on."""
+    now = int(time.time())
+    return versions.silence(f"{value} job={value} {now}..{now + 7200} updated {now} expires {now + 9000} saying {value}")
+
+
+def with_peer(name, folder, options=()):
+    """A member with a peer `p` that isn't there, which has begun."""
+    port, nobody = free_ports(2)
+    return begun(Stoppable(name, port, [("p", nobody)], folder, options))
+
+
+def comments(member):
+    return sorted(it["comment"] for it in member.listed() or [])
+
+
+def told(member, word):
+    """How many lines of a word a member has printed or counted."""
+    counted = re.compile(rf"am_tool: \.\. and (\d+) more like {word}\b.*")
+    left_out = sum(int(it[1]) for it in map(counted.fullmatch, member.lines) if it)
+    return left_out + sum(line.startswith(f"am_tool: {word} ") for line in member.lines)
+
+
+def test_silent_crowd(folder):
+    """Silent clients keep nobody out, however many they are."""
+    member = with_peer("q", folder)
+    with crowd(member, CROWD):
+        lists, deltas = [], []
+        for value in ("x", "y", "z"):
+            (status, _), seconds = took(lambda: member.ask("GET", "/api/v2/silences"))
+            compare("a list beside silent clients", status, 200)
+            lists.append(seconds)
+            reply, seconds = took(lambda: member.send(greeting("p") + delta("sil", version(value))))
+            compare("a Delta beside silent clients", reply, b"")
+            deltas.append(seconds)
+        check("a list is soon there", sorted(lists)[1] <= SOON, lists)
+        check("and so is a Delta", sorted(deltas)[1] <= SOON, deltas)
+        compare("all came", comments(member), ["x", "y", "z"])
+    compare("the stop", member.stop(), 0)
+    count = told(member, "Crowded")
+    check("each client that was let go is told", CROWD - 300 <= count <= CROWD, count)
+    check("as one that said nothing", "am_tool: Crowded 0" in member.lines, member.lines[:3])
+    check("and few lines tell it", len(member.lines) < 300, len(member.lines))
+
+
+def test_crowd_of_wait(folder):
+    """Clients that wait for the first pull don't keep out the peer that brings it."""
+    member = with_peer("w", folder, ["--pull-first", "--pull-first-limit", "600", "--time-limit", "60"])
+    with contextlib.ExitStack() as stack:
+        streams = [stack.enter_context(asked(member, request("GET", "/api/v2/silences"))) for _ in range(300)]
+        time.sleep(1)
+        states = part("sil", delimited(version("x"))) + part("nfl", b"")
+        reply, seconds = took(lambda: member.send(greeting("p") + frame(PULL, states)))
+        check("a Pull beside clients that wait for it", reply == b"" and seconds <= SOON, (reply, seconds))
+        replies = [parted(received(stream)) for stream in streams]
+    compare("those that waited longest", set(replies[:45]), {NOT_READY})
+    compare("the others", {(status, body.count(b'"comment":"x"')) for status, body in replies[45:]}, {(200, 1)})
+    compare("no connection is at fault", (member.stop(), faults(member)), (0, []))
+
+
+def test_silent_beside_wait(folder):
+    """Silent clients don't take the places of those that wait for the first pull."""
+    options = ["--pull-first", "--pull-first-limit", "600", "--time-limit", "60", "--at-once", "16"]
+    member = with_peer("s", folder, options)
+    with contextlib.ExitStack() as stack:
+        streams = [stack.enter_context(asked(member, request("GET", "/api/v2/silences"))) for _ in range(4)]
+        for _ in range(40):
+            stack.enter_context(asked(member, b""))
+            time.sleep(0.02)
+        states = part("sil", delimited(version("x"))) + part("nfl", b"")
+        compare("a Pull beside silent clients", member.send(greeting("p") + frame(PULL, states)), b"")
+        compare("those that waited are answered", {parted(received(stream))[0] for stream in streams}, {200})
+    compare("the stop", member.stop(), 0)
+    compare("what was let go", told(member, "Crowded"), 4 + 40 + 1 - 16)
+
+
+def unfinished(count):
+    """A greeting and so many bytes of a frame of ten million."""
+    return greeting("p") + bytes([PUSH]) + varint(10_000_000) + bytes(count)
+
+
+def test_unfinished(folder):
+    """What isn't finished has a limit, and the connection that has most of it is closed."""
+    member = with_peer("u", folder, ["--most-unfinished", "1000000", "--time-limit", "60"])
+    posted = request("POST", "/api/v2/silences", json.dumps(silence("x", time.time())).encode())
+    with contextlib.ExitStack() as stack:
+        begin = lambda data: stack.enter_context(asked(member, data))
+        small, post, large = begin(unfinished(300_000)), begin(posted[:-1]), begin(unfinished(500_000))
+        time.sleep(0.5)
+        compare("within the limit none is closed", faults(member), [])
+        other = begin(unfinished(400_000))
+        line = f"am_tool: Unfinished {len(unfinished(500_000))}"
+        check("beyond it one is", eventually(lambda: faults(member) == [line], 10), member.lines)
+        compare("which has most", received(large), b"")
+        post.sendall(posted[-1:])
+        compare("a post goes on", parted(received(post))[0], 200)
+        check("and so do the others", still_open(small) and still_open(other))
+        check("there is room again", still_open(begin(unfinished(200_000))))
+        time.sleep(0.5)
+        compare("so none is closed", faults(member), [line])
+    compare("the stop", member.stop(), 0)
+
+
+def still_open(stream):
+    """Whether nothing came of a connection, not even its end."""
+    stream.setblocking(False)
+    try:
+        return stream.recv(1) is None
+    except BlockingIOError:
+        return True
+    except OSError:
+        return False
+# ---- patterns
+
+
+def heavy(number):
+    """A pattern that takes over 10 MiB, as it is counted, one for each number."""
+    return rf"\pL{{300}}{number}"
+
+
+def with_patterns(patterns):
+    """What is posted, with these patterns and as few other bytes as it can have."""
+    matchers = [{"name": "j", "value": it, "isRegex": True} for it in patterns]
+    return json.dumps({**silence("x", time.time()), "matchers": matchers}, separators=(",", ":")).encode()
+
+
+def filtered(patterns):
+    """The target of a list with these patterns as filters."""
+    return "/api/v2/silences?" + "&".join("filter=" + quote(f'j=~"{it}"') for it in patterns)
+
+
+def most_memory(member):
+    """How many MiB of memory a member has had at most."""
+    with open(f"/proc/{member.process.pid}/status", encoding="ascii") as file:
+        return next(int(line.split()[1]) for line in file if line.startswith("VmHWM:")) / 1024
+
+
+def beside(member, data):
+    """What comes for bytes that are sent, and the seconds that requests for one silence take on other connections meanwhile."""
+    found, seconds = [], []
+    with ThreadPoolExecutor(1) as lane:
+        asked = lane.submit(member.send, data, close=False)
+        while not found or not asked.done():
+            start = time.monotonic()
+            found.append(member.ask("GET", "/api/v2/silence/x")[0])
+            seconds.append(time.monotonic() - start)
+    compare("the requests beside it are answered", set(found), {404})
+    return parted(asked.result()), seconds
+
+
+def test_patterns(folder):
+    """What one request compiles is bounded, and nobody waits for more than one pattern of it."""
+    member = alone("r", folder, ["--time-limit", "60"])
+    for few in ["c.*", "c.+", "c.*"], ["d"] * 200, [f"a{it}" for it in range(140)]:
+        compare("a post with patterns", member.ask("POST", "/api/v2/silences", with_patterns(few))[0], 200)
+    status, body = member.ask("GET", filtered(["c..", "c..", r"c\.."]))
+    compare("a list by patterns", (status, len(json.loads(body))), (200, 1))
+    before = most_memory(member)
+    largest = with_patterns(map(heavy, range(19_900)))
+    check("many patterns fit into a body", 1_000_000 < len(largest) <= 1_048_576, len(largest))
+    for name, data, refusal in [
+        ("a post with ten", request("POST", "/api/v2/silences", with_patterns(map(heavy, range(10)))), b'"bad pattern"'),
+        ("a list with 200", request("GET", filtered(map(heavy, range(200)))), b'"bad filter"'),
+        ("a post with many", request("POST", "/api/v2/silences", largest), b'"bad pattern"'),
+    ]:
+        reply, seconds = beside(member, data)
+        compare(f"{name} patterns that take much", reply, (400, refusal))
+        check(f"nobody waits for long beside {name}", max(seconds) <= ONE_TURN, seconds)
+    same = filtered([r"\pL{150}"] * 200)
+    compare("a list with one pattern in 200 filters", member.ask("GET", same), (200, b"[]"))
+    grown = most_memory(member) - before
+    check("memory grows by at most 200 MiB", grown <= 200, grown)
+    compare("a stop", (member.stop(), member.lines[1:]), (0, []))
+
+
 def compiled(folder):
     """The library between a member and the C library."""
     path = f"{folder}/system.so"
@@ -363,6 +738,16 @@ def main():
             test_time_of_wait,
             test_clock,
             test_lines,
+            test_foreign,
+            test_hosts,
+            test_pushes,
+            test_parts,
+            test_ticks,
+            test_silent_crowd,
+            test_crowd_of_wait,
+            test_silent_beside_wait,
+            test_unfinished,
+            test_patterns,
         ]
         try_each(tests, folder)
     finish("edges")

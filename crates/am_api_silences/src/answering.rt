@@ -5,7 +5,7 @@ ghost use Rattle.am_instance.specs.Sendings.{nothing_sent};
 ghost use Rattle.am_instance.specs.InstanceStates.{InstanceState};
 ghost use Rattle.am_api_silences.specs.Answers.{Becomes, ComesOf, IsAnswered, IsTurnedAway, TellsStep};
 
-use crate::events::to_event;
+use crate::events::event_by;
 use crate::making::{Making, make};
 use crate::replies::{ReplyBytes, no_memory, tell};
 use crate::table;
@@ -86,7 +86,7 @@ pub fn begin_answer(
 ) -> Begun
     ensures { Becomes (λ answered. IsAnswered instance.old request.now bits now answered instance.new) result }
 {
-    match to_event(alloc, request, bits) {
+    match event_by(alloc, instance.patterns(), request, bits) {
         Ok(event) => step(alloc, instance, event, now),
         Err(refusal) => turn_away(alloc, &refusal),
     }

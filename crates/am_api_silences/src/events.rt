@@ -8,6 +8,7 @@ ghost use Rattle.am_api_silences.specs.Events.{IsAsk, IsEventOf, IsMeant, IsRefu
 use crate::filters::filters_in;
 use am_http::{Call, Cause, Refusal, Request, call_of};
 use am_instance::{Event, Request as SilenceRequest};
+use am_matcher::PatternCache;
 use am_silence_json::{BodyError, read_post};
 use am_wire::Text;
 use std::alloc::Global;
@@ -33,12 +34,18 @@ fn post(alloc: Global, body: &[u8], bits: u128) -> Result<SilenceRequest, Cause>
 }
 
 /// What a call with this body asks of an instance.
-fn ask(alloc: Global, call: Call<'_>, body: &[u8], bits: u128) -> Result<SilenceRequest, Cause>
+fn ask(
+    alloc: Global,
+    patterns: &PatternCache,
+    call: Call<'_>,
+    body: &[u8],
+    bits: u128,
+) -> Result<SilenceRequest, Cause>
     ensures { IsAsk call.entry body.now bits result }
 {
     match call {
         Call::List { query } => Ok(SilenceRequest::List {
-            filters: filters_in(alloc, query)?,
+            filters: filters_in(alloc, patterns, query)?,
         }),
         Call::Get { id } => Ok(SilenceRequest::Get {
             id: identifier(alloc, id)?,
@@ -51,12 +58,17 @@ fn ask(alloc: Global, call: Call<'_>, body: &[u8], bits: u128) -> Result<Silence
 }
 
 /// What a request asks of an instance.
-fn asked(alloc: Global, request: &Request, bits: u128) -> Result<SilenceRequest, Cause>
+fn asked(
+    alloc: Global,
+    patterns: &PatternCache,
+    request: &Request,
+    bits: u128,
+) -> Result<SilenceRequest, Cause>
     ensures asked { IfOk result (IsMeant request.now bits) }
     ensures refused { IfErr result (IsRefusedFor request.now) }
 {
     let call = call_of(&request.method, &request.target)?;
-    let asked = ask(alloc, call, &request.body, bits)?;
+    let asked = ask(alloc, patterns, call, &request.body, bits)?;
     Ok(asked)
 }
 
@@ -68,7 +80,23 @@ fn asked(alloc: Global, request: &Request, bits: u128) -> Result<SilenceRequest,
 pub fn to_event(alloc: Global, request: &Request, bits: u128) -> Result<Event, Refusal>
     ensures { IsEventOf request.now bits result }
 {
-    match asked(alloc, request, bits) {
+    event_by(alloc, &PatternCache::new(alloc), request, bits)
+}
+
+/// As [`to_event`]: of a filter whose pattern is kept nothing is compiled.
+///
+/// # Errors
+///
+/// As those of [`to_event`].
+pub fn event_by(
+    alloc: Global,
+    patterns: &PatternCache,
+    request: &Request,
+    bits: u128,
+) -> Result<Event, Refusal>
+    ensures { IsEventOf request.now bits result }
+{
+    match asked(alloc, patterns, request, bits) {
         Ok(asked) => Ok(Event::Request(asked)),
         Err(cause) => Err(cause.refusal()),
     }

@@ -5,15 +5,15 @@ ghost use Rattle.am_http.specs.Queries.{filter_texts_of};
 ghost use Rattle.am_api_silences.specs.Filters.{AreFilters, IsBadFilter, IsFilterFault, IsGoodFilter};
 
 use am_http::{Cause, filter_texts};
-use am_matcher::{Filter, FilterError};
+use am_matcher::{Filter, FilterError, PatternCache};
 use std::alloc::Global;
 
 /// The filter that a text is.
-fn filter_of(alloc: Global, text: &str) -> Result<Filter, Cause>
+fn filter_of(patterns: &PatternCache, text: &str) -> Result<Filter, Cause>
     ensures read { IfOk result (IsGoodFilter text.now) }
     ensures refused { IfErr result (IsFilterFault (IsBadFilter text.now)) }
 {
-    match Filter::parse(alloc, text) {
+    match Filter::parse_by(patterns, text) {
         Ok(filter) => Ok(filter),
         Err(FilterError::Syntax) => Err(Cause::BadFilter),
         Err(FilterError::BadPattern) => Err(Cause::BadFilter),
@@ -22,13 +22,17 @@ fn filter_of(alloc: Global, text: &str) -> Result<Filter, Cause>
 }
 
 /// The filters that the texts are.
-fn filters_of(alloc: Global, texts: &[String]) -> Result<Vec<Filter>, Cause>
+fn filters_of(
+    alloc: Global,
+    patterns: &PatternCache,
+    texts: &[String],
+) -> Result<Vec<Filter>, Cause>
     ensures read { IfOk result (λ filters. AreFilters (map string_bytes texts.now) filters.items) }
     ensures refused { IfErr result (IsFilterFault (Any IsBadFilter (map string_bytes texts.now))) }
 {
     let mut filters = Vec::new(alloc);
     for text in texts {
-        match filter_of(alloc, text) {
+        match filter_of(patterns, text) {
             Ok(filter) => {
                 if filters.push(filter).is_err() {
                     return Err(Cause::Memory);
@@ -40,18 +44,18 @@ fn filters_of(alloc: Global, texts: &[String]) -> Result<Vec<Filter>, Cause>
     Ok(filters)
 }
 
-/// The filters of a query, which is not decoded.
+/// The filters of a query, which is not decoded. A pattern that is kept is shared.
 ///
 /// # Errors
 ///
 /// [`Cause::BadFilter`] where one is no filter or its pattern is broken, and [`Cause::Memory`].
-pub fn filters_in(alloc: Global, query: &str) -> Result<Vec<Filter>, Cause>
+pub fn filters_in(alloc: Global, patterns: &PatternCache, query: &str) -> Result<Vec<Filter>, Cause>
     ensures read { IfOk result (λ filters. AreFilters (filter_texts_of query.now) filters.items) }
     ensures refused { IfErr result (IsFilterFault (Any IsBadFilter (filter_texts_of query.now))) }
 {
     let Ok(texts) = filter_texts(alloc, query) else {
         return Err(Cause::Memory);
     };
-    let filters = filters_of(alloc, &texts)?;
+    let filters = filters_of(alloc, patterns, &texts)?;
     Ok(filters)
 }

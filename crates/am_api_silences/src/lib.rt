@@ -6,6 +6,7 @@ mod answering;
 mod events;
 mod filters;
 mod making;
+mod patterns;
 mod replies;
 mod table;
 
@@ -13,4 +14,5 @@ pub use am_http::{Read, Refusal, Request, read_request};
 pub use answering::{Begun, begin_answer, turn_away};
 pub use events::to_event;
 pub use making::Making;
+pub use patterns::patterns_of;
 pub use replies::{ReplyBytes, to_bytes};

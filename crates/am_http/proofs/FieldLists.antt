@@ -25,7 +25,7 @@ values_of-push name (g ∷ gs) f =
     rw (values_of-push name gs f) (behind_one (str_eq_ignore_ascii_case g.0 name) g.1 (values_of name gs) (value_in (str_eq_ignore_ascii_case f.0 name) f))
 
 -- the test of two names, as a call answers it
-same_test : (r : Bool) (x y : List ℕ) → (IsTrue r ↔ (map to_ascii_lowercase x ≡ map to_ascii_lowercase y)) → r ≡ str_eq_ignore_ascii_case x y
+pub same_test : (r : Bool) (x y : List ℕ) → (IsTrue r ↔ (map to_ascii_lowercase x ≡ map to_ascii_lowercase y)) → r ≡ str_eq_ignore_ascii_case x y
 same_test r x y test = same_from_decides r (str_eq_ignore_ascii_case x y) test (bytes_eq-Decides (map to_ascii_lowercase x) (map to_ascii_lowercase y))
 
 -- the values among the first fields

@@ -2,6 +2,7 @@ pub mod Digits
 pub mod FieldLists
 pub mod HeadLemmas
 pub mod Standings
+pub mod Screenings
 pub mod Unique
 pub mod Ids
 pub mod Answering

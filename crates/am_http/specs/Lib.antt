@@ -1,6 +1,7 @@
 pub mod Lines
 pub mod Heads
 pub mod HeadSpans
+pub mod Hosts
 pub mod Bodies
 pub mod Requests
 pub mod Paths

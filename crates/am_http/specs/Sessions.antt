@@ -10,6 +10,9 @@ use Rattle.am_http.specs.declared.cause.Cause.TheVariants.{EndedEarly, Memory}
 use Rattle.am_http.specs.declared.refusal.Refusal.{Refusal}
 use Rattle.am_http.specs.declared.request.Read.{Read}
 use Rattle.am_http.specs.declared.request.Read.TheVariants.{More, Refused}
+use Rattle.am_http.specs.declared.hosts.Screened.{Screened}
+use Rattle.am_http.specs.declared.hosts.Screened.TheVariants as screened
+use Rattle.am_http.specs.Hosts.{IsScreened}
 use Rattle.am_http.specs.Lines.{line_seen, line_of}
 use Rattle.am_http.specs.Requests.{IsReadOf}
 use Rattle.am_http.specs.declared.session.fault.SessionFault.{SessionFault}
@@ -33,6 +36,13 @@ name_of (asks bytes) = None
 name_of (greets bytes) = None
 name_of (hears name count rest) = Some name
 name_of (over name) = name
+
+-- the bytes that wait for the rest of their request, greeting or frame
+abbrev pub waiting_in : Standing → List ℕ
+waiting_in (asks bytes) = bytes
+waiting_in (greets bytes) = bytes
+waiting_in (hears name count rest) = rest
+waiting_in _ = []
 
 -- what was said: frames in their order, what was read of a request, and why no more is heard
 pub record Spoken : Type 0 where
@@ -183,3 +193,11 @@ pub record IsCutShort (bytes : List ℕ) (said : Spoken) : Type 0 where
 abbrev pub SaysEnd : Standing → Spoken → Type 0
 SaysEnd (asks bytes) said = IsCutShort bytes said
 SaysEnd _ said = said ≡ nothing
+
+-- ---- where it comes from
+
+-- what is known of that once the next piece is there, by the head of the request that its bytes begin
+abbrev pub Screens : Standing → List ℕ → List (List ℕ) → Screened → Type 0
+Screens fresh piece names result = IsScreened names piece result
+Screens (asks bytes) piece names result = IsScreened names (bytes ++ piece) result
+Screens _ piece names result = result ≡ screened.Known

@@ -6,6 +6,7 @@ mod cause;
 mod fields;
 mod filters;
 mod head;
+mod hosts;
 pub mod laws;
 mod refusal;
 mod replies;
@@ -16,6 +17,7 @@ mod standing;
 
 pub use cause::{Cause, Resource};
 pub use filters::filter_texts;
+pub use hosts::{Foreign, Screened, screen};
 pub use refusal::Refusal;
 pub use replies::{out_of_memory, reply};
 pub use request::{Read, Request, read_request};

@@ -1,9 +1,10 @@
 //! One connection, of a person, a tool or a peer: what its bytes say as they come, piece by piece. No instance, no clock and
 //! no socket.
 
-ghost use Rattle.std.specs.Prelude.{◌≡◌, ◌↔◌, IsTrue};
+ghost use Rattle.std.specs.Prelude.{◌≡◌, ◌↔◌, IfOk, IsTrue, length};
 ghost use Rattle.std.specs.Option.{option_copied};
-ghost use Rattle.am_http.specs.Sessions.{Feeds, SaysEnd, fresh, name_of, over, spoken};
+ghost use Rattle.am_http.specs.Hosts.{texts};
+ghost use Rattle.am_http.specs.Sessions.{Feeds, SaysEnd, Screens, fresh, name_of, over, spoken, waiting_in};
 
 mod asking;
 mod fault;
@@ -12,13 +13,16 @@ mod greeting;
 mod hearing;
 pub mod laws;
 mod said;
+mod screening;
 mod state;
 
+use crate::Screened;
 pub use fault::SessionFault;
 use feeding::{end_of, next_of};
 pub use said::Said;
+use screening::screened;
 use state::State;
-use std::alloc::Global;
+use std::alloc::{AllocError, Global};
 use std::marker::Model;
 use std::mem;
 
@@ -64,6 +68,25 @@ impl Session {
         let (said, next) = next_of(self.alloc, state, piece);
         self.state = next;
         said
+    }
+
+    /// What is known, once the next piece is there, of where a request comes from, where the server is called by these names
+    /// too. A peer's greeting names no host.
+    ///
+    /// # Errors
+    ///
+    /// [`AllocError`] where memory runs out, which a piece that has the whole head takes none of.
+    pub fn screen(&self, piece: &[u8], names: &[&str]) -> Result<Screened, AllocError>
+        ensures { IfOk result (Screens self.now piece.now (texts names.now)) }
+    {
+        screened(self.alloc, &self.state, piece, names)
+    }
+
+    /// How many bytes wait for the rest of their request, greeting or frame. It takes no memory.
+    pub fn waiting(&self) -> usize
+        ensures { result ≡ length (waiting_in self.now) }
+    {
+        self.state.waiting()
     }
 
     /// The input ended: a request that isn't whole is refused, and no more is heard. It takes no memory.

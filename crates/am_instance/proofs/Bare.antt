@@ -1,7 +1,5 @@
 -- Instances that show what bare sets show reply as these say.
 use Rattle.std.proofs.Common.{◌≡◌, ℕ, List, true}
-use Rattle.std.specs.Ordering.{nat_cmp}
-use Rattle.std.specs.Cmp.Lexicographic.{slice_cmp}
 use Rattle.am_silence.specs.Mesh.{Mesh, mesh_version}
 use Rattle.am_nflog.specs.Mesh.{Mesh as LogMesh, mesh_version as entry_version}
 use Rattle.am_nflog.specs.LogKeys.{LogKey}

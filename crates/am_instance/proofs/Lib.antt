@@ -17,3 +17,4 @@ pub mod Histories
 pub mod Alike
 pub mod Muted
 pub mod Bare
+pub mod AllHandedOut

@@ -8,3 +8,4 @@ pub mod Steps
 pub mod OneStep
 pub mod Laws
 pub mod Bare
+pub mod Handings

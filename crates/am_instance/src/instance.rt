@@ -104,6 +104,19 @@ impl Instance {
         &self.config
     }
 
+    /// The patterns that it has compiled. What it answers is the same whatever these are. It takes no memory.
+    pub fn patterns(&self) -> &PatternCache {
+        &self.patterns
+    }
+
+    /// Has it go by these compiled patterns, and gives those that it had. What it answers is the same by any. It takes no
+    /// memory.
+    pub fn swap_patterns(&mut self, patterns: PatternCache) -> PatternCache
+        ensures same { self.new ≡ self.old }
+    {
+        std::mem::replace(&mut self.patterns, patterns)
+    }
+
     /// When it is due that began to wait at `start`. `None` past [`Moment::GREATEST`]. It takes no memory.
     pub fn due_from(&self, start: Moment) -> Option<Moment>
         ensures { SomeIff result (start + self.now.config.place * self.now.config.peer_timeout ≤ greatest)

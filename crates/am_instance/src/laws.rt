@@ -1,6 +1,6 @@
 //! What holds of runs of an instance.
 
-ghost use Rattle.std.specs.Prelude.{◌≡◌, ◌≤◌, ℕ, List, [], All, Contains, true};
+ghost use Rattle.std.specs.Prelude.{◌≡◌, ◌≤◌, ℕ, ◌+◌, List, [], length, None, All, Contains, true};
 ghost use Rattle.std.specs.List.{flat_map};
 ghost use Rattle.std.specs.Ordering.{nat_cmp};
 ghost use Rattle.std.specs.Cmp.Lexicographic.{slice_cmp};
@@ -16,8 +16,13 @@ ghost use Rattle.am_merge.specs.Views.{IsViewAt};
 ghost use Rattle.am_collect.specs.Events.{HaveSame, taken};
 ghost use Rattle.am_collect.specs.Calm.{IsCalm};
 ghost use Rattle.am_instance.specs.Deliveries.{to_silences, to_log};
+ghost use Rattle.am_snapshot.specs.Texts.{row_text};
+ghost use Rattle.am_instance.specs.Handings.{AreHandedOut, IsHandedOut, is_nfl, is_sil, rows_of};
 ghost use Rattle.am_instance.specs.InstanceStates.{InstanceState};
+ghost use Rattle.am_instance.specs.Sendings.{whole_state};
 ghost use Rattle.am_instance.specs.declared.event.Event.{Event};
+ghost use Rattle.am_instance.specs.declared.handing.HandedPart.{HandedPart};
+ghost use Rattle.am_instance.specs.declared.handing.Handout.TheVariants.{Silences};
 ghost use Rattle.am_instance.specs.declared.reply.Made.{Made};
 ghost use Rattle.am_instance.specs.declared.reply.Reply.{Reply};
 ghost use Rattle.am_instance.specs.Replies.{IsReply, silence_in_view, entry_in_view};
@@ -27,6 +32,7 @@ ghost use Rattle.am_instance.specs.Laws.{asks_views, events_of_stream, run_event
 
 use am_collect::laws::{calm_events_show_the_bare_set, calm_keepers_agree};
 use am_gossip::laws::cuts_change_nothing;
+use am_merge::laws::a_map_goes_on_from_a_key;
 use am_nflog::MeshEntry;
 use am_silence::MeshSilence;
 use am_version_order::Version;
@@ -126,3 +132,26 @@ pub fn cuts_change_no_event()
 {
     cuts_change_nothing();
 }
+
+/// Of maps that stay as they are, all parts that are handed out have, one behind the other, each state's row.
+pub fn parts_have_all_that_is_held()
+    ensures silences { (most : ℕ) (silences : List Mesh) (log : List LogMesh) (parts : List HandedPart) →
+        IsMap mesh_version (slice_cmp nat_cmp) silences → IsMap entry_version key_cmp log →
+        AreHandedOut most silences log (Silences None) parts →
+        rows_of is_sil (flat_map (λ p. p.state) parts) ≡ row_text mesh_version silences }
+    ensures log { (most : ℕ) (silences : List Mesh) (log : List LogMesh) (parts : List HandedPart) →
+        IsMap mesh_version (slice_cmp nat_cmp) silences → IsMap entry_version key_cmp log →
+        AreHandedOut most silences log (Silences None) parts →
+        rows_of is_nfl (flat_map (λ p. p.state) parts) ≡ row_text entry_version log }
+{
+    a_map_goes_on_from_a_key::<MeshSilence>();
+    a_map_goes_on_from_a_key::<MeshEntry>();
+}
+
+/// Where both states fit one part, it has both, as they go out whole.
+pub fn small_states_are_one_part()
+    ensures { (most : ℕ) (silences : List Mesh) (log : List LogMesh) (handed : HandedPart) →
+        length (row_text mesh_version silences) + length (row_text entry_version log) ≤ most →
+        IsHandedOut most silences log (Silences None) handed →
+        (handed.state ≡ whole_state silences log) × (handed.next ≡ None) }
+{}

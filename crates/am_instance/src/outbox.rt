@@ -7,7 +7,7 @@ ghost use Rattle.am_wire.specs.Writing.{delimited};
 ghost use Rattle.am_silence.specs.Mesh.{mesh_version};
 ghost use Rattle.am_nflog.specs.Mesh.{mesh_version as entry_version};
 ghost use Rattle.am_snapshot.specs.Texts.{row_text};
-ghost use Rattle.am_gossip.specs.Frames.{fits};
+ghost use Rattle.am_gossip.specs.Frames.{fits, states};
 ghost use Rattle.am_gossip.specs.declared.frame.Frame.TheVariants as frames;
 ghost use Rattle.am_instance.specs.Configs.{is_other, places_but};
 ghost use Rattle.am_instance.specs.Sendings.{Gathers, IsSent, Sends, addressed, delta, no_memory, states_frame};
@@ -232,6 +232,17 @@ pub fn whole_state(
 {
     let silences = row_of(alloc, silences)?;
     let log = row_of(alloc, log)?;
+    both_parts(alloc, silences, log)
+}
+
+/// The parts of both states, by their rows.
+pub(crate) fn both_parts(
+    alloc: Global,
+    silences: Bytes,
+    log: Bytes,
+) -> Result<FullState, AllocError>
+    ensures { IfOk result (λ state. state ≡ states silences log) }
+{
     let mut parts = Vec::with_capacity(alloc, 2)?;
     parts.push(Part {
         key: StateKey::Sil,

@@ -1,13 +1,13 @@
 -- Entries of a cache.
-use Rattle.std.proofs.Common.{◌≡◌, ℕ, ◌+◌, ◌^◌, ◌-◌, ◌<◌, ◌≤◌, Bool, true, false, not, true≢false, List, [], ◌∷◌, length, take, drop, get_or, filter, Result, Ok, Err, All, Contains, min, sum_by, refl, sym, ap, ◌∙◌, subst, arith}
+use Rattle.std.proofs.Common.{◌≡◌, ℕ, ◌+◌, ◌^◌, ◌-◌, ◌<◌, ◌≤◌, Bool, true, false, not, true≢false, List, [], ◌∷◌, ◌++◌, length, take, drop, get_or, filter, Result, Ok, Err, All, Contains, min, sum_by, refl, sym, ap, ◌∙◌, subst, arith}
 use Rattle.std.specs.Prelude.{IfOk, IfErr, insert}
 use Rattle.std.specs.List.{HoldsAt}
 use Rattle.std.specs.List.Sorted.{IsSearchInRange, IsBinarySearchResult}
 use Rattle.std.specs.Ordering.{nat_cmp}
 use Rattle.std.specs.Cmp.Lexicographic.{slice_cmp}
 use Rattle.std.proofs.Math.Seq.{take-length}
-use Rattle.std.proofs.lemmas.List.{get_or-map, length-map}
-use Rattle.std.proofs.lemmas.List.Elements.{All-map, All-filter, All-append, All-cons, All-take, All-drop, filter_passes, Contains-get_or}
+use Rattle.std.proofs.lemmas.List.{get_or-map, length-map, take-append-drop}
+use Rattle.std.proofs.lemmas.List.Elements.{All-map, All-filter, All-append, All-cons, All-take, All-drop, filter_passes, Contains-get_or, Contains-append_left, Contains-append_right}
 use Rattle.std.proofs.lemmas.List.Filters.{sum_by-filter_both}
 use Rattle.std.proofs.lemmas.List.Sums.{sum_by-cons, sum_by-insert, sum_by_more, sum_by_more_le}
 use Rattle.std.proofs.lemmas.Map.Lookups.{exact_bytes}
@@ -15,7 +15,7 @@ use Rattle.am_matcher.specs.Sizes.{CompiledPattern, size_of, size_of_all}
 use Rattle.am_matcher.specs.Uses.{TextsPass}
 use Rattle.am_matcher.specs.Entries.{patterns_in, entry_size, MarkedPass}
 use Rattle.am_matcher.specs.declared.entries.Entry.{Entry}
-use Rattle.am_matcher.proofs.Members.{Contains-map}
+use Rattle.am_matcher.proofs.Members.{Contains-map, Contains-later}
 
 -- ---- where a search ends
 
@@ -44,6 +44,19 @@ texts_put test entries i e passes pass =
     let P : Entry → Type 0 = λ x. test x.kept.text ≡ true in
     let old = entries_of test entries pass in
     texts_of test (insert entries i e) (All-append P (take i entries) (e ∷ drop i entries) (All-take P i entries old) (All-cons P e (drop i entries) passes (All-drop P i entries old)))
+
+-- what was kept is kept
+pub old_put : (entries : List Entry) (i : ℕ) (e : Entry) → All (Contains (patterns_in (insert entries i e))) (patterns_in entries)
+old_put entries i e =
+    let P : Entry → Type 0 = λ x. Contains (patterns_in (insert entries i e)) x.kept in
+    let at : (x : Entry) → Contains (insert entries i e) x → P x = Contains-map (λ x. x.kept) (insert entries i e) in
+    let both : All P (take i entries ++ drop i entries) = All-append P (take i entries) (drop i entries)
+    (λ k d within. at _ (Contains-append_left (take i entries) (e ∷ drop i entries) _ (Contains-get_or (take i entries) k d within)))
+    (λ k d within. at _ (Contains-append_right (take i entries) (e ∷ drop i entries) _ (Contains-later e (drop i entries) _ (Contains-get_or (drop i entries) k d within)))) in
+    All-map (Contains (patterns_in (insert entries i e))) (λ x. x.kept) entries (subst (All P) (take-append-drop i entries) both)
+
+pub old_stay : (patterns : List CompiledPattern) → All (Contains patterns) patterns
+old_stay patterns = λ k d within. Contains-get_or patterns k d within
 
 pub texts_of_none : (test : List ℕ → Bool) (entries : List Entry) → length entries ≡ 0 → TextsPass test (patterns_in entries)
 texts_of_none test entries none = λ k d within. absurd (omega (arith, length-map entries (λ (e : Entry). e.kept)))

@@ -1,5 +1,5 @@
 -- What matchers say of labels.
-use Rattle.std.specs.Prelude.{◌≡◌, ℕ, Bool, true, false, not, List, [], Option, Some, None, All, Any}
+use Rattle.std.specs.Prelude.{◌≡◌, ℕ, Bool, true, false, not, List, [], Option, Some, None, All, Any, if◌then◌else◌}
 use Rattle.std.specs.List.{list_all, list_any}
 use Rattle.std.specs.Option.{option_map_or}
 use Rattle.am_silence.specs.declared.matcher.Matcher.{Matcher}
@@ -31,6 +31,10 @@ matches_value m value = is_met m.kind m.pattern value
 -- a regular expression decides for one of them
 abbrev pub has_regexp : List Matcher → Bool
 has_regexp matchers = list_any (λ m. is_regexp m.kind) matchers
+
+-- the pattern of a matcher that is a regular expression
+abbrev pub regexp_of : Matcher → Option (List ℕ)
+regexp_of m = if is_regexp m.kind then Some m.pattern else None
 
 -- where a regular expression decides, its pattern is read
 abbrev pub IsSoundMatcher : Matcher → Type 0

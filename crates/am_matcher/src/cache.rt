@@ -1,13 +1,14 @@
 //! Compiled patterns that are kept.
 
-ghost use Rattle.std.specs.Prelude.{◌≡◌, ◌≤◌, ℕ, Bool, true, false, List, [], All, Contains, IfOk, OnOk, IsErrOf};
+ghost use Rattle.std.specs.Prelude.{◌≡◌, ◌≤◌, ◌+◌, ◌-◌, ◌^◌, min, ℕ, Bool, true, false, List, [], All, Contains, IfOk, OnOk, OnErr, IsErrOf};
 ghost use Rattle.am_matcher.specs.Patterns.{is_match, IsSound, IsBroken};
-ghost use Rattle.am_matcher.specs.Sizes.{size_of_all};
+ghost use Rattle.am_matcher.specs.Sizes.{size_of, size_of_all};
 ghost use Rattle.am_matcher.specs.Uses.{is_used_by, TextsPass};
 
 use crate::compiled::BuildError;
-use crate::entries::{Entry, ask, count, drop_unused, place_of};
+use crate::entries::{Entry, ask, count, drop_unused, is_broken_in, place_of, whole_in};
 use crate::kept::Kept;
+use crate::whole::Whole;
 use am_merge::Held;
 use am_silence::MeshSilence;
 use std::alloc::{AllocError, Global};
@@ -15,6 +16,16 @@ use std::marker::Model;
 
 /// What is kept takes at most so many bytes.
 const MOST_BYTES: usize = 64 << 20;
+
+/// What came of a pattern that is to be kept.
+#[derive(Clone, Copy, Debug, PartialEq, Eq)]
+pub struct Prepared {
+    /// The bytes that are counted for what was compiled: of a broken pattern those of its text alone, and none where it was
+    /// kept before.
+    pub bytes: usize,
+    /// `regex` refuses the pattern.
+    pub is_broken: bool,
+}
 
 /// Compiled patterns of silences, so that each is compiled once and not at each call.
 ///
@@ -100,13 +111,54 @@ impl PatternCache {
         found
     }
 
+    /// Compiles a pattern and keeps it, where it is not kept yet and there is room.
+    ///
+    /// # Errors
+    ///
+    /// [`AllocError`] where memory runs out. What is kept stays as it was.
+    pub fn prepare(&mut self, pattern: &str) -> Result<Prepared, AllocError>
+        ensures sound { IfOk result (λ prepared. prepared.is_broken ≡ false → IsSound pattern.now) }
+        ensures broken { IfOk result (λ prepared. prepared.is_broken ≡ true → IsBroken pattern.now) }
+        ensures size { IfOk result (λ prepared. size_of_all self.new ≤ size_of_all self.old + prepared.bytes) }
+        ensures old { All (Contains self.new) self.old }
+        ensures kept { (test : List ℕ → Bool) → test pattern.now ≡ true → TextsPass test self.old → TextsPass test self.new }
+        ensures same { OnErr result (self.new ≡ self.old) }
+    {
+        if let Some(is_broken) = is_broken_in(self.entries.as_slice(), pattern) {
+            return Ok(Prepared {
+                bytes: 0,
+                is_broken,
+            });
+        }
+        let built = Kept::build(self.alloc, pattern)?;
+        let bytes = built.size();
+        let is_broken = built.is_broken();
+        self.keep(built)?;
+        Ok(Prepared { bytes, is_broken })
+    }
+
+    /// The pattern, compiled: it shares what is kept, or is built.
+    pub(crate) fn whole(&self, pattern: &str) -> Result<Whole, BuildError>
+        ensures text { IfOk result (λ whole. whole.text ≡ pattern.now) }
+        ensures sound { OnOk result (IsSound pattern.now) }
+        ensures broken { IsErrOf result BuildError.BadPattern → IsBroken pattern.now }
+    {
+        match whole_in(self.entries.as_slice(), pattern) {
+            Some(found) => found,
+            None => Whole::build(self.alloc, pattern),
+        }
+    }
+
     /// Keeps a pattern where there is room.
     ///
     /// # Errors
     ///
     /// [`AllocError`] where memory runs out. What is kept stays as it was.
     fn keep(&mut self, built: Kept) -> Result<(), AllocError>
-        ensures { (test : List ℕ → Bool) → test built.text ≡ true → TextsPass test self.old → TextsPass test self.new }
+        ensures size { size_of_all self.new ≤ size_of_all self.old + min (size_of built) (2 ^ 64 - 1) }
+        ensures old { All (Contains self.new) self.old }
+        ensures kept { (test : List ℕ → Bool) → test built.text ≡ true → TextsPass test self.old → TextsPass test self.new }
+        ensures same { OnErr result (self.new ≡ self.old) }
     {
         let size = built.size();
         if size > MOST_BYTES - self.bytes {

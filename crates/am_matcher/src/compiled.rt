@@ -3,6 +3,7 @@
 ghost use Rattle.std.specs.Prelude.{◌≡◌, List, ℕ, IfOk, OnOk, IsErrOf};
 ghost use Rattle.am_matcher.specs.Matching.{matches_value, IsSoundMatcher, IsBrokenMatcher};
 
+use crate::cache::PatternCache;
 use crate::whole::Whole;
 use am_silence::{Matcher, MatcherKind};
 use std::alloc::{AllocError, Global};
@@ -111,12 +112,28 @@ impl Compiled {
         ensures sound { OnOk result (IsSoundMatcher matcher.now) }
         ensures broken { IsErrOf result BuildError.BadPattern → IsBrokenMatcher matcher.now }
     {
+        Compiled::build_by(&PatternCache::new(alloc), matcher)
+    }
+
+    /// As [`Compiled::build`]: a pattern that is kept is shared, and nothing is compiled for it.
+    ///
+    /// # Errors
+    ///
+    /// As those of [`Compiled::build`].
+    pub(crate) fn build_by(
+        patterns: &PatternCache,
+        matcher: &Matcher,
+    ) -> Result<Compiled, BuildError>
+        ensures matcher { IfOk result (λ compiled. compiled ≡ matcher.now) }
+        ensures sound { OnOk result (IsSoundMatcher matcher.now) }
+        ensures broken { IsErrOf result BuildError.BadPattern → IsBrokenMatcher matcher.now }
+    {
         let whole = if matcher.kind.is_regexp() {
-            Some(Whole::build(alloc, matcher.pattern.as_str())?)
+            Some(patterns.whole(matcher.pattern.as_str())?)
         } else {
             None
         };
-        let matcher = matcher.try_clone(alloc)?;
+        let matcher = matcher.try_clone(patterns.alloc())?;
         Ok(Compiled { matcher, whole })
     }
 

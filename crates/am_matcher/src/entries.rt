@@ -10,6 +10,7 @@ ghost use Rattle.am_matcher.specs.Entries.{patterns_in, MarkedPass};
 
 use crate::compiled::BuildError;
 use crate::kept::Kept;
+use crate::whole::Whole;
 use am_merge::Held;
 use am_silence::{MatcherIter, MatcherRef, MeshSilence};
 
@@ -42,6 +43,29 @@ pub fn ask(entries: &mut Vec<Entry>, pattern: &str, value: &str) -> Option<Resul
     };
     let entry = &mut entries[place];
     Some(entry.kept.is_match(value))
+}
+
+/// Whether the pattern of a text is broken, where it is kept.
+pub fn is_broken_in(entries: &[Entry], pattern: &str) -> Option<bool>
+    ensures sound { IfSome result (λ broken. broken ≡ false → IsSound pattern.now) }
+    ensures broken { IfSome result (λ broken. broken ≡ true → IsBroken pattern.now) }
+{
+    let Ok(place) = place_of(entries, pattern) else {
+        return None;
+    };
+    Some(entries[place].kept.is_broken())
+}
+
+/// The pattern of a text, compiled, where it is kept. It shares what is kept.
+pub fn whole_in(entries: &[Entry], pattern: &str) -> Option<Result<Whole, BuildError>>
+    ensures text { IfSome result (λ found. IfOk found (λ whole. whole.text ≡ pattern.now)) }
+    ensures sound { IfSome result (λ found. OnOk found (IsSound pattern.now)) }
+    ensures broken { IfSome result (λ found. IsErrOf found BuildError.BadPattern → IsBroken pattern.now) }
+{
+    let Ok(place) = place_of(entries, pattern) else {
+        return None;
+    };
+    Some(entries[place].kept.whole())
 }
 
 /// The bytes that are counted for the patterns.

@@ -4,8 +4,9 @@ ghost use Rattle.std.specs.Prelude.{◌≡◌, ◌≢◌, List, ℕ, chars, IfOk
 ghost use Rattle.am_silence.specs.declared.matcher.Matcher.{Matcher};
 ghost use Rattle.am_matcher.specs.Filters.{IsFilter};
 ghost use Rattle.am_matcher.specs.Texts.{is_text};
-ghost use Rattle.am_matcher.specs.Matching.{IsSoundMatcher, IsBrokenMatcher, pattern_in, passes};
+ghost use Rattle.am_matcher.specs.Matching.{IsSoundMatcher, IsBrokenMatcher, pattern_in, passes, regexp_of};
 
+use crate::cache::PatternCache;
 use crate::compiled::{BuildError, Compiled};
 use crate::filter_text::parts_of;
 use crate::pieces::{inside_of, pieces_of, text_of, text_of_pieces};
@@ -141,9 +142,47 @@ impl Filter {
         ensures broken { IsErrOf result FilterError.BadPattern →
             (m : Matcher) × IsFilter text.now m × IsBrokenMatcher m }
     {
-        let matcher = read_filter(alloc, text)?;
-        let compiled = Compiled::build(alloc, &matcher)?;
+        Filter::parse_by(&PatternCache::new(alloc), text)
+    }
+
+    /// As [`Filter::parse`]: a pattern that is kept is shared, and nothing is compiled for it.
+    ///
+    /// # Errors
+    ///
+    /// As those of [`Filter::parse`].
+    pub fn parse_by(patterns: &PatternCache, text: &str) -> Result<Filter, FilterError>
+        ensures read { IfOk result (IsFilter text.now) }
+        ensures sound { IfOk result IsSoundMatcher }
+        ensures syntax { IsErrOf result FilterError.Syntax → (m : Matcher) → ¬ IsFilter text.now m }
+        ensures broken { IsErrOf result FilterError.BadPattern →
+            (m : Matcher) × IsFilter text.now m × IsBrokenMatcher m }
+    {
+        let matcher = read_filter(patterns.alloc(), text)?;
+        let compiled = Compiled::build_by(patterns, &matcher)?;
         Ok(Filter { compiled })
+    }
+
+    /// The regular expression of the filter that the text is, where one decides. Nothing is compiled.
+    ///
+    /// # Errors
+    ///
+    /// [`FilterError::Syntax`] where the text is no filter, and [`FilterError::Memory`].
+    pub fn regexp_of(alloc: Global, text: &str) -> Result<Option<Text>, FilterError>
+        ensures read { IfOk result (λ pattern. (m : Matcher) × IsFilter text.now m × (pattern ≡ regexp_of m)) }
+        ensures syntax { IsErrOf result FilterError.Syntax → (m : Matcher) → ¬ IsFilter text.now m }
+        ensures no_pattern { result ≢ Err FilterError.BadPattern }
+    {
+        let matcher = read_filter(alloc, text)?;
+        let Matcher {
+            kind,
+            name: _,
+            pattern,
+        } = matcher;
+        if kind.is_regexp() {
+            Ok(Some(pattern))
+        } else {
+            Ok(None)
+        }
     }
 
     /// Whether the silence passes: whether the filter matches the labels that its matchers make, name to

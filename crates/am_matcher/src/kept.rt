@@ -1,6 +1,6 @@
 //! Patterns that are kept from one call to the next.
 
-ghost use Rattle.std.specs.Prelude.{◌≡◌, ◌-◌, ◌^◌, min, IfOk, OnOk, IsErrOf};
+ghost use Rattle.std.specs.Prelude.{◌≡◌, ◌-◌, ◌^◌, true, false, min, IfOk, OnOk, IsErrOf};
 ghost use Rattle.am_matcher.specs.Patterns.{is_match, IsSound, IsBroken};
 ghost use Rattle.am_matcher.specs.Kept.{pattern_of, IsBuilt};
 ghost use Rattle.am_matcher.specs.Sizes.{size_of};
@@ -74,6 +74,29 @@ impl Kept {
         match &self.built {
             Built::Sound(whole) => whole.size(),
             Built::Broken(text) => counted(text.len(), 0, 0, 0),
+        }
+    }
+
+    /// Whether the pattern is broken.
+    pub fn is_broken(&self) -> bool
+        ensures sound { result ≡ false → IsSound self.now.text }
+        ensures broken { result ≡ true → IsBroken self.now.text }
+    {
+        match &self.built {
+            Built::Sound(_) => false,
+            Built::Broken(_) => true,
+        }
+    }
+
+    /// The pattern, compiled. It shares what is kept.
+    pub fn whole(&self) -> Result<Whole, BuildError>
+        ensures text { IfOk result (λ whole. whole.text ≡ self.now.text) }
+        ensures sound { OnOk result (IsSound self.now.text) }
+        ensures broken { IsErrOf result BuildError.BadPattern → IsBroken self.now.text }
+    {
+        match &self.built {
+            Built::Sound(whole) => Ok(whole.share()?),
+            Built::Broken(_) => Err(BuildError::BadPattern),
         }
     }
 

@@ -18,7 +18,7 @@ mod pieces;
 mod search;
 mod whole;
 
-pub use cache::PatternCache;
+pub use cache::{PatternCache, Prepared};
 pub use compiled::{BuildError, Compiled};
 pub use filter::{Filter, FilterError};
 pub use judged::verdict;

@@ -16,17 +16,18 @@ use regex_nfa::Nfa;
 use regex_syntax::{Config, Parsed, parse};
 use std::alloc::{AllocError, Global};
 use std::marker::Model;
+use std::rc::Rc;
 
 /// What is compiled takes at most so many bytes: the limit that `regex` has by itself.
 const MOST_BYTES: usize = 10 << 20;
 
 /// A compiled pattern, and what searches for it have built. Contracts see its text, how much was compiled, and how many
-/// tables searches may fill.
+/// tables searches may fill. What was compiled may be shared by several.
 ///
 /// It stands on the parts of `regex`, whose own searcher borrows the compiled pattern and can't be kept beside it.
 pub struct Whole {
     pattern: String,
-    dfa: Dfa,
+    dfa: Rc<Dfa>,
     forward: Forward,
     alloc: Global,
 }
@@ -54,12 +55,12 @@ impl Model for Whole {
 
     ghost view = { λ w. record {
       text = string_bytes w.pattern;
-      states = vec_len w.dfa.nfa.states;
-      transitions = vec_len w.dfa.nfa.transitions;
-      tables = (if w.dfa.needs.unicode then 2 else 1);
+      states = vec_len w.dfa.value.nfa.states;
+      transitions = vec_len w.dfa.value.nfa.transitions;
+      tables = (if w.dfa.value.needs.unicode then 2 else 1);
     } };
 
-    ghost invariant = { λ w. Finds w.dfa.nfa (whole_text (string_bytes w.pattern)) × IsForwardFor w.forward w.dfa };
+    ghost invariant = { λ w. Finds w.dfa.value.nfa (whole_text (string_bytes w.pattern)) × IsForwardFor w.forward w.dfa.value };
 }
 
 /// Refuses a pattern that is broken by itself, as `a)|(b`, which would be read once it is wrapped.
@@ -108,11 +109,27 @@ impl Whole {
         let dfa = dfa_of(alloc, text.as_str())?;
         let forward = Forward::with_budget(alloc, &dfa, false, SEARCH_BYTES)?;
         let pattern = String::from_str(alloc, pattern)?;
+        let dfa = shared(alloc, dfa)?;
         Ok(Whole {
             pattern,
             dfa,
             forward,
             alloc,
+        })
+    }
+
+    /// One more that has the same, whose searches build their own tables. Nothing is compiled.
+    pub fn share(&self) -> Result<Whole, AllocError>
+        ensures { IfOk result (λ whole. whole ≡ self.now) }
+    {
+        let forward = Forward::with_budget(self.alloc, &self.dfa, false, SEARCH_BYTES)?;
+        let pattern = String::from_str(self.alloc, self.pattern.as_str())?;
+        let dfa = self.dfa.clone()?;
+        Ok(Whole {
+            pattern,
+            dfa,
+            forward,
+            alloc: self.alloc,
         })
     }
 
@@ -145,6 +162,13 @@ impl Whole {
         let found = is_found(self.alloc, &self.dfa, &mut self.forward, text.as_bytes())?;
         Ok(found)
     }
+}
+
+/// What was compiled, to be shared.
+fn shared(alloc: Global, dfa: Dfa) -> Result<Rc<Dfa>, AllocError>
+    ensures { IfOk result (λ shared. shared.value ≡ dfa) }
+{
+    Ok(Rc::new(alloc, dfa)?)
 }
 
 /// How many tables searches may fill: one of the states that they meet, and one of the steps by the characters beside a

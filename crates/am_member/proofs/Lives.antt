@@ -17,6 +17,7 @@ use Rattle.am_instance.specs.declared.reply.Outcome.{Outcome}
 use Rattle.am_api_silences.specs.Answers.{Answered, ComesOf}
 use Rattle.am_http.specs.declared.session.fault.SessionFault.{SessionFault}
 use Rattle.am_http.specs.Sessions.{Standing, name_of}
+use Rattle.am_member.specs.Sparing.{spared}
 use Rattle.am_member.specs.declared.fault.Fault.{Fault}
 use Rattle.am_member.specs.declared.fault.Fault.TheVariants.{Read as InRead, Write, TooLarge, Frame as InFrame, UnknownName, Step}
 use Rattle.am_member.specs.declared.exchanged.Effects.{Effects}
@@ -201,7 +202,7 @@ read_steps More bits now stopped old new answer done =
 -- ---- a turn
 
 -- the steps of the events that were asked for, of a turn
-steps_of_turn : (old : InstanceState) (turn : Turn) (asked : List Event) → AreEventsOf old.config (name_of turn.heard) turn.bits turn.said asked →
+steps_of_turn : (old : InstanceState) (turn : Turn) (asked : List Event) → AreEventsOf old.config (name_of turn.heard) turn.bits (spared turn.said) asked →
     ((steps : List Happened) × AreStepsUpTo turn.now asked (is_stopped turn.answer.fault) old steps turn.left) →
     (steps : List Happened) × AreStepsOf old turn steps
 steps_of_turn old turn asked said up_to = (
@@ -224,18 +225,18 @@ or_given other (Some x) = x
 some_is : {A : Type 0} (x y : A) (o : Option A) → o ≡ Some x → o ≡ Some y → x ≡ y
 some_is x y o is also = ap (or_given x) (sym is ∙ also)
 
-turn_by : (standing : Standing) (old : InstanceState) (turn : Turn) (request : Option Read) → turn.said.request ≡ request → IsTurn standing old turn →
+turn_by : (standing : Standing) (old : InstanceState) (turn : Turn) (request : Option Read) → (spared turn.said).request ≡ request → IsTurn standing old turn →
     (steps : List Happened) × AreStepsOf old turn steps
 turn_by standing old turn (Some read) is done =
     let found = read_steps read turn.bits turn.now (is_stopped turn.answer.fault) old turn.left turn.answer (done.answered.asked read is) in
     steps_of_turn old turn found.asked
     (record {
-      of_request = λ other also. subst (λ (r : Read). AreEventsOfRead r turn.bits found.asked) (some_is read other turn.said.request is also) found.are;
+      of_request = λ other also. subst (λ (r : Read). AreEventsOfRead r turn.bits found.asked) (some_is read other (spared turn.said).request is also) found.are;
       of_frames = λ none. absurd (none-some read (sym none ∙ is));
     })
     found.steps
 turn_by standing old turn None is done =
-    let found = heard_steps (name_of turn.heard) turn.now turn.said.frames turn.said.fault old turn.left turn.answer.effects turn.answer.fault (done.answered.heard is).1 in
+    let found = heard_steps (name_of turn.heard) turn.now (spared turn.said).frames (spared turn.said).fault old turn.left turn.answer.effects turn.answer.fault (done.answered.heard is).1 in
     steps_of_turn old turn found.asked
     (record {
       of_request = λ read some. absurd (none-some read (sym is ∙ some));
@@ -244,7 +245,7 @@ turn_by standing old turn None is done =
     found.steps
 
 pub turn_steps : (standing : Standing) (old : InstanceState) (turn : Turn) → IsTurn standing old turn → (steps : List Happened) × AreStepsOf old turn steps
-turn_steps standing old turn done = turn_by standing old turn turn.said.request refl done
+turn_steps standing old turn done = turn_by standing old turn (spared turn.said).request refl done
 
 -- all deeds
 pub life_steps : (standings : ℕ → Standing) (start new : InstanceState) (deeds : List Deed) → IsLife standings start deeds new →

@@ -1,7 +1,8 @@
 -- One read of a connection, as a turn.
-use Rattle.std.proofs.Common.{◌≡◌, ℕ, ◌<◌, ◌≤◌, List, length, take, Option, Some, Result, Ok, Err, refl, sym, subst, ap, arith}
+use Rattle.std.proofs.Common.{◌≡◌, ℕ, ◌<◌, ◌≤◌, Bool, List, length, take, Option, Some, Result, Ok, Err, refl, sym, subst, ap, arith}
 use Rattle.std.proofs.lemmas.List.{length-take}
 use Rattle.std.specs.Prelude.{OnOk, IfErr}
+use Rattle.std.specs.List.{list_any}
 use Rattle.std.specs.Io.KnownBytes.{Appends, Consumes, IsAtEnd}
 use Rattle.am_streams.specs.Writing.{WritesPart}
 use Rattle.am_streams.specs.declared.writing.WriteFault.{WriteFault}
@@ -15,6 +16,7 @@ use Rattle.am_member.specs.declared.exchanged.Exchanged.{Exchanged}
 use Rattle.am_member.specs.Conversing.{Gives, GoesOut, IsConversed, came_of}
 use Rattle.am_member.specs.Exchanging.{Comes, IsExchanged, IsFinished, left_at, with_reply}
 use Rattle.am_member.specs.Lives.{Tells}
+use Rattle.am_member.specs.Sparing.{is_push, is_tick, spared}
 
 -- a reply that is there was written, whole or in part
 pub wrote : (making : Making) (reply : Option Making) (whole : ReplyBytes) (old new : Option (List ℕ)) (sent : List ℕ) (result : Result Unit WriteFault) →
@@ -32,11 +34,13 @@ given input left n buf some within read = (read.0, λ none. read.1 (omega (arith
 
 -- what was fed, exchanged and written is a turn
 pub conversed : (standing : Standing) (old : InstanceState) (bits now : ℕ) (input left before after : Option (List ℕ)) (piece : List ℕ) (said : Spoken) (heard : Standing)
-    (exchanged : Exchanged) (stand : Standing) (new : InstanceState) (written : Result Unit WriteFault) → Gives input left piece → Tells standing (came_of piece) said heard →
-    Comes (IsExchanged (name_of heard) bits now said old new) exchanged → stand ≡ left_at exchanged.fault heard →
+    (exchanged : Exchanged) (stand : Standing) (new : InstanceState) (written : Result Unit WriteFault) (asks ticks : Bool) → Gives input left piece →
+    Tells standing (came_of piece) said heard → asks ≡ list_any is_push said.frames → ticks ≡ list_any is_tick said.frames →
+    Comes (IsExchanged (name_of heard) bits now (spared said) old new) exchanged → stand ≡ left_at exchanged.fault heard →
     (whole : Option ReplyBytes) × IsFinished exchanged.reply whole × GoesOut before after whole written →
-    IsConversed standing old bits now input left before after stand new (record { effects = exchanged.effects; fault = exchanged.fault; written = written })
-conversed standing old bits now input left before after piece said heard exchanged stand new written gives tells comes stands out = record {
+    IsConversed standing old bits now input left before after stand new
+    (record { effects = exchanged.effects; asks = asks; ticks = ticks; fault = exchanged.fault; written = written })
+conversed standing old bits now input left before after piece said heard exchanged stand new written asks ticks gives tells asked ticked comes stands out = record {
   piece = piece;
   gives = gives;
   turn = record { connection = 0; came = came_of piece; now = now; bits = bits; said = said; heard = heard; answer = with_reply exchanged out.0; left = new };
@@ -47,6 +51,8 @@ conversed standing old bits now input left before after piece said heard exchang
   instance_ = refl;
   session = stands;
   effects = refl;
+  asks = asked;
+  ticks = ticked;
   fault = refl;
   written = out.2;
 }

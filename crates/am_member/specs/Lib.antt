@@ -1,6 +1,7 @@
 pub mod Replies
 pub mod Requests
 pub mod Shown
+pub mod Sparing
 pub mod Outgoing
 pub mod Incoming
 pub mod Exchanging

@@ -28,6 +28,7 @@ use Rattle.am_api_silences.specs.Table.{clock_line}
 use Rattle.am_api_silences.specs.declared.replies.ReplyBytes.{ReplyBytes}
 use Rattle.am_http.specs.Sessions.{Feeds, Says as SaysPiece, SaysEnd, Spoken, Standing, and_then, name_of, nothing, over}
 use Rattle.am_member.specs.Exchanging.{Answer, IsExchanged, IsFromNobody, IsSender, is_stopped, left_at}
+use Rattle.am_member.specs.Sparing.{spared}
 
 -- what came of a connection: a piece that there was memory for, any piece, or the end of its input
 pub data Came : Type 0 where
@@ -59,17 +60,18 @@ pub record Turn : Type 0 where
   pub answer : Answer
   pub left : InstanceState
 
--- what came is told by the connection's own session, and answered as the contract of `exchange` says
+-- What came is told by the connection's own session; what its frames ask for is left to the member's own steps, and the rest is
+-- answered as the contract of `exchange` says.
 pub record IsTurn (standing : Standing) (old : InstanceState) (turn : Turn) : Type 0 where
   pub tells : Tells standing turn.came turn.said turn.heard
-  pub answered : IsExchanged (name_of turn.heard) turn.bits turn.now turn.said old turn.left turn.answer
+  pub answered : IsExchanged (name_of turn.heard) turn.bits turn.now (spared turn.said) old turn.left turn.answer
 
 -- how far its connection has come after a turn, and each other one as before
 abbrev pub standings_after : (ℕ → Standing) → Turn → ℕ → Standing
 standings_after standings turn = λ connection.
     if connection == turn.connection then left_at turn.answer.fault turn.heard else standings connection
 
--- what a member does: a turn of a connection; or a step by itself, as a Tick or a pull from a peer, that no connection asks for
+-- what a member does: a turn of a connection; or a step by itself, as a Tick, that no connection makes
 pub data Deed : Type 0 where
   Served : Turn → Deed
   Own : Happened → Deed
@@ -135,10 +137,10 @@ pub record AreEventsOf (config : Settings) (name : Option (List ℕ)) (bits : �
   pub of_request : (read : Read) → said.request ≡ Some read → AreEventsOfRead read bits asked
   pub of_frames : said.request ≡ None → AreEventsOfFrames config name said.frames asked
 
--- The steps of a turn, all at its moment: their events are those of what was said, in order, up to the first that was refused.
+-- The steps of a turn, all at its moment: their events are those of what was said, but for what frames ask for, in order, up to the first that was refused.
 pub record AreStepsOf (old : InstanceState) (turn : Turn) (steps : List Happened) : Type 0 where
   pub asked : List Event
-  pub said : AreEventsOf old.config (name_of turn.heard) turn.bits turn.said asked
+  pub said : AreEventsOf old.config (name_of turn.heard) turn.bits (spared turn.said) asked
   pub others : List Event
   pub parts : asked ≡ map (λ step. step.event) steps ++ others
   pub whole : (others ≡ []) ⊎ (is_stopped turn.answer.fault ≡ true)

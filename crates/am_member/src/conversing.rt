@@ -11,6 +11,7 @@ ghost use Rattle.am_api_silences.specs.declared.replies.ReplyBytes.{ReplyBytes};
 use crate::answering::exchange;
 use crate::exchanged::{Effects, Exchanged};
 use crate::fault::Fault;
+use crate::sparing::{Spared, spare};
 use am_api_silences::Making;
 use am_http::session::{Said, Session};
 use am_instance::Instance;
@@ -26,6 +27,10 @@ const PIECE: usize = 4_096;
 #[derive(Drop)]
 pub struct Conversed {
     pub effects: Effects,
+    /// A frame asked for all that is held here, which is left to the caller.
+    pub asks: bool,
+    /// A frame asked for a collection, which is left to the caller.
+    pub ticks: bool,
     /// Why no more is heard of the connection.
     pub fault: Option<Fault>,
     /// Whether the whole reply went out, where there is one.
@@ -58,7 +63,7 @@ fn write_reply<W: io::Write>(
 }
 
 /// Has a connection go on by one read, as a member's loop does with many: feeds what came, or that the input ended, answers
-/// what that said at `now`, and writes the reply. `bits` are random.
+/// what that said at `now`, but for what its frames ask for, and writes the reply. `bits` are random.
 ///
 /// It is called until the session is over.
 ///
@@ -82,6 +87,7 @@ pub fn converse<R: io::Read, W: io::Write>(
     let mut piece = [0u8; PIECE];
     let count = reader.read(&mut piece)?;
     let said = tell(session, &piece[..count]);
+    let Spared { said, asks, ticks } = spare(said);
     let Exchanged {
         reply,
         effects,
@@ -90,6 +96,8 @@ pub fn converse<R: io::Read, W: io::Write>(
     let written = write_reply(alloc, writer, reply);
     Ok(Conversed {
         effects,
+        asks,
+        ticks,
         fault,
         written,
     })

@@ -16,3 +16,4 @@ pub mod Firsts
 pub mod Buckets
 pub mod Walks
 pub mod Steps
+pub mod Fronts

@@ -19,6 +19,13 @@ module _ {T : Type 0} where
   pub place_of_item : (rows : Rows T) (cursor : Cursor) → IsItem rows cursor → place rows cursor < length (entries rows)
   place_of_item rows cursor item = place_inside rows.blocks cursor.block cursor.offset (block_inside rows.blocks cursor.block cursor.offset item.offset) item.offset
 
+  -- the place of an item is within the blocks
+  pub item_is_within : (rows : Rows T) (cursor : Cursor) → IsItem rows cursor → IsWithin rows cursor
+  item_is_within rows cursor item =
+      let inside = block_inside rows.blocks cursor.block cursor.offset item.offset in
+      let offset = item.offset in
+      record { block = omega arith; offset = omega arith }
+
   -- a place within the blocks is within the list
   pub place_within : (rows : Rows T) (cursor : Cursor) → IsWithin rows cursor → place rows cursor ≤ length (entries rows)
   place_within rows cursor within =

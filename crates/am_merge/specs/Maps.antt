@@ -5,7 +5,7 @@ use Rattle.std.specs.Prelude.{Contains, IsPermutation, ◌≤◌, bytes_eq}
 use Rattle.std.specs.List.{AllByRecursion}
 use Rattle.std.specs.declared.cmp.Ordering.{Ordering}
 use Rattle.std.specs.declared.cmp.Ordering.TheVariants.{Less}
-use Rattle.std.specs.Ordering.{eq_by_cmp}
+use Rattle.std.specs.Ordering.{eq_by_cmp, is_ge}
 use Rattle.am_version_order.specs.Versions.{Version, is_below, is_live, IsLive}
 
 -- the versions of a map whose bucket is these bytes
@@ -57,6 +57,10 @@ module _ {K X : Type 0} (seen : X → Version K) where
     -- the version of the key
     abbrev pub at : List X → K → Option X
     at map key = find (λ v. eq_by_cmp cmp (seen v).key key) map
+
+    -- the versions of a map whose keys are the key or above it
+    abbrev pub from_key : List X → K → List X
+    from_key map key = filter (λ v. is_ge (cmp (seen v).key key)) map
 
     -- at each key the greater one of two maps' versions, or the only one
     abbrev pub IsJoin : List X → List X → List X → Type 0

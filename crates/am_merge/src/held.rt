@@ -3,13 +3,13 @@
 ghost use Rattle.std.specs.Prelude.{All, ◌≡◌, ◌==◌, ◌+◌, ◌<◌, ◌↔◌, [], true, false, length, take, count_by, is_none};
 ghost use Rattle.std.specs.Prelude.{MatchOption, IfOk, IfErr, OnOk, OnErr, Ok, IsPermutation};
 ghost use Rattle.std.specs.Option.{option_copied};
-ghost use Rattle.am_merge.specs.Maps.{IsMap, IsJoin, IsLeastExpiry, HasTwice, at, if_live, in_bucket, replaces, swept};
+ghost use Rattle.am_merge.specs.Maps.{IsMap, IsJoin, IsLeastExpiry, HasTwice, at, from_key, if_live, in_bucket, replaces, swept};
 
 use crate::changes::{
     copy_store, drop_expired, merge_in, needs, needs_after, order_by_key, put, put_new, shelve,
     taken_as,
 };
-use crate::iter::{InBucket, Iter, walk_bucket, walk_store};
+use crate::iter::{InBucket, Iter, walk_bucket, walk_store, walk_store_from};
 use crate::store::{Store, empty_store, find, reserve, version_at};
 use am_version_order::{Moment, Version, versions_are_values};
 use std::alloc::{AllocError, Global};
@@ -163,6 +163,15 @@ impl<V: Version> Held<V> {
         ensures order { IsMap V.seen V.Key.cmp self.now }
     {
         walk_store(&self.store)
+    }
+
+    /// The versions from a key on, in the order of their keys: those of the key and of all above it. It takes no
+    /// memory.
+    pub fn iter_from(&self, key: &V::Key) -> Iter<'_, V>
+        ensures items { result ≡ from_key V.seen V.Key.cmp self.now key.now }
+        ensures order { IsMap V.seen V.Key.cmp self.now }
+    {
+        walk_store_from(&self.store, key)
     }
 
     /// The versions of a bucket, in the order of their keys. It takes no memory.

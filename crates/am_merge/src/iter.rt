@@ -2,12 +2,12 @@
 
 ghost use Rattle.std.specs.Prelude.{◌≡◌};
 ghost use Rattle.std.specs.Iterator.{YieldsFirstRef, item_count};
-ghost use Rattle.am_merge.specs.Maps.{in_bucket};
+ghost use Rattle.am_merge.specs.Maps.{from_key, in_bucket};
 ghost use Rattle.am_merge.specs.Stores.{versions, IsStore};
 
 use crate::blocks::Walk;
 use crate::entry::{BucketEntry, KeyEntry};
-use crate::store::{Store, bucket_front};
+use crate::store::{Store, bucket_front, key_front};
 use am_version_order::Version;
 use slab::Slab;
 use std::marker::Model;
@@ -54,6 +54,18 @@ pub fn walk_store<V: Version>(store: &Store<V>) -> Iter<'_, V>
     Iter {
         table: &store.table,
         walk: store.keys.walk(),
+    }
+}
+
+/// The versions of a store from a key on, in the order of their keys.
+pub fn walk_store_from<'a, V: Version>(store: &'a Store<V>, key: &V::Key) -> Iter<'a, V>
+    requires { IsStore V.seen V.head_of V.Key.cmp V.bucket_of store.now }
+    ensures { result ≡ from_key V.seen V.Key.cmp (versions store.now) key.now }
+{
+    let front = key_front(store, key);
+    Iter {
+        table: &store.table,
+        walk: store.keys.walk_from(front),
     }
 }
 

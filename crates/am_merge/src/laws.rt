@@ -1,7 +1,7 @@
 //! What holds of joining and sweeping maps.
 
-ghost use Rattle.std.specs.Prelude.{◌≡◌, ◌↔◌, ℕ, List, All, IsPermutation};
-ghost use Rattle.am_merge.specs.Maps.{IsMap, IsJoin, HidesNone, swept};
+ghost use Rattle.std.specs.Prelude.{◌≡◌, ◌↔◌, ℕ, List, ◌∷◌, ◌++◌, All, IsPermutation};
+ghost use Rattle.am_merge.specs.Maps.{IsMap, IsJoin, HidesNone, from_key, swept};
 
 use am_version_order::Version;
 
@@ -56,4 +56,10 @@ pub fn values_stay_values<V: Version>()
         All V.is_value a → All V.is_value b → All V.is_value joined }
     ensures swept { (now : ℕ) (map : List V) →
         All V.is_value map → All V.is_value (swept V.seen now map) }
+{}
+
+/// From the key of a version on, a map has that version and what stands behind it.
+pub fn a_map_goes_on_from_a_key<V: Version>()
+    ensures { (front rest : List V) (v : V) → IsMap V.seen V.Key.cmp (front ++ v ∷ rest) →
+        from_key V.seen V.Key.cmp (front ++ v ∷ rest) (V.seen v).key ≡ v ∷ rest }
 {}

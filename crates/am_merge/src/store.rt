@@ -1,8 +1,9 @@
 //! Versions under slots that stay theirs, and the indexes by which they are found.
 
-ghost use Rattle.std.specs.Prelude.{◌≡◌, ℕ, ◌+◌, [], IfOk, IfErr, IsOk, OnOk, Some, None, slice_index_or, slice_set, insert};
+ghost use Rattle.std.specs.Prelude.{◌≡◌, ℕ, ◌+◌, [], IfOk, IfErr, IsOk, OnOk, Some, None, slice_index_or, slice_set, insert, drop};
 ghost use Rattle.std.specs.List.{HoldsAt};
 ghost use Rattle.slab.specs.Slab.{get, slab_len, HasRoomFor, Updates};
+ghost use Rattle.am_merge.specs.Maps.{from_key};
 ghost use Rattle.am_merge.specs.Rows.{entries, HasRoom};
 ghost use Rattle.am_merge.specs.Searches.{IsFound, IsMissing};
 ghost use Rattle.am_merge.specs.Cursors.{IsItem, IsWithin, place};
@@ -62,6 +63,18 @@ pub fn find<V: Version>(store: &Store<V>, key: &V::Key) -> Result<Cursor, Cursor
         head: V::head(key),
     };
     store.keys.search_near(store.last, &probe)
+}
+
+/// Where the entries of a key and of those above it begin.
+pub fn key_front<V: Version>(store: &Store<V>, key: &V::Key) -> Cursor
+    requires { IsStore V.seen V.head_of V.Key.cmp V.bucket_of store.now }
+    ensures within { IsWithin store.now.keys result }
+    ensures from { drop (place store.now.keys result) (versions store.now) ≡ from_key V.seen V.Key.cmp (versions store.now) key.now }
+{
+    match find(store, key) {
+        Ok(cursor) => cursor,
+        Err(cursor) => cursor,
+    }
 }
 
 /// The version at a cursor of the index by key.

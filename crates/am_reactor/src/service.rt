@@ -59,7 +59,8 @@ pub trait Service {
     fn resume(&mut self, session: &mut Self::Session);
 
     /// Does what waits at once, or gives it up: it may not be done now, and the time of the connection is over in a quarter of
-    /// a second. It is looked for in each turn, so a service in which something waits for long is to be woken often.
+    /// a second, or another connection is to get its place. The first is looked for in each turn, so a service in which
+    /// something waits for long is to be woken often.
     fn hurry(&mut self, session: &mut Self::Session);
 
     /// What is still to be written, or a first part of it that has a byte.
@@ -75,8 +76,15 @@ pub trait Service {
     /// Whether nothing more is read. Once nothing waits and all is written, the connection is let go.
     fn is_over(&self, session: &Self::Session) -> bool;
 
+    /// How many bytes of what came the session keeps. It is asked after each turn of the connection.
+    fn held(&self, session: &Self::Session) -> usize;
+
     /// What goes to a peer next. It is asked after each call that may bring something, until there is nothing.
     fn outgoing(&mut self) -> Option<Outgoing>;
+
+    /// What goes to a peer behind all that went out, over the link that is open to it; the link's time begins anew then. It is
+    /// asked where all bytes of a link went out. Where there is nothing, the link is closed.
+    fn more(&mut self, peer: usize) -> Option<Vec<u8>>;
 
     /// What waited for a peer is lost. It is told once of a link.
     fn lost(&mut self, peer: usize, fault: LinkFault);

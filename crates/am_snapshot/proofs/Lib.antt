@@ -9,3 +9,4 @@ pub mod Stops
 pub mod Inserts
 pub mod OneFault
 pub mod Saved
+pub mod PieceRows

@@ -1,15 +1,17 @@
-//! What holds of inputs that are not read to their end, and of those that were saved.
+//! What holds of inputs that are not read to their end, of those that were saved, and of pieces of rows.
 
-ghost use Rattle.std.specs.Prelude.{◌≡◌, ℕ, List, Option};
+ghost use Rattle.std.specs.Prelude.{◌≡◌, ℕ, ◌<◌, List, ◌++◌, length, Option, Some, None};
 ghost use Rattle.am_wire.specs.declared.error.WireError.{WireError};
 ghost use Rattle.am_wire.specs.declared.reader.RowFault.TheVariants.{Wire, TooLarge};
 ghost use Rattle.am_wire.specs.Inputs.{AreMessages, StopsAfter};
-ghost use Rattle.am_merge.specs.Maps.{IsMap};
+ghost use Rattle.am_merge.specs.Maps.{IsMap, from_key};
 ghost use Rattle.am_snapshot.specs.Texts.{row_text};
 ghost use Rattle.am_snapshot.specs.Loads.{IsLoaded, StopsLoad, IsOutside};
+ghost use Rattle.am_snapshot.specs.Pieces.{IsPiece};
 ghost use Rattle.am_snapshot.specs.Saving.{IsSavable};
 ghost use Rattle.am_snapshot.specs.declared.error.SnapshotError.{SnapshotError};
 
+use am_version_order::Version;
 use am_wire::{Message, Record};
 
 /// A fault of the bytes of an input is its only one, after the same messages, and none where it is whole
@@ -34,4 +36,17 @@ pub fn what_is_saved_is_loaded<V: Record>()
     ensures sound { (map : List V) (left : Option (List ℕ)) (e : SnapshotError) →
         IsSavable V.seen V.Key.cmp V.Version.is_value map →
         StopsLoad V.seen V.reads (row_text V.seen map) left e → IsOutside e }
+{}
+
+/// A piece with no next key is the row of the whole map. Behind another goes the row of what the map has from the next key
+/// on: piece by piece the whole row goes out.
+pub fn pieces_are_the_row<V: Version>()
+    ensures last { (most : ℕ) (map : List V) (row : List ℕ) →
+        IsPiece V.seen most map (record { row = row; next = None }) → row ≡ row_text V.seen map }
+    ensures others { (most : ℕ) (map : List V) (row : List ℕ) (key : V.Key) → IsMap V.seen V.Key.cmp map →
+        IsPiece V.seen most map (record { row = row; next = Some key }) →
+        row ++ row_text V.seen (from_key V.seen V.Key.cmp map key) ≡ row_text V.seen map }
+    ensures shorter { (most : ℕ) (map : List V) (row : List ℕ) (key : V.Key) → IsMap V.seen V.Key.cmp map →
+        IsPiece V.seen most map (record { row = row; next = Some key }) →
+        length (from_key V.seen V.Key.cmp map key) < length map }
 {}

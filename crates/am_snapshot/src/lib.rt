@@ -7,6 +7,7 @@ mod in_memory;
 pub mod laws;
 mod loading;
 mod outgoing;
+mod pieces;
 mod reading;
 mod saving;
 
@@ -14,5 +15,6 @@ pub use error::SnapshotError;
 pub use folding::{Folded, fold, fold_held};
 pub use in_memory::{row_bytes, row_length};
 pub use loading::load;
+pub use pieces::{RowPiece, row_piece};
 pub use reading::take_row;
 pub use saving::save;

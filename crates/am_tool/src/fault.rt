@@ -80,6 +80,12 @@ pub enum Fault {
     /// In a connection.
     #[error(fmt = lines::write_connection_fault)]
     Connection(ConnectionFault),
+    /// A connection gave its place to another one, after so many bytes came.
+    #[error("Crowded {0}")]
+    Crowded(u64),
+    /// A connection was closed since too much of what came wasn't finished, after so many bytes came.
+    #[error("Unfinished {0}")]
+    Unfinished(u64),
     /// The system's clock could not be read at the start.
     #[error("Clock {0:?}")]
     Clock(ErrorKind),
@@ -125,7 +131,7 @@ impl Fault {
 }
 
 /// How many kinds of faults a member tells apart.
-pub const KINDS: usize = 14;
+pub const KINDS: usize = 16;
 
 impl Fault {
     /// Which kind of fault of a member it is, from 0 on: one for each word with which a line begins.
@@ -139,7 +145,9 @@ impl Fault {
             Fault::Lost(_, _) => 5,
             Fault::Connection(fault) => kind_of_connection(fault),
             Fault::ClockBehind(_) | Fault::ClockCaughtUp => 12,
-            _ => 13,
+            Fault::Crowded(_) => 13,
+            Fault::Unfinished(_) => 14,
+            _ => 15,
         }
     }
 }

@@ -4,6 +4,8 @@ mod clock;
 mod dialogue;
 mod duties;
 mod files;
+mod handing;
+mod judging;
 mod serving;
 mod signals;
 mod start;
@@ -17,9 +19,9 @@ use am_gossip::Frame;
 use am_instance::{Event, Instance, Outbox, Place, Unsent};
 use am_member::{Effects, Fault as ConnectionFault, next_moment, save_file};
 use clock::Watch;
-use dialogue::is_pull;
 use duties::Duties;
 use files::StateFile;
+use handing::Share;
 use rand::rngs::StdRng;
 use rand_core::Rng;
 pub use start::run;
@@ -46,6 +48,8 @@ pub struct Member<'a> {
     /// The faults that it printed.
     lines: Lines,
     watch: Watch,
+    /// What each peer is handed of all that is held, by place.
+    shares: Vec<Share>,
     /// The peers that have not pushed all they have since the start.
     awaited: Vec<Place>,
     /// Something may have changed since the last save.
@@ -54,15 +58,6 @@ pub struct Member<'a> {
     stops: bool,
     /// Its stop has ended the first pull, so that what waits for that is turned away.
     turns_away: bool,
-}
-
-/// The frames that go out: no Push is answered where the first pull is waited for.
-fn sendable(frames: Vec<(Place, Frame)>, waits_for_pull: bool) -> Vec<(Place, Frame)> {
-    let mut frames = frames;
-    if waits_for_pull {
-        frames.retain(|queued| !is_pull(&queued.1));
-    }
-    frames
 }
 
 /// The first of two faults, where there is one.
@@ -106,19 +101,13 @@ impl Member<'_> {
 
     /// What follows the steps of a connection, and why no more is heard of it.
     fn follow(&mut self, effects: Effects, fault: Option<ConnectionFault>) {
-        let Effects { outbox, ticked } = effects;
         if let Some(fault) = fault {
             self.tell(Fault::Connection(fault));
         }
-        self.tell_unsent(outbox.unsent);
-        if ticked {
-            self.save();
-        }
-        let waits_for_pull = self.duties.waits_for_pull();
-        self.queue_frames(sendable(outbox.frames, waits_for_pull));
+        self.follow_step(effects.outbox);
     }
 
-    /// What follows a step that the member made by itself.
+    /// What follows steps: their frames go out.
     fn follow_step(&mut self, outbox: Outbox) {
         let Outbox { frames, unsent } = outbox;
         self.tell_unsent(unsent);
@@ -180,11 +169,11 @@ impl Member<'_> {
         }
     }
 
-    /// Asks each peer for all that it has.
+    /// Asks each peer for all that it has, and hands it all that is held here.
     fn pull(&mut self) {
-        for place in 0..self.ports.len() {
-            if self.ports.get(place).copied().unwrap_or(0) != 0 {
-                let _ = self.step(Event::PullFrom(place as Place));
+        for peer in 0..self.ports.len() {
+            if self.ports.get(peer).copied().unwrap_or(0) != 0 {
+                self.hand_all(peer, true);
             }
         }
     }

@@ -1,8 +1,8 @@
 //! What a session holds.
 
-ghost use Rattle.std.specs.Prelude.{◌≡◌, string_bytes};
+ghost use Rattle.std.specs.Prelude.{◌≡◌, length, string_bytes};
 ghost use Rattle.std.specs.Option.{option_copied, option_map};
-ghost use Rattle.am_http.specs.Sessions.{name_of};
+ghost use Rattle.am_http.specs.Sessions.{name_of, waiting_in};
 ghost use Rattle.am_http.specs.States.{standing_in};
 
 use am_gossip::Feeder;
@@ -41,6 +41,17 @@ impl State {
             State::Hearing(hearing) => Some(hearing.name.as_str()),
             State::Over(Some(name)) => Some(name.as_str()),
             _ => None,
+        }
+    }
+
+    /// How many bytes wait for the rest of what they begin.
+    pub fn waiting(&self) -> usize
+        ensures { result ≡ length (waiting_in (standing_in self.now)) }
+    {
+        match self {
+            State::Fresh | State::Over(_) => 0,
+            State::Asking(bytes) | State::Greeting(bytes) => bytes.len(),
+            State::Hearing(hearing) => hearing.feeder.waiting(),
         }
     }
 

@@ -6,7 +6,9 @@ ghost use Rattle.am_api_silences.specs.Replies.{bytes_of};
 use am_api_silences::{Begun, Making, Read, Refusal, ReplyBytes, turn_away};
 use am_gossip::Frame;
 use am_http::session::{Said, Session};
-use am_member::is_dear;
+use am_http::{Cause, Screened};
+use am_instance::names_both;
+use am_member::{Judging, is_dear};
 use std::alloc::Global;
 
 /// How many silences of a list are written in a turn of the loop.
@@ -16,8 +18,12 @@ const STRETCH: usize = 512;
 #[derive(Drop)]
 pub struct Dialogue {
     pub session: Session,
+    /// It is known where the request comes from.
+    is_screened: bool,
     /// A request that waits: for its turn, or until the first pull is over.
     pub waiting: Option<Said>,
+    /// A request whose turn came, and its patterns, some of which are still to be compiled.
+    pub judging: Option<(Said, Judging)>,
     /// The list that is being written, once its step was made.
     pub making: Option<Making>,
     pub reply: ReplyBytes,
@@ -30,7 +36,9 @@ impl Dialogue {
     pub fn new(alloc: Global) -> Dialogue {
         Dialogue {
             session: Session::new(alloc),
+            is_screened: false,
             waiting: None,
+            judging: None,
             making: None,
             reply: ReplyBytes::Fixed(&[]),
             written: 0,
@@ -46,12 +54,34 @@ impl Dialogue {
         Some(said)
     }
 
+    /// Why a request isn't heard that names a host or a site which isn't this member's, now that the next piece is there.
+    pub fn screen(&mut self, piece: &[u8], hosts: &[&str]) -> Option<Refusal> {
+        if self.is_screened {
+            return None;
+        }
+        match self.session.screen(piece, hosts) {
+            Ok(Screened::Open) => None,
+            Ok(Screened::Known) => {
+                self.is_screened = true;
+                None
+            }
+            Ok(Screened::Foreign(foreign)) => Some(foreign.refusal()),
+            Err(_) => Some(Cause::Memory.refusal()),
+        }
+    }
+
+    /// Answers a request by the line of a refusal, whatever it asks for, and hears no more.
+    pub fn refuse(&mut self, alloc: Global, refusal: &Refusal) {
+        self.waiting = None;
+        self.judging = None;
+        self.session.stop();
+        let Begun { making, .. } = turn_away(alloc, refusal);
+        self.reply_with(alloc, Some(making));
+    }
+
     /// Answers a request that waits for the first pull that nobody waits for any more, or not as long as the pull may take.
     pub fn turn_away(&mut self, alloc: Global) {
-        self.waiting = None;
-        let refusal = Refusal::new(503, "not ready");
-        let Begun { making, .. } = turn_away(alloc, &refusal);
-        self.reply_with(alloc, Some(making));
+        self.refuse(alloc, &Refusal::new(503, "not ready"));
     }
 
     /// Has a reply go out, where there is one. A list waits until it is written.
@@ -77,7 +107,7 @@ impl Dialogue {
 
     /// Whether something waits for its turn.
     pub fn waits(&self) -> bool {
-        self.waiting.is_some() || self.making.is_some()
+        self.waiting.is_some() || self.judging.is_some() || self.making.is_some()
     }
 
     /// What is still to be written.
@@ -115,24 +145,17 @@ pub fn is_nothing(said: &Said) -> bool {
     said.frames.is_empty() && said.request.is_none() && said.fault.is_none()
 }
 
-/// Whether a frame brings all that a peer has, as it was asked for.
-pub fn is_pull(frame: &Frame) -> bool {
-    matches!(frame, Frame::Pull(_))
+/// Whether a frame is the last part of all that a peer has, as it was asked for.
+fn is_last_of_pull(frame: &Frame) -> bool {
+    match frame {
+        Frame::Pull(state) => names_both(state),
+        _ => false,
+    }
 }
 
-/// Whether a frame brings all that a peer has, which asks for as much.
-fn is_push(frame: &Frame) -> bool {
-    matches!(frame, Frame::Push(_))
-}
-
-/// Whether a Pull is among what was said.
-pub fn has_pull(said: &Said) -> bool {
-    said.frames.iter().any(is_pull)
-}
-
-/// Whether a Push is among what was said.
-pub fn has_push(said: &Said) -> bool {
-    said.frames.iter().any(is_push)
+/// Whether all that a peer has is here, with what was said.
+pub fn ends_pull(said: &Said) -> bool {
+    said.frames.iter().any(is_last_of_pull)
 }
 
 /// Whether what was said may change what the member holds.

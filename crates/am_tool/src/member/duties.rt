@@ -12,9 +12,20 @@ const CLOCK_EVERY: u64 = 1_000;
 /// After how many milliseconds a member asks its peers again for all they have, as long as none has answered.
 const ASK_EVERY: u64 = 1_000;
 
+/// How many milliseconds are between two Ticks at the least, however many peers ask for one.
+const TICK_AT_MOST_EVERY: u64 = 1_000;
+
 /// After how many milliseconds at the latest a member looks again for requests that wait for the first pull, and whose time is
 /// nearly over.
 const HURRY_EVERY: u64 = 100;
+
+/// Whether a moment has come, where it is said.
+fn is_reached(moment: Option<Instant>, now: Instant) -> bool {
+    match moment {
+        Some(moment) => moment <= now,
+        None => true,
+    }
+}
 
 /// Something that is done every so often.
 #[derive(Clone, Copy)]
@@ -66,6 +77,10 @@ impl Timer {
 #[derive(Clone, Copy)]
 pub struct Duties {
     tick: Timer,
+    /// A peer asked for a Tick.
+    owes_tick: bool,
+    /// Before this it makes none that a peer asks for.
+    next_tick: Option<Instant>,
     pull: Timer,
     save: Timer,
     signal: Timer,
@@ -79,6 +94,8 @@ impl Duties {
     pub fn new(options: &Options<'_>, signals: bool, now: Instant) -> Duties {
         let mut duties = Duties {
             tick: Timer::every(now, options.tick_every),
+            owes_tick: false,
+            next_tick: None,
             pull: Timer::every(now, options.pull_every),
             save: Timer::every(now, options.save_every),
             signal: Timer::every(now, signals.then_some(Duration::from_millis(SIGNAL_EVERY))),
@@ -105,8 +122,30 @@ impl Duties {
         }
     }
 
+    /// A peer asks for a Tick.
+    pub fn owe_tick(&mut self) {
+        self.owes_tick = true;
+    }
+
+    /// Whether a Tick is due, by itself or since a peer asked for one.
     pub fn is_tick_due(&mut self, now: Instant) -> bool {
-        self.tick.is_due(now)
+        let own = self.tick.is_due(now);
+        let next = self.next_tick;
+        if !own && !(self.owes_tick && is_reached(next, now)) {
+            return false;
+        }
+        self.owes_tick = false;
+        self.next_tick = now.checked_add(Duration::from_millis(TICK_AT_MOST_EVERY));
+        true
+    }
+
+    /// When the Tick is due that a peer asked for, where one did.
+    fn owed_tick(&self, now: Instant) -> Option<Instant> {
+        if self.owes_tick {
+            Some(self.next_tick.unwrap_or(now))
+        } else {
+            None
+        }
     }
 
     pub fn is_save_due(&mut self, now: Instant) -> bool {
@@ -135,8 +174,16 @@ impl Duties {
 
     /// How long it is until something is due.
     pub fn left(&self, now: Instant) -> Option<Duration> {
+        let owed_tick = Timer::from(self.owed_tick(now), Duration::ZERO);
         let mut left = None;
-        for timer in [self.tick, self.pull, self.save, self.signal, self.clock] {
+        for timer in [
+            self.tick,
+            owed_tick,
+            self.pull,
+            self.save,
+            self.signal,
+            self.clock,
+        ] {
             left = timer.left(now, left);
         }
         match self.first_pull {

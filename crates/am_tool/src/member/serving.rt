@@ -4,11 +4,13 @@ ghost use Rattle.std.specs.Prelude.{drop, ⊤};
 ghost use Rattle.am_api_silences.specs.Replies.{bytes_of};
 
 use super::Member;
-use super::dialogue::{Dialogue, has_pull, has_push, is_nothing, may_change};
+use super::dialogue::{Dialogue, ends_pull, is_nothing, may_change};
 use crate::fault::Fault;
+use am_gossip::Frame;
 use am_http::session::Said;
 use am_member::{
-    Exchanged, Fault as ConnectionFault, Parted, exchange, frames_text, next_moment, part_frames,
+    Exchanged, Fault as ConnectionFault, Parted, Spared, exchange, frames_text, next_moment,
+    part_frames, spare,
 };
 use am_reactor::{Broken, Failure, LinkFault, Outgoing, Service, Wake};
 use std::io::ErrorKind;
@@ -24,14 +26,17 @@ fn sooner(one: Option<Duration>, other: Option<Duration>) -> Option<Duration> {
 }
 
 /// A connection that was closed before its end, as a fault.
-fn fault_of(broken: Broken, is_over: bool) -> ConnectionFault {
+fn fault_of(broken: Broken, is_over: bool) -> Fault {
     let write = ConnectionFault::Write {
         written: broken.written,
     };
+    let read = ConnectionFault::Read { at: broken.read };
     match broken.why {
-        Failure::Write(_) => write,
-        Failure::Time if is_over => write,
-        Failure::Read(_) | Failure::Time => ConnectionFault::Read { at: broken.read },
+        Failure::Write(_) => Fault::Connection(write),
+        Failure::Time if is_over => Fault::Connection(write),
+        Failure::Read(_) | Failure::Time => Fault::Connection(read),
+        Failure::Crowded => Fault::Crowded(broken.read),
+        Failure::Unfinished => Fault::Unfinished(broken.read),
     }
 }
 
@@ -39,27 +44,53 @@ impl Member<'_> {
     /// Answers what was said, or keeps it until it may be answered.
     fn hear(&mut self, dialogue: &mut Dialogue, said: Said) {
         if let Some(said) = dialogue.hold(said, self.duties.waits_for_pull()) {
-            self.answer(dialogue, said);
+            self.judge(dialogue, said);
         }
     }
 
     /// Answers what was said.
-    fn answer(&mut self, dialogue: &mut Dialogue, said: Said) {
+    pub(super) fn answer(&mut self, dialogue: &mut Dialogue, said: Said) {
         if is_nothing(&said) && dialogue.session.name().is_none() {
             return;
         }
-        let pulled = has_pull(&said);
-        let pushed = has_push(&said);
+        let pulled = ends_pull(&said);
         self.is_changed |= may_change(&said);
+        let Spared { said, asks, ticks } = spare(said);
         let exchanged = self.make_steps(dialogue, said);
-        if exchanged.fault.is_none() && self.duties.waits_for_pull() {
-            let all = pushed && self.has_all_with(dialogue.session.name());
-            if pulled || all {
-                self.end_first_pull();
-            }
+        if exchanged.fault.is_none() {
+            self.end_first_pull_after(dialogue.session.name(), pulled, asks);
+        }
+        if exchanged.fault != Some(ConnectionFault::UnknownName) {
+            self.owe(dialogue.session.name(), asks, ticks);
         }
         dialogue.reply_with(self.rt.alloc(), exchanged.reply);
         self.follow(exchanged.effects, exchanged.fault);
+    }
+
+    /// Ends the first pull, if it is waited for, where a peer has sent all it has, or now that each has.
+    fn end_first_pull_after(&mut self, name: Option<&str>, pulled: bool, pushed: bool) {
+        if !self.duties.waits_for_pull() {
+            return;
+        }
+        let all = pushed && self.has_all_with(name);
+        if pulled || all {
+            self.end_first_pull();
+        }
+    }
+
+    /// Keeps in mind what the frames of a peer asked for: all that is held here, but while the first pull is waited for, and a
+    /// Tick.
+    fn owe(&mut self, name: Option<&str>, asks: bool, ticks: bool) {
+        if ticks {
+            self.duties.owe_tick();
+        }
+        if !asks || self.duties.waits_for_pull() {
+            return;
+        }
+        let Some(place) = name.and_then(|name| self.instance.config().place_named(name)) else {
+            return;
+        };
+        self.hand_all(place as usize, false);
     }
 
     /// Answers what has waited: where it waited for a first pull that a stop has ended, that nothing is answered.
@@ -67,7 +98,7 @@ impl Member<'_> {
         if self.turns_away {
             dialogue.turn_away(self.rt.alloc());
         } else {
-            self.answer(dialogue, said);
+            self.judge(dialogue, said);
         }
     }
 
@@ -111,6 +142,17 @@ impl Member<'_> {
         }
     }
 
+    /// The text of frames. Where there is none, they are told unsent.
+    pub fn text_of(&mut self, frames: &[Frame]) -> Option<Vec<u8>> {
+        match frames_text(self.rt.alloc(), frames) {
+            Ok(bytes) => Some(bytes),
+            Err(_) => {
+                self.tell(Fault::UnsentMemory(frames.len()));
+                None
+            }
+        }
+    }
+
     /// The frames that wait for the peer of the first of them, as they go out.
     fn next_outgoing(&mut self) -> Option<Outgoing> {
         let place = self.queue.first()?.0;
@@ -122,16 +164,9 @@ impl Member<'_> {
             return None;
         };
         self.queue = others;
-        match frames_text(alloc, &own) {
-            Ok(bytes) => Some(Outgoing {
-                peer: place as usize,
-                bytes,
-            }),
-            Err(_) => {
-                self.tell(Fault::UnsentMemory(own.len()));
-                None
-            }
-        }
+        let bytes = self.text_of(&own)?;
+        let peer = place as usize;
+        Some(Outgoing { peer, bytes })
     }
 }
 
@@ -148,6 +183,9 @@ impl Service for Member<'_> {
     }
 
     fn feed(&mut self, session: &mut Dialogue, piece: &[u8]) {
+        if let Some(refusal) = session.screen(piece, self.options.hosts.as_slice()) {
+            return session.refuse(self.rt.alloc(), &refusal);
+        }
         let said = session.session.feed(piece);
         self.hear(session, said);
     }
@@ -158,8 +196,7 @@ impl Service for Member<'_> {
     }
 
     fn broken(&mut self, session: &mut Dialogue, broken: Broken) {
-        let fault = fault_of(broken, session.session.is_over());
-        self.tell(Fault::Connection(fault));
+        self.tell(fault_of(broken, session.session.is_over()));
     }
 
     fn waits(&self, session: &Dialogue) -> bool {
@@ -173,6 +210,8 @@ impl Service for Member<'_> {
     fn resume(&mut self, session: &mut Dialogue) {
         if let Some(making) = session.making.take() {
             session.go_on(self.rt.alloc(), making);
+        } else if let Some((said, judging)) = session.judging.take() {
+            self.go_on_judging(session, said, judging);
         } else if let Some(said) = session.waiting.take() {
             self.answer_late(session, said);
         }
@@ -194,11 +233,24 @@ impl Service for Member<'_> {
         session.session.is_over()
     }
 
+    fn held(&self, session: &Dialogue) -> usize {
+        session.session.waiting()
+    }
+
     fn outgoing(&mut self) -> Option<Outgoing> {
-        self.next_outgoing()
+        if self.queue.is_empty() {
+            self.open_link()
+        } else {
+            self.next_outgoing()
+        }
+    }
+
+    fn more(&mut self, peer: usize) -> Option<Vec<u8>> {
+        self.next_part(peer)
     }
 
     fn lost(&mut self, peer: usize, fault: LinkFault) {
+        self.hand_nothing(peer);
         let port = self.ports.get(peer).copied().unwrap_or(0);
         self.tell(Fault::Lost(fault, port));
     }

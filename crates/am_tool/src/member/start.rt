@@ -3,6 +3,7 @@
 use super::clock::Watch;
 use super::duties::Duties;
 use super::files::{StateFile, open_state};
+use super::handing::Share;
 use super::started::Started;
 use super::told::Lines;
 use super::{Member, signals, times};
@@ -78,6 +79,7 @@ fn serve(member: &mut Member<'_>, listener: TcpListener) -> Result<(), Fault> {
         connections: options.connections,
         time: options.time_limit,
         link_bytes: MOST_WAITING,
+        held_bytes: options.most_unfinished,
         watch_input: options.stop_at_input_end,
     };
     let alloc = rt.alloc();
@@ -94,6 +96,9 @@ fn member<'a>(rt: &'a HostRuntime, options: &'a Options<'a>) -> Result<Member<'a
         return Err(Fault::Config(ConfigError::Memory));
     };
     let Ok(awaited) = peer_places(rt.alloc(), &ports) else {
+        return Err(Fault::Config(ConfigError::Memory));
+    };
+    let Ok(shares) = shares(rt.alloc(), ports.len()) else {
         return Err(Fault::Config(ConfigError::Memory));
     };
     let (instance, silences, log) = instance(rt, config, options)?;
@@ -114,6 +119,7 @@ fn member<'a>(rt: &'a HostRuntime, options: &'a Options<'a>) -> Result<Member<'a
         duties,
         lines: Lines::new(options.lines),
         watch: Watch::new(),
+        shares,
         awaited,
         is_changed: false,
         stops: false,
@@ -156,6 +162,15 @@ fn ports(alloc: Global, config: &Config, peers: &[Peer<'_>]) -> Result<Vec<u16>,
         ports.push(peer.map_or(0, |peer| peer.port))?;
     }
     Ok(ports)
+}
+
+/// What each of so many members is handed: nothing yet.
+fn shares(alloc: Global, count: usize) -> Result<Vec<Share>, AllocError> {
+    let mut shares = Vec::with_capacity(alloc, count)?;
+    for _ in 0..count {
+        shares.push(Share::none())?;
+    }
+    Ok(shares)
 }
 
 /// The places of the peers: those at which a port is known.

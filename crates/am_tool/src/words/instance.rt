@@ -19,6 +19,8 @@ pub struct Options<'a> {
     /// The port at which it listens.
     pub port: u16,
     pub peers: Vec<Peer<'a>>,
+    /// What it is called by those who ask it, beside `127.0.0.1` and `localhost`.
+    pub hosts: Vec<&'a str>,
     /// The file of the silences.
     pub silences: &'a str,
     /// The file of the notification log.
@@ -33,6 +35,8 @@ pub struct Options<'a> {
     pub time_limit: Duration,
     /// How many connections it serves at once.
     pub at_once: u16,
+    /// The most bytes of unfinished requests, greetings and frames that it keeps.
+    pub most_unfinished: usize,
     /// The most lines of faults of one kind in a second.
     pub lines: u32,
     /// How often it ticks, pulls and saves by itself.
@@ -57,6 +61,7 @@ struct Numbers {
     connections: u64,
     time_limit: Duration,
     at_once: u16,
+    most_unfinished: usize,
     lines: u32,
     own: OwnNumbers,
 }
@@ -79,6 +84,7 @@ pub fn command<'a>(alloc: Global) -> Result<Command<'a>, AllocError> {
         .arg(option(alloc, "name", "NAME", NAME_HELP).required(true))?
         .arg(option(alloc, "listen", "PORT", LISTEN_HELP).required(true))?
         .arg(option(alloc, "peer", "NAME=PORT", PEER_HELP).action(ArgAction::Append))?
+        .arg(option(alloc, "host", "NAME", HOST_HELP).action(ArgAction::Append))?
         .arg(option(alloc, "sil", "FILE", SIL_HELP).required(true))?
         .arg(option(alloc, "nfl", "FILE", NFL_HELP).required(true))?;
     own(alloc, limits(alloc, command)?)
@@ -92,6 +98,7 @@ fn limits<'a>(alloc: Global, command: Command<'a>) -> Result<Command<'a>, AllocE
         .arg(option(alloc, "connections", "N", CONNECTIONS_HELP))?
         .arg(option(alloc, "time-limit", "S", TIME_LIMIT_HELP).default_value("5"))?
         .arg(option(alloc, "at-once", "N", AT_ONCE_HELP).default_value("256"))?
+        .arg(option(alloc, "most-unfinished", "BYTES", UNFINISHED_HELP).default_value("134217728"))?
         .arg(option(alloc, "lines-a-second", "N", LINES_HELP).default_value("10"))
 }
 
@@ -122,8 +129,8 @@ pub fn option<'a>(alloc: Global, name: &'a str, value: &'a str, help: &'a str) -
         .action(ArgAction::Set)
 }
 
-/// The options that the words name. Numbers are judged in the order in which the help has them, then the files, and then
-/// the peers.
+/// The options that the words name. Numbers are judged in the order in which the help has them, then the hosts, the files,
+/// and then the peers.
 pub fn read_options<'a>(
     rt: &HostRuntime,
     command: &mut Command<'a>,
@@ -133,6 +140,10 @@ pub fn read_options<'a>(
         Ok(numbers) => numbers,
         Err(text) => return Err(mistake(command, text)),
     };
+    let hosts = hosts(rt.alloc(), flags.get_strs("host").unwrap_or(&[]))?;
+    if !hosts.iter().all(|host| is_host(host)) {
+        return Err(mistake(command, BAD_HOST));
+    }
     if are_one_file(rt, text(flags, "sil"), text(flags, "nfl"))? {
         return Err(mistake(command, ONE_FILE));
     }
@@ -140,6 +151,7 @@ pub fn read_options<'a>(
         name: text(flags, "name"),
         port: numbers.port,
         peers: peers(rt.alloc(), flags.get_strs("peer").unwrap_or(&[]))?,
+        hosts,
         silences: text(flags, "sil"),
         log: text(flags, "nfl"),
         retention: numbers.retention,
@@ -148,6 +160,7 @@ pub fn read_options<'a>(
         connections: numbers.connections,
         time_limit: numbers.time_limit,
         at_once: numbers.at_once,
+        most_unfinished: numbers.most_unfinished,
         lines: numbers.lines,
         tick_every: numbers.own.tick_every,
         pull_every: numbers.own.pull_every,
@@ -172,6 +185,7 @@ fn read_numbers(flags: &ArgMatches<'_>) -> Result<Numbers, &'static str> {
     let connections = connections(flags).ok_or(BAD_CONNECTIONS)?;
     let time_limit = time_limit(flags)?;
     let at_once = number(flags, "at-once", 65_535).ok_or(BAD_AT_ONCE)?;
+    let most_unfinished = number(flags, "most-unfinished", u64::MAX).ok_or(BAD_UNFINISHED)?;
     let lines = number(flags, "lines-a-second", 65_535).ok_or(BAD_LINES)?;
     Ok(Numbers {
         port: port as u16,
@@ -180,6 +194,7 @@ fn read_numbers(flags: &ArgMatches<'_>) -> Result<Numbers, &'static str> {
         connections,
         time_limit,
         at_once: at_once as u16,
+        most_unfinished: most_unfinished as usize,
         lines: lines as u32,
         own: read_own(flags)?,
     })
@@ -243,6 +258,17 @@ fn connections(flags: &ArgMatches<'_>) -> Option<u64> {
     }
 }
 
+/// The names of hosts that the words are.
+fn hosts<'a>(alloc: Global, words: &[&'a str]) -> Result<Vec<&'a str>, AllocError> {
+    Vec::from_slice(alloc, words)
+}
+
+/// Whether a word is the name of a host, without a port.
+fn is_host(word: &str) -> bool {
+    !word.is_empty()
+        && word.bytes().all(|byte| byte.is_ascii_alphanumeric() || b"-._".contains(&byte))
+}
+
 /// The peers that the words name.
 fn peers<'a>(alloc: Global, words: &[&'a str]) -> Result<Vec<Peer<'a>>, WordsError> {
     let mut peers = Vec::with_capacity(alloc, words.len())?;
@@ -275,6 +301,10 @@ const LISTEN_HELP: &str =
 const PEER_HELP: &str =
     "Another member and the port at which it listens, cut at the last '='; any number of times";
 
+const HOST_HELP: &str =
+    "A name by which it is asked beside 127.0.0.1 and localhost, as that of a proxy; any number of times. \
+    Under any other it answers 403, and so it does the page of another site";
+
 const SIL_HELP: &str = "The file of the silences; where there is none, it holds none";
 
 const NFL_HELP: &str = "The file of the notification log; where there is none, it is empty";
@@ -292,7 +322,12 @@ const TIME_LIMIT_HELP: &str =
     "For how many seconds a connection may last, of a client or to a peer, 1 to 3600";
 
 const AT_ONCE_HELP: &str =
-    "How many connections it serves at once, 1 to 65535; those beyond wait until one of them ends";
+    "How many connections it serves at once, 1 to 65535; one that comes beyond gets the place of the one on which nothing \
+    has moved for longest";
+
+const UNFINISHED_HELP: &str =
+    "How many bytes of unfinished requests and frames it keeps in all, 1 to 18446744073709551615; beyond, the connection \
+    that has most of them is closed";
 
 const LINES_HELP: &str =
     "How many lines of one kind of fault it prints in a second, 1 to 65535; further ones are counted in a line";
@@ -344,6 +379,9 @@ const BAD_TIME_LIMIT: &str =
 const BAD_AT_ONCE: &str =
     "invalid value for '--at-once <N>': a whole number from 1 to 65535 is wanted, in digits alone";
 
+const BAD_UNFINISHED: &str =
+    "invalid value for '--most-unfinished <BYTES>': a whole number from 1 to 18446744073709551615 is wanted, in digits alone";
+
 const BAD_LINES: &str =
     "invalid value for '--lines-a-second <N>': a whole number from 1 to 65535 is wanted, in digits alone";
 
@@ -361,5 +399,8 @@ const BAD_PULL_FIRST_LIMIT: &str =
 
 const BAD_LEAST_REPEAT: &str =
     "invalid value for '--least-repeat <S>': a whole number from 1 to 999999999 is wanted, in digits alone";
+
+const BAD_HOST: &str =
+    "invalid value for '--host <NAME>': letters, digits, '-', '.' and '_' are wanted, and no port";
 
 const ONE_FILE: &str = "'--sil <FILE>' and '--nfl <FILE>' name one file";

@@ -13,4 +13,4 @@ returns-clause-broken c bad = subst IsBroken c.in_ok-built.ensures (c.is_match-f
 pub returns-clause-kept : goal.returns-clause-kept
 returns-clause-kept c = λ test passes pass.
     let text : c.is_match-found.new.self.text ≡ c.args.pattern.now = ap (λ (p : CompiledPattern). p.text) c.is_match-found.ensures.same ∙ c.in_ok-built.ensures in
-    c.keep.ensures test (subst (λ (t : List ℕ). test t ≡ true) (sym text) passes) (subst (TextsPass test) (sym (c.ask.ensures.same ∙ c.self.view_is)) pass)
+    c.keep.ensures.kept test (subst (λ (t : List ℕ). test t ≡ true) (sym text) passes) (subst (TextsPass test) (sym (c.ask.ensures.same ∙ c.self.view_is)) pass)

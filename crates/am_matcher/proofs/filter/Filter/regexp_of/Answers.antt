@@ -1,5 +1,5 @@
 use Rattle.am_matcher.proofs.HandedOn.{handed_on}
-use Rattle.am_matcher.proofs.filter.Filter.parse.Goals as goal
+use Rattle.am_matcher.proofs.filter.Filter.regexp_of.Goals as goal
 
 pub returns-in_err-matcher-clause-syntax : goal.returns-in_err-matcher-clause-syntax
 returns-in_err-matcher-clause-syntax c e =

@@ -1,0 +1,40 @@
+-- What the fields of a head say of where a request comes from.
+use Rattle.std.proofs.Common.{◌≡◌, ℕ, Bool, true, false, List, length, take, map, sym, ap, ◌∙◌, inr}
+use Rattle.httparse.specs.Spans.{IsRequestWithin, IsRequestOf, header_bytes}
+use Rattle.httparse.specs.declared.spans.HeaderSpan.{HeaderSpan}
+use Rattle.httparse.specs.declared.spans.RequestSpans.{RequestSpans}
+use Rattle.am_http.specs.Heads.{window, fields_of}
+use Rattle.am_http.specs.Hosts.{IsScreened, all_known}
+use Rattle.am_http.specs.declared.hosts.Foreign.{Foreign as Kind}
+use Rattle.am_http.specs.declared.hosts.Foreign.TheVariants.{Host, Origin}
+use Rattle.am_http.specs.declared.hosts.Screened.TheVariants.{Known, Foreign}
+use Rattle.am_http.proofs.HeadLemmas.{Found, found}
+
+module _ (bytes front : List ℕ) (fields : List HeaderSpan) (spans : RequestSpans) (front_is : front ≡ take 16384 bytes) (room : length fields ≡ 64)
+    (whole : IsRequestWithin (window bytes) fields spans × IsRequestOf (window bytes) fields spans) (names : List (List ℕ)) where
+  the_head : Found bytes fields spans
+  the_head = found bytes fields spans room whole.1
+
+  known_in : (what : Kind) (r : Bool) → r ≡ all_known what names (map (header_bytes front) (take spans.headers fields))
+      → all_known what names (fields_of the_head.head) ≡ r
+  known_in what r is =
+      sym (is ∙ ap (λ (b : List ℕ). all_known what names (map (header_bytes b) (take spans.headers fields))) front_is
+      ∙ ap (all_known what names) the_head.fields_are)
+
+  pub foreign_host : (host : Bool) → host ≡ false → host ≡ all_known Host names (map (header_bytes front) (take spans.headers fields))
+      → IsScreened names bytes (Foreign Host)
+  foreign_host host wrong host_is = (the_head.head, the_head.has_head, known_in Host host host_is ∙ wrong)
+
+  pub foreign_origin : (host origin : Bool) → host ≡ true → origin ≡ false
+      → host ≡ all_known Host names (map (header_bytes front) (take spans.headers fields))
+      → origin ≡ all_known Origin names (map (header_bytes front) (take spans.headers fields))
+      → IsScreened names bytes (Foreign Origin)
+  foreign_origin host origin right wrong host_is origin_is =
+      (the_head.head, the_head.has_head, known_in Host host host_is ∙ right, known_in Origin origin origin_is ∙ wrong)
+
+  pub nothing_foreign : (host origin : Bool) → host ≡ true → origin ≡ true
+      → host ≡ all_known Host names (map (header_bytes front) (take spans.headers fields))
+      → origin ≡ all_known Origin names (map (header_bytes front) (take spans.headers fields))
+      → IsScreened names bytes Known
+  nothing_foreign host origin right too host_is origin_is =
+      inr (the_head.head, the_head.has_head, known_in Host host host_is ∙ right, known_in Origin origin origin_is ∙ too)

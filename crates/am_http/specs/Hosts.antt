@@ -1,0 +1,80 @@
+-- The hosts that a server is asked under (RFC 9110, section 7.2), and the sites of the pages that ask (RFC 6454, sections 6 and 7).
+use Rattle.std.specs.Prelude.{◌≡◌, ◌⊎◌, ◌==◌, ◌||◌, ℕ, ◌+◌, ◌<◌, Bool, true, false, not, List, [], ◌∷◌, length, take, drop, map, codes, if◌then◌else◌}
+use Rattle.std.specs.Borrow.{Bor}
+use Rattle.std.specs.List.{take_while, list_all, list_any}
+use Rattle.std.specs.Str.{str_eq_ignore_ascii_case}
+use Rattle.httparse.specs.Grammar.{RequestHead}
+use Rattle.am_http.specs.declared.hosts.Foreign.{Foreign}
+use Rattle.am_http.specs.declared.hosts.Foreign.TheVariants as names_foreign
+use Rattle.am_http.specs.declared.hosts.Screened.{Screened}
+use Rattle.am_http.specs.declared.hosts.Screened.TheVariants.{Open, Known, Foreign as IsForeign}
+use Rattle.am_http.specs.Heads.{HasHead, HasBadHead, HasLargeHead, IsOpenHead, NamedValue, fields_of}
+use Rattle.am_http.specs.Lines.{RefusalLine, line}
+
+-- texts, without where they lie in memory
+abbrev pub texts : List (Bor (List ℕ)) → List (List ℕ)
+texts names = map (λ name. name.now) names
+
+-- how many bytes stand before the first one that is this, or in all where none is
+abbrev pub length_before : ℕ → List ℕ → ℕ
+length_before mark text = length (take_while (λ b. not (b == mark)) text)
+
+-- the name of a host, without its port: what stands before the first colon
+abbrev pub host_name : List ℕ → List ℕ
+host_name authority = take (length_before 58 authority) authority
+
+-- what stands behind the first slash
+abbrev pub behind_slash : List ℕ → List ℕ
+behind_slash text = drop (length_before 47 text + 1) text
+
+-- the host of a page's site, which stands behind its scheme and two slashes
+abbrev pub site_of : List ℕ → List ℕ
+site_of origin = behind_slash (behind_slash origin)
+
+-- a name is one of these, in any ASCII case
+abbrev pub is_one_of : List ℕ → List (List ℕ) → Bool
+is_one_of name names = list_any (λ known. str_eq_ignore_ascii_case name known) names
+
+-- what a server is always called
+abbrev pub own_names : List (List ℕ)
+own_names = codes "127.0.0.1" ∷ codes "localhost" ∷ []
+
+-- a host is the server's own, at whatever port, or has one of these names
+abbrev pub is_known : List (List ℕ) → List ℕ → Bool
+is_known names authority = is_one_of (host_name authority) own_names || is_one_of (host_name authority) names
+
+-- the field that names a host or an origin
+abbrev pub field_of : Foreign → List ℕ
+field_of names_foreign.Host = codes "host"
+field_of names_foreign.Origin = codes "origin"
+
+-- the value of such a field names nothing foreign
+abbrev pub is_fine : Foreign → List (List ℕ) → List ℕ → Bool
+is_fine names_foreign.Host names value = is_known names value
+is_fine names_foreign.Origin names value = is_known names (site_of value)
+
+-- a field is another one, or names nothing foreign
+abbrev pub is_fine_field : Foreign → List (List ℕ) → NamedValue → Bool
+is_fine_field what names field = if str_eq_ignore_ascii_case field.0 (field_of what) then is_fine what names field.1 else true
+
+-- no field names anything foreign of this kind
+abbrev pub all_known : Foreign → List (List ℕ) → List NamedValue → Bool
+all_known what names fields = list_all (is_fine_field what names) fields
+
+-- What the bytes that came of a request say of where it comes from: the first field that is foreign, hosts before origins; nothing
+-- foreign is named in the head, or it is at fault; or it isn't whole.
+abbrev pub IsScreened : List (List ℕ) → List ℕ → Screened → Type 0
+IsScreened names bytes Open = (length bytes < 16384) × IsOpenHead bytes
+IsScreened names bytes Known = (HasLargeHead bytes ⊎ HasBadHead bytes)
+    ⊎ ((head : RequestHead) × HasHead bytes head × (all_known names_foreign.Host names (fields_of head) ≡ true)
+    × (all_known names_foreign.Origin names (fields_of head) ≡ true))
+IsScreened names bytes (IsForeign names_foreign.Host) =
+    (head : RequestHead) × HasHead bytes head × (all_known names_foreign.Host names (fields_of head) ≡ false)
+IsScreened names bytes (IsForeign names_foreign.Origin) =
+    (head : RequestHead) × HasHead bytes head × (all_known names_foreign.Host names (fields_of head) ≡ true)
+    × (all_known names_foreign.Origin names (fields_of head) ≡ false)
+
+-- what a foreign request is answered (RFC 9110, section 15.5.4)
+abbrev pub line_of_foreign : Foreign → RefusalLine
+line_of_foreign names_foreign.Host = line 403 (codes "foreign host")
+line_of_foreign names_foreign.Origin = line 403 (codes "foreign origin")

@@ -1,0 +1,164 @@
+//! The hosts that a server is asked under. A page of another site, open in a browser beside the server, asks under its own.
+
+ghost use Rattle.std.specs.Prelude.{◌≡◌, ◌≤◌, length, map, All};
+ghost use Rattle.std.specs.Str.{str_eq_ignore_ascii_case};
+ghost use Rattle.httparse.specs.Spans.{IsHeaderWithin, header_bytes};
+ghost use Rattle.am_http.specs.Hosts.{IsScreened, all_known, behind_slash, field_of, host_name, is_fine, is_fine_field, is_known, is_one_of, length_before, line_of_foreign, texts};
+ghost use Rattle.am_http.specs.Lines.{line_seen};
+
+use crate::head::{Head, MOST_FIELDS, read_head, window};
+use crate::refusal::Refusal;
+use httparse::spans::{EMPTY_HEADER_SPAN, HeaderSpan};
+
+/// What a server is always called.
+const OWN_NAMES: [&str; 2] = ["127.0.0.1", "localhost"];
+
+/// What a request names that isn't the server's own.
+#[derive(Clone, Copy, Debug, PartialEq, Eq)]
+pub enum Foreign {
+    /// The host that it is for.
+    Host,
+    /// The site of the page that asks.
+    Origin,
+}
+
+/// What is known of where a request comes from.
+#[derive(Clone, Copy, Debug, PartialEq, Eq)]
+pub enum Screened {
+    /// The head isn't whole, and may become one.
+    Open,
+    /// The head names nothing foreign, or is at fault.
+    Known,
+    Foreign(Foreign),
+}
+
+impl Foreign {
+    /// The field that names it.
+    const fn field(self) -> &'static str
+        ensures { result.now ≡ field_of self }
+    {
+        match self {
+            Foreign::Host => "host",
+            Foreign::Origin => "origin",
+        }
+    }
+
+    /// The line of the table that the request is refused with.
+    pub const fn refusal(self) -> Refusal
+        ensures { line_seen result ≡ line_of_foreign self }
+    {
+        match self {
+            Foreign::Host => Refusal::new(403, "foreign host"),
+            Foreign::Origin => Refusal::new(403, "foreign origin"),
+        }
+    }
+}
+
+/// How many bytes stand before the first one that is this, or in all where none is.
+fn length_before(mark: u8, text: &[u8]) -> usize
+    ensures value { result ≡ length_before mark text.now }
+    ensures within { result ≤ length text.now }
+{
+    text.iter().take_while(|byte| **byte != mark).count()
+}
+
+/// The name of a host, without its port.
+fn host_name(authority: &[u8]) -> &[u8]
+    ensures { result.now ≡ host_name authority.now }
+{
+    &authority[..length_before(b':', authority)]
+}
+
+/// What stands behind the first slash.
+fn behind_slash(text: &[u8]) -> &[u8]
+    ensures { result.now ≡ behind_slash text.now }
+{
+    match text.get(length_before(b'/', text) + 1..) {
+        Some(behind) => behind,
+        None => &[],
+    }
+}
+
+/// Whether two names are one, in any ASCII case.
+#[tactic(auto, using(crate::proofs::FieldLists::same_test))]
+fn is_same(name: &[u8], other: &[u8]) -> bool
+    ensures { result ≡ str_eq_ignore_ascii_case name.now other.now }
+{
+    name.eq_ignore_ascii_case(other)
+}
+
+/// Whether a name is one of these.
+fn is_one_of(name: &[u8], names: &[&str]) -> bool
+    ensures { result ≡ is_one_of name.now (texts names.now) }
+{
+    let mut found = false;
+    for known in names {
+        found |= is_same(name, known.as_bytes());
+    }
+    found
+}
+
+/// Whether a host is the server's own, or one of these names.
+fn is_known(authority: &[u8], names: &[&str]) -> bool
+    ensures { result ≡ is_known (texts names.now) authority.now }
+{
+    let name = host_name(authority);
+    is_one_of(name, &OWN_NAMES) || is_one_of(name, names)
+}
+
+/// Whether a host or an origin is not foreign.
+fn is_fine(what: Foreign, value: &[u8], names: &[&str]) -> bool
+    ensures { result ≡ is_fine what (texts names.now) value.now }
+{
+    match what {
+        Foreign::Host => is_known(value, names),
+        Foreign::Origin => is_known(behind_slash(behind_slash(value)), names),
+    }
+}
+
+/// Whether a field is another one, or names nothing foreign.
+fn is_fine_field(what: Foreign, name: &[u8], value: &[u8], names: &[&str]) -> bool
+    ensures { result ≡ is_fine_field what (texts names.now) (name.now, value.now) }
+{
+    if is_same(name, what.field().as_bytes()) {
+        is_fine(what, value, names)
+    } else {
+        true
+    }
+}
+
+/// Whether no field names anything foreign of this kind.
+fn all_known(what: Foreign, head: &[u8], fields: &[HeaderSpan], names: &[&str]) -> bool
+    requires { All (IsHeaderWithin (length head.now)) fields.now }
+    ensures { result ≡ all_known what (texts names.now) (map (header_bytes head.now) fields.now) }
+{
+    let mut known = true;
+    for field in fields {
+        known &= is_fine_field(what, field.name.of(head), field.value.of(head), names);
+    }
+    known
+}
+
+/// What the bytes that came of a request say of where it comes from, where the server is called by these names too. It takes no
+/// memory.
+///
+/// Whatever names no host, as a request of HTTP/1.0 may, comes from no browser.
+pub fn screen(bytes: &[u8], names: &[&str]) -> Screened
+    ensures { IsScreened (texts names.now) bytes.now result }
+{
+    let mut fields = [EMPTY_HEADER_SPAN; MOST_FIELDS];
+    let front = window(bytes);
+    let head = match read_head(bytes, &mut fields) {
+        Head::Open => return Screened::Open,
+        Head::Refused(_) => return Screened::Known,
+        Head::Whole(head) => head,
+    };
+    let fields = &fields[..head.headers];
+    if !all_known(Foreign::Host, front, fields, names) {
+        return Screened::Foreign(Foreign::Host);
+    }
+    if !all_known(Foreign::Origin, front, fields, names) {
+        return Screened::Foreign(Foreign::Origin);
+    }
+    Screened::Known
+}

@@ -1,0 +1,40 @@
+//! Where a request comes from, before anything else of it is looked at.
+
+ghost use Rattle.std.specs.Prelude.{◌≡◌, ◌++◌, IfOk};
+ghost use Rattle.am_http.specs.Hosts.{IsScreened, texts};
+ghost use Rattle.am_http.specs.Sessions.{Screens};
+ghost use Rattle.am_http.specs.States.{standing_in};
+
+use crate::session::state::State;
+use crate::{Screened, screen};
+use std::alloc::{AllocError, Global};
+
+/// What a piece says behind the bytes that came of a request.
+fn screen_on(
+    alloc: Global,
+    bytes: &[u8],
+    piece: &[u8],
+    names: &[&str],
+) -> Result<Screened, AllocError>
+    ensures { IfOk result (IsScreened (texts names.now) (bytes.now ++ piece.now)) }
+{
+    let mut joined = Vec::from_slice(alloc, bytes)?;
+    joined.extend_from_slice(piece)?;
+    Ok(screen(joined.as_slice(), names))
+}
+
+/// What is known, once the next piece is there, of where a connection comes from.
+pub fn screened(
+    alloc: Global,
+    state: &State,
+    piece: &[u8],
+    names: &[&str],
+) -> Result<Screened, AllocError>
+    ensures { IfOk result (Screens (standing_in state.now) piece.now (texts names.now)) }
+{
+    match state {
+        State::Fresh => Ok(screen(piece, names)),
+        State::Asking(bytes) => screen_on(alloc, bytes.as_slice(), piece, names),
+        _ => Ok(Screened::Known),
+    }
+}

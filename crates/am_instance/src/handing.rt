@@ -1,0 +1,198 @@
+//! Both states, handed out part by part.
+
+ghost use Rattle.std.specs.Prelude.{◌≡◌, ℕ, ◌+◌, ◌<◌, ◌≤◌, List, length, is_none, None, Some, IfOk, MatchOption};
+ghost use Rattle.std.specs.List.{list_any};
+ghost use Rattle.std.specs.Option.{option_copied};
+ghost use Rattle.am_silence.specs.Mesh.{Mesh, mesh_version};
+ghost use Rattle.am_nflog.specs.Mesh.{Mesh as LogMesh, mesh_version as entry_version};
+ghost use Rattle.am_gossip.specs.Frames.{states};
+ghost use Rattle.am_snapshot.specs.Texts.{row_text};
+ghost use Rattle.am_snapshot.specs.Pieces.{IsPiece};
+ghost use Rattle.am_instance.specs.Handings.{HandsLog, HandsSilences, IsHandedOut, alone, is_nfl, is_sil, left_of, names_both};
+
+use crate::instance::Instance;
+use crate::outbox::both_parts;
+use am_gossip::{FullState, Part, StateKey};
+use am_merge::{Held, Iter};
+use am_nflog::{LogKey, MeshEntry};
+use am_silence::MeshSilence;
+use am_snapshot::{RowPiece, row_piece};
+use am_version_order::Version;
+use am_wire::{Bytes, Text};
+use std::alloc::{AllocError, Global};
+
+/// How far both states are handed out: what is left of one goes on from a key, or from its start where there is none.
+#[derive(Drop)]
+pub enum Handout {
+    /// Silences are left, and the whole log.
+    Silences(Option<Text>),
+    /// All silences went out.
+    Log(Option<LogKey>),
+}
+
+impl Handout {
+    /// Nothing went out so far. It takes no memory.
+    pub fn new() -> Handout
+        ensures { result ≡ Handout.Silences None }
+    {
+        Handout::Silences(None)
+    }
+}
+
+/// A part of both states.
+#[derive(Drop)]
+pub struct HandedPart {
+    pub state: FullState,
+    /// How to go on behind it; `None` where it is the last.
+    pub next: Option<Handout>,
+}
+
+impl Instance {
+    /// The next part of all that is held, live or not, as the maps are at this call, and how to go on behind it. First come
+    /// pieces of one state each. The last part has what is left of both; it alone names both. The rows of a part have at
+    /// most `most` bytes together, unless a version has more by itself: then it is the only one. Whoever writes its frame
+    /// refuses it where it is over the limit of its kind.
+    ///
+    /// # Errors
+    ///
+    /// [`AllocError`] where memory runs out.
+    pub fn hand_out(&self, handout: Handout, most: usize) -> Result<HandedPart, AllocError>
+        ensures part { IfOk result (IsHandedOut most self.now.silences self.now.log handout) }
+        ensures last { IfOk result (λ handed. is_none handed.next ≡ names_both handed.state) }
+    {
+        match handout {
+            Handout::Silences(from) => {
+                let piece = row_piece(self.alloc, left_of(&self.silences, from.as_ref()), most)?;
+                hand_silences(self.alloc, piece, &self.log, most)
+            }
+            Handout::Log(from) => {
+                let piece = row_piece(self.alloc, left_of(&self.log, from.as_ref()), most)?;
+                hand_log(self.alloc, piece)
+            }
+        }
+    }
+}
+
+/// The versions that are left of a map.
+fn left_of<'a, V: Version>(held: &'a Held<V>, from: Option<&V::Key>) -> Iter<'a, V>
+    ensures { result ≡ left_of V.seen V.Key.cmp held.now (option_copied from.entry) }
+{
+    match from {
+        Some(key) => held.iter_from(key),
+        None => held.iter(),
+    }
+}
+
+/// What goes out where silences are left, by their first piece, and the whole log.
+fn hand_silences(
+    alloc: Global,
+    silences: RowPiece<Text>,
+    log: &Held<MeshEntry>,
+    most: usize,
+) -> Result<HandedPart, AllocError>
+    ensures part { IfOk result (λ handed. (left : List Mesh) → IsPiece mesh_version most left silences →
+        HandsSilences most left log.now handed.state handed.next) }
+    ensures last { IfOk result (λ handed. is_none handed.next ≡ names_both handed.state) }
+{
+    let RowPiece { row, next } = silences;
+    match next {
+        Some(key) => hand_alone(alloc, StateKey::Sil, row, Handout::Silences(Some(key))),
+        None => match log_beside(alloc, row.as_slice().len(), log, most)? {
+            Some(of_log) => hand_last(alloc, row, of_log),
+            None => hand_alone(alloc, StateKey::Sil, row, Handout::Log(None)),
+        },
+    }
+}
+
+/// What goes out where only entries of the log are left, by their first piece.
+fn hand_log(alloc: Global, log: RowPiece<LogKey>) -> Result<HandedPart, AllocError>
+    ensures part { IfOk result (λ handed. (most : ℕ) (left : List LogMesh) → IsPiece entry_version most left log →
+        HandsLog most left handed.state handed.next) }
+    ensures last { IfOk result (λ handed. is_none handed.next ≡ names_both handed.state) }
+{
+    let RowPiece { row, next } = log;
+    match next {
+        Some(key) => hand_alone(alloc, StateKey::Nfl, row, Handout::Log(Some(key))),
+        None => hand_last(alloc, Bytes::new(Vec::new(alloc)), row),
+    }
+}
+
+/// The row of the log, where it fits beside so many bytes.
+fn log_beside(
+    alloc: Global,
+    used: usize,
+    log: &Held<MeshEntry>,
+    most: usize,
+) -> Result<Option<Bytes>, AllocError>
+    ensures { IfOk result (λ row. MatchOption row (most < used + length (row_text entry_version log.now))
+        (λ bytes. (bytes ≡ row_text entry_version log.now) × (used + length bytes ≤ most))) }
+{
+    let Some(room) = most.checked_sub(used) else {
+        return Ok(None);
+    };
+    let RowPiece { row, next } = row_piece(alloc, log.iter(), room)?;
+    if next.is_some() || row.as_slice().len() > room {
+        return Ok(None);
+    }
+    Ok(Some(row))
+}
+
+/// A row that goes out alone, and how to go on behind it.
+fn hand_alone(
+    alloc: Global,
+    key: StateKey,
+    row: Bytes,
+    next: Handout,
+) -> Result<HandedPart, AllocError>
+    ensures { IfOk result (λ handed. handed ≡ record { state = alone key row; next = Some next }) }
+{
+    let mut parts = Vec::with_capacity(alloc, 1)?;
+    parts.push(Part { key, bytes: row })?;
+    Ok(HandedPart {
+        state: FullState::new(parts),
+        next: Some(next),
+    })
+}
+
+/// The last part.
+fn hand_last(alloc: Global, silences: Bytes, log: Bytes) -> Result<HandedPart, AllocError>
+    ensures { IfOk result (λ handed. handed ≡ record { state = states silences log; next = None }) }
+{
+    Ok(HandedPart {
+        state: both_parts(alloc, silences, log)?,
+        next: None,
+    })
+}
+
+/// Whether there are parts of both states, as in the last one that is handed out. It takes no memory.
+pub fn names_both(state: &FullState) -> bool
+    ensures { result ≡ names_both state.now }
+{
+    has_silences(state.parts()) && has_entries(state.parts())
+}
+
+/// Whether there is a part of the silences.
+fn has_silences(parts: &[Part]) -> bool
+    ensures { result ≡ list_any (λ p. is_sil p.key) parts.now }
+{
+    parts.iter().any(|part| is_sil(part.key))
+}
+
+/// Whether there is a part of the log.
+fn has_entries(parts: &[Part]) -> bool
+    ensures { result ≡ list_any (λ p. is_nfl p.key) parts.now }
+{
+    parts.iter().any(|part| is_nfl(part.key))
+}
+
+fn is_sil(key: StateKey) -> bool
+    ensures { result ≡ is_sil key }
+{
+    key == StateKey::Sil
+}
+
+fn is_nfl(key: StateKey) -> bool
+    ensures { result ≡ is_nfl key }
+{
+    key == StateKey::Nfl
+}

@@ -1,0 +1,159 @@
+//! The patterns of a request, which are compiled one at a time before it is answered.
+
+ghost use Rattle.std.specs.Prelude.{◌≡◌, ◌≢◌, ◌≤◌, ◌⊎◌, [], IfOk, IfSome};
+ghost use Rattle.am_api_silences.specs.Table.{refused_line};
+ghost use Rattle.am_http.specs.Lines.{line_of, line_seen};
+ghost use Rattle.am_http.specs.declared.cause.Cause.TheVariants as causes;
+ghost use Rattle.am_matcher.specs.Sizes.{size_of_all};
+ghost use Rattle.am_silence.specs.declared.error.SilenceError.TheVariants as errors;
+
+use am_api_silences::patterns_of;
+use am_http::{Cause, Refusal, Request};
+use am_matcher::PatternCache;
+use am_wire::Text;
+use std::alloc::{AllocError, Global};
+use std::marker::Model;
+
+/// What is compiled of one request takes at most so many bytes, as they are counted for patterns that are kept.
+pub const MOST_PATTERN_BYTES: usize = 10 << 20;
+
+/// How far the patterns of a request have come.
+#[derive(Clone, Copy, Debug, PartialEq, Eq)]
+pub enum Judged {
+    /// Some are still to be compiled.
+    More,
+    /// All are that its answer asks for.
+    Done,
+    /// They take too much, and the request is to be refused.
+    TooMuch,
+}
+
+/// The patterns of a request that are still to be compiled, and those that were. Contracts see these.
+pub struct Judging {
+    is_list: bool,
+    left: Vec<Text>,
+    /// How many of them were compiled.
+    next: usize,
+    /// The bytes that are counted for those.
+    spent: usize,
+    patterns: PatternCache,
+}
+
+// (so that crates above cite one drop, and don't prove those of all that is inside)
+impl Drop for Judging {
+    fn drop(self) {
+        let Judging {
+            is_list: _,
+            left: _,
+            next: _,
+            spent: _,
+            patterns: _,
+        } = self;
+    }
+}
+
+impl Model for Judging {
+    ghost use Rattle.std.specs.Prelude.{◌≤◌, List};
+    ghost use Rattle.am_matcher.specs.Sizes.{CompiledPattern, size_of_all};
+
+    ghost Value = { List CompiledPattern };
+
+    ghost view = { λ j. j.patterns };
+
+    ghost invariant = { λ j. size_of_all j.patterns ≤ j.spent };
+}
+
+impl Judging {
+    /// The patterns of a request, before the first of them is compiled. `None` where it has none.
+    ///
+    /// # Errors
+    ///
+    /// [`AllocError`] where memory runs out.
+    pub fn of(alloc: Global, request: &Request) -> Result<Option<Judging>, AllocError>
+        ensures { IfOk result (λ found. IfSome found (λ judging. judging ≡ [])) }
+    {
+        let left = patterns_of(alloc, request)?;
+        if left.is_empty() {
+            return Ok(None);
+        }
+        Ok(Some(Judging {
+            is_list: request.method.as_str() == "GET",
+            left,
+            next: 0,
+            spent: 0,
+            patterns: PatternCache::new(alloc),
+        }))
+    }
+
+    /// Compiles the next pattern that isn't compiled yet: one that stands in the request before is. Behind a broken one none
+    /// is compiled, since the request is refused for that.
+    ///
+    /// # Errors
+    ///
+    /// [`AllocError`] where memory runs out.
+    pub fn go_on(&mut self) -> Result<Judged, AllocError>
+        ensures { IfOk result (λ judged. judged ≢ Judged.TooMuch → size_of_all self.new ≤ 10_485_760) }
+    {
+        for _ in self.next..self.left.len() {
+            if self.prepare_next()? {
+                break;
+            }
+        }
+        Ok(self.judged())
+    }
+
+    /// Has the next pattern compiled. Answers whether it wasn't before.
+    fn prepare_next(&mut self) -> Result<bool, AllocError> {
+        let Some(pattern) = self.left.get(self.next) else {
+            return Ok(false);
+        };
+        let prepared = self.patterns.prepare(pattern.as_str())?;
+        // (all that is kept was spent for)
+        let kept = self.patterns.size();
+        self.spent = kept.max(self.spent.saturating_add(prepared.bytes));
+        self.next = if prepared.is_broken {
+            self.left.len()
+        } else {
+            self.next.saturating_add(1)
+        };
+        Ok(prepared.bytes > 0)
+    }
+
+    /// How far they have come.
+    fn judged(&self) -> Judged
+        ensures { result ≢ Judged.TooMuch → size_of_all self.now ≤ 10_485_760 }
+    {
+        if self.spent > MOST_PATTERN_BYTES {
+            Judged::TooMuch
+        } else if self.next < self.left.len() {
+            Judged::More
+        } else {
+            Judged::Done
+        }
+    }
+
+    /// What a request is refused with whose patterns take too much.
+    pub fn refusal(&self) -> Refusal
+        ensures { (line_seen result ≡ line_of causes.BadFilter) ⊎ (line_seen result ≡ refused_line errors.BadPattern) }
+    {
+        if self.is_list {
+            Cause::BadFilter.refusal()
+        } else {
+            Refusal::new(400, "bad pattern")
+        }
+    }
+
+    /// The patterns that were compiled.
+    pub fn into_patterns(self) -> PatternCache
+        ensures { result ≡ self }
+    {
+        let Judging {
+            is_list: _,
+            left: _,
+            next: _,
+            spent: _,
+            patterns,
+        } = self;
+        patterns
+    }
+}

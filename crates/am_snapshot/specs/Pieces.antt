@@ -1,0 +1,22 @@
+-- Rows that go out in pieces.
+-- X is the type of versions, and `seen` is what the merge sees of one.
+use Rattle.std.specs.Prelude.{◌≡◌, ◌⊎◌, ℕ, ◌<◌, ◌≤◌, List, [], ◌∷◌, ◌++◌, length, Option, Some, None}
+use Rattle.am_version_order.specs.Versions.{Version}
+use Rattle.am_snapshot.specs.Texts.{row_text}
+use Rattle.am_snapshot.specs.declared.pieces.RowPiece.{RowPiece}
+
+module _ {K X : Type 0} (seen : X → Version K) (most : ℕ) where
+  -- Nothing is left behind the versions of a piece; or there are such versions, the first that is left doesn't fit behind
+  -- them, and its key is the next one.
+  abbrev pub GoesOn : List X → List X → Option K → Type 0
+  GoesOn taken [] next = next ≡ None
+  GoesOn taken (v ∷ rest) next = (next ≡ Some (seen v).key) × (0 < length taken) × (most < length (row_text seen (taken ++ v ∷ [])))
+
+  -- the piece is the row of the first of all versions, as many as fit and one at least, with the key of the first that is left
+  pub record IsPiece (all : List X) (piece : RowPiece K) : Type 0 where
+    pub taken : List X
+    pub left : List X
+    pub parts : all ≡ taken ++ left
+    pub row : piece.row ≡ row_text seen taken
+    pub fits : (length taken ≤ 1) ⊎ (length piece.row ≤ most)
+    pub next : GoesOn taken left piece.next
