@@ -18,9 +18,34 @@ fn patterns_of_matchers(alloc: Global, matchers: MatcherIter<'_>) -> Result<Vec<
     Ok(patterns)
 }
 
-/// Whether a body may have a regular expression: one has to be told by the word `true`.
+/// The key of a matcher that tells whether it is a regular expression.
+const KEY: &[u8] = b"isRegex";
+
+/// Whether a byte stands between a key and its value: its quotation mark, a colon, or a blank of JSON.
+fn is_between(byte: &u8) -> bool {
+    matches!(*byte, b'"' | b':' | b' ' | b'\t' | b'\n' | b'\r')
+}
+
+/// Whether the value `true` stands behind a key.
+fn is_true_behind(rest: &[u8]) -> bool {
+    let count = rest.iter().take_while(|byte| is_between(byte)).count();
+    match rest.get(count..) {
+        Some(value) => value.starts_with(b"true"),
+        None => false,
+    }
+}
+
+/// Whether a body may have a regular expression: one has to be told by its key, unless that is written with escapes.
 fn may_have_pattern(body: &[u8]) -> bool {
-    body.windows(4).any(|word| word == b"true".as_slice())
+    if body.contains(&b'\\') {
+        return true;
+    }
+    for (at, word) in body.windows(KEY.len()).enumerate() {
+        if word == KEY && is_true_behind(body.get(at + KEY.len()..).unwrap_or(&[])) {
+            return true;
+        }
+    }
+    false
 }
 
 /// The patterns of what is posted, where the body is sound.
