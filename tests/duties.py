@@ -19,8 +19,8 @@ import tempfile
 import time
 
 import members
-from members import PATIENCE, Member, free_ports, parted, received, run
-from tally import check, compare, finish
+from members import PATIENCE, Member, eventually, free_ports, parted, received, run
+from tally import check, compare, finish, try_each
 from wire import EMPTY_PUSH, greeting
 
 GET = b"GET /api/v2/silences HTTP/1.1\r\n\r\n"
@@ -58,16 +58,6 @@ def silence(value):
 def post(member, value):
     status, _ = member.ask("POST", "/api/v2/silences", json.dumps(silence(value)).encode())
     return status
-
-
-def eventually(look, patience=PATIENCE):
-    """What `look` answers as soon as that counts as true, or the last of its answers."""
-    end = time.monotonic() + patience
-    while True:
-        found = look()
-        if found or time.monotonic() > end:
-            return found
-        time.sleep(0.05)
 
 
 def comments(member):
@@ -303,7 +293,7 @@ def test_at_once(folder):
             three.sendall(GET)
             compare("a third one is answered", parted(received(three)), (200, b"[]"))
         compare("the one on which nothing moved for longest is let go", received(two), b"")
-        compare("which is told", member.lines[1:], ["am_tool: Crowded 21"])
+        check("which is told", eventually(lambda: member.lines[1:] == ["am_tool: Crowded 21"]), member.lines)
         one.sendall(GET[22:])
         compare("and the other one is answered", parted(received(one)), (200, b"[]"))
     member.kill()
@@ -329,7 +319,7 @@ def test_silent_clients(folder):
 def main():
     members.choose("duties", sys.argv[1:])
     with tempfile.TemporaryDirectory(prefix="am_duties_") as folder:
-        for test in [
+        tests = [
             test_words,
             test_times,
             test_saves,
@@ -342,13 +332,8 @@ def main():
             test_stop_under_way,
             test_at_once,
             test_silent_clients,
-        ]:
-            place = f"{folder}/{test.__name__}"
-            os.mkdir(place)
-            try:
-                test(place)
-            except Exception as fault:
-                check(f"{test.__name__} runs", False, repr(fault))
+        ]
+        try_each(tests, folder)
     finish("duties")
 
 
