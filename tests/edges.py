@@ -753,4 +753,5 @@ def main():
     finish("edges")
 
 
-main()
+if __name__ == "__main__":
+    main()
