@@ -1,27 +1,54 @@
 #!/usr/bin/env python3
 """Proves and builds am_tool, and the libraries below it, as many side by side as there are processors and memory.
 
-    build.py [NAME ..]
+    build.py [--anew] [--report]
 
-NAME is am_tool if none is given. How far it is goes to standard error, a line as each crate is done: how many of how many,
-and about how long is left. What earlier checks of this checkout, or of another one on this machine, proved is kept.
+It runs `rt ci` on a copy of the crates that am_tool wants, without their wrong bodies, and puts the program into
+crates/am_tool/out. What any checkout on this machine proved of the same files is kept, here as in the gate, and not proved
+again, and where nothing has changed nothing is done; --anew proves all. How far it is goes to standard error: at the start how
+long all takes, and then a line as each crate is done. --report prints in the end what these lines estimated, beside what came
+true.
 """
 
-import concurrent.futures
+import contextlib
+import hashlib
 import os
+import re
+import shutil
+import signal
 import subprocess
 import sys
+import tempfile
 import time
 
 TOP = os.path.dirname(os.path.abspath(__file__))
+PROGRAM = f"{TOP}/crates/am_tool/out/am_tool"
 # What a check takes at most, in bytes of memory; only a program that links all takes more.
 NEEDED = 4 << 30
 
+# How many seconds of processor the proof of a crate takes for each thousand lines, by bench/RESULTS.md.
+PACES = {
+    "am_version_order": 41, "am_streams": 165, "am_wire": 48, "am_schedule": 82, "am_silence": 55, "am_silence_json": 63,
+    "am_nflog": 52, "am_gossip": 51, "am_merge": 86, "am_collect": 99, "am_runs": 51, "am_dedup": 59, "am_matcher": 69,
+    "am_snapshot": 75, "am_http": 65, "am_instance": 71, "am_api_silences": 84, "am_steps": 73, "am_cluster": 76,
+    "am_member": 95, "am_reactor": 62, "am_journal": 90, "am_told": 85, "am_replay": 78, "am_picture": 80, "am_faults": 80,
+    "am_command_line": 140, "am_daemon": 120, "am_tool": 130,
+}  # fmt: skip
+# That of a crate which was not measured.
+PACE = 90
 
-def dependencies():
-    """The libraries of the repository that each crate stands on, by its name."""
+# For how many seconds the first estimate counts beside what crates have taken.
+TRUSTED = 60
+
+# What rt ci says of a crate that is done, and where it waits.
+DONE = re.compile(r"rt: (\w+) (proved|NOT PROVED|is kept)\b")
+WAITS = re.compile(r"rt: (\w+: another run on this machine is proving the same)")
+
+
+def dependencies(top=TOP):
+    """The libraries of a tree that each crate stands on, by its name."""
     lines = {}
-    with open(f"{TOP}/crates.txt", encoding="utf-8") as file:
+    with open(f"{top}/crates.txt", encoding="utf-8") as file:
         for line in file:
             name, colon, rest = line.split("#")[0].partition(":")
             if colon:
@@ -29,102 +56,262 @@ def dependencies():
     return {name: [it for it in rest if it in lines] for name, rest in lines.items()}
 
 
-def below(names, crates):
+def with_below(names, crates):
+    """Crates and all that they stand on, each behind what it stands on."""
     found = []
+
+    def add(name):
+        if name not in found:
+            for it in crates[name]:
+                add(it)
+            found.append(name)
+
     for name in names:
-        for it in [*below(crates[name], crates), name]:
-            if it not in found:
-                found.append(it)
+        add(name)
     return found
 
 
-def weight(name):
-    """The lines that a crate's check reads, as a measure of the time that it takes."""
-    lines = 500
-    for at, folders, files in os.walk(f"{TOP}/crates/{name}"):
-        folders[:] = [it for it in folders if it != "out"]
+def copy_crates(names, folder):
+    """Makes a tree of these crates, as they stand: without what was built, and without wrong bodies."""
+
+    def left_out(at, files):
+        return {"out", "must-fail"} & {*files} if os.path.dirname(at) == f"{TOP}/crates" else ()
+
+    for name in names:
+        shutil.copytree(f"{TOP}/crates/{name}", f"{folder}/crates/{name}", symlinks=True, ignore=left_out)
+    shutil.copy(f"{TOP}/HANDLES", folder)
+    with open(f"{TOP}/crates.txt", encoding="utf-8") as file:
+        lines = [line for line in file if line.partition(":")[0].strip() in names]
+    with open(f"{folder}/crates.txt", "w", encoding="utf-8") as file:
+        file.writelines(lines)
+    # (rt ci wants the top of a repository)
+    os.mkdir(f"{folder}/.git")
+
+
+def seconds_of(folder, name):
+    """How long the proof of a crate takes where bench/RESULTS.md was measured."""
+    lines = 0
+    for at, _, files in os.walk(f"{folder}/crates/{name}"):
         for file in files:
-            if file.endswith((".rt", ".antt")):
+            if file.endswith(".rt"):
                 with open(f"{at}/{file}", "rb") as text:
                     lines += text.read().count(b"\n")
-    return lines
-
-
-def is_program(name):
-    return os.path.exists(f"{TOP}/crates/{name}/src/main.rt")
-
-
-def build(name):
-    """Builds a crate whose libraries are built: what rt said, where it failed."""
-    words = ["rt", "run", "--", "--help"] if is_program(name) else ["rt", "lib", "--jobs", "1"]
-    folder = f"{TOP}/crates/{name}"
-    ran = subprocess.run(words, cwd=folder, stdin=subprocess.DEVNULL, stdout=subprocess.PIPE, stderr=subprocess.STDOUT)
-    program = f"{folder}/out/{name}"
-    is_done = os.path.exists(program) if is_program(name) else ran.returncode == 0
-    if is_done and is_program(name):
-        # (where no source of it is newer, nothing was built)
-        os.utime(program)
-    return None if is_done else ran.stdout.decode(errors="replace")
+    return max(10, PACES.get(name, PACE) * lines / 1000)
 
 
 def places():
     """How many checks there is room for."""
-    memory = os.sysconf("SC_PAGE_SIZE") * os.sysconf("SC_AVPHYS_PAGES")
+    with open("/proc/meminfo", encoding="ascii") as file:
+        memory = 1024 * next(int(line.split()[1]) for line in file if line.startswith("MemAvailable:"))
     return max(1, min(len(os.sched_getaffinity(0)), memory // NEEDED))
 
 
-class Left:
-    """How long is left, by the lines of the crates that are done so far."""
+class Plan:
+    """Which crates are done, which run and since when, and how long is left.
 
-    def __init__(self, names):
-        self.weights = {name: weight(name) for name in names}
-        self.begun, self.spent, self.of = time.time(), 0.0, 0
+    rt ci says when a crate is done, and not when it begins: as soon as there is a place and its libraries are done, and first
+    those with the longest chain of others behind them. That is told here once more, with what crates take for how long they
+    are said to take.
+    """
 
-    def done(self, name, seconds):
-        # (a crate that was kept from earlier takes next to nothing, and tells nothing)
-        if seconds > 5:
-            self.spent += seconds
-            self.of += self.weights[name]
-        del self.weights[name]
+    def __init__(self, tree, folder, number):
+        self.tree, self.number = tree, number
+        self.seconds = {name: seconds_of(folder, name) for name in tree}
+        self.behind = dict(self.seconds)
+        for name in reversed(with_below(tree, tree)):
+            above = [self.behind[it] for it in tree if name in tree[it]]
+            self.behind[name] += max(above, default=0)
+        self.done, self.running = set(), {}
+        # How long the crates that were proved took, and how long they are said to take.
+        self.taken, self.said = TRUSTED, TRUSTED
 
-    def minutes(self, side_by_side):
-        if not self.of:
-            return None
-        seconds = sum(self.weights.values()) * self.spent / self.of / side_by_side
-        return max(1, round(seconds / 60))
+    def next_of(self, done, running):
+        """The crate that begins next, if one is ready."""
+        ready = [it for it in self.tree if it not in done and it not in running and done.issuperset(self.tree[it])]
+        return max(ready, key=self.behind.get, default=None)
+
+    def fill(self, now):
+        while len(self.running) < self.number and (name := self.next_of(self.done, self.running)):
+            self.running[name] = now
+
+    def end(self, name, now, is_kept):
+        begun = self.running.pop(name, None)
+        self.done.add(name)
+        if begun is not None and not is_kept:
+            self.taken += now - begun
+            self.said += self.seconds[name]
+        self.fill(now)
+
+    def left(self, now):
+        """How many seconds all takes that isn't done."""
+        slow, done, at = self.taken / self.said, set(self.done), now
+        # (one that takes longer than is said takes a little longer still)
+        ends = {it: max(begun + self.seconds[it] * slow, now + self.seconds[it] * slow / 10) for it, begun in self.running.items()}
+        while ends:
+            first = min(ends, key=ends.get)
+            at = ends.pop(first)
+            done.add(first)
+            while len(ends) < self.number and (name := self.next_of(done, ends)):
+                ends[name] = at + self.seconds[name] * slow
+        return at - now
 
 
-def build_all(names, crates):
-    """Builds crates in order, each as soon as its libraries are done; answers whether all were built."""
-    left, done, running, number = Left(names), set(), {}, places()
-    with concurrent.futures.ThreadPoolExecutor(number) as pool:
-        while len(done) < len(names):
-            for name in names:
-                is_ready = name not in done and name not in running and all(it in done for it in crates[name])
-                if is_ready and len(running) < number:
-                    running[name] = time.time(), pool.submit(build, name)
-            waiting = [job for _, job in running.values()]
-            concurrent.futures.wait(waiting, return_when=concurrent.futures.FIRST_COMPLETED)
-            for name in [it for it, (_, job) in running.items() if job.done()]:
-                begun, job = running.pop(name)
-                if job.result() is not None:
-                    print(f"am_tool: {name} was not built; rt said:\n{job.result()[-4000:]}", file=sys.stderr)
-                    return False
-                done.add(name)
-                left.done(name, time.time() - begun)
-                minutes = left.minutes(number)
-                rest = f", about {minutes} min left" if minutes and len(done) < len(names) else ""
-                print(f"am_tool: built {name}, {len(done)} of {len(names)}{rest}", file=sys.stderr, flush=True)
-    return True
+def minutes(seconds):
+    return f"{max(1, round(seconds / 60))} min"
+
+
+def say(text):
+    print(f"am_tool: {text}", file=sys.stderr, flush=True)
+
+
+class Told:
+    """What is told while crates are proved, and what it estimated."""
+
+    def __init__(self, plan):
+        self.plan, self.begun, self.estimates = plan, time.time(), []
+        plan.fill(self.begun)
+        left = self.estimate("the start")
+        say(f"proves {len(plan.tree)} crates, {plan.number} side by side: about {minutes(left)} in all, and less where some are proved")
+
+    def estimate(self, when):
+        now = time.time()
+        left = self.plan.left(now)
+        self.estimates.append((when, now - self.begun, left))
+        return left
+
+    def done(self, name, word):
+        plan = self.plan
+        plan.end(name, time.time(), word == "is kept")
+        left = self.estimate(name)
+        rest = f", about {minutes(left)} left" if len(plan.done) < len(plan.tree) else ""
+        say(f"{'proved before' if word == 'is kept' else 'proved'}: {name}, {len(plan.done)} of {len(plan.tree)}{rest}")
+
+    def report(self):
+        """Prints each estimate of the whole time, beside that in which all was done."""
+        whole = time.time() - self.begun
+        print(f"{'behind':<18}{'at, s':>8}{'in all, s':>12}{'off':>8}")
+        for when, at, left in self.estimates:
+            print(f"{when:<18}{at:8.0f}{at + left:12.0f}{(at + left) / whole - 1:8.0%}")
+        print(f"it took {whole:.0f} s")
+
+
+@contextlib.contextmanager
+def ended(process):
+    """Ends a run of rt, and with it the checks that it started, however it is left."""
+    try:
+        yield process
+    finally:
+        process.kill()
+        process.wait()
+        process.stdout.close()
+
+
+def prove(folder, told=None, words=(), last=None):
+    """Proves the crates of a tree and builds its programs; what rt said where it failed, and else None.
+
+    Where a crate is named as the last, it ends once that is proved, and runs no program.
+    """
+    told = told or Told(Plan(dependencies(folder), folder, places()))
+    how = {"cwd": folder, "stdin": subprocess.DEVNULL, "stdout": subprocess.PIPE, "stderr": subprocess.STDOUT, "errors": "replace"}
+    said = []
+    with ended(subprocess.Popen(["rt", "ci", *words], env={**os.environ, "RT_JOBS": str(told.plan.number)}, **how)) as ran:
+        for line in ran.stdout:
+            if line.startswith("== "):
+                said.clear()
+            said.append(line)
+            waits = WAITS.match(line)
+            if waits:
+                say(waits[1])
+            done = DONE.match(line)
+            if done and done[2] == "NOT PROVED":
+                return "".join(said)
+            if done:
+                told.done(done[1], done[2])
+                said.clear()
+            if done and done[1] == last:
+                return None
+        return "".join(said) + f"rt ci ended with status {ran.returncode}\n" if ran.wait() else None
+
+
+@contextlib.contextmanager
+def room():
+    """A folder for a copy, which is removed however it is left."""
+    folder = tempfile.mkdtemp(prefix="am_tool-build-")
+    try:
+        yield folder
+    finally:
+        shutil.rmtree(folder, ignore_errors=True)
+        if os.path.exists(folder):
+            # (a check that is ended may have written once more)
+            time.sleep(0.5)
+            shutil.rmtree(folder, ignore_errors=True)
+
+
+def content(path):
+    with contextlib.suppress(FileNotFoundError), open(path, "rb") as file:
+        return file.read()
+    return b""
+
+
+def sum_of(folder):
+    """A sum of all that a program is built from: the kit, and the files of a tree."""
+    found = hashlib.sha256(subprocess.run(["rt", "version"], stdout=subprocess.PIPE, check=False).stdout)
+    for path in sorted(f"{at}/{name}" for at, _, names in os.walk(folder) for name in names):
+        data = content(path)
+        found.update(f"{os.path.relpath(path, folder)}\n{len(data)}\n".encode() + data)
+    return found.hexdigest()
+
+
+def stamp(sources):
+    """What tells that the program that stands in its place was built from sources of this sum."""
+    return f"{sources} {hashlib.sha256(content(PROGRAM)).hexdigest()}\n".encode()
+
+
+def put_program(made, sources):
+    """Puts a program into its place, and beside it what it was built from."""
+    os.makedirs(os.path.dirname(PROGRAM), exist_ok=True)
+    shutil.copy(made, f"{PROGRAM}.new")
+    os.replace(f"{PROGRAM}.new", PROGRAM)
+    with open(f"{PROGRAM}.sum", "wb") as file:
+        file.write(stamp(sources))
+
+
+def build(words, reports):
+    """Proves all and builds the program, unless nothing has changed since that; the exit status."""
+    crates, begun = dependencies(), time.time()
+    names = with_below(["am_tool"], crates)
+    with room() as folder:
+        copy_crates(names, folder)
+        sources = sum_of(folder)
+        if content(f"{PROGRAM}.sum") == stamp(sources) and "--anew" not in words:
+            say("nothing has changed since it was built")
+        else:
+            told = Told(Plan({it: crates[it] for it in names}, folder, places()))
+            failed = prove(folder, told, words)
+            if failed is not None:
+                say(f"not built; rt said:\n{failed[-4000:]}")
+                return 1
+            put_program(f"{folder}/crates/am_tool/out/am_tool", sources)
+            say(f"built in {minutes(time.time() - begun)}: crates/am_tool/out/am_tool")
+            if reports:
+                told.report()
+    # (it is as old as the sources that were copied)
+    os.utime(PROGRAM, (begun, begun))
+    return 0
 
 
 def main():
-    crates = dependencies()
-    wanted = sys.argv[1:] or ["am_tool"]
-    if any(it not in crates for it in wanted):
+    words = sys.argv[1:]
+    if not {*words} <= {"--anew", "--report"}:
         print(__doc__, file=sys.stderr)
         return 2
-    return 0 if build_all(below(wanted, crates), crates) else 1
+    for it in (signal.SIGTERM, signal.SIGHUP):
+        signal.signal(it, lambda number, _: sys.exit(128 + number))
+    try:
+        return build([it for it in words if it == "--anew"], "--report" in words)
+    except KeyboardInterrupt:
+        say("stopped; what was proved so far is kept")
+        return 130
 
 
 if __name__ == "__main__":

@@ -3,47 +3,30 @@ import argparse
 import os
 import shutil
 import subprocess
+import sys
 import tempfile
 
 TOP = os.path.dirname(os.path.dirname(os.path.abspath(__file__)))
+sys.path.insert(0, TOP)
 
-
-def lines_of_crates():
-    """Each crate with the libraries that it stands on."""
-    with open(os.path.join(TOP, "crates.txt"), encoding="utf-8") as f:
-        lines = [line.split("#")[0].strip() for line in f]
-    return dict((name.strip(), needs.split()) for name, _, needs in (line.partition(":") for line in lines if line))
-
-
-def needed(names, crates):
-    """The crates of the repository that these stand on, themselves included."""
-    found = []
-    for name in names:
-        if name in crates:
-            found += [n for n in needed(crates[name], crates) + [name] if n not in found]
-    return list(dict.fromkeys(found))
+import build
 
 
 def ours(name, folder):
-    """Proves and builds a program, and says where it is. What the crates kept in out/ is used again."""
+    """Proves and builds a program, and says where it is. What is kept of the crates isn't proved again."""
     source = os.path.join(TOP, "bench", "programs", name)
     with open(os.path.join(source, "needs"), encoding="utf-8") as f:
         needs = f.read().split()
-    crates = lines_of_crates()
-    shutil.copy(os.path.join(TOP, "HANDLES"), folder)
-    with open(os.path.join(folder, "crates.txt"), "w", encoding="utf-8") as f:
-        for crate in needed(needs, crates):
-            f.write("%s: %s\n" % (crate, " ".join(crates[crate])))
-            shutil.copytree(os.path.join(TOP, "crates", crate), os.path.join(folder, "crates", crate),
-                            ignore=shutil.ignore_patterns("must-fail"), symlinks=True)
+    crates = build.dependencies()
+    build.copy_crates(build.with_below([it for it in needs if it in crates], crates), folder)
+    with open(os.path.join(folder, "crates.txt"), "a", encoding="utf-8") as f:
         f.write("%s: %s\n" % (name, " ".join(needs)))
     place = os.path.join(folder, "crates", name)
     os.makedirs(os.path.join(place, "src"))
     shutil.copy(os.path.join(source, "main.rt.in"), os.path.join(place, "src", "main.rt"))
-    built = subprocess.run(["rt", "run"], cwd=place, stdin=subprocess.DEVNULL, stdout=subprocess.PIPE,
-                           stderr=subprocess.STDOUT, text=True)
-    if built.returncode != 0:
-        raise SystemExit(built.stdout[-3000:])
+    failed = build.prove(folder, last=name)
+    if failed is not None:
+        raise SystemExit(failed[-3000:])
     return os.path.join(place, "out", name)
 
 

@@ -18,6 +18,10 @@ how many lists they read a second.
 `saves`: posts for eight seconds of a member that holds 10,000 and 100,000 silences and as many entries, which never saves,
 and then saves both files every second: the most is how long one waits for a save.
 
+`log`: posts of a member with and without `--log`, and of Alertmanager: of one client that posts 500, and of 16 and 200 that
+post side by side for three seconds, the middle, the 99th part and the most in milliseconds; and how many come a second. How
+long a sync of the disk takes is told beside them.
+
 `load`: requests a second for one silence and of posts by `wrk` with 1, 16 and 200 clients, each on a new connection, where
 `wrk` is there.
 
@@ -42,6 +46,7 @@ import socket
 import subprocess
 import sys
 import tempfile
+import threading
 import time
 
 from rows import field, timestamp, varint
@@ -67,7 +72,7 @@ def identifier(number):
 
 ONE = f"/api/v2/silence/{identifier(7)}"
 
-PARTS = ["alone", "crowd", "readers", "frozen", "saves", "load", "spread"]
+PARTS = ["alone", "crowd", "readers", "frozen", "saves", "log", "load", "spread"]
 
 
 def silence(number, now):
@@ -317,6 +322,55 @@ def saves(start):
     return told
 
 
+def post_on(port, seconds, times):
+    """Posts one after the other for so long; how long each took."""
+    end = time.perf_counter() + seconds
+    while (begun := time.perf_counter()) < end:
+        if post_one(port, PATIENCE) is not None:
+            times.append(1000 * (time.perf_counter() - begun))
+
+
+def log(start):
+    """Posts of clients side by side."""
+    told = {}
+    for clients in (1, 16, 200):
+        with running(start, 1_000) as port, multiprocessing.Manager() as manager:
+            lists = [manager.list() for _ in range(min(clients, 16))]
+            threads = clients // len(lists)
+            processes = [multiprocessing.Process(target=post_side_by_side, args=(port, threads, it), daemon=True) for it in lists]
+            for it in processes:
+                it.start()
+            for it in processes:
+                it.join()
+            times = sorted(time for it in lists for time in it)
+        told[f"{clients} clients: post, ms"] = (times[len(times) // 2], times[len(times) * 99 // 100], times[-1])
+        told[f"{clients} clients: posts a second"] = (len(times) / 3,)
+    return told
+
+
+def post_side_by_side(port, threads, found):
+    """Posts of so many threads for three seconds."""
+    times = []
+    running = [threading.Thread(target=post_on, args=(port, 3, times)) for _ in range(threads)]
+    for it in running:
+        it.start()
+    for it in running:
+        it.join()
+    found.extend(times)
+
+
+def sync_time():
+    """Milliseconds in the middle of handing a write to the disk on which members have their files here."""
+    times = []
+    with tempfile.TemporaryFile() as file:
+        for _ in range(100):
+            begun = time.perf_counter()
+            os.pwrite(file.fileno(), bytes(300), 300 * len(times))
+            os.fdatasync(file.fileno())
+            times.append(1000 * (time.perf_counter() - begun))
+    return sorted(times)[50]
+
+
 def load(start):
     """Requests a second by wrk; of posts the first are made to a server that holds 1,000 silences."""
     told = {}
@@ -344,6 +398,9 @@ def wrk(clients, port, path, words=()):
 def beside(part, before, has_other=True):
     """Tells what a part measures of am_tool, of an earlier one and of Alertmanager."""
     starts = {"am_tool": ours}
+    if part is log:
+        starts["with --log"] = functools.partial(ours, options=["--log"])
+        print("a sync of the disk, ms: %.2f" % sync_time())
     if before:
         starts["before"] = functools.partial(ours, program=before)
     if ALERTMANAGER and has_other:
@@ -402,7 +459,7 @@ def main():
     words = words.parse_args()
     if "alone" in words.only:
         alone(words.silences, words.rounds)
-    for part in (crowd, readers):
+    for part in (crowd, readers, log):
         if part.__name__ in words.only:
             beside(part, words.before)
     for part in (frozen, saves):

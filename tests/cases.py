@@ -18,6 +18,7 @@ import subprocess
 import sys
 import tempfile
 
+from lines import bare, words_in
 from tally import compare, count, finish, give_up
 from versions import row, unescaped
 
@@ -100,11 +101,10 @@ def filled(text, fixtures, where):
 
 def file_of(text, where):
     """The name and the bytes of a file from words such as `sil NAME: VERSIONS`."""
-    head, _, versions = text.partition(":")
+    parts = re.fullmatch(r"(\S+) (\S+):(.*)", text)
     try:
-        kind, name = head.split(" ")
-        return {name: row(kind, versions.strip(" "))}
-    except (ValueError, KeyError, IndexError, StopIteration) as error:
+        return {parts[2]: row(parts[1], parts[3].strip(" "))}
+    except (TypeError, ValueError, KeyError, IndexError, StopIteration) as error:
         raise BadFile(f"{where}: no file of versions: {error!r}") from error
 
 
@@ -182,6 +182,11 @@ def shortened(found, case):
     return found
 
 
+def bare_words(error):
+    """What stands on standard error, of faults the words alone: what a program says behind them is its own."""
+    return words_in(error.decode("utf-8", "backslashreplace"), bare).encode()
+
+
 def carried_out(program, case):
     """What comes of a command line in a folder that has its files: its output, behind `! ` its errors, and its status."""
     words = [unescaped(word) for word in case.words.partition(TO_FULL)[0].split(" ")]
@@ -197,7 +202,7 @@ def carried_out(program, case):
             ran = subprocess.run([program, *words], input=given, cwd=folder, check=False, timeout=PATIENCE, **streams)
         except (OSError, subprocess.TimeoutExpired) as error:
             return [f"> {case.words}", f"no end: {error}"]
-    found = [f"> {case.words}", *shown_lines(ran.stdout or b""), *shown_lines(ran.stderr, "! "), f"status {ran.returncode}"]
+    found = [f"> {case.words}", *shown_lines(ran.stdout or b""), *shown_lines(bare_words(ran.stderr), "! "), f"status {ran.returncode}"]
     return shortened(found, case)
 
 
@@ -253,9 +258,10 @@ def try_schedule(path, program):
         print(f"{short(path)}: {failed}", flush=True)
         count(False)
         return
-    if not count((ran.returncode, ran.stdout, ran.stderr) == (status, output, error)):
+    said = bare_words(ran.stderr)
+    if not count((ran.returncode, ran.stdout, said) == (status, output, error)):
         tell_replay(f"{short(stem)}.out", output, ran.stdout)
-        tell_replay(f"{short(stem)}.err", error + b"status %d\n" % status, ran.stderr + b"status %d\n" % ran.returncode)
+        tell_replay(f"{short(stem)}.err", error + b"status %d\n" % status, said + b"status %d\n" % ran.returncode)
 
 
 def tell_replay(name, wanted, found):

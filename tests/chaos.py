@@ -37,6 +37,7 @@ import time
 
 import members
 from ledger import Ledger, milliseconds, now, shown, versions_of
+from lines import FLAWS
 from members import PATIENCE, free_ports, outcome, parted, received, run
 from proxies import WEATHERS, Proxy
 from tally import check, finish
@@ -399,7 +400,7 @@ class Meddler:
     def told(self):
         """Looks at what a member printed while it ran."""
         for line in self.member.lines:
-            if not line.startswith("am_tool: "):
+            if not line.startswith("am_tool: ") or line.endswith(FLAWS):
                 self.round.complain("lines", f"{self.member.name}: {line}")
 
 
@@ -636,7 +637,7 @@ COMPLAINTS = {
     "lists": "each list has what was posted, and each silence once",
     "saves": "what was acknowledged is saved in time",
     "stops": "a stop by a signal ends well, and saves all",
-    "lines": "each line that is printed is of the program",
+    "lines": "each line that is printed is one of the program, whole",
     "script": "this script makes no mistake",
 }
 

@@ -16,6 +16,7 @@ import signal
 import sys
 import tempfile
 
+import members
 from members import choose, run
 from samples import ENTRY, FIRST, ORDERS, ORDERS_OUTPUT, RESTARTED, RESTARTED_OUTPUT, SECOND
 from tally import compare, finish
@@ -40,7 +41,8 @@ Commands:
   help      Print this message or the help of the given subcommand(s)
 
 Options:
-  -h, --help  Print help
+  -h, --help     Print help
+  -V, --version  Print version
 """
 
 REPLAY_HELP = """Plays a schedule on a cluster, and prints what its members answer; so does am_tool without words
@@ -54,27 +56,27 @@ Options:
 
 FOLD_HELP = """Reads a row of versions, and writes the one that counts of each key, in key order
 
-Usage: am_tool fold --state <STATE> --now <NANOSECONDS>
+Usage: am_tool fold --state <STATE> --now <MOMENT>
 
 Options:
-      --state <STATE>      The state that the row is of: silences or the notification log [possible values: sil, nfl]
-      --now <NANOSECONDS>  The moment of taking, in whole nanoseconds since 1970-01-01T00:00:00Z
-  -h, --help               Print help
+      --state <STATE>  The state that the row is of: silences or the notification log [possible values: sil, nfl]
+      --now <MOMENT>   The moment of taking, in nanoseconds since 1970 or as 2026-11-26T12:00:00Z
+  -h, --help           Print help
 """
 
 SHOW_HELP = """Reads a snapshot, and prints a line for each version that is live, in key order
 
-Usage: am_tool show [OPTIONS] --state <STATE> --now <NANOSECONDS>
+Usage: am_tool show [OPTIONS] --state <STATE>
 
 Options:
-      --state <STATE>      The state that the snapshot is of: silences or the notification log [possible values: sil, nfl]
-      --now <NANOSECONDS>  The moment of the view, in whole nanoseconds since 1970-01-01T00:00:00Z
-      --json               Prints a list in JSON, on one line: silences as API v2 shows them, or entries of the log
-  -h, --help               Print help
+      --state <STATE>  The state that the snapshot is of: silences or the notification log [possible values: sil, nfl]
+      --now <MOMENT>   The moment of the view, in nanoseconds since 1970 or as 2026-11-26T12:00:00Z; without it, the clock's
+      --json           Prints a list in JSON, on one line: silences as API v2 shows them, or entries of the log
+  -h, --help           Print help
 
 Examples:
-  am_tool show --state sil --now "$(date +%s%N)" < silences
-  am_tool show --state sil --now "$(date +%s%N)" --json < silences | jq -r '.[].comment'
+  am_tool show --state sil < silences
+  am_tool show --state sil --now 2026-11-26T12:00:00Z --json < silences | jq -r '.[].comment'
 """
 
 DIFF_HELP = """Reads what several replicas hold, and prints in key order at which keys they differ, and which of them counts
@@ -82,29 +84,30 @@ DIFF_HELP = """Reads what several replicas hold, and prints in key order at whic
 Usage: am_tool diff [OPTIONS] --state <STATE> <SOURCE>...
 
 Arguments:
-  <SOURCE>...  NAME=FILE, cut at its first '=', or FILE, which is then its own name; '-' is standard input, and http://HOST:PORT a server; 2 to 16 of them
+  <SOURCE>...  NAME=FILE, cut at its first '=', or FILE, which is then its own name; '-' is standard input, and http://HOST:PORT a server, perhaps with a path; 2 to 16 of them
 
 Options:
-      --state <STATE>      The state that the sources are of: silences or the notification log [possible values: sil, nfl]
-      --now <NANOSECONDS>  The moment of the views, in whole nanoseconds since 1970-01-01T00:00:00Z; without it, the clock's
-      --held               Compares all that the sources hold, what has expired too, and not only what they show
-      --json               Prints the differences as a list in JSON, on one line, in place of the lines
-      --time-limit <S>     For how many seconds a connection to a server may last, 1 to 3600 [default: 5]
-  -h, --help               Print help
+      --state <STATE>   The state that the sources are of: silences or the notification log [possible values: sil, nfl]
+      --now <MOMENT>    The moment of the views, in nanoseconds since 1970 or as 2026-11-26T12:00:00Z; without it, the clock's
+      --held            Compares all that the sources hold, what has expired too, and not only what they show
+      --long            Also prints below each line the matchers, author and comment of a silence and what changed, or receiver and group of an entry
+      --json            Prints the differences as a list in JSON, on one line, in place of the lines
+      --time-limit <S>  For how many seconds a connection to a server may last, 1 to 3600 [default: 5]
+  -h, --help            Print help
 
 Of each key that differs there is a line for each group of sources that hold the same there: first those that have the
 greatest version, which counts, then those that are behind, and by what (update, expiry or bytes), and then those that
 hold nothing.
 
 A server is a member or an Alertmanager, at an address of IPv4, of IPv6 in brackets, or localhost: what it lists at
-/api/v2/silences is compared. Beside a server all sources are compared by what API v2 shows of them: moments are cut to
+/api/v2/silences, below the path, is compared. Beside a server all sources are compared by what API v2 shows of them: moments are cut to
 milliseconds, and a silence counts until its end.
 
 The status is 0 where nothing is different, and 5 where something is.
 
 Examples:
   am_tool diff --state sil a=http://127.0.0.1:9093 b=http://10.0.0.2:9093 c=c.sil
-  am_tool diff --state sil a=a.sil b=b.sil c=c.sil
+  am_tool diff --state sil --long a=a.sil b=b.sil c=c.sil
   ssh b cat b.nfl | am_tool diff --state nfl --held a=a.nfl b=-
   am_tool diff --state sil --json a=a.sil b=b.sil | jq -r '.[].key.id'
 """
@@ -125,10 +128,12 @@ Options:
       --time-limit <S>           For how many seconds a connection may last, of a client or to a peer, 1 to 3600 [default: 5]
       --at-once <N>              How many connections it serves at once, 1 to 65535; one that comes beyond gets the place of the one on which nothing has moved for longest [default: 256]
       --most-unfinished <BYTES>  How many bytes of unfinished requests and frames it keeps in all, 1 to 18446744073709551615; beyond, the connection that has most of them is closed [default: 134217728]
+      --most-bytes <BYTES>       How many bytes a file may have, of the silences or of the log, 1 to 4294967295; a post for which there is no room is answered 500 [default: 1073741824]
       --lines-a-second <N>       How many lines of one kind of fault it prints in a second, 1 to 65535; further ones are counted in a line [default: 10]
       --tick-every <S>           Ticks by itself every so many seconds, 1 to 999999999: drops what has expired, and saves both files
       --pull-every <S>           Asks each peer for all it has every so many seconds, 1 to 999999999, and says at the start which spread and flight time that keeps
       --save-every <S>           Saves both files every so many seconds, 1 to 999999999, where something may have changed
+      --log                      Keeps a log beside each file, and has all it takes there, on the disk, before it is answered or sent on
       --pull-first               Answers no request, and no peer that asks for all, before a peer has sent all it has
       --pull-first-limit <S>     For how many seconds --pull-first waits at the most, 1 to 999999999 [default: 30]
       --stop-at-input-end        Saves both files and ends where standard input ends
@@ -153,17 +158,23 @@ INSTANCE_USAGE = (
 )
 
 USAGE = "\nUsage: am_tool <COMMAND>\n\nFor more information, try '--help'.\n"
-FOLD_USAGE = "\nUsage: am_tool fold --state <STATE> --now <NANOSECONDS>\n\nFor more information, try '--help'.\n"
+FOLD_USAGE = "\nUsage: am_tool fold --state <STATE> --now <MOMENT>\n\nFor more information, try '--help'.\n"
 REPLAY_USAGE = "\nUsage: am_tool replay [OPTIONS]\n\nFor more information, try '--help'.\n"
-SHOW_USAGE = FOLD_USAGE.replace("fold", "show [OPTIONS]")
+SHOW_USAGE = "\nUsage: am_tool show [OPTIONS] --state <STATE>\n\nFor more information, try '--help'.\n"
+DIFF_USAGE = "\nUsage: am_tool diff [OPTIONS] --state <STATE> <SOURCE>...\n\nFor more information, try '--help'.\n"
 
 TWICE = "error: the argument '{}' cannot be used multiple times\n" + FOLD_USAGE
 MISSING = "error: the following required arguments were not provided:\n{}" + FOLD_USAGE
 UNEXPECTED = "error: unexpected argument '{}' found\n"
 BAD_NOW = (
-    "error: invalid value for '--now <NANOSECONDS>': a whole number below 2^64 is wanted, in digits alone\n"
-    + USAGE
+    "error: invalid value for '--now <MOMENT>': nanoseconds since 1970 are wanted, below 2^64 and in digits alone, or a moment as"
+    " 2026-11-26T12:00:00Z\n" + FOLD_USAGE
 )
+EARLY = (
+    "am_tool: warning: --now is {}, before what was read; digits are nanoseconds since 1970, and a moment as"
+    " 2026-11-26T12:00:00Z is taken too\n"
+)
+BAD_SOURCES = "error: invalid values for '<SOURCE>...': {}\n" + DIFF_USAGE
 BAD_STATE = (
     "error: invalid value '{}' for '--state <STATE>'\n"
     "  [possible values: sil, nfl]\n\nFor more information, try '--help'.\n"
@@ -215,10 +226,10 @@ CASES = [
     # a flag twice, or none
     (["replay", "--picture", "a", "--picture", "b"], b"", 2, b"", TWICE.format("--picture <FILE>").replace(FOLD_USAGE, REPLAY_USAGE)),
     (FOLD + ["--state", "sil"], b"", 2, b"", TWICE.format("--state <STATE>")),
-    (FOLD + ["--now", "1"], b"", 2, b"", TWICE.format("--now <NANOSECONDS>")),
-    (["fold"], b"", 2, b"", MISSING.format("  --state <STATE>\n  --now <NANOSECONDS>\n")),
+    (FOLD + ["--now", "1"], b"", 2, b"", TWICE.format("--now <MOMENT>")),
+    (["fold"], b"", 2, b"", MISSING.format("  --state <STATE>\n  --now <MOMENT>\n")),
     (["fold", "--now", "0"], b"", 2, b"", MISSING.format("  --state <STATE>\n")),
-    (["fold", "--state", "sil"], b"", 2, b"", MISSING.format("  --now <NANOSECONDS>\n")),
+    (["fold", "--state", "sil"], b"", 2, b"", MISSING.format("  --now <MOMENT>\n")),
     # moments
     (["fold", "--state", "sil", "--now", "18446744073709551615"], FIRST, 0, FIRST, ""),
     (["fold", "--state", "sil", "--now", "0000000000000000000000001"], FIRST, 0, FIRST, ""),
@@ -230,6 +241,10 @@ CASES = [
     (["fold", "--state", "sil", "--now", "1e3"], FIRST, 2, b"", BAD_NOW),
     (["fold", "--state", "sil", "--now", "0x10"], FIRST, 2, b"", BAD_NOW),
     (["fold", "--state", "sil", "--now", "\u0665"], FIRST, 2, b"", BAD_NOW),
+    (["fold", "--state", "sil", "--now", "2026-11-26T12:00:00+01:00"], FIRST, 0, FIRST, ""),
+    (["fold", "--state", "sil", "--now", "2026-11-26T12:00:00.123456789Z"], FIRST, 0, FIRST, ""),
+    (["fold", "--state", "sil", "--now", "2026-11-26"], FIRST, 2, b"", BAD_NOW),
+    (["fold", "--state", "sil", "--now", "2026-11-31T12:00:00Z"], FIRST, 2, b"", BAD_NOW),
     # states
     (["fold", "--state", "mem", "--now", "0"], FIRST, 2, b"", BAD_STATE.format("mem")),
     (["fold", "--state", "SIL", "--now", "0"], FIRST, 2, b"", BAD_STATE.format("SIL")),
@@ -244,7 +259,9 @@ CASES = [
         UNEXPECTED.format("--stat") + "\n  tip: a similar argument exists: '--state'\n" + FOLD_USAGE,
     ),
     (["--now", "0"], b"", 2, b"", UNEXPECTED.format("--now") + USAGE),
-    (["--version"], b"", 2, b"", UNEXPECTED.format("--version") + USAGE),
+    (["--version"], b"", 0, b"am_tool 0.1.0\n", ""),
+    (["-V"], b"", 0, b"am_tool 0.1.0\n", ""),
+    (["fold", "--version"], b"", 2, b"", UNEXPECTED.format("--version") + FOLD_USAGE),
     (["unfold"], b"", 2, b"", UNKNOWN.format("unfold") + "\n  tip: a similar subcommand exists: 'fold'\n" + USAGE),
     (["replay", "extra"], b"", 2, b"", UNEXPECTED.format("extra") + REPLAY_USAGE),
     (["replay", "--now", "0"], b"", 2, b"", UNEXPECTED.format("--now") + REPLAY_USAGE),
@@ -254,8 +271,14 @@ CASES = [
     (SHOW + ["50000000000"], SECOND, 0, b"sil a active\n", ""),
     (SHOW + ["200000000000"], SECOND, 0, b"", ""),
     (SHOW_LOG + ["50000000000"], ENTRY, 0, b"nfl g r w 0 1,2 -\n", ""),
-    (SHOW + ["9999999999"], SECOND, 0, b"sil a pending\n", ""),
-    (SHOW + ["10000000000"], SECOND, 0, b"sil a active\n", ""),
+    (SHOW + ["9999999999"], SECOND, 0, b"sil a pending\n", EARLY.format("1970-01-01T00:00:09.999Z")),
+    (SHOW + ["1970-01-01T00:00:50Z"], SECOND, 0, b"sil a active\n", ""),
+    (SHOW + ["1970-01-01T01:01:39.999999999+01:00"], SECOND, 0, b"sil a active\n", ""),
+    (SHOW + ["1970-01-01T00:01:40Z"], SECOND, 0, b"sil a expired\n", ""),
+    (["show", "--state", "sil"], SECOND, 0, b"", ""),
+    (["show", "--state", "nfl", "--json"], ENTRY, 0, b"[]\n", ""),
+    (SHOW + ["10000000000"], SECOND, 0, b"sil a active\n", EARLY.format("1970-01-01T00:00:10.000Z")),
+    (SHOW + ["20000000000"], SECOND, 0, b"sil a active\n", ""),
     (SHOW + ["99999999999"], SECOND, 0, b"sil a active\n", ""),
     (SHOW + ["100000000000"], SECOND, 0, b"sil a expired\n", ""),
     (SHOW + ["199999999999"], SECOND, 0, b"sil a expired\n", ""),
@@ -270,9 +293,40 @@ CASES = [
     (["help", "show"], b"", 0, SHOW_HELP.encode(), ""),
     (["diff", "--help"], b"", 0, DIFF_HELP.encode(), ""),
     (["help", "diff"], b"", 0, DIFF_HELP.encode(), ""),
-    (["show"], b"", 2, b"", MISSING.format("  --state <STATE>\n  --now <NANOSECONDS>\n").replace("fold", "show")),
+    (["show"], b"", 2, b"", MISSING.replace(FOLD_USAGE, SHOW_USAGE.replace("[OPTIONS] ", "")).format("  --state <STATE>\n")),
     (SHOW + ["0", "extra"], b"", 2, b"", UNEXPECTED.format("extra") + SHOW_USAGE),
-    (SHOW + ["+5"], SECOND, 2, b"", BAD_NOW),
+    (SHOW + ["+5"], SECOND, 2, b"", BAD_NOW.replace(FOLD_USAGE, SHOW_USAGE)),
+    # sources that were meant for servers, and mistakes that show the usage of their command
+    (
+        ["diff", "--stat", "sil", "a", "b"],
+        b"",
+        2,
+        b"",
+        UNEXPECTED.format("--stat") + "\n  tip: a similar argument exists: '--state'\n" + DIFF_USAGE.replace("[OPTIONS] ", ""),
+    ),
+    (["diff", "--state", "sil", "--now", "x", "a", "b"], b"", 2, b"", BAD_NOW.replace(FOLD_USAGE, DIFF_USAGE)),
+    (["diff", "--state", "sil", "a"], b"", 2, b"", BAD_SOURCES.format("2 to 16 sources are wanted")),
+    (
+        ["diff", "--state", "sil", "a=https://am.example/", "b"],
+        b"",
+        2,
+        b"",
+        BAD_SOURCES.format("no server is asked by HTTPS: a proxy before it is named, as http://HOST:PORT"),
+    ),
+    (
+        ["diff", "--state", "sil", "localhost:9093", "b"],
+        b"",
+        2,
+        b"",
+        BAD_SOURCES.format("HOST:PORT is no source: a server is http://HOST:PORT, and a file of that name ./HOST:PORT"),
+    ),
+    (
+        ["diff", "--state", "sil", "a", "b=http://am.example:9093"],
+        b"",
+        2,
+        b"",
+        BAD_SOURCES.format("http://HOST:PORT is wanted, with an address or localhost as HOST, perhaps with a path"),
+    ),
     # members, whose other words tests/three_members.py tries
     (["instance", "--help"], b"", 0, INSTANCE_HELP.encode(), ""),
     (["help", "instance"], b"", 0, INSTANCE_HELP.encode(), ""),
@@ -312,6 +366,33 @@ def test_words():
 
 def closing(number):
     return {"preexec_fn": lambda: os.close(number)}
+
+
+# What stands behind the words of a fault.
+SENTENCES = [
+    ([], b"", "Schedule Cluster 1: the cluster's line is missing, wrong, or a second one"),
+    (FOLD, SECOND + FIRST[:-1], "Wire Truncated 33: the input ends in what begins at this byte"),
+    (SHOW + ["0"], FIRST + SECOND, "DuplicateKey: a key comes twice; fold keeps of each key the version that counts"),
+    (
+        SHOW_LOG + ["0"],
+        SECOND,
+        "Wire WrongType 13: the field at this byte has another type than its number; is this the other state?"
+        " (--state, --sil, --nfl)",
+    ),
+    (["diff", "--state", "sil", "a=nowhere", "b=-"], b"", "a File NotFound: there is no such file or directory"),
+    (
+        ["instance", "--name", "m", "--listen", "1", "--sil", "s", "--nfl", "n", "--peer", "m=2"],
+        b"",
+        "SameName: two members have one name",
+    ),
+]
+
+
+def test_sentences():
+    """Behind its words a fault says what it means."""
+    for words, given, wanted in SENTENCES:
+        found = members.whole_outcome([members.program, *words], input=given)
+        compare(f"the whole line of {' '.join(words)}", found[2], f"am_tool: {wanted}\n")
 
 
 def test_streams():
@@ -439,6 +520,7 @@ def test_memory():
 def main():
     choose("command line", sys.argv[1:])
     test_words()
+    test_sentences()
     test_streams()
     test_cut_output()
     test_progress()

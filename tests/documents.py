@@ -6,9 +6,10 @@
 PROGRAM is crates/am_tool/out/am_tool if it isn't given. A block below a line `<!-- run -->` is given to bash, and has to end
 with status 0; one below `<!-- prints -->` is what the block before it printed, and one below `<!-- prints among others -->`
 are lines of that, in this order. The blocks of a document are run one after the other in one folder, where the files stand
-that the documents speak of; `am_tool diff` has the moment NOW, and its status 5, that something differs, is none here. The
-ports of members are free ones. Blocks with curl are left out where curl is not there. Each block of Rust in docs/LIBRARY.md
-has to stand in a source of am_cases, am_part_cases or am_member. The last line says how many passed.
+that the documents speak of. Status 5 of `am_tool diff`, that something differs, is none here, and `am_tool build` builds
+nothing. The ports of members are free ones. Blocks with curl or amtool are left out where these are not there. Each command of
+README.md has to stand in a block that is run, and samples/ has to be what tests/samples.py writes. Each block of Rust in
+docs/LIBRARY.md has to stand in a source of am_cases, am_part_cases or am_member. The last line says how many passed.
 """
 
 import glob
@@ -24,44 +25,35 @@ import time
 
 import members
 from members import TOP, free_ports
+from samples import REPLICAS, sample
 from tally import check, compare, count, finish
 from versions import row
 
 DOCUMENTS = ["README.md", "docs/OPERATING.md"]
 
-# 2026-11-25 17:00:00 UTC, in nanoseconds.
-NOW = 1_795_626_000_000_000_000
-
 MARK = re.compile(r"<!-- (run|prints|prints among others) -->")
 PORT = re.compile(r"\b910[123]\b")
 
-# The silences that README.md tells of, and an entry of the log.
-KEPT = (
-    "7269e3e3-aec0-4213-bbae-a4447f6f6067 job=db 1795624504.916..1795631704 updated 1795624504.916 expires 1796063704"
-    " by me saying maintenance"
-)
-OPEN = (
-    "813e8f72-63a8-4a18-8572-a608e4754ec7 job=web 1795624484.125..1795631684 updated 1795624484.125 expires 1796063684"
-    " by me saying deploy"
-)
-ENDED = (
-    "813e8f72-63a8-4a18-8572-a608e4754ec7 job=web 1795624484.125..1795624504.985 updated 1795624504.985"
-    " expires 1796056504.985 by me saying deploy"
-)
-ENTRY = '{}:{job="db"} ops/webhook/0 updated 1795624504 expires 1796056504 firing 1,2'
+# What only some machines have.
+TOOLS = ["amtool", "curl"]
 
-# What each replica holds.
-SILENCES = {"a": f"{KEPT}, {OPEN}", "b": f"{KEPT}, {OPEN}", "c": ENDED}
+# An entry of the log, which is kept for as long as the silences of samples/.
+ENTRY = '{}:{job="db"} ops/webhook/0 updated 1709310904 expires 4865416504 firing 1,2'
 LOG = {"a": ENTRY, "b": ENTRY, "c": ""}
 
 WRAPPER = """#!/usr/bin/env bash
-if [ "${{1-}}" = diff ]; then
-    shift
-    {program} diff --now {now} "$@" || [ $? = 5 ]
-else
-    exec {program} "$@"
-fi
+case ${{1-}} in
+build) ;;
+diff) {program} "$@" || [ $? = 5 ] ;;
+*) exec {program} "$@" ;;
+esac
 """
+
+
+def indented(lines):
+    """The block of indented lines that comes next, without its indent."""
+    size = next((at for at, it in enumerate(lines) if it and not it.startswith("    ")), len(lines))
+    return "\n".join(it[4:] for it in lines[:size]).strip("\n")
 
 
 def blocks(path):
@@ -70,23 +62,40 @@ def blocks(path):
     for number, line in enumerate(lines, 1):
         mark = MARK.fullmatch(line)
         if mark:
-            behind = lines[number:]
-            size = next((at for at, it in enumerate(behind) if it and not it.startswith("    ")), len(behind))
-            yield mark[1], number, "\n".join(it[4:] for it in behind[:size]).strip("\n")
+            yield mark[1], number, indented(lines[number:])
+
+
+def is_command(line):
+    first = line.split(" ")[0]
+    return "/" in first or first in TOOLS or shutil.which(first) is not None
+
+
+def test_every_command():
+    """README.md has no command in a block that isn't run."""
+    whole = [it[4:] for it in content(f"{TOP}/README.md").split("\n") if it.startswith("    ")]
+    marked = "\n".join(text for _, _, text in blocks("README.md")).split("\n")
+    others = [it for it in whole if it not in marked and is_command(it)]
+    compare("commands of README.md that are not run", others, [])
+
+
+def test_samples():
+    for replica in REPLICAS:
+        with open(f"{TOP}/samples/{replica}.sil", "rb") as file:
+            compare(f"samples/{replica}.sil", file.read(), sample(replica))
 
 
 def prepare(folder):
     """Puts the files into a folder that the documents speak of."""
-    for place, replica in enumerate("abc", 1):
-        for name in (replica, f"am{place}"):
-            os.mkdir(f"{folder}/{name}")
-            for kind, file, texts in (("sil", "silences", SILENCES), ("nfl", "nflog", LOG)):
-                with open(f"{folder}/{name}/{file}", "wb") as out:
-                    out.write(row(kind, texts[replica]))
+    for place, replica in enumerate(REPLICAS, 1):
+        os.mkdir(f"{folder}/am{place}")
+        for file, data in (("silences", sample(replica)), ("nflog", row("nfl", LOG[replica]))):
+            with open(f"{folder}/am{place}/{file}", "wb") as out:
+                out.write(data)
     os.makedirs(f"{folder}/crates/am_tool")
-    os.symlink(f"{TOP}/crates/am_tool/stdin", f"{folder}/crates/am_tool/stdin")
+    for name in ("samples", "crates/am_tool/stdin"):
+        os.symlink(f"{TOP}/{name}", f"{folder}/{name}")
     with open(f"{folder}/am_tool", "w", encoding="utf-8") as out:
-        out.write(WRAPPER.format(program=members.program, now=NOW))
+        out.write(WRAPPER.format(program=members.program))
     os.chmod(f"{folder}/am_tool", 0o755)
 
 
@@ -134,8 +143,9 @@ def try_document(path, shell):
     for mark, number, text in blocks(path):
         name = f"{path}:{number}"
         if mark == "run":
-            if re.search(r"\bcurl\b", text) and shutil.which("curl") is None:
-                print(f"{name}: curl is not there, so this is not tried")
+            lacking = [it for it in TOOLS if re.search(rf"\b{it}\b", text) and shutil.which(it) is None]
+            if lacking:
+                print(f"{name}: {lacking[0]} is not there, so this is not tried")
                 printed = None
                 continue
             status, printed = shell.run(text)
@@ -162,6 +172,8 @@ def test_quotes():
 
 def main():
     members.choose("documents", sys.argv[1:])
+    test_every_command()
+    test_samples()
     test_quotes()
     for path in DOCUMENTS:
         count(any(blocks(path)))

@@ -32,6 +32,7 @@ BLOCKED = ["env", "--block-signal=TERM", "--block-signal=INT"]
 NUMBERS = [
     ("--at-once", ("0", "65536", "+1", "x")),
     ("--most-unfinished", ("0", "18446744073709551616", "1e6")),
+    ("--most-bytes", ("0", "4294967296", "1G")),
     ("--lines-a-second", ("0", "65536", "x")),
     ("--tick-every", ("0", "1000000000", "1.5")),
     ("--pull-every", ("0", "1000000000", "")),
@@ -75,7 +76,7 @@ class Served(Member):
     """A member, whose command may have words in front, and whose standard input may be a pipe."""
 
     def start(self, front=(), stdin=subprocess.DEVNULL):
-        self.lines = []
+        self.lines, self.whole_lines = [], []
         streams = {"stdin": stdin, "stdout": subprocess.PIPE, "stderr": subprocess.PIPE}
         self.has_begun = members.threading.Event()
         self.process = subprocess.Popen([*front, members.program, *self.words], **streams)

@@ -6,8 +6,9 @@
 PROGRAM is crates/am_tool/out/am_tool if it isn't given. A last save fails, a directory is handed to the disk, two processes want
 one file, a stop and the time limit come while nothing is answered yet, the clock goes ahead and comes back, links and what is
 no file stand in a file's place, faults and silent clients come by the hundred and the thousand, pages of other sites ask,
-frames ask for more than is good for anybody, and requests have many patterns. tests/system.c stands between a member and the
-C library. What is wanted is written by hand, from docs/FORMATS.md and docs/OPERATING.md.
+frames ask for more than is good for anybody, requests have many patterns, and states are full, or of over 64 MiB.
+tests/system.c stands between a member and the C library. What is wanted is written by hand, from docs/FORMATS.md and
+docs/OPERATING.md.
 """
 
 import contextlib
@@ -28,9 +29,9 @@ from urllib.parse import quote
 
 import members
 import versions
-from members import PATIENCE, TOP, Member, eventually, free_ports, parted, received, run
+from members import ALL_LINES, PATIENCE, STRANGER, TOLD_OF_STRANGER, TOP, Member, eventually, free_ports, parted, received, run
 from tally import check, compare, finish, give_up, try_each
-from wire import EMPTY_PUSH, PULL, PUSH, TICK, delimited, delta, field, frame, greeting, number_at, varint
+from wire import EMPTY_PUSH, PULL, PUSH, TICK, delimited, delta, field, frame, greeting, items, number_at, varint
 
 # Words in front of a member's that have it see SIGTERM and SIGINT.
 BLOCKED = ["env", "--block-signal=TERM", "--block-signal=INT"]
@@ -326,6 +327,73 @@ def test_clock(folder):
     compare("which has the clock's moment", (again.stop(), again.lines[1:]), (0, []))
 
 
+# ---- logs
+
+# The name that stands for the disk among the members of one that keeps logs.
+DISK = "\U0010ffff" * 8
+
+NOT_KEPT = (500, b'"held, but not kept on disk"')
+
+
+class Logging(Stoppable):
+    """A member that keeps logs, and that a limit of its files doesn't end."""
+
+    def command(self):
+        return ["env", "--ignore-signal=XFSZ", *super().command()]
+
+    def limit_files(self, size):
+        resource.prlimit(self.process.pid, resource.RLIMIT_FSIZE, (size, resource.RLIM_INFINITY))
+
+    def comments(self):
+        return sorted(it["comment"] for it in self.listed())
+
+
+def test_log(folder):
+    """What is answered 200 by a member with --log is there behind a kill; a log is read without --log, too, and goes then."""
+    member = begun(Logging("a", *free_ports(1), [], folder, ["--log"]))
+    for value in "x", "y":
+        compare("a post", post(member, value)[0], 200)
+    compare("a kill", member.kill(), -signal.SIGKILL)
+    check("no file is there", bytes_of(member.sil) is None, bytes_of(member.sil))
+    begun(member)
+    compare("what it holds", member.comments(), ["x", "y"])
+    compare("nothing is told", member.lines[1:], [])
+    member.send(greeting(DISK) + TICK)
+    compare("nobody is the disk", eventually(lambda: member.lines[1:], 10), ["am_tool: UnknownName"])
+    member.kill()
+    with open(f"{member.sil}.log", "ab") as file:
+        file.write(b"what was being written")
+    begun(member)
+    compare("what was being written is told", eventually(lambda: member.lines[1:], 10), ["am_tool: Silences Torn 22"])
+    compare("and nothing else is lost", member.comments(), ["x", "y"])
+    member.kill()
+    other = begun(Stoppable("a", *free_ports(1), [], folder))
+    compare("without --log", sorted(it["comment"] for it in other.listed()), ["x", "y"])
+    compare("a stop", other.stop(), 0)
+    check("the log is gone", bytes_of(f"{member.sil}.log") is None, os.listdir(folder))
+    compare("the file has it", run(["show", "--state", "sil"], input=bytes_of(member.sil))[1].count(b"active"), 2)
+
+
+def test_full_log(folder):
+    """Where a log takes no more, that is told, and nothing is answered 200 before all is in the file."""
+    member = begun(Logging("b", *free_ports(1), [], folder, ["--log"]))
+    compare("a post", post(member, "x")[0], 200)
+    member.limit_files(1)
+    compare("a post that isn't kept", post(member, "y"), NOT_KEPT)
+    compare("it is held", member.comments(), ["x", "y"])
+    check("and told", eventually(lambda: "am_tool: Silences File FileTooLarge" in member.lines, 10), member.lines)
+    compare("nor is the next one", post(member, "z"), NOT_KEPT)
+    member.limit_files(resource.RLIM_INFINITY)
+    kept = eventually(lambda: post(member, "w")[0] == 200, 10)
+    check("later ones are", kept, member.lines)
+    comments = member.comments()
+    member.kill()
+    begun(member)
+    compare("and with them all that are held", member.comments(), comments)
+    check("which are these", {"x", "y", "z", "w"} <= {*comments}, comments)
+    compare("a stop", member.stop(), 0)
+
+
 # ---- lines
 
 
@@ -346,7 +414,45 @@ def test_lines(folder):
         compare(f"all of them, with {options}", printed + left_out, count)
         check("so many are printed", most <= printed <= most * seconds, (printed, most, seconds))
         check("the other kind is told", "am_tool: Frame Kind" in member.lines, member.lines[-3:])
+        timed = [line for line in member.whole_lines if re.fullmatch(r".* more like UnknownName \(\d{4}-\S+T\S+Z\)", line)]
+        compare("a count has its time", len(timed), sum(" more like " in line for line in member.lines))
         check("or all", most < count or left_out == 0, left_out)
+
+
+class Unread(Stoppable):
+    """A member whose standard error nobody reads behind its first line, until somebody does."""
+
+    def __init__(self, *words, **how):
+        self.is_read = threading.Event()
+        super().__init__(*words, pipesize=4096, **how)
+
+    def read(self):
+        for line in self.process.stderr:
+            self.lines.append(line.decode("utf-8", "backslashreplace").rstrip("\n"))
+            self.has_begun.set()
+            self.is_read.wait()
+        self.has_begun.set()
+
+
+def test_full_pipe(folder):
+    """A pipe of standard error that is full costs lines, which are counted, and holds nobody up."""
+    count = 1500
+    lost = re.compile(r"am_tool: Lines Lost (\d+)(: .*)?")
+    member = begun(Unread("z", *free_ports(1), [], folder, ALL_LINES))
+    start = time.monotonic()
+    for _ in range(count):
+        member.send(greeting(STRANGER))
+    compare("a request beside it", member.ask("GET", "/api/v2/silences")[0], 200)
+    check("nobody waits", time.monotonic() - start < PATIENCE / 2, time.monotonic() - start)
+    member.is_read.set()
+    check("there is room again", eventually(lambda: any(map(lost.fullmatch, member.lines)), 20), member.lines[-3:])
+    member.send(greeting(STRANGER))
+    compare("a stop", member.stop(), 0)
+    printed = sum(line.startswith(TOLD_OF_STRANGER) for line in member.lines)
+    left_out = sum(int(it[1]) for it in map(lost.fullmatch, member.lines) if it)
+    compare("each is told, or counted", printed + left_out, count + 1)
+    check("some are not told", left_out > 0, printed)
+    check("lines are whole", all(line.startswith("am_tool: ") for line in member.lines), member.lines[-3:])
 
 
 # ---- who asks
@@ -395,6 +501,7 @@ def test_foreign(folder):
     compare("a page that posts", asks(member, page, "POST /api/v2/silences", body), FOREIGN_HOST)
     compare("in pieces", asks(member, page, "POST /api/v2/silences", body, 40), FOREIGN_HOST)
     compare("a path that names nothing", asks(member, page, "GET /nowhere"), FOREIGN_HOST)
+    compare("HEAD, which no body is told", asks(member, page, "HEAD /api/v2/silences"), (403, b""))
     compare("a body without a length", asks(member, [*page, "Transfer-Encoding: chunked"]), FOREIGN_HOST)
     compare("nothing was posted", member.listed(), [])
     compare("the end", (member.stop(), member.lines[1:]), (0, []))
@@ -712,6 +819,128 @@ def test_patterns(folder):
     compare("a stop", (member.stop(), member.lines[1:]), (0, []))
 
 
+# ---- states that are large
+
+
+FULL = (500, b'"state too large"')
+
+
+def put(member, value):
+    """What comes of a post that has 1,000 bytes to say."""
+    return member.ask("POST", "/api/v2/silences", body_saying(value))
+
+
+def body_saying(value):
+    return json.dumps({**silence(value, time.time()), "comment": value.ljust(1000, ".")}).encode()
+
+
+def ids(member):
+    return [it["id"] for it in member.listed() or []]
+
+
+def filled(member):
+    """How many posts a member takes until it has no room for one, also where it counts anew."""
+    count, is_full = 0, False
+    while not is_full:
+        while put(member, f"v{count}")[0] == 200:
+            count += 1
+        time.sleep(1.1)
+        is_full = put(member, f"v{count}") == FULL
+        count += not is_full
+    return count
+
+
+def again(member, folder, most):
+    """The same member, started anew with another limit."""
+    return alone(member.name, folder, ["--most-bytes", str(most)])
+
+
+def test_full(folder):
+    """A member whose state is full refuses posts, and goes on with all else; what it has acknowledged is saved."""
+    most = 20_000
+    member = alone("f", folder, ["--most-bytes", str(most)])
+    count = filled(member)
+    check("some posts are taken", 12 <= count <= 18, count)
+    compare("and then none", [put(member, "late") for _ in range(3)], [FULL] * 3)
+    for body in b"no JSON", with_patterns([heavy(0)]):
+        compare("whatever the body", member.ask("POST", "/api/v2/silences", body.ljust(1500)), FULL)
+    compare("a post to another path", member.ask("POST", "/nowhere", b"")[0], 404)
+    held = ids(member)
+    compare("what is listed", len(held), count)
+    compare("one of them", member.ask("GET", f"/api/v2/silence/{held[0]}")[0], 200)
+    compare("each is ended", {member.ask("DELETE", f"/api/v2/silence/{it}")[0] for it in held}, {200})
+    compare("the stop", (member.stop(), member.lines[1:]), (0, []))
+    saved = bytes_of(member.sil)
+    check("the file is no longer than it may be", len(saved) <= most, len(saved))
+    compare("all are in the file", len(list(items(saved))), count)
+    for less in len(saved) - 1, 1:
+        options = [*words(member.sil, member.nfl, *free_ports(1)), "--most-bytes", str(less)]
+        compare(f"a start with {less}", run(options), refused("Silences TooLarge", 1))
+    member = again(member, folder, len(saved))
+    compare("a start with just as many", ids(member), held)
+    compare("where no post fits", put(member, "more"), FULL)
+    compare("the stop", (member.stop(), bytes_of(member.sil)), (0, saved))
+    wanted = len(saved) + len(body_saying("more")) + 512 + 64 * (count + 1)
+    for limit, reply in (wanted - 1, FULL[0]), (wanted, 200):
+        member = again(member, folder, limit)
+        compare(f"a post with room of {limit - wanted}", put(member, "more")[0], reply)
+        compare("the stop", member.stop(), 0)
+
+
+def test_room_again(folder):
+    """There is room again once what has expired is dropped."""
+    member = alone("g", folder, ["--most-bytes", "8000", "--retention", "1", "--tick-every", "1"])
+    check("posts fill it", 3 <= filled(member) <= 7, ids(member))
+    for it in ids(member):
+        compare("an end", member.ask("DELETE", f"/api/v2/silence/{it}")[0], 200)
+    check("a post is taken", eventually(lambda: put(member, "y")[0] == 200, 20))
+    compare("the stop", (member.stop(), member.lines[1:]), (0, []))
+
+
+def test_frames_of_full(folder):
+    """What peers send is taken, also past the limit. That isn't saved then, which is told."""
+    member = with_peer("h", folder, ["--most-bytes", "2000"])
+    before = bytes_of(member.sil)
+    row = delimited(version("x" * 1500)) + delimited(version("y" * 1500))
+    compare("a Push of more", member.send(greeting("p") + frame(PUSH, part("sil", row))), b"")
+    check("is taken", eventually(lambda: len(ids(member)) == 2, 10))
+    compare("a post then", put(member, "z"), FULL)
+    compare("the stop", (member.stop(), faults(member)), (3, ["am_tool: Silences TooLarge"]))
+    compare("the file is as it was", bytes_of(member.sil), before)
+
+
+def large_row():
+    """A row of over 64 MiB: 70 silences that say 1 MiB each."""
+    now = int(time.time())
+    times = f"{now}..{now + 7200} updated {now} expires {now + 9000}"
+    say = lambda key: versions.silence(f"{key} job=x {times} by me saying {key.ljust(1 << 20, '.')}")
+    return b"".join(delimited(say(f"k{number}")) for number in range(10, 80))
+
+
+def test_large(folder):
+    """A member loads, lists and saves over 64 MiB, and hands it to a peer; fold and show refuse that."""
+    data = large_row()
+    check("it is over 64 MiB", len(data) > 67_108_864, len(data))
+    for command in ("fold", "show"):
+        compare(f"{command} of it", run([command, "--state", "sil", "--now", "0"], input=data), refused("TooLarge", 1))
+    write(f"{folder}/a.sil", data)
+    first, second = free_ports(2)
+    options = ["--time-limit", "60"]
+    member = begun(Stoppable("a", first, [("b", second)], folder, options))
+    peer = begun(Stoppable("b", second, [("a", first)], folder, [*options, "--pull-first", "--pull-first-limit", "60"]))
+    for each in (member, peer):
+        listed = each.listed() or []
+        compare(f"the silences of {each.name}", [it["id"] for it in listed], [f"k{number}" for number in range(10, 80)])
+        compare("what they say", {len(it["comment"]) for it in listed}, {1 << 20})
+    for each in (peer, member):
+        compare(f"the stop of {each.name}", each.stop(), 0)
+        check("its file is whole", bytes_of(each.sil) == data)
+    member = alone("a", folder, options)
+    compare("they are loaded again", (len(ids(member)), member.stop(), bytes_of(member.sil) == data), (70, 0, True))
+    options = [*words(member.sil, member.nfl, *free_ports(1)), "--most-bytes", "67108864"]
+    compare("64 MiB are too few for it", run(options), refused("Silences TooLarge", 1))
+
+
 def compiled(folder):
     """The library between a member and the C library."""
     path = f"{folder}/system.so"
@@ -737,7 +966,10 @@ def main():
             test_stop_of_wait,
             test_time_of_wait,
             test_clock,
+            test_log,
+            test_full_log,
             test_lines,
+            test_full_pipe,
             test_foreign,
             test_hosts,
             test_pushes,
@@ -748,6 +980,10 @@ def main():
             test_silent_beside_wait,
             test_unfinished,
             test_patterns,
+            test_full,
+            test_room_again,
+            test_frames_of_full,
+            test_large,
         ]
         try_each(tests, folder)
     finish("edges")

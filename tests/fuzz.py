@@ -179,6 +179,9 @@ def some_row(draw, state):
 
 # ---- the program
 
+# What is said of a moment that is before what was read, and before the year 2000.
+EARLY = re.compile(r"\Aam_tool: warning: --now is [0-9TZ:.-]+, before what was read; [ -~]+\n\Z")
+
 
 def fault_of_row(words, given):
     """What is wrong in how a row is answered, or None."""
@@ -186,7 +189,8 @@ def fault_of_row(words, given):
     if status == 1:
         told = ROW_FAULT.fullmatch(error) and not (words[0] == "fold" and "DuplicateKey" in error)
         return None if told and not output else f"{words}: {status}, {output!r}, {error!r}"
-    if status != 0 or error:
+    said = EARLY.sub("", error) if words[0] == "show" else error
+    if status != 0 or said:
         return f"{words}: {status}, {output[:200]!r}, {error!r}"
     if words[0] == "show":
         wrong = [line for line in output.split(b"\n")[:-1] if not SHOWN.fullmatch(line)]
@@ -195,7 +199,7 @@ def fault_of_row(words, given):
     if again != (0, output, ""):
         return f"{words}, folded again: {again[0]}, {again[1][:200]!r}, {again[2]!r}"
     shown = run(["show", *words[1:]], input=output)
-    return None if shown[0] == 0 and not shown[2] else f"what was folded is not shown: {shown}"
+    return None if shown[0] == 0 and not EARLY.sub("", shown[2]) else f"what was folded is not shown: {shown}"
 
 
 def test_row(seed):
@@ -348,7 +352,7 @@ def some_request(draw):
         head = b"GET " + target
     elif kind == 3:
         target = b"/api/v2/silence/" + draw.choice([b"a", b"%2F", b"", b"a/b", b"?", b"a" * 15_000, b"\xc3\xbc", b"../silences"])
-        head = draw.choice([b"GET ", b"DELETE ", b"PUT "]) + target
+        head = draw.choice([b"GET ", b"DELETE ", b"PUT ", b"HEAD "]) + target
     else:
         body = some_json(draw)
         head = draw.choice([b"POST", b"POST", b"POST", b"GET", b"PUT"]) + b" /api/v2/silences"
@@ -409,9 +413,10 @@ def fault_after(member, data, reply):
         return f"the member ended with {member.process.returncode}"
     if reply:
         head = REPLY.match(reply)
-        if head is None or len(reply) - head.end() != int(head[2]) or data[0] < 0x20:
+        body = reply[head.end() :] if head else b""
+        has_length = head and (len(body) == int(head[2]) or data.startswith(b"HEAD ") and not body)
+        if not has_length or data[0] < 0x20:
             return f"the reply {reply[:300]!r}"
-        body = reply[head.end() :]
         try:
             if body:
                 json.loads(body)

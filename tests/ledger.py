@@ -68,6 +68,9 @@ class Operation:
             return False
         if self.kind == "end":
             return version.ends == version.updated
+        if self.kind == "update" and self.ended is None and version.ends == version.updated:
+            # nobody was told whether it ended the one that it was to update, and made another
+            return True
         return (version.comment, version.ends) == (self.comment, self.ends)
 
     def stands_in(self, versions):

@@ -24,7 +24,7 @@ from versions import row
 # The moment of each comparison, in nanoseconds.
 NOW = "50000000000"
 
-REQUEST = "GET /api/v2/silences HTTP/1.0\r\nHost: {}\r\nAccept: application/json\r\nConnection: close\r\n\r\n"
+REQUEST = "GET {1}/api/v2/silences HTTP/1.0\r\nHost: {0}\r\nAccept: application/json\r\nConnection: close\r\n\r\n"
 
 
 def gettable(name, ends="1970-01-01T00:01:40.000Z", updated="1970-01-01T00:00:10.000Z", **others):
@@ -72,7 +72,7 @@ def test_lists(folder):
     one, none = Server(reply_of(json.dumps([gettable("a")]))), Server(reply_of("[]"))
     told = "sil a greatest a active 1970-01-01T00:00:10.000Z 1970-01-01T00:01:40.000Z\nsil a missing b\n"
     compare("one has it", differ(f"a=http://{one.host}", f"b=http://{none.host}/"), (5, told, ""))
-    compare("what is asked", one.asked, [REQUEST.format(one.host)])
+    compare("what is asked", one.asked, [REQUEST.format(one.host, "")])
     same = Server(reply_of(json.dumps([gettable("a", unknown=1)])))
     compare("both have it", differ(f"a=http://{one.host}", f"b=http://{same.host}"), (0, "", ""))
     path = f"{folder}/row"
@@ -80,13 +80,35 @@ def test_lists(folder):
         file.write(row("sil", "a job=x 10..100.0009 updated 10.0007 expires 200 by me saying c"))
     compare("a file, cut to milliseconds", differ(f"a=http://{one.host}", f"f={path}"), (0, "", ""))
     later = Server(reply_of(json.dumps([gettable("a", ends="1970-01-01T00:00:40.000Z", updated="1970-01-01T00:00:40.000Z")])))
-    told = "sil a greatest b gone 1970-01-01T00:00:40.000Z 1970-01-01T00:00:40.000Z\n"
-    told += "sil a behind f active 1970-01-01T00:00:10.000Z 1970-01-01T00:01:40.000Z by update\n"
-    compare("ended at one", differ(f"f={path}", f"b=http://{later.host}"), (5, told, ""))
+    ended = "sil a greatest b expired 1970-01-01T00:00:40.000Z 1970-01-01T00:00:40.000Z\n"
+    behind = "sil a behind f active 1970-01-01T00:00:10.000Z 1970-01-01T00:01:40.000Z by update\n"
+    compare("ended at one", differ(f"f={path}", f"b=http://{later.host}"), (5, ended + behind, ""))
+    more = "  matchers job=x\n  author me\n  comment c\n"
+    changes = "  changed ends 1970-01-01T00:01:40.000Z to 1970-01-01T00:00:40.000Z\n"
+    changes += "  changed updated 1970-01-01T00:00:10.000Z to 1970-01-01T00:00:40.000Z\n"
+    told = ended + more + behind + more + changes
+    compare("in long lines", differ(f"f={path}", f"b=http://{later.host}", words=["--long"]), (5, told, ""))
     compare("ended, and unknown at the other", differ(f"a=http://{later.host}", f"b=http://{none.host}"), (0, "", ""))
     status, output, _ = differ(f"a=http://{one.host}", f"b=http://{none.host}", words=["--json"])
     groups = [{"sources": ["a"], "relation": "greatest", "silence": gettable("a")}, {"sources": ["b"], "relation": "missing"}]
     compare("in JSON", (status, json.loads(output)), (5, [{"key": {"id": "a"}, "groups": groups}]))
+
+
+def test_paths():
+    """A server's API may stand below a path."""
+    for word, path in (("/alertmanager", "/alertmanager"), ("/a/b%20c/", "/a/b%20c"), ("/", ""), ("", "")):
+        one, other = Server(reply_of("[]")), Server(reply_of("[]"))
+        found = differ(f"a=http://{one.host}{word}", f"b=http://{other.host}")
+        compare(f"a server with the path {word!r}", (found, one.asked), ((0, "", ""), [REQUEST.format(one.host, path)]))
+
+
+def test_early():
+    """A moment that may have been meant in seconds is told where a server shows what is later."""
+    one, none = Server(reply_of(json.dumps([gettable("a")]))), Server(reply_of("[]"))
+    status, output, error = run(["diff", "--state", "sil", "--now", "9", f"a=http://{one.host}", f"b=http://{none.host}"])
+    lines = ["sil a greatest a pending 1970-01-01T00:00:10.000Z 1970-01-01T00:01:40.000Z", "sil a missing b"]
+    start = "am_tool: warning: --now is 1970-01-01T00:00:00.000Z, before what was read; "
+    compare("an early moment", (status, output.decode().splitlines(), error[: len(start)]), (5, lines, start))
 
 
 def test_faults():
@@ -123,8 +145,8 @@ def test_member(folder):
     body = json.dumps(silence_of_job("live")).encode()
     member.send(f"POST /api/v2/silences HTTP/1.1\r\ncontent-length: {len(body)}\r\n\r\n".encode() + body)
     (shown,) = member.listed()
-    status, output, error = differ(f"m=http://localhost:{port}", f"none={os.devnull}")
-    lines = [line.split(" ")[:4] for line in output.splitlines()]
+    status, output, error = run(["diff", "--state", "sil", f"m=http://localhost:{port}", f"none={os.devnull}"])
+    lines = [line.split(" ")[:4] for line in output.decode().splitlines()]
     compare("a member", (status, lines, error), (5, [["sil", shown["id"], "greatest", "m"], ["sil", shown["id"], "missing", "none"]], ""))
     member.kill()
 
@@ -133,6 +155,8 @@ def main():
     members.choose("live sources", sys.argv[1:])
     with tempfile.TemporaryDirectory() as folder:
         test_lists(folder)
+        test_paths()
+        test_early()
         test_faults()
         test_member(folder)
     finish("live sources")

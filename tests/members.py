@@ -9,6 +9,7 @@ import subprocess
 import threading
 import time
 
+from lines import words_in, words_of
 from tally import give_up
 from wire import greeting
 
@@ -44,8 +45,14 @@ def must_be_there(title, path):
 
 
 def outcome(command, **how):
-    """A command's status, output and error: the status is 'no end' where it does not end in time, and the others are None
-    where they do not go to a pipe."""
+    """A command's status, output and error, of faults the words: the status is 'no end' where it does not end in time, and the
+    others are None where they do not go to a pipe."""
+    status, output, error = whole_outcome(command, **how)
+    return status, output, None if error is None else words_in(error)
+
+
+def whole_outcome(command, **how):
+    """A command's status, output and error, as it stands."""
     if "input" not in how:
         how.setdefault("stdin", subprocess.DEVNULL)
     how = {"stdout": subprocess.PIPE, "stderr": subprocess.PIPE, "timeout": PATIENCE, **how}
@@ -118,7 +125,8 @@ def parted(reply):
 
 
 class Member:
-    """A process that runs a member, and the lines that it has printed on standard error."""
+    """A process that runs a member, and the lines that it has printed on standard error: as they stand, and of faults the
+    words."""
 
     def __init__(self, name, port, peers, folder, options=(), **how):
         self.name, self.port, self.how = name, port, how
@@ -133,7 +141,7 @@ class Member:
 
     def start(self):
         """Starts it, and waits until it has printed a line or has ended; whether it listens."""
-        self.lines, self.has_begun = [], threading.Event()
+        self.lines, self.whole_lines, self.has_begun = [], [], threading.Event()
         streams = {"stdin": subprocess.DEVNULL, "stdout": subprocess.PIPE, "stderr": subprocess.PIPE}
         self.process = subprocess.Popen(self.command(), **streams, **self.how)
         self.reader = threading.Thread(target=self.read, daemon=True)
@@ -142,8 +150,12 @@ class Member:
         return bool(self.lines) and " listens on " in self.lines[0]
 
     def read(self):
+        runs = False
         for line in self.process.stderr:
-            self.lines.append(line.decode("utf-8", "backslashreplace").rstrip("\n"))
+            line = line.decode("utf-8", "backslashreplace").rstrip("\n")
+            runs |= " listens on " in line
+            self.whole_lines.append(line)
+            self.lines.append(words_of(line, runs))
             self.has_begun.set()
         self.has_begun.set()
 

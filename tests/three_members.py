@@ -9,9 +9,11 @@ killed and started again from its files. Then each thing that may go wrong is br
 fails, and at the end how many passed. What is wanted is written by hand, from docs/FORMATS.md and docs/OPERATING.md.
 """
 
+import calendar
 import json
 import os
 import random
+import re
 import resource
 import shutil
 import signal
@@ -147,6 +149,9 @@ def test_three_members(folder):
     a.post(silence("meanwhile"))
     unreachable = f"am_tool: Connect ConnectionRefused {b.port}"
     check("a says that b is not there", a.told(unreachable), a.lines)
+    line = a.whole_lines[a.lines.index(unreachable)]
+    told = re.fullmatch(rf"{unreachable}: nothing listens there \(peer b, (\S+)\)", line)
+    check("by its name, and when", told and abs(seconds_of(told[1]) - time.time()) < PATIENCE, line)
     b.start()
     loaded = f"am_tool: b listens on 127.0.0.1:{b.port}, peers a={a.port} c={c.port}; loaded 3 silences, 1 entries"
     compare("b starts from its files", b.lines[:1], [loaded])
@@ -159,6 +164,11 @@ def test_three_members(folder):
     for member in three:
         compare(f"{member.name} runs", member.process.poll(), None)
         member.kill()
+
+
+def seconds_of(text):
+    """The time since 1970 of a moment to the second."""
+    return calendar.timegm(time.strptime(text, "%Y-%m-%dT%H:%M:%SZ"))
 
 
 def tick_saves(member, state, printed):
@@ -263,6 +273,12 @@ def test_clients(folder):
         check(f"{line} is told", eventually(lambda: len(member.lines) > told), member.lines)
         compare(f"as {line}", member.lines[told:], [f"am_tool: {line}"])
         told = len(member.lines)
+    wholes = "".join(f"{line}\n" for line in member.whole_lines)
+    when = r"\d{4}-\d\d-\d\dT\d\d:\d\d:\d\dZ"
+    stranger = rf"am_tool: UnknownName: who greeted so is no peer of this member; --peer names those \({when}\)\n"
+    compare("a stranger has no name", len(re.findall(stranger, wholes)), 2)
+    cut = rf"am_tool: Frame Kind: no frame begins with this byte; did a peer send it\? \((.*?){when}\)\n"
+    compare("a peer has", re.findall(cut, wholes), ["", "peer p, "])
     compare("the Tick before a fault was a step", member.saved("sil"), (0, "", ""))
     compare("a frame that is cut", member.send(greeting("p") + b"\4"), b"")
     check("a client is served then too", well())

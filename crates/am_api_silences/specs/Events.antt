@@ -2,7 +2,7 @@
 use Rattle.std.specs.Prelude.{◌≡◌, ℕ, ◌⊎◌, List, Any, ⊤, Result, Ok, Err, string_bytes}
 use Rattle.serde_json.specs.Data.{Data}
 use Rattle.am_silence_json.specs.Posts.{IsPosted, IsFirstWrong, IsObjectText}
-use Rattle.am_http.specs.Lines.{line_seen, line_of}
+use Rattle.am_http.specs.Lines.{line_seen, line_of, told_to}
 use Rattle.am_http.specs.Paths.{IsCallOf}
 use Rattle.am_http.specs.Queries.{filter_texts_of}
 use Rattle.am_http.specs.declared.cause.Cause.{Cause}
@@ -52,8 +52,9 @@ IsRefusedFor request cause = IsCall request (Err cause)
 abbrev pub IsMeant : Request → ℕ → SilenceRequest → Type 0
 IsMeant request bits asked = (call : Call) × IsCall request (Ok call) × Asks call request.body.items bits asked
 
--- What a request means: the event that its call asks for, or the line of the first fault that stands.
+-- What a request means: the event that its call asks for, or the line of the first fault that stands, as its method is told it.
 abbrev pub IsEventOf : Request → ℕ → Result Event Refusal → Type 0
 IsEventOf request bits (Ok (events.Request asked)) = IsMeant request bits asked
 IsEventOf request bits (Ok _) = ⊥
-IsEventOf request bits (Err refusal) = (cause : Cause) × (line_seen refusal ≡ line_of cause) × IsRefusedFor request cause
+IsEventOf request bits (Err refusal) =
+    (cause : Cause) × (line_seen refusal ≡ told_to (string_bytes request.method) (line_of cause)) × IsRefusedFor request cause

@@ -1,5 +1,5 @@
 -- The bytes of replies (API v2, in HTTP/1.1 and JSON).
-use Rattle.std.specs.Prelude.{◌≡◌, ℕ, List, [], None, Result, Ok, Err}
+use Rattle.std.specs.Prelude.{◌≡◌, ℕ, List, [], length, None, Result, Ok, Err, if◌then◌else◌}
 use Rattle.std.specs.Borrow.{Bor}
 use Rattle.serde_json.specs.Data.{Data, array, string}
 use Rattle.serde_json.specs.View.{items_of}
@@ -8,7 +8,7 @@ use Rattle.am_silence.specs.Mesh.{Mesh}
 use Rattle.am_silence.specs.declared.state.State.{State}
 use Rattle.am_silence_json.specs.Gettables.{IsGettable, AreGettable, posted_data}
 use Rattle.am_http.specs.Lines.{RefusalLine, line_seen}
-use Rattle.am_http.specs.Replies.{reply_bytes}
+use Rattle.am_http.specs.Replies.{head_bytes, reply_bytes}
 use Rattle.am_http.specs.declared.refusal.Refusal.{Refusal}
 use Rattle.am_instance.specs.declared.reply.Reply.{Reply}
 use Rattle.am_instance.specs.declared.reply.Reply.TheVariants as replies
@@ -20,9 +20,11 @@ use Rattle.am_api_silences.specs.declared.replies.ReplyBytes.TheVariants.{Own, F
 abbrev pub good_bytes : List ℕ → List ℕ
 good_bytes body = reply_bytes 200 None body
 
--- the reply of a line of the table of statuses: its text as a string of JSON
+-- the reply of a line of the table of statuses: its text as a string of JSON, where it isn't told to HEAD
 abbrev pub line_bytes : RefusalLine → List ℕ
-line_bytes line = reply_bytes line.status line.allow (compact_text (string line.text))
+line_bytes line =
+    let body = compact_text (string line.text) in
+    if line.bare then head_bytes line.status line.allow (length body) else reply_bytes line.status line.allow body
 
 -- the bytes of the reply that lists these silences
 abbrev pub IsListReply : List (Mesh × State) → List ℕ → Type 0

@@ -98,6 +98,6 @@ pub fn event_by(
 {
     match asked(alloc, patterns, request, bits) {
         Ok(asked) => Ok(Event::Request(asked)),
-        Err(cause) => Err(cause.refusal()),
+        Err(cause) => Err(cause.refusal_to(&request.method)),
     }
 }

@@ -1,15 +1,17 @@
 //! The bytes of replies.
 
-ghost use Rattle.std.specs.Prelude.{◌≡◌, IfOk};
-ghost use Rattle.serde_json.specs.Data.{Data};
+ghost use Rattle.std.specs.Prelude.{◌≡◌, length, IfOk};
+ghost use Rattle.std.specs.Option.{option_copied};
+ghost use Rattle.serde_json.specs.Data.{Data, string};
 ghost use Rattle.serde_json.specs.Written.{compact_text};
 ghost use Rattle.am_silence_json.specs.Gettables.{IsGettable, posted_data};
 ghost use Rattle.am_http.specs.Lines.{line_seen};
+ghost use Rattle.am_http.specs.Replies.{head_bytes, reply_bytes};
 ghost use Rattle.am_api_silences.specs.Replies.{IsListReply, IsReplyBytes, IsSaid, Says, bytes_of, good_bytes};
 ghost use Rattle.am_api_silences.specs.Replies.{line_bytes, memory_bytes};
 
 use crate::table;
-use am_http::{Refusal, out_of_memory, reply};
+use am_http::{Refusal, bare_reply, out_of_memory, reply};
 use am_instance::Reply;
 use am_silence::{MeshSilence, State};
 use am_silence_json::{write_error, write_posted, write_silence, write_silences};
@@ -71,11 +73,33 @@ fn posted(alloc: Global, id: &str) -> Result<Vec<u8>, AllocError>
 }
 
 /// The reply with a line of the table of statuses.
-fn refused(alloc: Global, line: &Refusal) -> Result<Vec<u8>, AllocError>
-    ensures { IfOk result (λ bytes. bytes.items ≡ line_bytes (line_seen line.now)) }
+fn whole(alloc: Global, line: &Refusal) -> Result<Vec<u8>, AllocError>
+    ensures { IfOk result (λ bytes. bytes.items ≡ reply_bytes line.now.status (option_copied line.now.allow) (compact_text (string line.now.text.now))) }
 {
     let body = write_error(Vec::new(alloc), line.text)?;
     let bytes = reply(alloc, line.status, line.allow, &body)?;
+    Ok(bytes)
+}
+
+/// The head of the reply with a line of the table of statuses.
+fn bare(alloc: Global, line: &Refusal) -> Result<Vec<u8>, AllocError>
+    ensures { IfOk result (λ bytes. bytes.items
+        ≡ head_bytes line.now.status (option_copied line.now.allow) (length (compact_text (string line.now.text.now)))) }
+{
+    let body = write_error(Vec::new(alloc), line.text)?;
+    let bytes = bare_reply(alloc, line.status, line.allow, &body)?;
+    Ok(bytes)
+}
+
+/// What is replied with a line of the table of statuses.
+fn refused(alloc: Global, line: &Refusal) -> Result<Vec<u8>, AllocError>
+    ensures { IfOk result (λ bytes. bytes.items ≡ line_bytes (line_seen line.now)) }
+{
+    if line.is_bare {
+        let bytes = bare(alloc, line)?;
+        return Ok(bytes);
+    }
+    let bytes = whole(alloc, line)?;
     Ok(bytes)
 }
 

@@ -1,10 +1,11 @@
 -- What the fields of a head say of where a request comes from.
 use Rattle.std.proofs.Common.{◌≡◌, ℕ, Bool, true, false, List, length, take, map, sym, ap, ◌∙◌, inr}
-use Rattle.httparse.specs.Spans.{IsRequestWithin, IsRequestOf, header_bytes}
+use Rattle.httparse.specs.Spans.{IsRequestWithin, IsRequestOf, header_bytes, span_bytes}
 use Rattle.httparse.specs.declared.spans.HeaderSpan.{HeaderSpan}
 use Rattle.httparse.specs.declared.spans.RequestSpans.{RequestSpans}
 use Rattle.am_http.specs.Heads.{window, fields_of}
 use Rattle.am_http.specs.Hosts.{IsScreened, all_known}
+use Rattle.am_http.specs.Lines.{is_head}
 use Rattle.am_http.specs.declared.hosts.Foreign.{Foreign as Kind}
 use Rattle.am_http.specs.declared.hosts.Foreign.TheVariants.{Host, Origin}
 use Rattle.am_http.specs.declared.hosts.Screened.TheVariants.{Known, Foreign}
@@ -21,16 +22,24 @@ module _ (bytes front : List ℕ) (fields : List HeaderSpan) (spans : RequestSpa
       sym (is ∙ ap (λ (b : List ℕ). all_known what names (map (header_bytes b) (take spans.headers fields))) front_is
       ∙ ap (all_known what names) the_head.fields_are)
 
+  method_is : (method : List ℕ) → method ≡ span_bytes front spans.method → method ≡ the_head.head.method
+  method_is method is = is ∙ ap (λ (b : List ℕ). span_bytes b spans.method) front_is ∙ the_head.method
+
   pub foreign_host : (host : Bool) → host ≡ false → host ≡ all_known Host names (map (header_bytes front) (take spans.headers fields))
-      → IsScreened names bytes (Foreign Host)
-  foreign_host host wrong host_is = (the_head.head, the_head.has_head, known_in Host host host_is ∙ wrong)
+      → (method : List ℕ) (to_head : Bool) → method ≡ span_bytes front spans.method → to_head ≡ is_head method → IsScreened names bytes (Foreign Host to_head)
+  foreign_host host wrong host_is method to_head is head_is =
+      (the_head.head, the_head.has_head, known_in Host host host_is ∙ wrong, head_is ∙ ap is_head (method_is method is))
 
   pub foreign_origin : (host origin : Bool) → host ≡ true → origin ≡ false
       → host ≡ all_known Host names (map (header_bytes front) (take spans.headers fields))
       → origin ≡ all_known Origin names (map (header_bytes front) (take spans.headers fields))
-      → IsScreened names bytes (Foreign Origin)
-  foreign_origin host origin right wrong host_is origin_is =
-      (the_head.head, the_head.has_head, known_in Host host host_is ∙ right, known_in Origin origin origin_is ∙ wrong)
+      → (method : List ℕ) (to_head : Bool) → method ≡ span_bytes front spans.method → to_head ≡ is_head method → IsScreened names bytes (Foreign Origin to_head)
+  foreign_origin host origin right wrong host_is origin_is method to_head is head_is = (
+    the_head.head,
+    the_head.has_head,
+    (known_in Host host host_is ∙ right, known_in Origin origin origin_is ∙ wrong),
+    head_is ∙ ap is_head (method_is method is),
+  )
 
   pub nothing_foreign : (host origin : Bool) → host ≡ true → origin ≡ true
       → host ≡ all_known Host names (map (header_bytes front) (take spans.headers fields))

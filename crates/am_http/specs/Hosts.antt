@@ -9,7 +9,7 @@ use Rattle.am_http.specs.declared.hosts.Foreign.TheVariants as names_foreign
 use Rattle.am_http.specs.declared.hosts.Screened.{Screened}
 use Rattle.am_http.specs.declared.hosts.Screened.TheVariants.{Open, Known, Foreign as IsForeign}
 use Rattle.am_http.specs.Heads.{HasHead, HasBadHead, HasLargeHead, IsOpenHead, NamedValue, fields_of}
-use Rattle.am_http.specs.Lines.{RefusalLine, line}
+use Rattle.am_http.specs.Lines.{RefusalLine, is_head, line}
 
 -- texts, without where they lie in memory
 abbrev pub texts : List (Bor (List ℕ)) → List (List ℕ)
@@ -61,20 +61,23 @@ is_fine_field what names field = if str_eq_ignore_ascii_case field.0 (field_of w
 abbrev pub all_known : Foreign → List (List ℕ) → List NamedValue → Bool
 all_known what names fields = list_all (is_fine_field what names) fields
 
--- What the bytes that came of a request say of where it comes from: the first field that is foreign, hosts before origins; nothing
--- foreign is named in the head, or it is at fault; or it isn't whole.
+-- what a foreign request is answered (RFC 9110, section 15.5.4), by its head alone where it asks for no more
+abbrev pub line_of_foreign : Foreign → Bool → RefusalLine
+line_of_foreign names_foreign.Host bare = record (line 403 (codes "foreign host")) { bare = bare }
+line_of_foreign names_foreign.Origin bare = record (line 403 (codes "foreign origin")) { bare = bare }
+
+-- this is the first that is foreign of the fields of a head, hosts before origins
+abbrev pub IsFirstForeign : List (List ℕ) → RequestHead → Foreign → Type 0
+IsFirstForeign names head names_foreign.Host = all_known names_foreign.Host names (fields_of head) ≡ false
+IsFirstForeign names head names_foreign.Origin =
+    (all_known names_foreign.Host names (fields_of head) ≡ true) × (all_known names_foreign.Origin names (fields_of head) ≡ false)
+
+-- What the bytes that came of a request say of where it comes from: the first field that is foreign, and whether its method is HEAD;
+-- nothing foreign is named in the head, or it is at fault; or it isn't whole.
 abbrev pub IsScreened : List (List ℕ) → List ℕ → Screened → Type 0
 IsScreened names bytes Open = (length bytes < 16384) × IsOpenHead bytes
 IsScreened names bytes Known = (HasLargeHead bytes ⊎ HasBadHead bytes)
     ⊎ ((head : RequestHead) × HasHead bytes head × (all_known names_foreign.Host names (fields_of head) ≡ true)
     × (all_known names_foreign.Origin names (fields_of head) ≡ true))
-IsScreened names bytes (IsForeign names_foreign.Host) =
-    (head : RequestHead) × HasHead bytes head × (all_known names_foreign.Host names (fields_of head) ≡ false)
-IsScreened names bytes (IsForeign names_foreign.Origin) =
-    (head : RequestHead) × HasHead bytes head × (all_known names_foreign.Host names (fields_of head) ≡ true)
-    × (all_known names_foreign.Origin names (fields_of head) ≡ false)
-
--- what a foreign request is answered (RFC 9110, section 15.5.4)
-abbrev pub line_of_foreign : Foreign → RefusalLine
-line_of_foreign names_foreign.Host = line 403 (codes "foreign host")
-line_of_foreign names_foreign.Origin = line 403 (codes "foreign origin")
+IsScreened names bytes (IsForeign what to_head) =
+    (head : RequestHead) × HasHead bytes head × IsFirstForeign names head what × (to_head ≡ is_head head.method)

@@ -1,6 +1,7 @@
 -- The table of statuses: the line that each cause of a refusal has.
-use Rattle.std.specs.Prelude.{ℕ, List, Option, Some, None, codes}
+use Rattle.std.specs.Prelude.{ℕ, List, Bool, false, Option, Some, None, codes}
 use Rattle.std.specs.Option.{option_copied}
+use Rattle.std.specs.Str.{bytes_eq}
 use Rattle.am_silence_json.specs.declared.key.Key.{Key}
 use Rattle.am_silence_json.specs.declared.key.Key.TheVariants.{Id, Matchers, StartsAt, EndsAt, CreatedBy, Comment}
 use Rattle.am_http.specs.declared.cause.Cause.{Cause}
@@ -11,19 +12,33 @@ use Rattle.am_http.specs.declared.refusal.Refusal.{Refusal}
 use Rattle.am_http.specs.declared.cause.Resource.{Resource}
 use Rattle.am_http.specs.declared.cause.Resource.TheVariants.{Silences, Silence}
 
--- a status, what is said, and the methods that there are where another was asked for
+-- a status, what is said, the methods that there are where another was asked for, and whether the reply has its head alone
 pub record RefusalLine : Type 0 where
   pub status : ℕ
   pub text : List ℕ
   pub allow : Option (List ℕ)
+  pub bare : Bool
 
 -- a refusal's line, without where its texts lie in memory
 abbrev pub line_seen : Refusal → RefusalLine
-line_seen refusal = record { status = refusal.status; text = refusal.text.now; allow = option_copied refusal.allow }
+line_seen refusal = record {
+  status = refusal.status;
+  text = refusal.text.now;
+  allow = option_copied refusal.allow;
+  bare = refusal.is_bare;
+}
+
+-- the method is HEAD, to which a reply has its head alone (RFC 9110, section 9.3.2)
+abbrev pub is_head : List ℕ → Bool
+is_head method = bytes_eq method (codes "HEAD")
+
+-- a line as it is told to a request of this method
+abbrev pub told_to : List ℕ → RefusalLine → RefusalLine
+told_to method said = record said { bare = is_head method }
 
 -- a line without methods
 abbrev pub line : ℕ → List ℕ → RefusalLine
-line status text = record { status = status; text = text; allow = None }
+line status text = record { status = status; text = text; allow = None; bare = false }
 
 -- the methods of what a path names
 abbrev pub allowed_at : Resource → List ℕ
@@ -48,7 +63,8 @@ line_of BadContentLength = line 400 (codes "bad content-length")
 line_of BodyTooLarge = line 413 (codes "body too large")
 line_of EndedEarly = line 400 (codes "request ended early")
 line_of NoSuchPath = line 404 (codes "no such path")
-line_of (MethodNotAllowed resource) = record { status = 405; text = codes "method not allowed"; allow = Some (allowed_at resource) }
+line_of (MethodNotAllowed resource) =
+    record { status = 405; text = codes "method not allowed"; allow = Some (allowed_at resource); bare = false }
 line_of BadFilter = line 400 (codes "bad filter")
 line_of BadJson = line 400 (codes "bad JSON")
 line_of (BadSilence key) = line 400 (bad_key key)

@@ -2,7 +2,7 @@
 
 ghost use Rattle.std.specs.Prelude.{◌≡◌};
 ghost use Rattle.http.specs.StatusCode.{IsStatusCode};
-ghost use Rattle.am_http.specs.Lines.{allowed_at, bad_key, line, line_of, line_seen};
+ghost use Rattle.am_http.specs.Lines.{allowed_at, bad_key, is_head, line, line_of, line_seen, told_to};
 
 use crate::refusal::Refusal;
 use am_silence_json::Key;
@@ -45,6 +45,13 @@ pub enum Cause {
     Memory,
 }
 
+/// Whether a method is HEAD, to which a reply has its head alone.
+pub fn is_head(method: &[u8]) -> bool
+    ensures { result ≡ is_head method.now }
+{
+    method == b"HEAD".as_slice()
+}
+
 impl Refusal {
     /// The line with this status and text.
     pub const fn new(status: u16, text: &'static str) -> Refusal
@@ -55,6 +62,19 @@ impl Refusal {
             status,
             text,
             allow: None,
+            is_bare: false,
+        }
+    }
+
+    /// The same line, as it is told to a request of this method.
+    pub fn told_to(self, method: &[u8]) -> Refusal
+        ensures { line_seen result ≡ told_to method.now (line_seen self) }
+    {
+        Refusal {
+            status: self.status,
+            text: self.text,
+            allow: self.allow,
+            is_bare: is_head(method),
         }
     }
 }
@@ -102,12 +122,20 @@ impl Cause {
                 status: 405,
                 text: "method not allowed",
                 allow: Some(resource.allowed()),
+                is_bare: false,
             },
             Cause::BadFilter => Refusal::new(400, "bad filter"),
             Cause::BadJson => Refusal::new(400, "bad JSON"),
             Cause::BadSilence(key) => Refusal::new(400, bad_key(key)),
             Cause::Memory => Refusal::new(500, "out of memory"),
         }
+    }
+
+    /// That line, as it is told to a request of this method.
+    pub fn refusal_to(self, method: &str) -> Refusal
+        ensures { line_seen result ≡ told_to method.now (line_of self) }
+    {
+        self.refusal().told_to(method.as_bytes())
     }
 }
 

@@ -1,11 +1,12 @@
 //! The hosts that a server is asked under. A page of another site, open in a browser beside the server, asks under its own.
 
-ghost use Rattle.std.specs.Prelude.{◌≡◌, ◌≤◌, length, map, All};
+ghost use Rattle.std.specs.Prelude.{◌≡◌, ◌≤◌, false, length, map, All};
 ghost use Rattle.std.specs.Str.{str_eq_ignore_ascii_case};
 ghost use Rattle.httparse.specs.Spans.{IsHeaderWithin, header_bytes};
 ghost use Rattle.am_http.specs.Hosts.{IsScreened, all_known, behind_slash, field_of, host_name, is_fine, is_fine_field, is_known, is_one_of, length_before, line_of_foreign, texts};
-ghost use Rattle.am_http.specs.Lines.{line_seen};
+ghost use Rattle.am_http.specs.Lines.{line, line_seen};
 
+use crate::cause::is_head;
 use crate::head::{Head, MOST_FIELDS, read_head, window};
 use crate::refusal::Refusal;
 use httparse::spans::{EMPTY_HEADER_SPAN, HeaderSpan};
@@ -29,7 +30,11 @@ pub enum Screened {
     Open,
     /// The head names nothing foreign, or is at fault.
     Known,
-    Foreign(Foreign),
+    Foreign {
+        what: Foreign,
+        /// The method is HEAD.
+        to_head: bool,
+    },
 }
 
 impl Foreign {
@@ -43,13 +48,25 @@ impl Foreign {
         }
     }
 
-    /// The line of the table that the request is refused with.
-    pub const fn refusal(self) -> Refusal
-        ensures { line_seen result ≡ line_of_foreign self }
+    /// What is said of it.
+    const fn text(self) -> &'static str
+        ensures { line_of_foreign self false ≡ line 403 result.now }
     {
         match self {
-            Foreign::Host => Refusal::new(403, "foreign host"),
-            Foreign::Origin => Refusal::new(403, "foreign origin"),
+            Foreign::Host => "foreign host",
+            Foreign::Origin => "foreign origin",
+        }
+    }
+
+    /// The line of the table that the request is refused with, where its method is HEAD or not.
+    pub const fn refusal(self, to_head: bool) -> Refusal
+        ensures { line_seen result ≡ line_of_foreign self to_head }
+    {
+        Refusal {
+            status: 403,
+            text: self.text(),
+            allow: None,
+            is_bare: to_head,
         }
     }
 }
@@ -154,11 +171,14 @@ pub fn screen(bytes: &[u8], names: &[&str]) -> Screened
         Head::Whole(head) => head,
     };
     let fields = &fields[..head.headers];
+    let to_head = is_head(head.method.of(front));
     if !all_known(Foreign::Host, front, fields, names) {
-        return Screened::Foreign(Foreign::Host);
+        let what = Foreign::Host;
+        return Screened::Foreign { what, to_head };
     }
     if !all_known(Foreign::Origin, front, fields, names) {
-        return Screened::Foreign(Foreign::Origin);
+        let what = Foreign::Origin;
+        return Screened::Foreign { what, to_head };
     }
     Screened::Known
 }

@@ -19,6 +19,6 @@ pub use cause::{Cause, Resource};
 pub use filters::filter_texts;
 pub use hosts::{Foreign, Screened, screen};
 pub use refusal::Refusal;
-pub use replies::{out_of_memory, reply};
+pub use replies::{bare_reply, out_of_memory, reply};
 pub use request::{Read, Request, read_request};
 pub use routes::{Call, call_of};

@@ -10,5 +10,7 @@ pub struct Refusal {
     pub text: &'static str,
     /// The methods that the path has, where another was asked for.
     pub allow: Option<&'static str>,
+    /// The reply has its head alone.
+    pub is_bare: bool,
     pub ghost is_status: { IsStatusCode status },
 }

@@ -60,6 +60,26 @@ pub fn reply(
     Ok(bytes)
 }
 
+/// The bytes of a reply to HEAD, which has the head alone of the reply with this JSON body.
+///
+/// # Errors
+///
+/// [`AllocError`] where memory ran out.
+pub fn bare_reply(
+    alloc: Global,
+    status: u16,
+    allow: Option<&str>,
+    body: &[u8],
+) -> Result<Vec<u8>, AllocError>
+    requires { IsStatusCode status }
+    ensures { IfOk result (λ v. v.items ≡ head_bytes status (option_copied allow.entry) (length body.now)) }
+{
+    let head = head(alloc, status, allow, body.len())?;
+    let mut bytes = Vec::with_capacity(alloc, head.len())?;
+    bytes.extend_from_slice(head.as_bytes())?;
+    Ok(bytes)
+}
+
 /// The reply 500 `out of memory`, which takes no memory.
 pub const fn out_of_memory() -> &'static [u8]
     ensures { result.now ≡ reply_bytes 500 None (codes "\"out of memory\"") }

@@ -11,17 +11,19 @@ use std::io::{ErrorKind, Read};
 /// The most bytes of a reply: a head, and a list of 67,108,864 bytes.
 pub const MOST_REPLY_BYTES: usize = 67_125_248;
 
-/// The request for all silences, of a server at this host and port. It is of HTTP/1.0 (RFC 1945), so that no reply comes in
-/// chunks, and the server closes the connection behind its reply.
+/// The request for all silences, of a server at this host and port whose API stands below this path. It is of HTTP/1.0 (RFC
+/// 1945), so that no reply comes in chunks, and the server closes the connection behind its reply.
 ///
 /// # Errors
 ///
 /// [`AllocError`] where memory runs out.
-pub fn request_text(alloc: Global, host: &str) -> Result<Vec<u8>, AllocError>
-    ensures { IfOk result (λ text. text.items ≡ request_text host.now) }
+pub fn request_text(alloc: Global, host: &str, path: &str) -> Result<Vec<u8>, AllocError>
+    ensures { IfOk result (λ text. text.items ≡ request_text host.now path.now) }
 {
     let mut text = Vec::new(alloc);
-    text.extend_from_slice(b"GET /api/v2/silences HTTP/1.0\r\nHost: ")?;
+    text.extend_from_slice(b"GET ")?;
+    text.extend_from_slice(path.as_bytes())?;
+    text.extend_from_slice(b"/api/v2/silences HTTP/1.0\r\nHost: ")?;
     text.extend_from_slice(host.as_bytes())?;
     text.extend_from_slice(b"\r\nAccept: application/json\r\nConnection: close\r\n\r\n")?;
     Ok(text)

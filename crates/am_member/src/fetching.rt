@@ -10,10 +10,12 @@ use std::net::{Ipv4Addr, Ipv6Addr, Net, SocketAddr, TcpStream};
 use std::rt::Clock;
 use std::time::{Duration, Instant};
 
-/// A server: its host and port as they are written, and where it listens.
+/// A server: its host and port as they are written, the path below which its API stands, and where it listens.
 #[derive(Clone, Copy, Debug)]
 pub struct Server<'a> {
     pub host: &'a str,
+    /// It begins with a slash and doesn't end with one, or is empty.
+    pub path: &'a str,
     pub address: SocketAddr,
     /// Where it is looked for if nothing listens there.
     pub other: Option<SocketAddr>,
@@ -22,13 +24,37 @@ pub struct Server<'a> {
 /// The host that is this machine.
 const LOCALHOST: &str = "localhost";
 
-/// The server at an address with its port: of IPv4, of IPv6 in brackets, or `localhost`, which is 127.0.0.1, or else `[::1]`.
-pub fn server_of(host: &str) -> Option<Server<'_>> {
+/// A byte that may stand in the path of a URL (RFC 3986, section 3.3, and what browsers let pass beside it).
+fn is_of_path(byte: &u8) -> bool {
+    matches!(*byte, b'!'..=b'~') && !matches!(*byte, b'?' | b'#')
+}
+
+/// The host of a server with its port, and the path below which its API stands, without a slash at its end.
+fn cut_at_path(place: &str) -> (&str, &str) {
+    let count = place
+        .as_bytes()
+        .iter()
+        .take_while(|byte| **byte != b'/')
+        .count();
+    match (place.get(..count), place.get(count..)) {
+        (Some(host), Some(path)) => (host, path.strip_suffix("/").unwrap_or(path)),
+        _ => (place, ""),
+    }
+}
+
+/// The server at an address with its port: of IPv4, of IPv6 in brackets, or `localhost`, which is 127.0.0.1, or else `[::1]`;
+/// perhaps with a path behind it.
+pub fn server_of(place: &str) -> Option<Server<'_>> {
+    let (host, path) = cut_at_path(place);
+    if !path.as_bytes().iter().all(|byte| is_of_path(byte)) {
+        return None;
+    }
     if let Some((name, digits)) = host.rsplit_once(':') {
         if name == LOCALHOST {
             let port = crate::peer::port_of(digits)?;
             return Some(Server {
                 host,
+                path,
                 address: SocketAddr::from((Ipv4Addr::LOCALHOST, port)),
                 other: Some(SocketAddr::from((Ipv6Addr::LOCALHOST, port))),
             });
@@ -37,6 +63,7 @@ pub fn server_of(host: &str) -> Option<Server<'_>> {
     match host.parse::<SocketAddr>() {
         Ok(address) => Some(Server {
             host,
+            path,
             address,
             other: None,
         }),
@@ -57,7 +84,7 @@ pub fn fetch<R: Net<Stream = TcpStream> + Clock>(
 ) -> Result<Vec<u8>, ServerFault> {
     let end = end_after(rt, limit)?;
     let stream = connect(rt, server, end)?;
-    let Ok(request) = request_text(alloc, server.host) else {
+    let Ok(request) = request_text(alloc, server.host, server.path) else {
         return Err(ServerFault::Memory);
     };
     let mut writer = Timed::new(rt, &stream, end, limit);

@@ -1,13 +1,13 @@
 //! The files of a member's state.
 
-ghost use Rattle.std.specs.Prelude.{◌≡◌, length, IfOk};
+ghost use Rattle.std.specs.Prelude.{◌≡◌, ◌≤◌, length, IfOk};
 ghost use Rattle.am_merge.specs.Maps.{IsMap};
 ghost use Rattle.am_snapshot.specs.Texts.{row_text};
 
 use crate::error::FileFault;
 use crate::paths::directory_of;
 use am_merge::Held;
-use am_snapshot::{SnapshotError, load, save};
+use am_snapshot::{SnapshotError, load_within, save_within};
 use am_version_order::Version;
 use am_wire::Message;
 use std::fs::{self, File, OpenFile};
@@ -28,7 +28,7 @@ pub fn is_there<R: Files>(rt: &R, path: &str) -> Result<bool, FileFault> {
     }
 }
 
-/// Loads the state that a file holds; where there is no file, an empty one.
+/// Loads the state that a file of at most so many bytes holds; where there is no file, an empty one.
 ///
 /// # Errors
 ///
@@ -36,6 +36,7 @@ pub fn is_there<R: Files>(rt: &R, path: &str) -> Result<bool, FileFault> {
 pub fn load_file<V: Version + Message, R: Files + AllocGlobal>(
     rt: &R,
     path: &str,
+    most: u32,
 ) -> Result<Held<V>, FileFault>
     ensures order { IfOk result (IsMap V.seen V.Key.cmp) }
 {
@@ -43,7 +44,7 @@ pub fn load_file<V: Version + Message, R: Files + AllocGlobal>(
         return Ok(Held::new(rt.alloc()));
     }
     let mut reader = BufReader::new(rt.alloc(), fs::open(rt, path)?)?;
-    Ok(load(rt.alloc(), &mut reader)?)
+    Ok(load_within(rt.alloc(), &mut reader, most)?)
 }
 
 /// Writes a new file whole, and hands it to the disk. It has the permissions of the file that it is to replace. Whatever
@@ -53,21 +54,23 @@ fn write_file<V: Version, R: Files + AllocGlobal>(
     path: &str,
     replaced: &str,
     held: &Held<V>,
+    most: u32,
 ) -> Result<u64, FileFault>
     ensures count { IfOk result (λ written. written ≡ length (row_text V.seen held.now)) }
+    ensures room { IfOk result (λ written. written ≤ most) }
 {
     let _ = fs::remove_file(rt, path);
     let mut file = File::create_new(rt, path)?;
     if let Ok(found) = fs::metadata(rt, replaced) {
         file.set_permissions(found.permissions())?;
     }
-    let written = save(rt.alloc(), held, &mut file)?;
+    let written = save_within(rt.alloc(), held, &mut file, most)?;
     file.sync_all()?;
     Ok(written)
 }
 
 /// Saves a state in a file: it is written beside the file that stands, and takes its place once it is whole and on the disk;
-/// and then the directory is handed to the disk. Answers how many bytes it has.
+/// and then the directory is handed to the disk. Answers how many bytes it has, which are at most so many.
 ///
 /// # Errors
 ///
@@ -77,13 +80,15 @@ pub fn save_file<V: Version, R: Files + AllocGlobal>(
     rt: &R,
     path: &str,
     held: &Held<V>,
+    most: u32,
 ) -> Result<u64, FileFault>
     ensures count { IfOk result (λ written. written ≡ length (row_text V.seen held.now)) }
+    ensures room { IfOk result (λ written. written ≤ most) }
 {
     let Ok(beside) = format!(in rt.alloc(); "{path}.new") else {
         return Err(FileFault::Snapshot(SnapshotError::Memory));
     };
-    let saved = replace(rt, &beside, path, held);
+    let saved = replace(rt, &beside, path, held, most);
     if saved.is_err() {
         let _ = fs::remove_file(rt, beside.as_str());
     }
@@ -96,17 +101,23 @@ fn replace<V: Version, R: Files + AllocGlobal>(
     beside: &str,
     path: &str,
     held: &Held<V>,
+    most: u32,
 ) -> Result<u64, FileFault>
     ensures count { IfOk result (λ written. written ≡ length (row_text V.seen held.now)) }
+    ensures room { IfOk result (λ written. written ≤ most) }
 {
-    let written = write_file(rt, beside, path, held)?;
+    let written = write_file(rt, beside, path, held, most)?;
     fs::rename(rt, beside, path)?;
     sync_directory(rt, directory_of(path))?;
     Ok(written)
 }
 
 /// Hands a directory to the disk: which files it has, and by which names.
-fn sync_directory<R: Files>(rt: &R, directory: &str) -> Result<(), FileFault> {
+///
+/// # Errors
+///
+/// What the system says, as a [`FileFault`].
+pub fn sync_directory<R: Files>(rt: &R, directory: &str) -> Result<(), FileFault> {
     let opened = fs::open(rt, directory)?;
     opened.sync_all()?;
     Ok(())

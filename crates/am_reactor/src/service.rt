@@ -58,6 +58,18 @@ pub trait Service {
     /// first until it waits no more.
     fn resume(&mut self, session: &mut Self::Session);
 
+    /// Whether something was done since the last commit of which the service has to make sure.
+    fn has_uncommitted(&self) -> bool;
+
+    /// Makes sure of all that was done so far. It is called once in a turn of the loop, where there is something uncommitted.
+    fn commit(&mut self);
+
+    /// Whether a reply of the session waits for the next commit.
+    fn is_held_back(&self, session: &Self::Session) -> bool;
+
+    /// The commit is over for which a reply of the session waited: it goes out from now on.
+    fn release(&mut self, session: &mut Self::Session);
+
     /// Does what waits at once, or gives it up: it may not be done now, and the time of the connection is over in a quarter of
     /// a second, or another connection is to get its place. The first is looked for in each turn, so a service in which
     /// something waits for long is to be woken often.

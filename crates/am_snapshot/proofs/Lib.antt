@@ -10,3 +10,4 @@ pub mod Inserts
 pub mod OneFault
 pub mod Saved
 pub mod PieceRows
+pub mod Fits

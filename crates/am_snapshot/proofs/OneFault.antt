@@ -4,8 +4,7 @@ use Rattle.std.proofs.lemmas.List.{drop-append-le}
 use Rattle.am_wire.specs.declared.error.WireError.{WireError}
 use Rattle.am_wire.specs.declared.error.WireError.TheVariants.{Truncated}
 use Rattle.am_wire.specs.RoundTrip.Pieces.{pieces-first}
-use Rattle.am_wire.specs.Limits.{most}
-use Rattle.am_wire.specs.Inputs.{sound, message_at, messages_of, HasFaultAfter, IsCutAfter, IsTooLargeAfter}
+use Rattle.am_wire.specs.Inputs.{sound, message_at, messages_of, HasFaultAfter, IsCutAfter, IsTooLargePast}
 use Rattle.am_snapshot.proofs.Ends.{from, has_first, none_there}
 use Rattle.am_snapshot.proofs.RowReads.{from-fault, from-nil, message_at-cut}
 
@@ -71,6 +70,6 @@ module _ {A : Type 0} (reads : ℕ → List ℕ → Result A WireError) where
   pub faults_alike : (input : List ℕ) (ms ns : List A) (e d : WireError) → HasFaultAfter reads input ms e → HasFaultAfter reads input ns d → (ms ≡ ns) × (e ≡ d)
   faults_alike input ms ns e d one other = same_fault ms ns e d (sym one ∙ other)
 
-  pub none_too_large : (input : List ℕ) (ms ns : List A) (e : WireError) → HasFaultAfter reads (take most input) ms e → ¬ IsTooLargeAfter reads input ms → ¬ IsTooLargeAfter reads input ns
-  none_too_large input ms ns e fault apart large =
-      apart (subst (λ (messages : List A). IsTooLargeAfter reads input messages) (sym (cut_alike (take most input) ms ns e fault large.cut)) large)
+  pub none_too_large : (limit : ℕ) (input : List ℕ) (ms ns : List A) (e : WireError) → HasFaultAfter reads (take limit input) ms e → ¬ IsTooLargePast reads limit input ms → ¬ IsTooLargePast reads limit input ns
+  none_too_large limit input ms ns e fault apart large =
+      apart (subst (λ (messages : List A). IsTooLargePast reads limit input messages) (sym (cut_alike (take limit input) ms ns e fault large.cut)) large)

@@ -15,6 +15,7 @@ use Rattle.am_wire.specs.Limits.{most}
 use Rattle.am_wire.specs.Inputs.{sound, message_at, messages_from}
 use Rattle.am_wire.proofs.Exact.{row_read}
 use Rattle.am_snapshot.specs.Texts.{row_text}
+use Rattle.am_snapshot.proofs.Fits.{IsShort}
 
 -- bytes behind their length are the first row, whatever follows
 first_row : (bytes : List ℕ) (at : ℕ) (rest : List ℕ) → length bytes ≤ most → row_at at (delimited bytes ++ rest) ≡ Ok (bytes, length (delimited bytes))
@@ -39,19 +40,7 @@ module _ {K X : Type 0} (seen : X → Version K) (reads : ℕ → List ℕ → R
       let content = (seen v).content in
       rw (first_row content at rest small, back (at + (length (delimited content) - length content)) small) refl
 
-  -- the text of each is as short as a row may hold
-  abbrev pub IsShort : X → Type 0
-  IsShort v = length (seen v).content ≤ most
-
-  pub shorts : (versions : List X) → length (row_text seen versions) ≤ most → All IsShort versions
-  shorts [] small = All-nil IsShort
-  shorts (v ∷ versions) small =
-      let content = (seen v).content in
-      let len = length-append (delimited content) (row_text seen versions) in
-      let own = length-append (shortest (length content)) content in
-      All-cons IsShort v versions (omega (arith, small, len, own)) (shorts versions (omega (arith, small, len)))
-
-  pub versions_read : (versions : List X) (at : ℕ) → All IsReadBack versions → All IsShort versions → messages_from reads at (row_text seen versions) ≡ map sound versions
+  pub versions_read : (versions : List X) (at : ℕ) → All IsReadBack versions → All (IsShort seen) versions → messages_from reads at (row_text seen versions) ≡ map sound versions
   unfolding pieces
   versions_read [] at back short = refl
   versions_read (v ∷ versions) at back short =
@@ -60,8 +49,8 @@ module _ {K X : Type 0} (seen : X → Version K) (reads : ℕ → List ℕ → R
       let len = length-append (delimited content) rest in
       let own = length-append (shortest (length content)) content in
       let filled = shortest_filled (length content) in
-      let one = first_message v at rest (All-head IsReadBack v versions back) (All-head IsShort v versions short) in
+      let one = first_message v at rest (All-head IsReadBack v versions back) (All-head (IsShort seen) v versions short) in
       pieces-first (message_at reads) at (delimited content ++ rest) (v, length (delimited content)) one (omega (arith, own, filled)) (omega (arith, len))
       ∙ ap (λ (left : List ℕ). sound v ∷ pieces (message_at reads) 0 (at + length (delimited content)) left) (drop-append_seam (delimited content) rest)
       ∙ ap (λ (others : List (Result X WireError)). sound v ∷ others)
-      (versions_read versions (at + length (delimited content)) (All-tail IsReadBack v versions back) (All-tail IsShort v versions short))
+      (versions_read versions (at + length (delimited content)) (All-tail IsReadBack v versions back) (All-tail (IsShort seen) v versions short))

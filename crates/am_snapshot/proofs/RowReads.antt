@@ -13,23 +13,22 @@ use Rattle.am_wire.specs.declared.reader.Standing.TheVariants.{Before, Over, Ref
 use Rattle.am_wire.specs.Varint.{varint_within}
 use Rattle.am_wire.specs.Fields.{row_at, pieces}
 use Rattle.am_wire.specs.RoundTrip.Pieces.{pieces-first}
-use Rattle.am_wire.specs.Limits.{most}
 use Rattle.am_wire.specs.Reader.{IsCut, ReadsAs, HasBadLength, EndsInRow, Answers, all_but_last}
-use Rattle.am_wire.specs.Inputs.{sound, message_at, messages_of, AreMessages, HasFaultAfter, IsTooLargeAfter, StopsAfter}
+use Rattle.am_wire.specs.Inputs.{sound, message_at, messages_of, AreMessages, HasFaultAfter, IsTooLargePast, StopsWithin}
 use Rattle.am_snapshot.proofs.Whole.{row_at-whole, row_at-fails}
 use Rattle.am_snapshot.proofs.Ends.{ends_once}
 
 -- where the next row begins
 abbrev pub offset : Standing → ℕ
-offset (Before at) = at
+offset (Before at limit) = at
 offset Over = 0
 offset Refused = 0
 
 abbrev rest_is : List ℕ → Option (List ℕ)
 rest_is bytes = Some bytes
 
-abbrev standing_at : ℕ → Standing
-standing_at at = Before at
+abbrev standing_at : ℕ → ℕ → Standing
+standing_at limit at = Before at limit
 
 -- what holds of all known bytes, by those that were read and those that are left
 pub known : (a b : Option (List ℕ)) (bytes : List ℕ) (P : List ℕ → Type 0) → Consumes a b bytes → ((left : List ℕ) → b ≡ Some left → P (bytes ++ left)) → IfSome a P
@@ -159,113 +158,115 @@ module _ {A : Type 0} (reads : ℕ → List ℕ → Result A WireError) where
   told at row rest e left (inl (inr ends)) more cut = more ends.2
   told at row rest e left (inr (message, is_row, value)) more cut = let k = row_at-whole at row rest (message, length row) is_row in absurd cc
 
-  -- the input is not merely too large
-  not_too_large : (bytes row : List ℕ) (messages : List A) (e : WireError) (left : List ℕ) → HasRead bytes messages
-      → (HasBadLength (length bytes) row e ⊎ EndsInRow (length bytes) row (Some left) e) ⊎ ReadsAs reads (length bytes) row (Err e)
-      → length bytes + length row ≤ most → ¬ IsTooLargeAfter reads ((bytes ++ row) ++ left) messages
-  not_too_large bytes row messages e left so_far fault small large =
-      let room = most - length (bytes ++ row) in
-      let all : length (bytes ++ row) + room ≡ most = omega (arith, small, length-append bytes row) in
-      let front : take most ((bytes ++ row) ++ left) ≡ bytes ++ (row ++ take room left) =
-      ap (λ (n : ℕ). take n ((bytes ++ row) ++ left)) (sym all) ∙ take-append-add (bytes ++ row) left room ∙ append_assoc bytes row (take room left) in
-      let same : bytes ++ (row ++ take room left) ≡ large.cut.whole ++ large.cut.begun = sym front ∙ large.cut.parts in
-      let whole = ends_once reads messages bytes large.cut.whole (row ++ take room left) large.cut.begun same (HasRead-whole bytes messages so_far) large.cut.before in
-      let begun : row ++ take room left ≡ large.cut.begun = append_same bytes (row ++ take room left) large.cut.begun (same ∙ ap (λ (l : List ℕ). l ++ large.cut.begun) (sym whole)) in
-      let cut : IsCut (length bytes) (row ++ take room left) =
-      subst (λ (l : List ℕ). IsCut (length bytes) l) (sym begun) (subst (λ (l : List ℕ). IsCut (length l) large.cut.begun) (sym whole) large.cut.cut) in
-      told (length bytes) row (take room left) e left fault
-      (λ end. (let len : length left ≡ 0 = ap (λ (l : List ℕ). length l) end in omega (arith, large.more, small, len, length-append bytes row, length-append (bytes ++ row) left)))
-      cut
+  -- where so many bytes may be read
+  module _ (limit : ℕ) where
+    -- the input is not merely too large
+    not_too_large : (bytes row : List ℕ) (messages : List A) (e : WireError) (left : List ℕ) → HasRead bytes messages
+        → (HasBadLength (length bytes) row e ⊎ EndsInRow (length bytes) row (Some left) e) ⊎ ReadsAs reads (length bytes) row (Err e)
+        → length bytes + length row ≤ limit → ¬ IsTooLargePast reads limit ((bytes ++ row) ++ left) messages
+    not_too_large bytes row messages e left so_far fault small large =
+        let room = limit - length (bytes ++ row) in
+        let all : length (bytes ++ row) + room ≡ limit = omega (arith, small, length-append bytes row) in
+        let front : take limit ((bytes ++ row) ++ left) ≡ bytes ++ (row ++ take room left) =
+        ap (λ (n : ℕ). take n ((bytes ++ row) ++ left)) (sym all) ∙ take-append-add (bytes ++ row) left room ∙ append_assoc bytes row (take room left) in
+        let same : bytes ++ (row ++ take room left) ≡ large.cut.whole ++ large.cut.begun = sym front ∙ large.cut.parts in
+        let whole = ends_once reads messages bytes large.cut.whole (row ++ take room left) large.cut.begun same (HasRead-whole bytes messages so_far) large.cut.before in
+        let begun : row ++ take room left ≡ large.cut.begun = append_same bytes (row ++ take room left) large.cut.begun (same ∙ ap (λ (l : List ℕ). l ++ large.cut.begun) (sym whole)) in
+        let cut : IsCut (length bytes) (row ++ take room left) =
+        subst (λ (l : List ℕ). IsCut (length bytes) l) (sym begun) (subst (λ (l : List ℕ). IsCut (length l) large.cut.begun) (sym whole) large.cut.cut) in
+        told (length bytes) row (take room left) e left fault
+        (λ end. (let len : length left ≡ 0 = ap (λ (l : List ℕ). length l) end in omega (arith, large.more, small, len, length-append bytes row, length-append (bytes ++ row) left)))
+        cut
 
-  -- it stands in the input, and in what may be read of it
-  faults_twice : (bytes row : List ℕ) (messages : List A) (e : WireError) (left : List ℕ) → HasRead bytes messages
-      → (HasBadLength (length bytes) row e ⊎ EndsInRow (length bytes) row (Some left) e) ⊎ ReadsAs reads (length bytes) row (Err e)
-      → length bytes + length row ≤ most → StopsAfter reads ((bytes ++ row) ++ left) messages (Some left) (Wire e)
-  faults_twice bytes row messages e left so_far fault small =
-      let room = most - length (bytes ++ row) in
-      let all : length (bytes ++ row) + room ≡ most = omega (arith, small, length-append bytes row) in
-      let front : take most ((bytes ++ row) ++ left) ≡ (bytes ++ row) ++ take room left = ap (λ (n : ℕ). take n ((bytes ++ row) ++ left)) (sym all) ∙ take-append-add (bytes ++ row) left room in (
-        faults bytes row messages e left so_far fault left (λ end. end),
-        ap (λ (x : List ℕ). messages_of reads x) front ∙ faults bytes row messages e left so_far fault (take room left) (λ end. ap (λ (x : List ℕ). take room x) end ∙ take-nil room),
-        not_too_large bytes row messages e left so_far fault small,
-      )
+    -- it stands in the input, and in what may be read of it
+    faults_twice : (bytes row : List ℕ) (messages : List A) (e : WireError) (left : List ℕ) → HasRead bytes messages
+        → (HasBadLength (length bytes) row e ⊎ EndsInRow (length bytes) row (Some left) e) ⊎ ReadsAs reads (length bytes) row (Err e)
+        → length bytes + length row ≤ limit → StopsWithin reads limit ((bytes ++ row) ++ left) messages (Some left) (Wire e)
+    faults_twice bytes row messages e left so_far fault small =
+        let room = limit - length (bytes ++ row) in
+        let all : length (bytes ++ row) + room ≡ limit = omega (arith, small, length-append bytes row) in
+        let front : take limit ((bytes ++ row) ++ left) ≡ (bytes ++ row) ++ take room left = ap (λ (n : ℕ). take n ((bytes ++ row) ++ left)) (sym all) ∙ take-append-add (bytes ++ row) left room in (
+          faults bytes row messages e left so_far fault left (λ end. end),
+          ap (λ (x : List ℕ). messages_of reads x) front ∙ faults bytes row messages e left so_far fault (take room left) (λ end. ap (λ (x : List ℕ). take room x) end ∙ take-nil room),
+          not_too_large bytes row messages e left so_far fault small,
+        )
 
-  stops_at : (bytes row : List ℕ) (messages : List A) (left : List ℕ) (fault : RowFault) (next : Standing) → HasRead bytes messages → length bytes ≤ most
-      → Answers reads (Before (length bytes)) row (Some left) (Err fault) next → StopsAfter reads ((bytes ++ row) ++ left) messages (Some left) fault
-  stops_at bytes row messages left (Wire e) next so_far small answer =
-      ⊎_elim (λ stop. faults_twice bytes row messages e left so_far (inl stop.0) stop.1) (λ gives. faults_twice bytes row messages e left so_far (inr gives.0) gives.1) answer.0
-  stops_at bytes row messages left (Read k) next so_far small (stop, _) =
-      let n : k ≡ length (bytes ++ row) = omega (arith, stop.1, length-append bytes row) in
-      let front : take k ((bytes ++ row) ++ left) ≡ bytes ++ row = ap (λ (m : ℕ). take m ((bytes ++ row) ++ left)) n ∙ take-append_seam (bytes ++ row) left in
-      let back : drop k ((bytes ++ row) ++ left) ≡ left = ap (λ (m : ℕ). drop m ((bytes ++ row) ++ left)) n ∙ drop-append_seam (bytes ++ row) left in
-      (record { whole = bytes; begun = row; parts = front; before = HasRead-whole bytes messages so_far; cut = stop.0 }, stop.2, omega (arith, n, length-append (bytes ++ row) left), ap (λ (x : List ℕ). rest_is x) (sym back))
-  stops_at bytes row messages left TooLarge next so_far small (stop, _) =
-      let n : most ≡ length bytes + (length row - 1) = omega (arith, stop.1, small) in
-      let within : most ≤ length (bytes ++ row) = omega (arith, stop.1, length-append bytes row) in
-      let front : take most ((bytes ++ row) ++ left) ≡ bytes ++ all_but_last row =
-      take-append-le most (bytes ++ row) left within ∙ ap (λ (m : ℕ). take m (bytes ++ row)) n ∙ take-append-add bytes row (length row - 1) in
-      record {
-        cut = record { whole = bytes; begun = all_but_last row; parts = front; before = HasRead-whole bytes messages so_far; cut = stop.0 };
-        more = omega (arith, stop.1, length-append bytes row, length-append (bytes ++ row) left);
-      }
-  stops_at bytes row messages left Memory next so_far small answer = tt
-  stops_at bytes row messages left Ended next so_far small answer = absurd answer.0
-
-  -- ---- a loop of calls
-  -- the bytes were read, which are a row of these messages, and the reader of rows stands behind them
-  pub record ReadsSoFar (start now : Option (List ℕ)) (standing : Standing) (bytes : List ℕ) (messages : List A) : Type 0 where
-    pub consumed : Consumes start now bytes
-    pub read : HasRead bytes messages
-    pub stands : standing ≡ Before (length bytes)
-    pub small : length bytes ≤ most
-
-  pub reads_none : (start : Option (List ℕ)) (standing : Standing) → standing ≡ Before 0 → ReadsSoFar start start standing [] []
-  reads_none start standing stands = record { consumed = Consumes-nil start; read = HasRead-nil; stands = stands; small = omega arith }
-
-  module _ (start now left : Option (List ℕ)) (standing next : Standing) (bytes row : List ℕ) (messages : List A) (so_far : ReadsSoFar start now standing bytes messages) (read : Consumes now left row) where
-    stands_before : (r : Result (Option A) RowFault) → Answers reads standing row left r next → Answers reads (Before (length bytes)) row left r next
-    stands_before r answer = subst (λ (s : Standing). Answers reads s row left r next) so_far.stands answer
-
-    both : Consumes start left (bytes ++ row)
-    both = Consumes-trans start now left bytes row so_far.consumed read
-
-    pub reads_more : (v : A) → Answers reads standing row left (Ok (Some v)) next → ReadsSoFar start left next (bytes ++ row) (messages ++ v ∷ [])
-    reads_more v answer =
-        let one = stands_before (Ok (Some v)) answer in
+    stops_at : (bytes row : List ℕ) (messages : List A) (left : List ℕ) (fault : RowFault) (next : Standing) → HasRead bytes messages → length bytes ≤ limit
+        → Answers reads (Before (length bytes) limit) row (Some left) (Err fault) next → StopsWithin reads limit ((bytes ++ row) ++ left) messages (Some left) fault
+    stops_at bytes row messages left (Wire e) next so_far small answer =
+        ⊎_elim (λ stop. faults_twice bytes row messages e left so_far (inl stop.0) stop.1) (λ gives. faults_twice bytes row messages e left so_far (inr gives.0) gives.1) answer.0
+    stops_at bytes row messages left (Read k) next so_far small (stop, _) =
+        let n : k ≡ length (bytes ++ row) = omega (arith, stop.1, length-append bytes row) in
+        let front : take k ((bytes ++ row) ++ left) ≡ bytes ++ row = ap (λ (m : ℕ). take m ((bytes ++ row) ++ left)) n ∙ take-append_seam (bytes ++ row) left in
+        let back : drop k ((bytes ++ row) ++ left) ≡ left = ap (λ (m : ℕ). drop m ((bytes ++ row) ++ left)) n ∙ drop-append_seam (bytes ++ row) left in
+        (record { whole = bytes; begun = row; parts = front; before = HasRead-whole bytes messages so_far; cut = stop.0 }, stop.2, omega (arith, n, length-append (bytes ++ row) left), ap (λ (x : List ℕ). rest_is x) (sym back))
+    stops_at bytes row messages left TooLarge next so_far small (stop, _) =
+        let n : limit ≡ length bytes + (length row - 1) = omega (arith, stop.1, small) in
+        let within : limit ≤ length (bytes ++ row) = omega (arith, stop.1, length-append bytes row) in
+        let front : take limit ((bytes ++ row) ++ left) ≡ bytes ++ all_but_last row =
+        take-append-le limit (bytes ++ row) left within ∙ ap (λ (m : ℕ). take m (bytes ++ row)) n ∙ take-append-add bytes row (length row - 1) in
         record {
-          consumed = both;
-          read = HasRead-more bytes row messages v so_far.read one.1 one.0;
-          stands = one.3 ∙ ap (λ (n : ℕ). standing_at n) (sym (length-append bytes row));
-          small = omega (arith, one.2, length-append bytes row);
+          cut = record { whole = bytes; begun = all_but_last row; parts = front; before = HasRead-whole bytes messages so_far; cut = stop.0 };
+          more = omega (arith, stop.1, length-append bytes row, length-append (bytes ++ row) left);
         }
+    stops_at bytes row messages left Memory next so_far small answer = tt
+    stops_at bytes row messages left Ended next so_far small answer = absurd answer.0
 
-    pub reads_further : (v : A) → Answers reads standing row left (Ok (Some v)) next → most - offset next < most - offset standing
-    reads_further v answer =
-        let one = stands_before (Ok (Some v)) answer in
-        let here : offset standing ≡ length bytes = ap offset so_far.stands in
-        let there : offset next ≡ length bytes + length row = ap offset one.3 in
-        omega (arith, one.1, one.2, here, there)
+    -- ---- a loop of calls
+    -- the bytes were read, which are a row of these messages, and the reader of rows stands behind them
+    pub record ReadsSoFar (start now : Option (List ℕ)) (standing : Standing) (bytes : List ℕ) (messages : List A) : Type 0 where
+      pub consumed : Consumes start now bytes
+      pub read : HasRead bytes messages
+      pub stands : standing ≡ Before (length bytes) limit
+      pub small : length bytes ≤ limit
 
-    pub reads_end : Answers reads standing row left (Ok None) next → IsAtEnd left × IfSome start (λ input. AreMessages reads input messages) × IfSome start (λ input. length input ≤ most)
-    reads_end answer =
-        let one = stands_before (Ok None) answer in
-        let all : Consumes start left bytes = subst (λ (x : List ℕ). Consumes start left x) (ap (λ (x : List ℕ). bytes ++ x) one.0 ∙ append-nil bytes) both in
-        (one.1, known_end start left bytes (λ input. AreMessages reads input messages) all one.1 (HasRead-whole bytes messages so_far.read), known_end start left bytes (λ input. length input ≤ most) all one.1 so_far.small)
+    pub reads_none : (start : Option (List ℕ)) (standing : Standing) → standing ≡ Before 0 limit → ReadsSoFar start start standing [] []
+    reads_none start standing stands = record { consumed = Consumes-nil start; read = HasRead-nil; stands = stands; small = omega arith }
 
-    stops_by : (a b : Option (List ℕ)) (fault : RowFault) → Consumes a b (bytes ++ row) → Answers reads (Before (length bytes)) row b (Err fault) next → IfSome a (λ input. StopsAfter reads input messages b fault)
-    stops_by None b fault read answer = tt
-    stops_by (Some xs) None fault read answer = absurd read
-    stops_by (Some xs) (Some ys) fault read answer = subst (λ (input : List ℕ). StopsAfter reads input messages (Some ys) fault) (sym read) (stops_at bytes row messages ys fault next so_far.read so_far.small answer)
+    module _ (start now left : Option (List ℕ)) (standing next : Standing) (bytes row : List ℕ) (messages : List A) (so_far : ReadsSoFar start now standing bytes messages) (read : Consumes now left row) where
+      stands_before : (r : Result (Option A) RowFault) → Answers reads standing row left r next → Answers reads (Before (length bytes) limit) row left r next
+      stands_before r answer = subst (λ (s : Standing). Answers reads s row left r next) so_far.stands answer
 
-    pub reads_stop : (fault : RowFault) → Answers reads standing row left (Err fault) next → IfSome start (λ input. StopsAfter reads input messages left fault)
-    reads_stop fault answer = stops_by start left fault both (stands_before (Err fault) answer)
+      both : Consumes start left (bytes ++ row)
+      both = Consumes-trans start now left bytes row so_far.consumed read
 
-    pub reads_stops : (fault : RowFault) → Answers reads standing row left (Err fault) next → IfSome start (λ input. (ms : List A) × StopsAfter reads input ms left fault)
-    reads_stops fault answer = some_then (λ (input : List ℕ). StopsAfter reads input messages left fault) (λ input. (ms : List A) × StopsAfter reads input ms left fault) (λ input stop. (messages, stop)) start (reads_stop fault answer)
+      pub reads_more : (v : A) → Answers reads standing row left (Ok (Some v)) next → ReadsSoFar start left next (bytes ++ row) (messages ++ v ∷ [])
+      reads_more v answer =
+          let one = stands_before (Ok (Some v)) answer in
+          record {
+            consumed = both;
+            read = HasRead-more bytes row messages v so_far.read one.1 one.0;
+            stands = one.3 ∙ ap (λ (n : ℕ). standing_at limit n) (sym (length-append bytes row));
+            small = omega (arith, one.2, length-append bytes row);
+          }
 
-    -- with what else holds of the messages
-    pub reads_stop_with : (Q : List A → Type 0) → Q messages → (fault : RowFault) → Answers reads standing row left (Err fault) next → IfSome start (λ input. (ms : List A) × StopsAfter reads input ms left fault × Q ms)
-    reads_stop_with Q here fault answer = some_then (λ (input : List ℕ). StopsAfter reads input messages left fault) (λ input. (ms : List A) × StopsAfter reads input ms left fault × Q ms) (λ input stop. (messages, stop, here)) start (reads_stop fault answer)
+      pub reads_further : (v : A) → Answers reads standing row left (Ok (Some v)) next → limit - offset next < limit - offset standing
+      reads_further v answer =
+          let one = stands_before (Ok (Some v)) answer in
+          let here : offset standing ≡ length bytes = ap offset so_far.stands in
+          let there : offset next ≡ length bytes + length row = ap offset one.3 in
+          omega (arith, one.1, one.2, here, there)
 
-    pub reads_end_with : (Q : List A → Type 0) → Q messages → Answers reads standing row left (Ok None) next → IfSome start (λ input. (ms : List A) × AreMessages reads input ms × Q ms)
-    reads_end_with Q here answer = some_then (λ (input : List ℕ). AreMessages reads input messages) (λ input. (ms : List A) × AreMessages reads input ms × Q ms) (λ input all. (messages, all, here)) start (reads_end answer).1
+      pub reads_end : Answers reads standing row left (Ok None) next → IsAtEnd left × IfSome start (λ input. AreMessages reads input messages) × IfSome start (λ input. length input ≤ limit)
+      reads_end answer =
+          let one = stands_before (Ok None) answer in
+          let all : Consumes start left bytes = subst (λ (x : List ℕ). Consumes start left x) (ap (λ (x : List ℕ). bytes ++ x) one.0 ∙ append-nil bytes) both in
+          (one.1, known_end start left bytes (λ input. AreMessages reads input messages) all one.1 (HasRead-whole bytes messages so_far.read), known_end start left bytes (λ input. length input ≤ limit) all one.1 so_far.small)
+
+      stops_by : (a b : Option (List ℕ)) (fault : RowFault) → Consumes a b (bytes ++ row) → Answers reads (Before (length bytes) limit) row b (Err fault) next → IfSome a (λ input. StopsWithin reads limit input messages b fault)
+      stops_by None b fault read answer = tt
+      stops_by (Some xs) None fault read answer = absurd read
+      stops_by (Some xs) (Some ys) fault read answer = subst (λ (input : List ℕ). StopsWithin reads limit input messages (Some ys) fault) (sym read) (stops_at bytes row messages ys fault next so_far.read so_far.small answer)
+
+      pub reads_stop : (fault : RowFault) → Answers reads standing row left (Err fault) next → IfSome start (λ input. StopsWithin reads limit input messages left fault)
+      reads_stop fault answer = stops_by start left fault both (stands_before (Err fault) answer)
+
+      pub reads_stops : (fault : RowFault) → Answers reads standing row left (Err fault) next → IfSome start (λ input. (ms : List A) × StopsWithin reads limit input ms left fault)
+      reads_stops fault answer = some_then (λ (input : List ℕ). StopsWithin reads limit input messages left fault) (λ input. (ms : List A) × StopsWithin reads limit input ms left fault) (λ input stop. (messages, stop)) start (reads_stop fault answer)
+
+      -- with what else holds of the messages
+      pub reads_stop_with : (Q : List A → Type 0) → Q messages → (fault : RowFault) → Answers reads standing row left (Err fault) next → IfSome start (λ input. (ms : List A) × StopsWithin reads limit input ms left fault × Q ms)
+      reads_stop_with Q here fault answer = some_then (λ (input : List ℕ). StopsWithin reads limit input messages left fault) (λ input. (ms : List A) × StopsWithin reads limit input ms left fault × Q ms) (λ input stop. (messages, stop, here)) start (reads_stop fault answer)
+
+      pub reads_end_with : (Q : List A → Type 0) → Q messages → Answers reads standing row left (Ok None) next → IfSome start (λ input. (ms : List A) × AreMessages reads input ms × Q ms)
+      reads_end_with Q here answer = some_then (λ (input : List ℕ). AreMessages reads input messages) (λ input. (ms : List A) × AreMessages reads input ms × Q ms) (λ input all. (messages, all, here)) start (reads_end answer).1

@@ -11,9 +11,9 @@ use Rattle.am_merge.specs.Maps.{IsMap}
 use Rattle.am_wire.specs.Limits.{most}
 use Rattle.am_wire.specs.declared.reader.Standing.{Standing}
 use Rattle.am_wire.specs.Fields.{pieces}
-use Rattle.am_wire.specs.Inputs.{sound, message_at, messages_of, AreMessages, StopsAfter}
+use Rattle.am_wire.specs.Inputs.{sound, message_at, messages_of, AreMessages, StopsAfter, StopsWithin}
 use Rattle.am_snapshot.specs.Texts.{row_text}
-use Rattle.am_snapshot.specs.Loads.{AreDistinct, RepeatsKey, StopsLoad, load_fault}
+use Rattle.am_snapshot.specs.Loads.{AreDistinct, RepeatsKey, StopsLoadWithin, load_fault}
 use Rattle.am_snapshot.specs.Best.{HoldsBest}
 use Rattle.am_snapshot.specs.Saving.{StopsSaving}
 use Rattle.am_snapshot.specs.Folds.{IsFold, IsFoldWithin, StopsFold}
@@ -70,24 +70,24 @@ none_found None none is lost = refl
 none_found (Some w) none is lost = absurd cc
 
 module _ {K X : Type 0} (seen : X → Version K) (reads : ℕ → List ℕ → Result X WireError) (start left : Option (List ℕ)) where
-  pub load_reading : (fault : RowFault) → IfSome start (λ input. (versions : List X) × StopsAfter reads input versions left fault × AreDistinct seen versions)
-      → IfSome start (λ input. StopsLoad seen reads input left (load_fault fault))
-  load_reading (reading.Read at) stop = stop
-  load_reading (reading.Wire e) stop = stop
-  load_reading reading.TooLarge stop = stop
-  load_reading reading.Ended stop = some_then _ _ (λ input one. tt) start stop
-  load_reading reading.Memory stop = some_then _ _ (λ input one. tt) start stop
+  pub load_reading : (limit : ℕ) (fault : RowFault) → IfSome start (λ input. (versions : List X) × StopsWithin reads limit input versions left fault × AreDistinct seen versions)
+      → IfSome start (λ input. StopsLoadWithin seen reads limit input left (load_fault fault))
+  load_reading limit (reading.Read at) stop = stop
+  load_reading limit (reading.Wire e) stop = stop
+  load_reading limit reading.TooLarge stop = stop
+  load_reading limit reading.Ended stop = some_then _ _ (λ input one. tt) start stop
+  load_reading limit reading.Memory stop = some_then _ _ (λ input one. tt) start stop
 
   pub load_end : (versions held : List X) → IfSome start (λ input. AreMessages reads input versions) → AreDistinct seen versions → IsPermutation versions held
       → IfSome start (λ input. (all : List X) × AreMessages reads input all × AreDistinct seen all × IsPermutation all held)
   load_end versions held all distinct members = some_then _ _ (λ input one. (versions, one, distinct, members)) start all
 
-pub load_repeat : {K X : Type 0} (seen : X → Version K) (reads : ℕ → List ℕ → Result X WireError) (start left : Option (List ℕ)) (standing : Standing) (bytes : List ℕ) (versions : List X) (version earlier : X)
-    → ReadsSoFar reads start left standing bytes (versions ++ version ∷ []) → AreDistinct seen versions → Contains versions earlier → (seen earlier).key ≡ (seen version).key
-    → IfSome start (λ input. RepeatsKey seen reads input left)
-load_repeat seen reads None left standing bytes versions version earlier so_far distinct among same = tt
-load_repeat seen reads (Some xs) None standing bytes versions version earlier so_far distinct among same = absurd so_far.consumed
-load_repeat {K} {X} seen reads (Some xs) (Some ys) standing bytes versions version earlier so_far distinct among same =
+pub load_repeat : {K X : Type 0} (seen : X → Version K) (reads : ℕ → List ℕ → Result X WireError) (limit : ℕ) (start left : Option (List ℕ)) (standing : Standing) (bytes : List ℕ) (versions : List X) (version earlier : X)
+    → ReadsSoFar reads limit start left standing bytes (versions ++ version ∷ []) → AreDistinct seen versions → Contains versions earlier → (seen earlier).key ≡ (seen version).key
+    → IfSome start (λ input. RepeatsKey seen reads limit input left)
+load_repeat seen reads limit None left standing bytes versions version earlier so_far distinct among same = tt
+load_repeat seen reads limit (Some xs) None standing bytes versions version earlier so_far distinct among same = absurd so_far.consumed
+load_repeat {K} {X} seen reads limit (Some xs) (Some ys) standing bytes versions version earlier so_far distinct among same =
     let others = pieces (message_at reads) 0 (length bytes) ys in
     record {
       versions = versions;

@@ -7,7 +7,7 @@ use Rattle.am_wire.specs.declared.error.WireError.{WireError}
 use Rattle.am_wire.specs.declared.reader.RowFault.{RowFault}
 use Rattle.am_wire.specs.declared.reader.RowFault.TheVariants as reading
 use Rattle.am_wire.specs.Limits.{most}
-use Rattle.am_wire.specs.Inputs.{sound, messages_of, AreMessages, StopsAfter}
+use Rattle.am_wire.specs.Inputs.{sound, messages_of, AreMessages, StopsWithin}
 use Rattle.am_snapshot.specs.declared.error.SnapshotError.{SnapshotError}
 use Rattle.am_snapshot.specs.declared.error.SnapshotError.TheVariants.{Read, Write, Wire, DuplicateKey, TooLarge, Memory}
 
@@ -26,8 +26,8 @@ module _ {K X : Type 0} (seen : X → Version K) where
 
   module _ (reads : ℕ → List ℕ → Result X WireError) where
     -- The input begins with distinct versions and one more that repeats a key; the reader gave just their rows,
-    -- which may be read, and has `left` then.
-    pub record RepeatsKey (input : List ℕ) (left : Option (List ℕ)) : Type 0 where
+    -- which may be read where `limit` bytes may, and has `left` then.
+    pub record RepeatsKey (limit : ℕ) (input : List ℕ) (left : Option (List ℕ)) : Type 0 where
       pub versions : List X
       pub version : X
       pub others : List (Result X WireError)
@@ -38,21 +38,25 @@ module _ {K X : Type 0} (seen : X → Version K) where
       pub same_key : (seen earlier).key ≡ (seen version).key
       pub bytes : List ℕ
       pub rows : AreMessages reads bytes (versions ++ version ∷ [])
-      pub size : length bytes ≤ most
+      pub size : length bytes ≤ limit
       pub read : Consumes (Some input) left bytes
 
     -- the map has exactly the versions of the input, of which no two have one key
     abbrev pub IsLoaded : List ℕ → List X → Type 0
     IsLoaded input held = (versions : List X) × AreMessages reads input versions × AreDistinct versions × IsPermutation versions held
 
-    -- the fault that stands first: none of the versions before it repeats a key
+    -- the fault that stands first, where `limit` bytes may be read: none of the versions before it repeats a key
+    abbrev pub StopsLoadWithin : ℕ → List ℕ → Option (List ℕ) → SnapshotError → Type 0
+    StopsLoadWithin limit input left (Read at) = (versions : List X) × StopsWithin reads limit input versions left (reading.Read at) × AreDistinct versions
+    StopsLoadWithin limit input left (Wire e) = (versions : List X) × StopsWithin reads limit input versions left (reading.Wire e) × AreDistinct versions
+    StopsLoadWithin limit input left TooLarge = (versions : List X) × StopsWithin reads limit input versions left reading.TooLarge × AreDistinct versions
+    StopsLoadWithin limit input left DuplicateKey = RepeatsKey limit input left
+    StopsLoadWithin limit input left Memory = ⊤
+    StopsLoadWithin limit input left (Write k) = ⊥
+
+    -- the same where 64 MiB may be read
     abbrev pub StopsLoad : List ℕ → Option (List ℕ) → SnapshotError → Type 0
-    StopsLoad input left (Read at) = (versions : List X) × StopsAfter reads input versions left (reading.Read at) × AreDistinct versions
-    StopsLoad input left (Wire e) = (versions : List X) × StopsAfter reads input versions left (reading.Wire e) × AreDistinct versions
-    StopsLoad input left TooLarge = (versions : List X) × StopsAfter reads input versions left reading.TooLarge × AreDistinct versions
-    StopsLoad input left DuplicateKey = RepeatsKey input left
-    StopsLoad input left Memory = ⊤
-    StopsLoad input left (Write k) = ⊥
+    StopsLoad input left e = StopsLoadWithin most input left e
 
 -- it is not the bytes of the input that are at fault: a read failed, or memory ran out
 abbrev pub IsOutside : SnapshotError → Type 0

@@ -10,11 +10,20 @@ use Rattle.am_snapshot.specs.Texts.{row_text}
 use Rattle.am_snapshot.specs.declared.error.SnapshotError.{SnapshotError}
 use Rattle.am_snapshot.specs.declared.error.SnapshotError.TheVariants.{Write, TooLarge, Memory}
 
--- a map of values, of which a row may be written
-pub record IsSavable {K X : Type 0} (seen : X → Version K) (cmp : K → K → Ordering) (is_value : X → Type 0) (map : List X) : Type 0 where
+-- the row of the versions has at most `limit` bytes, and each of its messages is one that may be read
+pub record FitsRow {K X : Type 0} (seen : X → Version K) (limit : ℕ) (versions : List X) : Type 0 where
+  pub short : All (λ v. length (seen v).content ≤ most) versions
+  pub size : length (row_text seen versions) ≤ limit
+
+-- a map of values, of which a row of at most `limit` bytes may be written
+pub record IsSavableWithin {K X : Type 0} (seen : X → Version K) (cmp : K → K → Ordering) (is_value : X → Type 0) (limit : ℕ) (map : List X) : Type 0 where
   pub order : IsMap seen cmp map
   pub values : All is_value map
-  pub size : length (row_text seen map) ≤ most
+  pub fits : FitsRow seen limit map
+
+-- the same where it may have 64 MiB
+abbrev pub IsSavable : {K X : Type 0} → (X → Version K) → (K → K → Ordering) → (X → Type 0) → List X → Type 0
+IsSavable seen cmp is_value map = IsSavableWithin seen cmp is_value most map
 
 -- Exactly the first bytes of the row went out, and not all; else the writer is as it was. `contents` is what it holds.
 abbrev pub StopsSaving : {W : Type 0} → (W → Option (List ℕ)) → W → W → List ℕ → SnapshotError → Type 0

@@ -1,10 +1,12 @@
 //! The held versions of a map as a row: how long it is, and the row itself.
 
-ghost use Rattle.std.specs.Prelude.{◌≡◌, ◌≤◌, All, length, OnSome, IfOk};
+ghost use Rattle.std.specs.Prelude.{◌≡◌, ◌≤◌, ◌+◌, All, length, OnSome, IfOk};
 ghost use Rattle.std.specs.Option.{SomeIff};
 ghost use Rattle.am_merge.specs.Maps.{IsMap};
 ghost use Rattle.am_wire.specs.Limits.{most};
+ghost use Rattle.am_wire.specs.Writing.{delimited};
 ghost use Rattle.am_snapshot.specs.Texts.{row_text};
+ghost use Rattle.am_snapshot.specs.Saving.{FitsRow};
 
 use am_merge::Held;
 use am_version_order::Version;
@@ -12,21 +14,39 @@ use am_wire::writing::{append_delimited, delimited_length};
 use am_wire::{Bytes, MOST_MESSAGE_BYTES};
 use std::alloc::{AllocError, Global};
 
-/// The most bytes of a row.
-const MOST: u64 = MOST_MESSAGE_BYTES;
-
 /// How many bytes the row of the held versions has, or `None` where it has over 67,108,864. It takes no memory.
 pub fn row_length<V: Version>(held: &Held<V>) -> Option<u64>
     ensures length { SomeIff result (length (row_text V.seen held.now) ≤ most) (length (row_text V.seen held.now)) }
     ensures order { IsMap V.seen V.Key.cmp held.now }
     ensures values { OnSome result (All V.is_value held.now) }
 {
+    row_length_within(held, MOST_MESSAGE_BYTES as u32)
+}
+
+/// How many bytes a row of so many has with one message more, or `None` where it has over `limit`, or the message is none
+/// that may be read.
+fn with_one(total: u64, content: &[u8], limit: u32) -> Option<u64>
+    requires { total ≤ limit }
+    ensures { SomeIff result ((length content.now ≤ most) × (total + length (delimited content.now) ≤ limit))
+        (total + length (delimited content.now)) }
+{
+    if content.len() as u64 > MOST_MESSAGE_BYTES {
+        return None;
+    }
+    let longer = total.saturating_add(delimited_length(content));
+    (longer <= u64::from(limit)).then_some(longer)
+}
+
+/// How many bytes the row of the held versions has, or `None` where it has over `limit`, or a version has more than
+/// [`MOST_MESSAGE_BYTES`], so that it would not be read again. It takes no memory.
+pub fn row_length_within<V: Version>(held: &Held<V>, limit: u32) -> Option<u64>
+    ensures length { SomeIff result (FitsRow V.seen limit held.now) (length (row_text V.seen held.now)) }
+    ensures order { IsMap V.seen V.Key.cmp held.now }
+    ensures values { OnSome result (All V.is_value held.now) }
+{
     let mut total: u64 = 0;
     for version in held.iter() {
-        total = total.saturating_add(delimited_length(version.canonical()));
-        if total > MOST {
-            return None;
-        }
+        total = with_one(total, version.canonical(), limit)?;
     }
     Some(total)
 }

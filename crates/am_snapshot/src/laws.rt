@@ -3,12 +3,12 @@
 ghost use Rattle.std.specs.Prelude.{◌≡◌, ℕ, ◌<◌, List, ◌++◌, length, Option, Some, None};
 ghost use Rattle.am_wire.specs.declared.error.WireError.{WireError};
 ghost use Rattle.am_wire.specs.declared.reader.RowFault.TheVariants.{Wire, TooLarge};
-ghost use Rattle.am_wire.specs.Inputs.{AreMessages, StopsAfter};
+ghost use Rattle.am_wire.specs.Inputs.{AreMessages, StopsWithin};
 ghost use Rattle.am_merge.specs.Maps.{IsMap, from_key};
 ghost use Rattle.am_snapshot.specs.Texts.{row_text};
-ghost use Rattle.am_snapshot.specs.Loads.{IsLoaded, StopsLoad, IsOutside};
+ghost use Rattle.am_snapshot.specs.Loads.{IsLoaded, StopsLoadWithin, IsOutside};
 ghost use Rattle.am_snapshot.specs.Pieces.{IsPiece};
-ghost use Rattle.am_snapshot.specs.Saving.{IsSavable};
+ghost use Rattle.am_snapshot.specs.Saving.{IsSavableWithin};
 ghost use Rattle.am_snapshot.specs.declared.error.SnapshotError.{SnapshotError};
 
 use am_version_order::Version;
@@ -17,25 +17,25 @@ use am_wire::{Message, Record};
 /// A fault of the bytes of an input is its only one, after the same messages, and none where it is whole
 /// or too large.
 pub fn an_input_has_one_fault<M: Message>()
-    ensures one { (input : List ℕ) (messages others : List M) (left rest : Option (List ℕ)) (e d : WireError) →
-        StopsAfter M.reads input messages left (Wire e) → StopsAfter M.reads input others rest (Wire d) →
+    ensures one { (limit : ℕ) (input : List ℕ) (messages others : List M) (left rest : Option (List ℕ)) (e d : WireError) →
+        StopsWithin M.reads limit input messages left (Wire e) → StopsWithin M.reads limit input others rest (Wire d) →
         (messages ≡ others) × (e ≡ d) }
-    ensures too_large { (input : List ℕ) (messages others : List M) (left rest : Option (List ℕ)) (e : WireError) →
-        StopsAfter M.reads input messages left (Wire e) → StopsAfter M.reads input others rest TooLarge → ⊥ }
-    ensures whole { (input : List ℕ) (messages others : List M) (left : Option (List ℕ)) (e : WireError) →
-        StopsAfter M.reads input messages left (Wire e) → AreMessages M.reads input others → ⊥ }
+    ensures too_large { (limit : ℕ) (input : List ℕ) (messages others : List M) (left rest : Option (List ℕ)) (e : WireError) →
+        StopsWithin M.reads limit input messages left (Wire e) → StopsWithin M.reads limit input others rest TooLarge → ⊥ }
+    ensures whole { (limit : ℕ) (input : List ℕ) (messages others : List M) (left : Option (List ℕ)) (e : WireError) →
+        StopsWithin M.reads limit input messages left (Wire e) → AreMessages M.reads input others → ⊥ }
 {}
 
-/// What is saved of a map is loaded as that map: its row is that of these versions, another map is not loaded of
-/// it, and no fault stands in it.
+/// What is saved of a map is loaded as that map, by any limit: its row is that of these versions, another map is not
+/// loaded of it, and no fault stands in it.
 pub fn what_is_saved_is_loaded<V: Record>()
-    ensures loaded { (map : List V) → IsSavable V.seen V.Key.cmp V.Version.is_value map →
+    ensures loaded { (limit : ℕ) (map : List V) → IsSavableWithin V.seen V.Key.cmp V.Version.is_value limit map →
         IsLoaded V.seen V.reads (row_text V.seen map) map }
-    ensures alone { (map held : List V) → IsSavable V.seen V.Key.cmp V.Version.is_value map →
+    ensures alone { (limit : ℕ) (map held : List V) → IsSavableWithin V.seen V.Key.cmp V.Version.is_value limit map →
         IsMap V.seen V.Key.cmp held → IsLoaded V.seen V.reads (row_text V.seen map) held → held ≡ map }
-    ensures sound { (map : List V) (left : Option (List ℕ)) (e : SnapshotError) →
-        IsSavable V.seen V.Key.cmp V.Version.is_value map →
-        StopsLoad V.seen V.reads (row_text V.seen map) left e → IsOutside e }
+    ensures sound { (limit : ℕ) (map : List V) (left : Option (List ℕ)) (e : SnapshotError) →
+        IsSavableWithin V.seen V.Key.cmp V.Version.is_value limit map →
+        StopsLoadWithin V.seen V.reads limit (row_text V.seen map) left e → IsOutside e }
 {}
 
 /// A piece with no next key is the row of the whole map. Behind another goes the row of what the map has from the next key

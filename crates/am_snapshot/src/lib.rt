@@ -13,8 +13,8 @@ mod saving;
 
 pub use error::SnapshotError;
 pub use folding::{Folded, fold, fold_held};
-pub use in_memory::{row_bytes, row_length};
-pub use loading::load;
+pub use in_memory::{row_bytes, row_length, row_length_within};
+pub use loading::{load, load_within};
 pub use pieces::{RowPiece, row_piece};
 pub use reading::take_row;
-pub use saving::save;
+pub use saving::{save, save_within};

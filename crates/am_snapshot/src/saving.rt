@@ -7,15 +7,15 @@ ghost use Rattle.am_wire.specs.Writing.{delimited};
 ghost use Rattle.am_wire.specs.Limits.{most};
 ghost use Rattle.am_snapshot.specs.Texts.{row_text};
 ghost use Rattle.am_snapshot.specs.Writing.{Passes, TakesPart};
-ghost use Rattle.am_snapshot.specs.Saving.{IsSavable, StopsSaving};
+ghost use Rattle.am_snapshot.specs.Saving.{FitsRow, IsSavable, IsSavableWithin, StopsSaving};
 
 use crate::error::SnapshotError;
-use crate::in_memory::row_length;
+use crate::in_memory::row_length_within;
 use crate::outgoing::Outgoing;
 use am_merge::Held;
 use am_streams::WriteFault;
 use am_version_order::Version;
-use am_wire::write_varint;
+use am_wire::{MOST_MESSAGE_BYTES, write_varint};
 use std::alloc::Global;
 use std::io::Write;
 
@@ -59,8 +59,8 @@ fn send_versions<V: Version, W: Write>(
 /// # Errors
 ///
 /// [`SnapshotError::Write`] where a write fails or takes nothing: exactly the first `written` bytes of the row
-/// went out, and it is not tried again. [`SnapshotError::TooLarge`] where the row has over
-/// [`MOST_MESSAGE_BYTES`](am_wire::MOST_MESSAGE_BYTES), and [`SnapshotError::Memory`], before a byte goes out.
+/// went out, and it is not tried again. [`SnapshotError::TooLarge`] where the row has over [`MOST_MESSAGE_BYTES`],
+/// and [`SnapshotError::Memory`], before a byte goes out.
 pub fn save<V: Version, W: Write>(
     alloc: Global,
     held: &Held<V>,
@@ -73,7 +73,29 @@ pub fn save<V: Version, W: Write>(
     ensures stopped { IfErr result (StopsSaving W.contents writer.old writer.new (row_text V.seen held.now)) }
     ensures too_large { (result ≡ Err SnapshotError.TooLarge) ↔ (most < length (row_text V.seen held.now)) }
 {
-    let Some(length) = row_length(held) else {
+    save_within(alloc, held, writer, MOST_MESSAGE_BYTES as u32)
+}
+
+/// Saves as [`save`] does, a row of at most `limit` bytes.
+///
+/// # Errors
+///
+/// Those of [`save`], but [`SnapshotError::TooLarge`] where the row has over `limit` bytes, or a version more than
+/// [`MOST_MESSAGE_BYTES`].
+pub fn save_within<V: Version, W: Write>(
+    alloc: Global,
+    held: &Held<V>,
+    writer: &mut W,
+    limit: u32,
+) -> Result<u64, SnapshotError>
+    ensures row { OnOk result (Appends (W.contents writer.old) (W.contents writer.new) (row_text V.seen held.now)) }
+    ensures savable { OnOk result (IsSavableWithin V.seen V.Key.cmp V.is_value limit held.now) }
+    ensures count { IfOk result (λ written. written ≡ length (row_text V.seen held.now)) }
+
+    ensures stopped { IfErr result (StopsSaving W.contents writer.old writer.new (row_text V.seen held.now)) }
+    ensures too_large { (result ≡ Err SnapshotError.TooLarge) ↔ (¬ (FitsRow V.seen limit held.now)) }
+{
+    let Some(length) = row_length_within(held, limit) else {
         return Err(SnapshotError::TooLarge);
     };
     let mut out = Outgoing::new(alloc)?;

@@ -21,7 +21,8 @@ use Rattle.am_gossip.specs.Frames.{fits}
 use Rattle.am_gossip.specs.Parts.{writes_part, writes_parts}
 use Rattle.am_gossip.proofs.Limits.{part_holds, states_hold}
 use Rattle.am_snapshot.specs.Texts.{row_text}
-use Rattle.am_snapshot.proofs.ReadAgain.{IsReadBack, shorts, versions_read}
+use Rattle.am_snapshot.proofs.Fits.{shorts}
+use Rattle.am_snapshot.proofs.ReadAgain.{IsReadBack, versions_read}
 use Rattle.am_instance.specs.Deliveries.{Delivery, read_as, before_fault, first_fault, rows_of, rows_in, parts_of}
 use Rattle.am_instance.specs.Deliveries.Delivery.{OfSilence, OfEntry}
 use Rattle.am_instance.specs.Sendings.{delta_of, whole_state}
@@ -116,10 +117,10 @@ whole_carries silences log is are = ap before_fault (whole_rows silences log is 
 
 -- ---- what is readable
 pub silences_readable : (vs : List Mesh) → All IsMesh vs → length (row_text mesh_version vs) ≤ most → All IsReadable (map OfSilence vs)
-silences_readable vs is small = All-map IsReadable OfSilence vs (λ k v within. record { value = is k v within; short = shorts mesh_version reads_mesh_silence vs small k v within })
+silences_readable vs is small = All-map IsReadable OfSilence vs (λ k v within. record { value = is k v within; short = shorts mesh_version vs small k v within })
 
 pub entries_readable : (es : List LogMesh) → All IsLogMesh es → length (row_text entry_version es) ≤ most → All IsReadable (map OfEntry es)
-entries_readable es is small = All-map IsReadable OfEntry es (λ k e within. record { value = is k e within; short = shorts entry_version reads_mesh_entry es small k e within })
+entries_readable es is small = All-map IsReadable OfEntry es (λ k e within. record { value = is k e within; short = shorts entry_version es small k e within })
 
 delta_within : (part : Part) (content : List ℕ) → part.bytes ≡ delimited content → nat_le (length (writes_part part)) 4_194_304 ≡ true → length content ≤ most
 delta_within part content is fits =

@@ -2,6 +2,8 @@
 use Rattle.std.proofs.Common.{◌≡◌, ℕ, ◌+◌, ◌<◌, List, [], ◌∷◌, ◌++◌, length, take, get_or, map, refl, sym, ap, ◌∙◌, append-nil, codes}
 use Rattle.std.specs.Fmt.{decimal}
 use Rattle.std.proofs.lemmas.List.{take_more, flat_map_more}
+use Rattle.am_silence.specs.declared.matcher.Matcher.{Matcher}
+use Rattle.am_told.specs.Long.{matcher_word, matchers_word}
 use Rattle.am_told.specs.Words.{listed_word_of}
 use Rattle.am_told.specs.Lists.{listed, numbers_word, texts_word, behind_commas}
 
@@ -17,6 +19,14 @@ numbers_first all ns n is = rw is (sym (listed_first decimal n ns))
 pub texts_first : (all texts : List (List ℕ)) (text : List ℕ) → all ≡ text ∷ texts → listed_word_of text ++ behind_commas listed_word_of texts ≡ texts_word all
 unfolding texts_word
 texts_first all texts text is = rw is (sym (listed_first listed_word_of text texts))
+
+pub matchers_first : (all ms : List Matcher) (m : Matcher) → all ≡ m ∷ ms → matcher_word m ++ behind_commas matcher_word ms ≡ matchers_word all
+unfolding matchers_word
+matchers_first all ms m is = rw is (sym (listed_first matcher_word m ms))
+
+pub matchers_none : (ms : List Matcher) → ms ≡ [] → codes "-" ≡ matchers_word ms
+unfolding matchers_word
+matchers_none ms none = rw none refl
 
 -- one more word
 pub commas_more : {X : Type 0} (word : X → List ℕ) (xs : List X) (i : ℕ) (d : X) → i < length xs →

@@ -5,8 +5,8 @@ use Rattle.std.proofs.lemmas.Bool.Decides.{nat_tests}
 use Rattle.percent_encoding.specs.declared.ascii_set.AsciiSet.{AsciiSet}
 use Rattle.percent_encoding.specs.AsciiSet.{should_percent_encode}
 use Rattle.percent_encoding.specs.Percent.{percent_encode_byte, percent_encode}
-use Rattle.am_told.specs.declared.words.TheConstants.{SPELLED, SPELLED_IN_LIST}
-use Rattle.am_told.specs.Words.{is_plain, is_plain_in_list, spelled}
+use Rattle.am_told.specs.declared.words.TheConstants.{SPELLED, SPELLED_AT_END, SPELLED_IN_LIST}
+use Rattle.am_told.specs.Words.{is_plain, is_plain_at_end, is_plain_in_list, spelled}
 
 -- ---- the sets, byte by byte
 
@@ -41,6 +41,9 @@ past_ascii set byte high = grind (arith, nat_tests)
 past_plain : (byte : ℕ) → 128 ≤ byte → is_plain byte ≡ false
 past_plain byte high = grind (arith, nat_tests)
 
+past_plain_at_end : (byte : ℕ) → 128 ≤ byte → is_plain_at_end byte ≡ false
+past_plain_at_end byte high = grind (arith, nat_tests)
+
 pub spells_plain : Spells SPELLED is_plain
 unfolding all_below is_other should_percent_encode
 spells_plain byte =
@@ -55,6 +58,14 @@ spells_plain_in_list byte =
     elim (cases_lt byte 128) [
       | inl low ↦ agree _ _ (checked (is_other SPELLED_IN_LIST is_plain_in_list) 128 refl byte low)
       | inr high ↦ past_ascii SPELLED_IN_LIST byte high ∙ rw (past_plain byte high) refl
+    ]
+
+pub spells_plain_at_end : Spells SPELLED_AT_END is_plain_at_end
+unfolding all_below is_other should_percent_encode
+spells_plain_at_end byte =
+    elim (cases_lt byte 128) [
+      | inl low ↦ agree _ _ (checked (is_other SPELLED_AT_END is_plain_at_end) 128 refl byte low)
+      | inr high ↦ past_ascii SPELLED_AT_END byte high ∙ rw (past_plain_at_end byte high) refl
     ]
 
 -- so the encoding by the set is the spelling

@@ -6,10 +6,12 @@ pub mod Words
 pub mod Lists
 pub mod Views
 pub mod WordLaws
+pub mod Later
 pub mod Shows
 pub mod Texts
 pub mod Ranked
 pub mod Told
+pub mod Long
 pub mod Versions
 pub mod Written
 pub mod Reads

@@ -42,7 +42,7 @@ module _ {X R : Type 0} (reads : ℕ → List ℕ → Result X WireError) (remai
   StopsReading old new errors.Memory = ⊤
 
 module _ {K X R : Type 0} (seen : X → Version K) (cmp : K → K → Ordering) (reads : ℕ → List ℕ → Result X WireError)
-    (remaining : R → Option (List ℕ)) (begins : K → List ℕ) (told : X → List ℕ) (compared : Compared) (now : ℕ) where
+    (remaining : R → Option (List ℕ)) (begins : K → List ℕ) (told : X → List ℕ) (more : X → X → List ℕ) (compared : Compared) (now : ℕ) where
   -- A source is at fault, or memory ran out, and the writer is as it was; or all were read, and exactly the first bytes of the lines
   -- went out, and not all. `contents` is what a writer holds.
   abbrev pub StopsDiff : List (Input R) → List (Input R) → {W : Type 0} → (W → Option (List ℕ)) → W → W → DiffError → Type 0
@@ -50,5 +50,5 @@ module _ {K X R : Type 0} (seen : X → Version K) (cmp : K → K → Ordering) 
       (new ≡ old) × StopsReading reads remaining inputs left (errors.Source number fault)
   StopsDiff inputs left contents old new (errors.Write k) =
       (sources : List (Source X)) × AllZip (IsRead seen cmp reads remaining) inputs sources
-      × StopsLines seen cmp begins told compared now sources contents old new (Write k)
+      × StopsLines seen cmp begins told more compared now sources contents old new (Write k)
   StopsDiff inputs left contents old new errors.Memory = new ≡ old

@@ -1,6 +1,6 @@
 -- The lines of a difference: one for each group of sources that hold the same there, greatest first.
 -- X is the type of versions, `seen` is what the merge sees of one, `begins` are the words of a key with which each of its
--- lines begins, and `told` are the words of a version.
+-- lines begins, `told` are the words of a version, and `more` is what stands below the line of a version, of which there is a greatest.
 use Rattle.std.specs.Prelude.{◌≡◌, ℕ, List, [], ◌∷◌, ◌++◌, Bool, true, false, Option, Some, None, map, filter, codes, if◌then◌else◌}
 use Rattle.std.specs.List.{flat_map, join_with_byte, list_any}
 use Rattle.am_version_order.specs.Versions.{Version}
@@ -59,26 +59,29 @@ module _ {K X : Type 0} (seen : X → Version K) where
     group_words relation key holdings v =
         begins key ++ codes " " ++ relation ++ codes " " ++ names_word (holders (Some v) holdings) ++ codes " " ++ told v
 
-    -- KEY greatest NAMES VERSION
-    abbrev pub greatest_line : K → List (Holding X) → X → List ℕ
-    greatest_line key holdings greatest = group_words (codes "greatest") key holdings greatest ++ codes "\n"
+    module _ (more : X → X → List ℕ) where
+      -- KEY greatest NAMES VERSION
+      abbrev pub greatest_line : K → List (Holding X) → X → List ℕ
+      greatest_line key holdings greatest =
+          group_words (codes "greatest") key holdings greatest ++ codes "\n" ++ more greatest greatest
 
-    -- KEY behind NAMES VERSION by WHAT
-    abbrev pub behind_line : K → List (Holding X) → X → X → List ℕ
-    behind_line key holdings greatest v =
-        group_words (codes "behind") key holdings v ++ codes " by " ++ less_word (seen v) (seen greatest) ++ codes "\n"
+      -- KEY behind NAMES VERSION by WHAT
+      abbrev pub behind_line : K → List (Holding X) → X → X → List ℕ
+      behind_line key holdings greatest v =
+          group_words (codes "behind") key holdings v ++ codes " by " ++ less_word (seen v) (seen greatest) ++ codes "\n"
+          ++ more v greatest
 
-    -- the lines of these versions, which are all that are held
-    abbrev pub version_lines : K → List (Holding X) → List X → List ℕ
-    version_lines key holdings [] = []
-    version_lines key holdings (greatest ∷ others) =
-        greatest_line key holdings greatest ++ flat_map (behind_line key holdings greatest) others
+      -- the lines of these versions, which are all that are held
+      abbrev pub version_lines : K → List (Holding X) → List X → List ℕ
+      version_lines key holdings [] = []
+      version_lines key holdings (greatest ∷ others) =
+          greatest_line key holdings greatest ++ flat_map (behind_line key holdings greatest) others
 
-    -- the lines of a difference
-    unfoldable pub difference_lines : Difference K X → List ℕ
-    difference_lines difference =
-        version_lines difference.key difference.holdings (ranked seen difference.holdings) ++ missing_line begins difference.key difference.holdings
+      -- the lines of a difference
+      unfoldable pub difference_lines : Difference K X → List ℕ
+      difference_lines difference =
+          version_lines difference.key difference.holdings (ranked seen difference.holdings) ++ missing_line begins difference.key difference.holdings
 
-    -- the lines of all differences
-    abbrev pub lines_of : List (Difference K X) → List ℕ
-    lines_of differences = flat_map difference_lines differences
+      -- the lines of all differences
+      abbrev pub lines_of : List (Difference K X) → List ℕ
+      lines_of differences = flat_map difference_lines differences

@@ -12,6 +12,10 @@ is_plain byte = nat_le 33 byte && nat_le byte 126 && not (byte == 37)
 abbrev pub is_plain_in_list : ℕ → Bool
 is_plain_in_list byte = is_plain byte && not (byte == 44)
 
+-- at the end of a line a blank may stand for itself, too
+abbrev pub is_plain_at_end : ℕ → Bool
+is_plain_at_end byte = nat_le 32 byte && nat_le byte 126 && not (byte == 37)
+
 -- each other byte is `%` and its two upper-case hexadecimal digits
 abbrev pub spelled : (ℕ → Bool) → List ℕ → List ℕ
 spelled plain text = flat_map (λ byte. if plain byte then byte ∷ [] else percent_encode_byte byte) text
@@ -28,6 +32,10 @@ word_of text = word_by is_plain text
 -- its word in a list that has commas between the words
 unfoldable pub listed_word_of : List ℕ → List ℕ
 listed_word_of text = word_by is_plain_in_list text
+
+-- what stands for it at the end of a line
+unfoldable pub tail_of : List ℕ → List ℕ
+tail_of text = word_by is_plain_at_end text
 
 -- the text of a word, of either kind
 unfoldable pub text_of_word : List ℕ → List ℕ

@@ -8,9 +8,9 @@ ghost use Rattle.am_told.specs.Ranked.{ranked};
 
 use crate::group_lines::{append_behind, append_greatest, append_missing};
 use crate::groups::{greatest_of, next_below};
+use crate::manner::Manner;
 use crate::side::Side;
 use crate::told::Told;
-use am_version_order::Moment;
 use std::alloc::AllocError;
 
 /// Appends the lines of the versions that are less than the greatest one.
@@ -18,16 +18,16 @@ fn append_others<V: Told>(
     out: &mut String,
     sides: &[Side<'_, V>],
     greatest: &V,
-    now: Moment,
+    manner: &Manner,
 ) -> Result<(), AllocError>
     requires { greatest_within V.seen None (map holding_of sides.now) ≡ Some greatest.now }
     ensures { OnOk result (string_bytes out.new ≡ string_bytes out.old
-        ++ flat_map (behind_line V.seen V.begins (V.told now) (V.seen greatest.now).key (map holding_of sides.now) greatest.now)
+        ++ flat_map (behind_line V.seen V.begins (V.told manner.now) (V.more manner.now) (V.seen greatest.now).key (map holding_of sides.now) greatest.now)
         (drop 1 (ranked V.seen (map holding_of sides.now)))) }
 {
     let mut last = greatest;
     while let Some(version) = next_below(sides, last) {
-        append_behind(out, sides, version, greatest, now)?;
+        append_behind(out, sides, version, greatest, manner)?;
         last = version;
     }
     Ok(())
@@ -41,17 +41,17 @@ fn append_others<V: Told>(
 pub fn append_difference<V: Told>(
     out: &mut String,
     sides: &[Side<'_, V>],
-    now: Moment,
+    manner: &Manner,
 ) -> Result<(), AllocError>
     ensures { OnOk result ((key : V.Key) → IsKeyOf V.seen (map holding_of sides.now) key →
         string_bytes out.new ≡ string_bytes out.old
-        ++ difference_lines V.seen V.begins (V.told now) (record { key = key; holdings = map holding_of sides.now })) }
+        ++ difference_lines V.seen V.begins (V.told manner.now) (V.more manner.now) (record { key = key; holdings = map holding_of sides.now })) }
 {
     let Some(greatest) = greatest_of(sides) else {
         return Ok(());
     };
-    append_greatest(out, sides, greatest, now)?;
-    append_others(out, sides, greatest, now)?;
+    append_greatest(out, sides, greatest, manner)?;
+    append_others(out, sides, greatest, manner)?;
     append_missing(out, sides, greatest.key())?;
     Ok(())
 }

@@ -6,11 +6,12 @@ ghost use Rattle.am_told.specs.Sources.{holding_of};
 ghost use Rattle.am_told.specs.Told.{behind_line, greatest_line, group_words, less_word, missing_line, part_word};
 
 use crate::groups::is_behind_by;
+use crate::manner::Manner;
 use crate::names::{append_names, is_held, nothing};
 use crate::part::Part;
 use crate::side::Side;
 use crate::told::Told;
-use am_version_order::{Moment, Version};
+use am_version_order::Version;
 use std::alloc::AllocError;
 
 /// By which part of the order a version is less than a greater one, by its name. It takes no memory.
@@ -41,16 +42,16 @@ fn append_group<V: Told>(
     key: &V::Key,
     relation: &str,
     version: &V,
-    now: Moment,
+    manner: &Manner,
 ) -> Result<(), AllocError>
     ensures { OnOk result (string_bytes out.new ≡ string_bytes out.old
-        ++ group_words V.seen V.begins (V.told now) relation.now key.now (map holding_of sides.now) version.now) }
+        ++ group_words V.seen V.begins (V.told manner.now) relation.now key.now (map holding_of sides.now) version.now) }
 {
     V::append_key(out, key)?;
     write!(out, " {relation} ")?;
     append_names(out, sides, Some(version))?;
     write!(out, " ")?;
-    version.append_told(out, now)
+    version.append_told(out, manner)
 }
 
 /// Appends the line of the sources that have the greatest version.
@@ -58,13 +59,14 @@ pub fn append_greatest<V: Told>(
     out: &mut String,
     sides: &[Side<'_, V>],
     greatest: &V,
-    now: Moment,
+    manner: &Manner,
 ) -> Result<(), AllocError>
     ensures { OnOk result (string_bytes out.new ≡ string_bytes out.old
-        ++ greatest_line V.seen V.begins (V.told now) (V.seen greatest.now).key (map holding_of sides.now) greatest.now) }
+        ++ greatest_line V.seen V.begins (V.told manner.now) (V.more manner.now) (V.seen greatest.now).key (map holding_of sides.now) greatest.now) }
 {
-    append_group(out, sides, greatest.key(), "greatest", greatest, now)?;
-    writeln!(out)
+    append_group(out, sides, greatest.key(), "greatest", greatest, manner)?;
+    writeln!(out)?;
+    greatest.append_more(out, greatest, manner)
 }
 
 /// Appends the line of the sources that have a version that is less.
@@ -73,15 +75,16 @@ pub fn append_behind<V: Told>(
     sides: &[Side<'_, V>],
     version: &V,
     greatest: &V,
-    now: Moment,
+    manner: &Manner,
 ) -> Result<(), AllocError>
     requires { is_below (V.seen version.now) (V.seen greatest.now) ≡ true }
     ensures { OnOk result (string_bytes out.new ≡ string_bytes out.old
-        ++ behind_line V.seen V.begins (V.told now) (V.seen greatest.now).key (map holding_of sides.now) greatest.now version.now) }
+        ++ behind_line V.seen V.begins (V.told manner.now) (V.more manner.now) (V.seen greatest.now).key (map holding_of sides.now) greatest.now version.now) }
 {
     let part = less_by(version, greatest);
-    append_group(out, sides, greatest.key(), "behind", version, now)?;
-    writeln!(out, " by {part}")
+    append_group(out, sides, greatest.key(), "behind", version, manner)?;
+    writeln!(out, " by {part}")?;
+    version.append_more(out, greatest, manner)
 }
 
 /// Appends the line of the sources that hold nothing, where there are some.

@@ -5,15 +5,18 @@ ghost use Rattle.std.specs.List.{AllZip};
 ghost use Rattle.std.specs.Io.KnownBytes.{Appends};
 ghost use Rattle.am_wire.specs.Inputs.{StopsAfter};
 ghost use Rattle.am_told.specs.Sources.{Source};
+ghost use Rattle.am_told.specs.Later.{has_later_source};
 ghost use Rattle.am_told.specs.Reads.{IsRead, StopsDiff, StopsReading};
 ghost use Rattle.am_told.specs.Written.{AreLines};
 
 use crate::compared::Compared;
+use crate::later::has_later_source;
+use crate::manner::Manner;
 use crate::replica::Replica;
 use crate::told::Told;
 use crate::writing::write_differences;
 use am_snapshot::{SnapshotError, take_row};
-use am_version_order::{Moment, Version};
+use am_version_order::Version;
 use am_wire::{Message, RowFault};
 use std::alloc::{AllocError, Global};
 use std::io::{Read, Write};
@@ -102,8 +105,16 @@ pub fn read_sources<'n, V: Version + Message, R: Read + Drop>(
     Ok(replicas)
 }
 
-/// Reads sources, and then writes the lines of all their differences, as [`write_differences`] does. Answers whether there is
-/// a difference.
+/// What came of a comparison of sources that were read.
+#[derive(Clone, Copy)]
+pub struct DiffOutcome {
+    /// There is a difference.
+    pub found: bool,
+    /// Something that was read was updated after the moment.
+    pub has_later: bool,
+}
+
+/// Reads sources, and then writes the lines of all their differences, as [`write_differences`] does.
 ///
 /// What was read is forgotten: the process is to end then, and its memory with it.
 ///
@@ -114,22 +125,24 @@ pub fn diff_rows<V: Told + Message, R: Read + Drop, W: Write>(
     alloc: Global,
     inputs: &mut [Input<'_, R>],
     compared: Compared,
-    now: Moment,
+    manner: &Manner,
     writer: &mut W,
-) -> Result<bool, DiffError>
-    ensures lines { IfOk result (λ found. (sources : List (Source V)) ×
+) -> Result<DiffOutcome, DiffError>
+    ensures lines { IfOk result (λ outcome. (sources : List (Source V)) ×
         AllZip (IsRead V.seen V.Key.cmp V.reads R.remaining) inputs.old sources ×
-        (lines : List ℕ) × AreLines V.seen V.Key.cmp V.begins (V.told now) compared now sources found lines ×
+        (outcome.has_later ≡ has_later_source V.seen manner.now.moment sources) ×
+        (lines : List ℕ) × AreLines V.seen V.Key.cmp V.begins (V.told manner.now) (V.more manner.now) compared manner.now.moment sources outcome.found lines ×
         Appends (W.contents writer.old) (W.contents writer.new) lines) }
 
-    ensures stopped { IfErr result (StopsDiff V.seen V.Key.cmp V.reads R.remaining V.begins (V.told now) compared now
-        inputs.old inputs.new W.contents writer.old writer.new) }
+    ensures stopped { IfErr result (StopsDiff V.seen V.Key.cmp V.reads R.remaining V.begins (V.told manner.now) (V.more manner.now)
+        compared manner.now.moment inputs.old inputs.new W.contents writer.old writer.new) }
 {
     let replicas: Vec<Replica<'_, V>> = read_sources(alloc, inputs)?;
-    let written = write_differences(alloc, &replicas, compared, now, writer);
+    let has_later = has_later_source(&replicas, manner.moment);
+    let written = write_differences(alloc, &replicas, compared, manner, writer);
     mem::forget(replicas);
     match written {
-        Ok(found) => Ok(found),
+        Ok(found) => Ok(DiffOutcome { found, has_later }),
         Err(SnapshotError::Write { written }) => Err(DiffError::Write { written }),
         Err(_) => Err(DiffError::Memory),
     }

@@ -6,6 +6,7 @@ ghost use Rattle.am_told.specs.Differences.{AreDifferences, Difference};
 ghost use Rattle.am_told.specs.Groups.{AreRanked, IsLessBy, part_between};
 ghost use Rattle.am_told.specs.Sources.{Holding, Source};
 ghost use Rattle.am_told.specs.declared.compared.Compared.{Compared};
+ghost use Rattle.am_told.specs.declared.manner.Manner.{Manner};
 ghost use Rattle.am_told.specs.Texts.{moment_text};
 ghost use Rattle.am_told.specs.Ranked.{ranked};
 ghost use Rattle.am_told.specs.Written.{AreLines};
@@ -19,9 +20,9 @@ pub fn lines_are_one_text<V: Told>()
     ensures list { (sources : List (Source V)) (compared : Compared) (now : ℕ) (differences others : List (Difference V.Key V)) →
         AreDifferences V.seen V.Key.cmp compared now sources differences →
         AreDifferences V.seen V.Key.cmp compared now sources others → differences ≡ others }
-    ensures text { (sources : List (Source V)) (compared : Compared) (now : ℕ) (found other_found : Bool) (lines others : List ℕ) →
-        AreLines V.seen V.Key.cmp V.begins (V.told now) compared now sources found lines →
-        AreLines V.seen V.Key.cmp V.begins (V.told now) compared now sources other_found others →
+    ensures text { (sources : List (Source V)) (compared : Compared) (manner : Manner) (found other_found : Bool) (lines others : List ℕ) →
+        AreLines V.seen V.Key.cmp V.begins (V.told manner) (V.more manner) compared manner.moment sources found lines →
+        AreLines V.seen V.Key.cmp V.begins (V.told manner) (V.more manner) compared manner.moment sources other_found others →
         (found ≡ other_found) × (lines ≡ others) }
 {}
 

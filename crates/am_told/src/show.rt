@@ -10,9 +10,11 @@ ghost use Rattle.am_nflog.specs.MeshTable.{reads_mesh_entry};
 ghost use Rattle.am_silence.specs.Mesh as silences;
 ghost use Rattle.am_silence.specs.MeshTable.{reads_mesh_silence};
 ghost use Rattle.am_snapshot.specs.Loads.{StopsLoad};
+ghost use Rattle.am_told.specs.Later.{has_later};
 ghost use Rattle.am_told.specs.Shows.{IsLoadedMap};
 ghost use Rattle.am_told.specs.Views.{view_text, StopsWriting};
 
+use crate::later::has_later;
 use crate::view::write_view;
 use am_merge::Held;
 use am_nflog::MeshEntry;
@@ -23,7 +25,16 @@ use std::alloc::Global;
 use std::io::{Read, Write};
 use std::mem;
 
-/// Writes the view, without a name, of the silences whose snapshot the whole input is, and answers its bytes.
+/// What was shown of a snapshot.
+#[derive(Clone, Copy)]
+pub struct Shown {
+    /// How many bytes went out.
+    pub written: u64,
+    /// Something that was read was updated after the moment.
+    pub has_later: bool,
+}
+
+/// Writes the view, without a name, of the silences whose snapshot the whole input is.
 ///
 /// What was read is forgotten: the process is to end then, and its memory with it.
 ///
@@ -35,10 +46,11 @@ pub fn show_silences<R: Read, W: Write>(
     input: &mut R,
     output: &mut W,
     now: Moment,
-) -> Result<u64, SnapshotError>
-    ensures shown { IfOk result (λ written. IfSome (R.remaining input.old) (λ bytes. (held : List silences.Mesh) ×
+) -> Result<Shown, SnapshotError>
+    ensures shown { IfOk result (λ shown. IfSome (R.remaining input.old) (λ bytes. (held : List silences.Mesh) ×
         IsLoadedMap silences.mesh_version (slice_cmp nat_cmp) reads_mesh_silence bytes held ×
-        (written ≡ length (view_text None now held [])) ×
+        (shown.written ≡ length (view_text None now held [])) ×
+        (shown.has_later ≡ has_later silences.mesh_version now held) ×
         Appends (W.contents output.old) (W.contents output.new) (view_text None now held []))) }
     ensures end { OnOk result (IsAtEnd (R.remaining input.new)) }
     ensures stopped { IfErr result (λ e. IfSome (R.remaining input.old) (λ bytes.
@@ -47,12 +59,14 @@ pub fn show_silences<R: Read, W: Write>(
         StopsWriting W.contents output.old output.new (view_text None now held []) e))) }
 {
     let silences = load::<MeshSilence, _>(alloc, input)?;
+    let has_later = has_later(&silences, now);
     let written = write_view(alloc, &silences, &Held::new(alloc), None, now, output);
     mem::forget(silences);
-    written
+    let written = written?;
+    Ok(Shown { written, has_later })
 }
 
-/// Writes the view, without a name, of the log whose snapshot the whole input is, and answers its bytes.
+/// Writes the view, without a name, of the log whose snapshot the whole input is.
 ///
 /// What was read is forgotten: the process is to end then, and its memory with it.
 ///
@@ -64,10 +78,11 @@ pub fn show_log<R: Read, W: Write>(
     input: &mut R,
     output: &mut W,
     now: Moment,
-) -> Result<u64, SnapshotError>
-    ensures shown { IfOk result (λ written. IfSome (R.remaining input.old) (λ bytes. (held : List entries.Mesh) ×
+) -> Result<Shown, SnapshotError>
+    ensures shown { IfOk result (λ shown. IfSome (R.remaining input.old) (λ bytes. (held : List entries.Mesh) ×
         IsLoadedMap entries.mesh_version key_cmp reads_mesh_entry bytes held ×
-        (written ≡ length (view_text None now [] held)) ×
+        (shown.written ≡ length (view_text None now [] held)) ×
+        (shown.has_later ≡ has_later entries.mesh_version now held) ×
         Appends (W.contents output.old) (W.contents output.new) (view_text None now [] held))) }
     ensures end { OnOk result (IsAtEnd (R.remaining input.new)) }
     ensures stopped { IfErr result (λ e. IfSome (R.remaining input.old) (λ bytes.
@@ -76,7 +91,9 @@ pub fn show_log<R: Read, W: Write>(
         StopsWriting W.contents output.old output.new (view_text None now [] held) e))) }
 {
     let log = load::<MeshEntry, _>(alloc, input)?;
+    let has_later = has_later(&log, now);
     let written = write_view(alloc, &Held::new(alloc), &log, None, now, output);
     mem::forget(log);
-    written
+    let written = written?;
+    Ok(Shown { written, has_later })
 }

@@ -9,12 +9,12 @@ ghost use Rattle.am_told.specs.Written.{AreLines, StopsLines};
 use crate::compared::Compared;
 use crate::difference::append_difference;
 use crate::differences::next_difference;
+use crate::manner::Manner;
 use crate::replica::{Replica, sides_of};
 use crate::side::Side;
 use crate::told::Told;
 use am_snapshot::SnapshotError;
 use am_streams::send;
-use am_version_order::Moment;
 use std::alloc::{AllocError, Global};
 use std::io::Write;
 
@@ -23,16 +23,16 @@ fn append_left<V: Told>(
     out: &mut String,
     sides: &mut [Side<'_, V>],
     compared: Compared,
-    now: Moment,
+    manner: &Manner,
 ) -> Result<bool, AllocError>
     requires order { All (λ side. IsMap V.seen V.Key.cmp side.left) sides.old }
     ensures { IfOk result (λ found. (lines : List ℕ) ×
-        AreLines V.seen V.Key.cmp V.begins (V.told now) compared now (map rest_of sides.old) found lines ×
+        AreLines V.seen V.Key.cmp V.begins (V.told manner.now) (V.more manner.now) compared manner.now.moment (map rest_of sides.old) found lines ×
         (string_bytes out.new ≡ string_bytes out.old ++ lines)) }
 {
     let mut found = false;
-    while next_difference(sides, compared, now) {
-        append_difference(out, sides, now)?;
+    while next_difference(sides, compared, manner.moment) {
+        append_difference(out, sides, manner)?;
         found = true;
     }
     Ok(found)
@@ -50,14 +50,14 @@ pub fn append_differences<V: Told>(
     out: &mut String,
     replicas: &[Replica<'_, V>],
     compared: Compared,
-    now: Moment,
+    manner: &Manner,
 ) -> Result<bool, AllocError>
     ensures { IfOk result (λ found. (lines : List ℕ) ×
-        AreLines V.seen V.Key.cmp V.begins (V.told now) compared now replicas.now found lines ×
+        AreLines V.seen V.Key.cmp V.begins (V.told manner.now) (V.more manner.now) compared manner.now.moment replicas.now found lines ×
         (string_bytes out.new ≡ string_bytes out.old ++ lines)) }
 {
     let mut sides = sides_of(alloc, replicas)?;
-    append_left(out, &mut sides, compared, now)
+    append_left(out, &mut sides, compared, manner)
 }
 
 /// Writes the lines of all differences of these sources, as [`append_differences`] appends them. Answers whether there is a
@@ -71,18 +71,18 @@ pub fn write_differences<V: Told, W: Write>(
     alloc: Global,
     replicas: &[Replica<'_, V>],
     compared: Compared,
-    now: Moment,
+    manner: &Manner,
     writer: &mut W,
 ) -> Result<bool, SnapshotError>
     ensures lines { IfOk result (λ found. (lines : List ℕ) ×
-        AreLines V.seen V.Key.cmp V.begins (V.told now) compared now replicas.now found lines ×
+        AreLines V.seen V.Key.cmp V.begins (V.told manner.now) (V.more manner.now) compared manner.now.moment replicas.now found lines ×
         Appends (W.contents writer.old) (W.contents writer.new) lines) }
 
-    ensures stopped { IfErr result (StopsLines V.seen V.Key.cmp V.begins (V.told now) compared now replicas.now
+    ensures stopped { IfErr result (StopsLines V.seen V.Key.cmp V.begins (V.told manner.now) (V.more manner.now) compared manner.now.moment replicas.now
         W.contents writer.old writer.new) }
 {
     let mut text = String::new(alloc);
-    let found = append_differences(alloc, &mut text, replicas, compared, now)?;
+    let found = append_differences(alloc, &mut text, replicas, compared, manner)?;
     send(writer, text.as_bytes())?;
     Ok(found)
 }

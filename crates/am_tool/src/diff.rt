@@ -1,22 +1,21 @@
 //! How replicas differ.
 
-use crate::fault::{self, Fault, SourceFault};
-use crate::status;
-use crate::words::{DiffJob, Form, STANDARD_INPUT, SourceWord, StateName};
-use am_member::{FileFault, Server, body_of, fetch, held_of, later_moment, shown_of_row};
+use crate::moment::{moment_of, warn};
+use am_command_line::{DiffJob, Form, STANDARD_INPUT, SourceWord, StateName};
+use am_faults::{Fault, SourceFault, report, report_source, status};
+use am_member::{FileFault, Server, body_of, fetch, held_of, shown_of_row};
 use am_merge::Held;
 use am_nflog::MeshEntry;
 use am_silence::MeshSilence;
 use am_silence_json::read_silences;
 use am_snapshot::SnapshotError;
 use am_told::{
-    Compared, DiffError, Input, Replica, diff_json, diff_rows, write_differences,
-    write_differences_json,
+    Compared, DiffError, DiffOutcome, Input, Manner, Replica, diff_json, diff_rows,
+    has_later_source, write_differences, write_differences_json,
 };
 use am_version_order::Moment;
 use std::fs::{self, File};
 use std::io::{self, BufReader, Read, Stdin};
-use std::rt::Clock;
 use std::time::Duration;
 
 /// Where the row of a source stands.
@@ -40,26 +39,41 @@ type Opened<'a> = Input<'a, BufReader<Origin>>;
 
 /// Compares the sources of a job, and answers the exit status of the program.
 pub fn run<'a>(rt: &'a HostRuntime, job: &DiffJob<'a>) -> u8 {
-    let now = match moment_of(rt, job) {
+    let now = match moment_of(rt, job.now) {
         Ok(now) => now,
-        Err(fault) => return fault::report(rt, fault),
+        Err(fault) => return report(rt, fault),
     };
     match compare(rt, job, now) {
-        Ok(true) => status::DIFFERENT,
-        Ok(false) => status::DONE,
-        Err(fault) => fault::report_source(rt, &fault),
+        Ok(outcome) => tell(rt, job, outcome),
+        Err(fault) => report_source(rt, &fault),
     }
 }
 
-/// Writes all differences to standard output, and answers whether there is one.
-fn compare<'a>(rt: &HostRuntime, job: &DiffJob<'a>, now: Moment) -> Result<bool, SourceFault<'a>> {
+/// Warns of an early moment, and answers the exit status of the program.
+fn tell(rt: &HostRuntime, job: &DiffJob<'_>, outcome: DiffOutcome) -> u8 {
+    if outcome.has_later {
+        warn(rt, job.now);
+    }
+    if outcome.found {
+        status::DIFFERENT
+    } else {
+        status::DONE
+    }
+}
+
+/// Writes all differences to standard output.
+fn compare<'a>(
+    rt: &HostRuntime,
+    job: &DiffJob<'a>,
+    now: Moment,
+) -> Result<DiffOutcome, SourceFault<'a>> {
     if job.is_live() {
         let replicas = match ask_all(rt, job) {
             Ok(replicas) => replicas,
             Err(fault) => return Err(fault),
         };
-        return match compare_shown(rt, job.form, now, &replicas) {
-            Ok(found) => Ok(found),
+        return match compare_shown(rt, job, now, &replicas) {
+            Ok(outcome) => Ok(outcome),
             Err(error) => Err(unnamed(error)),
         };
     }
@@ -68,7 +82,7 @@ fn compare<'a>(rt: &HostRuntime, job: &DiffJob<'a>, now: Moment) -> Result<bool,
         Err(fault) => return Err(fault),
     };
     match compare_rows(rt, job, now, &mut inputs) {
-        Ok(found) => Ok(found),
+        Ok(outcome) => Ok(outcome),
         Err(error) => Err(named(job, error)),
     }
 }
@@ -90,17 +104,6 @@ fn named<'a>(job: &DiffJob<'a>, error: DiffError) -> SourceFault<'a> {
         },
         DiffError::Write { written } => unnamed(SnapshotError::Write { written }),
         DiffError::Memory => unnamed(SnapshotError::Memory),
-    }
-}
-
-/// The moment of the job; where it names none, the clock's.
-fn moment_of(rt: &HostRuntime, job: &DiffJob<'_>) -> Result<Moment, Fault> {
-    if let Some(now) = job.now {
-        return Ok(now);
-    }
-    match rt.since_1970() {
-        Ok(since_1970) => Ok(later_moment(since_1970, Moment::LEAST)),
-        Err(error) => Err(Fault::Clock(error.kind())),
     }
 }
 
@@ -193,36 +196,53 @@ fn shown_by_server(
     }
 }
 
-/// Writes all differences of what sources show to standard output, and answers whether there is one.
-fn compare_shown(
-    rt: &HostRuntime,
-    form: Form,
-    now: Moment,
-    replicas: &[Replica<'_, MeshSilence>],
-) -> Result<bool, SnapshotError> {
-    let alloc = rt.alloc();
-    let mut output = rt.stdout();
-    match form {
-        Form::Lines => write_differences(alloc, replicas, Compared::Shown, now, &mut output),
-        Form::Json => write_differences_json(alloc, replicas, Compared::Shown, now, &mut output),
+/// How the lines of a job are told.
+fn manner_of(job: &DiffJob<'_>, now: Moment) -> Manner {
+    Manner {
+        moment: now,
+        has_expiries: !job.is_live(),
+        is_long: job.is_long,
     }
 }
 
-/// Writes all differences of rows to standard output, and answers whether there is one.
+/// Writes all differences of what sources show to standard output.
+fn compare_shown(
+    rt: &HostRuntime,
+    job: &DiffJob<'_>,
+    now: Moment,
+    replicas: &[Replica<'_, MeshSilence>],
+) -> Result<DiffOutcome, SnapshotError> {
+    let alloc = rt.alloc();
+    let mut output = rt.stdout();
+    let has_later = has_later_source(replicas, now);
+    let found = match job.form {
+        Form::Lines => {
+            let manner = manner_of(job, now);
+            write_differences(alloc, replicas, Compared::Shown, &manner, &mut output)?
+        }
+        Form::Json => {
+            write_differences_json(alloc, replicas, Compared::Shown, now, &mut output)?
+        }
+    };
+    Ok(DiffOutcome { found, has_later })
+}
+
+/// Writes all differences of rows to standard output.
 fn compare_rows(
     rt: &HostRuntime,
     job: &DiffJob<'_>,
     now: Moment,
     inputs: &mut [Opened<'_>],
-) -> Result<bool, DiffError> {
+) -> Result<DiffOutcome, DiffError> {
     let alloc = rt.alloc();
     let mut output = rt.stdout();
+    let manner = manner_of(job, now);
     match (job.form, job.state) {
         (Form::Lines, StateName::Silences) => {
-            diff_rows::<MeshSilence, _, _>(alloc, inputs, job.compared, now, &mut output)
+            diff_rows::<MeshSilence, _, _>(alloc, inputs, job.compared, &manner, &mut output)
         }
         (Form::Lines, StateName::Log) => {
-            diff_rows::<MeshEntry, _, _>(alloc, inputs, job.compared, now, &mut output)
+            diff_rows::<MeshEntry, _, _>(alloc, inputs, job.compared, &manner, &mut output)
         }
         (Form::Json, StateName::Silences) => {
             diff_json::<MeshSilence, _, _>(alloc, inputs, job.compared, now, &mut output)

@@ -163,41 +163,41 @@ all_but_last-append xs ys e =
     rw n (take-append_seam xs ys)
 
 -- ---- a loop that has read the first bytes of a length
-pub record HasPart (at len : ℕ) (text : List ℕ) (old now : Option (List ℕ)) : Type 0 where
+pub record HasPart (limit at len : ℕ) (text : List ℕ) (old now : Option (List ℕ)) : Type 0 where
   pub so_far : length (take len text) ≡ len
   pub room : len ≤ 9
-  pub small : at + len ≤ most
+  pub small : at + len ≤ limit
   pub unfinished : length_at at (take len text) ≡ Err (Truncated at)
   pub consumed : Consumes old now (take len text)
 
-pub HasPart-start : (at : ℕ) (text : List ℕ) (old : Option (List ℕ)) → at ≤ most → HasPart at 0 text old old
-HasPart-start at text old small = record { so_far = refl; room = omega arith; small = omega (arith, small); unfinished = length_at-nil at; consumed = Consumes-nil old }
+pub HasPart-start : (limit at : ℕ) (text : List ℕ) (old : Option (List ℕ)) → at ≤ limit → HasPart limit at 0 text old old
+HasPart-start limit at text old small = record { so_far = refl; room = omega arith; small = omega (arith, small); unfinished = length_at-nil at; consumed = Consumes-nil old }
 
-module _ (at len : ℕ) (text : List ℕ) (old now : Option (List ℕ)) (h : HasPart at len text old now) (new : Option (List ℕ)) where
+module _ (limit at len : ℕ) (text : List ℕ) (old now : Option (List ℕ)) (h : HasPart limit at len text old now) (new : Option (List ℕ)) where
   is_cut : IsCut at (take len text)
   is_cut = row_at-of_length at (take len text) (Truncated at) h.unfinished
 
   -- the read of the next byte fails, or gives a byte too many
-  pub stops_at_byte : (fault : RowFault) → ((more : List ℕ) × Consumes now new more × ByteStops (at + len) more fault) → (bytes : List ℕ) × Consumes old new bytes × Stops at bytes new fault
+  pub stops_at_byte : (fault : RowFault) → ((more : List ℕ) × Consumes now new more × ByteStops limit (at + len) more fault) → (bytes : List ℕ) × Consumes old new bytes × Stops limit at bytes new fault
   stops_at_byte (Read k) (more, read, (none, e)) =
       let bytes : take len text ++ more ≡ take len text = rw none (append-nil (take len text)) in
       let given : Consumes old new (take len text) = subst (λ (l : List ℕ). Consumes old new l) bytes (Consumes-trans old now new _ more h.consumed read) in
       (take len text, given, (is_cut, rw h.so_far e, rw e h.small))
   stops_at_byte TooLarge (more, read, (one, above)) =
-      let over : at + length (take len text ++ more) ≡ most + 1 = omega (arith, length-append (take len text) more, h.so_far, h.small) in
+      let over : at + length (take len text ++ more) ≡ limit + 1 = omega (arith, length-append (take len text) more, h.so_far, h.small) in
       (_, Consumes-trans old now new _ more h.consumed read, (rw (all_but_last-append (take len text) more one) is_cut, over))
   stops_at_byte (Wire e) (more, read, none) = absurd none
   stops_at_byte Ended (more, read, none) = absurd none
   stops_at_byte Memory (more, read, none) = absurd none
 
   -- the input ends there
-  pub stops_at_end : len ≢ 0 → Consumes now new [] × IsAtEnd new → (bytes : List ℕ) × Consumes old new bytes × Stops at bytes new (Wire (Truncated at))
+  pub stops_at_end : len ≢ 0 → Consumes now new [] × IsAtEnd new → (bytes : List ℕ) × Consumes old new bytes × Stops limit at bytes new (Wire (Truncated at))
   stops_at_end some (read, end) =
       let given : Consumes old new (take len text) = subst (λ (l : List ℕ). Consumes old new l) (append-nil (take len text)) (Consumes-trans old now new _ [] h.consumed read) in
       (take len text, given, (inr (is_cut, omega (arith, h.so_far), end, refl), rw h.so_far h.small))
 
   -- another byte comes
-  module _ (byte : ℕ) (lt : len < length text) (read : Consumes now new (byte ∷ []) × (at + len < most)) (r : Result ℕ WireError) (is : r ≡ length_at at (take (len + 1) (slice_set text len byte))) where
+  module _ (byte : ℕ) (lt : len < length text) (read : Consumes now new (byte ∷ []) × (at + len < limit)) (r : Result ℕ WireError) (is : r ≡ length_at at (take (len + 1) (slice_set text len byte))) where
     more : take (len + 1) (slice_set text len byte) ≡ take len text ++ byte ∷ []
     more = rw (add-one len) (take-suc-set text len byte lt)
 
@@ -210,15 +210,15 @@ module _ (at len : ℕ) (text : List ℕ) (old now : Option (List ℕ)) (h : Has
     then_is : r ≡ length_at at (take len text ++ byte ∷ [])
     then_is = is ∙ ap (length_at at) more
 
-    pub ends_length : (n : ℕ) → r ≡ Ok n → (bytes : List ℕ) × Consumes old new bytes × IsLength at n (at + (len + 1)) bytes × (at + (len + 1) ≤ most)
+    pub ends_length : (n : ℕ) → r ≡ Ok n → (bytes : List ℕ) × Consumes old new bytes × IsLength at n (at + (len + 1)) bytes × (at + (len + 1) ≤ limit)
     ends_length n e = (_, given, length_whole at n _ byte (take len text) h.unfinished (sym then_is ∙ e) (rw size refl), omega (arith, read.1))
 
-    pub stops_in_length : (e : WireError) → r ≡ Err e → e ≢ Truncated at → (bytes : List ℕ) × Consumes old new bytes × Stops at bytes new (Wire e)
+    pub stops_in_length : (e : WireError) → r ≡ Err e → e ≢ Truncated at → (bytes : List ℕ) × Consumes old new bytes × Stops limit at bytes new (Wire e)
     stops_in_length e fault other =
         let whole = row_at-of_length at (take len text ++ byte ∷ []) e (sym then_is ∙ fault) in
         (_, given, (inl (whole, other, rw (all_but_last-append (take len text) (byte ∷ []) refl) is_cut), rw size (omega (arith, read.1))))
 
-    pub HasPart-more : (e : WireError) → r ≡ Err e → e ≡ Truncated at → HasPart at (len + 1) (slice_set text len byte) old new
+    pub HasPart-more : (e : WireError) → r ≡ Err e → e ≡ Truncated at → HasPart limit at (len + 1) (slice_set text len byte) old new
     HasPart-more e fault same =
         let still : length_at at (take len text ++ byte ∷ []) ≡ Err (Truncated at) = sym then_is ∙ fault ∙ ap (λ (x : WireError). failed x) same in
         let in_room = varint_cut at 9 _ (length_at-cut at _ still) in
@@ -272,8 +272,8 @@ module _ (at size start : ℕ) (text : List ℕ) (h : IsLength at size start tex
   length_some = varint_some at size text h.whole
 
   -- a byte too many came
-  pub stops_above : (more : List ℕ) → length more ≤ size → start + length more ≡ most + 1 → start ≤ most → IsCut at (all_but_last (text ++ more)) × (at + length (text ++ more) ≡ most + 1)
-  stops_above more in_size over small =
+  pub stops_above : (limit : ℕ) (more : List ℕ) → length more ≤ size → start + length more ≡ limit + 1 → start ≤ limit → IsCut at (all_but_last (text ++ more)) × (at + length (text ++ more) ≡ limit + 1)
+  stops_above limit more in_size over small =
       let n = length-append text more in
       let last : length (text ++ more) - 1 ≡ length text + (length more - 1) = omega (arith, n, over, small) in
       let front : all_but_last (text ++ more) ≡ text ++ take (length more - 1) more = rw last (take-append-add text more (length more - 1)) in
@@ -281,8 +281,8 @@ module _ (at size start : ℕ) (text : List ℕ) (h : IsLength at size start tex
       (rw front (row_cut _ shorter), omega (arith, n, over, h.place))
 
   -- fewer bytes came than are wanted
-  module _ (left : Option (List ℕ)) (more : List ℕ) where
-    pub stops_in_message : (wanted : ℕ) (fault : RowFault) → wanted ≤ size → start + wanted ≤ most + 1 → BytesStop start wanted more fault → Stops at (text ++ more) left fault
+  module _ (limit : ℕ) (left : Option (List ℕ)) (more : List ℕ) where
+    pub stops_in_message : (wanted : ℕ) (fault : RowFault) → wanted ≤ size → start + wanted ≤ limit + 1 → BytesStop start wanted more fault → Stops limit at (text ++ more) left fault
     stops_in_message wanted (Read k) in_size in_room (lt, e) =
         let n = length-append text more in
         (row_cut more (omega (arith, lt, in_size)), omega (arith, e, n, h.place), omega (arith, e, lt, in_room))
@@ -292,17 +292,17 @@ module _ (at size start : ℕ) (text : List ℕ) (h : IsLength at size start tex
     stops_in_message wanted Ended in_size in_room stop = absurd stop
 
     -- the input ends there
-    pub stops_before_end : length more < size → start + length more ≤ most → IsAtEnd left → Stops at (text ++ more) left (Wire (Truncated at))
+    pub stops_before_end : length more < size → start + length more ≤ limit → IsAtEnd left → Stops limit at (text ++ more) left (Wire (Truncated at))
     stops_before_end lt small end =
         let n = length-append text more in
         (inr (row_cut more lt, omega (arith, n, length_some), end, refl), omega (arith, n, small, h.place))
 
 -- ---- a call's answer
-abbrev standing : ℕ → Standing
-standing at = Before at
+abbrev standing : ℕ → ℕ → Standing
+standing limit at = Before at limit
 
-module _ {A : Type 0} (reads : ℕ → List ℕ → Result A WireError) (at : ℕ) where
-  pub answers_stop : (bytes : List ℕ) (left : Option (List ℕ)) (fault : RowFault) → Stops at bytes left fault → Answers reads (Before at) bytes left (Err fault) Refused
+module _ {A : Type 0} (reads : ℕ → List ℕ → Result A WireError) (limit at : ℕ) where
+  pub answers_stop : (bytes : List ℕ) (left : Option (List ℕ)) (fault : RowFault) → Stops limit at bytes left fault → Answers reads (Before at limit) bytes left (Err fault) Refused
   answers_stop bytes left (Read k) stop = (stop, refl)
   answers_stop bytes left (Wire e) stop = (inl stop, refl)
   answers_stop bytes left TooLarge stop = (stop, refl)
@@ -310,16 +310,16 @@ module _ {A : Type 0} (reads : ℕ → List ℕ → Result A WireError) (at : �
   answers_stop bytes left Memory stop = (stop, refl)
 
   -- a length and then a message were read, or not all of it
-  module _ (size start : ℕ) (a b c : Option (List ℕ)) (front : (text : List ℕ) × Consumes a b text × IsLength at size start text × (start ≤ most)) where
-    pub answers_cut : (fault : RowFault) → ((bytes : List ℕ) × Consumes b c bytes × ((text : List ℕ) → IsLength at size start text → Stops at (text ++ bytes) c fault))
-        → (bytes : List ℕ) × Consumes a c bytes × Answers reads (Before at) bytes c (Err fault) Refused
+  module _ (size start : ℕ) (a b c : Option (List ℕ)) (front : (text : List ℕ) × Consumes a b text × IsLength at size start text × (start ≤ limit)) where
+    pub answers_cut : (fault : RowFault) → ((bytes : List ℕ) × Consumes b c bytes × ((text : List ℕ) → IsLength at size start text → Stops limit at (text ++ bytes) c fault))
+        → (bytes : List ℕ) × Consumes a c bytes × Answers reads (Before at limit) bytes c (Err fault) Refused
     answers_cut fault (bytes, more, stop) = (_, Consumes-trans a b c front.0 bytes front.1 more, answers_stop _ c fault (stop front.0 front.2))
 
-    module _ (items : List ℕ) (back : (bytes : List ℕ) × Consumes b c bytes × ((text : List ℕ) → IsLength at size start text → (items ≡ bytes) × (length bytes ≡ size) × IsRow at (text ++ bytes) bytes × (at + length (text ++ bytes) ≤ most))) where
+    module _ (items : List ℕ) (back : (bytes : List ℕ) × Consumes b c bytes × ((text : List ℕ) → IsLength at size start text → (items ≡ bytes) × (length bytes ≡ size) × IsRow at (text ++ bytes) bytes × (at + length (text ++ bytes) ≤ limit))) where
       both : Consumes a c (front.0 ++ back.0)
       both = Consumes-trans a b c front.0 back.0 front.1 back.1
 
-      whole : (items ≡ back.0) × (length back.0 ≡ size) × IsRow at (front.0 ++ back.0) back.0 × (at + length (front.0 ++ back.0) ≤ most)
+      whole : (items ≡ back.0) × (length back.0 ≡ size) × IsRow at (front.0 ++ back.0) back.0 × (at + length (front.0 ++ back.0) ≤ limit)
       whole = back.2 front.0 front.2
 
       reads_as : (now : List ℕ) → now ≡ items → (r : Result A WireError) → reads start now ≡ r → ReadsAs reads at (front.0 ++ back.0) r
@@ -327,15 +327,15 @@ module _ {A : Type 0} (reads : ℕ → List ℕ → Result A WireError) (at : �
           let begins : at + (length (front.0 ++ back.0) - length back.0) ≡ start = omega (arith, length-append front.0 back.0, front.2.place) in
           (back.0, whole.2, rw (begins, ← whole.0, ← is) e)
 
-      pub ends_below : start + size ≤ most
+      pub ends_below : start + size ≤ limit
       ends_below = omega (arith, whole.1, whole.3, length-append front.0 back.0, front.2.place)
 
-      pub answers_value : (now : List ℕ) → now ≡ items → (v : A) → reads start now ≡ Ok v → (bytes : List ℕ) × Consumes a c bytes × Answers reads (Before at) bytes c (Ok (Some v)) (Before (start + size))
+      pub answers_value : (now : List ℕ) → now ≡ items → (v : A) → reads start now ≡ Ok v → (bytes : List ℕ) × Consumes a c bytes × Answers reads (Before at limit) bytes c (Ok (Some v)) (Before (start + size) limit)
       answers_value now is v e =
           let end : start + size ≡ at + length (front.0 ++ back.0) = omega (arith, whole.1, length-append front.0 back.0, front.2.place) in
           let some = length_some at size start front.0 front.2 in
-          (_, both, (reads_as now is (Ok v) e, omega (arith, some, length-append front.0 back.0), whole.3, ap (λ (k : ℕ). standing k) end))
+          (_, both, (reads_as now is (Ok v) e, omega (arith, some, length-append front.0 back.0), whole.3, ap (λ (k : ℕ). standing limit k) end))
 
-      pub answers_fault : (now : List ℕ) → now ≡ items → (e : WireError) → (e ≢ errors.Memory → reads start now ≡ Err e) → (bytes : List ℕ) × Consumes a c bytes × Answers reads (Before at) bytes c (Err (row_fault e)) Refused
+      pub answers_fault : (now : List ℕ) → now ≡ items → (e : WireError) → (e ≢ errors.Memory → reads start now ≡ Err e) → (bytes : List ℕ) × Consumes a c bytes × Answers reads (Before at limit) bytes c (Err (row_fault e)) Refused
       answers_fault now is errors.Memory fault = (_, both, (tt, refl))
       answers_fault now is e fault = let other : e ≢ errors.Memory = λ same. absurd cc in (_, both, (inr (reads_as now is (Err e) (fault other), whole.3, other), refl))

@@ -47,21 +47,28 @@ module _ {A : Type 0} (reads : ℕ → List ℕ → Result A WireError) where
     pub cut : IsCut (length whole) begun
 
   -- there are more bytes than may be read, and none of those is at fault: the last of them are no whole message yet
-  pub record IsTooLargeAfter (input : List ℕ) (messages : List A) : Type 0 where
-    pub cut : IsCutAfter (take most input) messages
-    pub more : most < length input
+  pub record IsTooLargePast (limit : ℕ) (input : List ℕ) (messages : List A) : Type 0 where
+    pub cut : IsCutAfter (take limit input) messages
+    pub more : limit < length input
 
-  -- Why the input was not read to its end, after these messages. The fault stands in the whole input and already in
-  -- what may be read of it, where it is more than that an input which is too large is cut there; or a read failed
-  -- when just so many bytes had come, of which none is at fault; or the input is too large.
+  -- Why the input was not read to its end, after these messages, where `limit` bytes may be read. The fault stands in the
+  -- whole input and already in what may be read of it, where it is more than that an input which is too large is cut
+  -- there; or a read failed when just so many bytes had come, of which none is at fault; or the input is too large.
+  abbrev pub StopsWithin : ℕ → List ℕ → List A → Option (List ℕ) → RowFault → Type 0
+  StopsWithin limit input messages left (Wire e) =
+      HasFaultAfter input messages e × HasFaultAfter (take limit input) messages e × ¬ IsTooLargePast limit input messages
+  StopsWithin limit input messages left (Read k) =
+      IsCutAfter (take k input) messages × (k ≤ limit) × (k ≤ length input) × (left ≡ Some (drop k input))
+  StopsWithin limit input messages left TooLarge = IsTooLargePast limit input messages
+  StopsWithin limit input messages left Memory = ⊤
+  StopsWithin limit input messages left Ended = ⊥
+
+  -- the same where 64 MiB may be read
+  abbrev pub IsTooLargeAfter : List ℕ → List A → Type 0
+  IsTooLargeAfter input messages = IsTooLargePast most input messages
+
   abbrev pub StopsAfter : List ℕ → List A → Option (List ℕ) → RowFault → Type 0
-  StopsAfter input messages left (Wire e) =
-      HasFaultAfter input messages e × HasFaultAfter (take most input) messages e × ¬ IsTooLargeAfter input messages
-  StopsAfter input messages left (Read k) =
-      IsCutAfter (take k input) messages × (k ≤ most) × (k ≤ length input) × (left ≡ Some (drop k input))
-  StopsAfter input messages left TooLarge = IsTooLargeAfter input messages
-  StopsAfter input messages left Memory = ⊤
-  StopsAfter input messages left Ended = ⊥
+  StopsAfter input messages left fault = StopsWithin most input messages left fault
 
 -- A call gave the first of what was to come, a message or the fault, behind which nothing comes; or nothing, where
 -- nothing was. Out of memory is no fault of the bytes, and nothing comes behind it either.

@@ -38,23 +38,25 @@ HasBadLength at bytes e = (row_at at bytes ≡ Err e) × (e ≢ Truncated at) ×
 abbrev pub EndsInRow : ℕ → List ℕ → Option (List ℕ) → WireError → Type 0
 EndsInRow at bytes left e = IsCut at bytes × (0 < length bytes) × IsAtEnd left × (e ≡ Truncated at)
 
--- Why no row became whole: a read failed behind the bytes, they are at fault, or the last one is past the limit.
-abbrev pub Stops : ℕ → List ℕ → Option (List ℕ) → RowFault → Type 0
-Stops at bytes left (Read k) = IsCut at bytes × (k ≡ at + length bytes) × (k ≤ most)
-Stops at bytes left (Wire e) = (HasBadLength at bytes e ⊎ EndsInRow at bytes left e) × (at + length bytes ≤ most)
-Stops at bytes left TooLarge = IsCut at (all_but_last bytes) × (at + length bytes ≡ most + 1)
-Stops at bytes left Ended = ⊥
-Stops at bytes left Memory = ⊤
+-- Why no row became whole: a read failed behind the bytes, they are at fault, or the last one is past the limit of the
+-- input.
+abbrev pub Stops : ℕ → ℕ → List ℕ → Option (List ℕ) → RowFault → Type 0
+Stops limit at bytes left (Read k) = IsCut at bytes × (k ≡ at + length bytes) × (k ≤ limit)
+Stops limit at bytes left (Wire e) = (HasBadLength at bytes e ⊎ EndsInRow at bytes left e) × (at + length bytes ≤ limit)
+Stops limit at bytes left TooLarge = IsCut at (all_but_last bytes) × (at + length bytes ≡ limit + 1)
+Stops limit at bytes left Ended = ⊥
+Stops limit at bytes left Memory = ⊤
 
--- What a call answers that reads these bytes, by where it stood; `next` is where it stands then.
+-- What a call answers that reads these bytes, by where it stood; `next` is where it stands then. The input may have
+-- `limit` bytes, which stays.
 abbrev pub Answers : {A : Type 0} → (ℕ → List ℕ → Result A WireError)
     → Standing → List ℕ → Option (List ℕ) → Result (Option A) RowFault → Standing → Type 0
-Answers reads (Before at) bytes left (Ok (Some value)) next =
-    ReadsAs reads at bytes (Ok value) × (0 < length bytes) × (at + length bytes ≤ most) × (next ≡ Before (at + length bytes))
-Answers reads (Before at) bytes left (Ok None) next = (bytes ≡ []) × IsAtEnd left × (next ≡ Over)
-Answers reads (Before at) bytes left (Err (Wire e)) next =
-    (Stops at bytes left (Wire e) ⊎ (ReadsAs reads at bytes (Err e) × (at + length bytes ≤ most) × (e ≢ errors.Memory))) × (next ≡ Refused)
-Answers reads (Before at) bytes left (Err fault) next = Stops at bytes left fault × (next ≡ Refused)
+Answers reads (Before at limit) bytes left (Ok (Some value)) next =
+    ReadsAs reads at bytes (Ok value) × (0 < length bytes) × (at + length bytes ≤ limit) × (next ≡ Before (at + length bytes) limit)
+Answers reads (Before at limit) bytes left (Ok None) next = (bytes ≡ []) × IsAtEnd left × (next ≡ Over)
+Answers reads (Before at limit) bytes left (Err (Wire e)) next =
+    (Stops limit at bytes left (Wire e) ⊎ (ReadsAs reads at bytes (Err e) × (at + length bytes ≤ limit) × (e ≢ errors.Memory))) × (next ≡ Refused)
+Answers reads (Before at limit) bytes left (Err fault) next = Stops limit at bytes left fault × (next ≡ Refused)
 Answers reads Over bytes left answer next = (bytes ≡ []) × (answer ≡ Ok None) × (next ≡ Over)
 Answers reads Refused bytes left answer next = (bytes ≡ []) × (answer ≡ Err Ended) × (next ≡ Refused)
 
@@ -65,10 +67,10 @@ row_fault errors.Memory = Memory
 row_fault e = Wire e
 
 -- the byte that stands behind `place` others
-abbrev pub ByteStops : ℕ → List ℕ → RowFault → Type 0
-ByteStops place bytes (Read k) = (bytes ≡ []) × (k ≡ place)
-ByteStops place bytes TooLarge = (length bytes ≡ 1) × (most ≤ place)
-ByteStops place bytes fault = ⊥
+abbrev pub ByteStops : ℕ → ℕ → List ℕ → RowFault → Type 0
+ByteStops limit place bytes (Read k) = (bytes ≡ []) × (k ≡ place)
+ByteStops limit place bytes TooLarge = (length bytes ≡ 1) × (limit ≤ place)
+ByteStops limit place bytes fault = ⊥
 
 -- the length of a row, once it is whole
 unfoldable pub length_at : ℕ → List ℕ → Result ℕ WireError

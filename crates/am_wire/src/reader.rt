@@ -57,8 +57,8 @@ impl From<AllocError> for RowFault {
 /// Where a reader of rows stands.
 #[derive(Clone, Copy, Debug, PartialEq, Eq)]
 pub enum Standing {
-    /// The next row begins at this offset.
-    Before { at: usize },
+    /// The next row begins at this offset, and the input may have so many bytes.
+    Before { at: usize, limit: u32 },
     /// The input has ended.
     Over,
     /// A call was refused.
@@ -78,7 +78,6 @@ pub struct RowReader<V: Message> {
 /// Seen as where it stands.
 impl<V: Message> Model for RowReader<V> {
     ghost use Rattle.std.specs.Prelude.{◌≡◌, ℕ, ◌≤◌};
-    ghost use Rattle.am_wire.specs.Limits.{most};
     ghost use Rattle.am_wire.specs.declared.reader.Standing.{Standing};
     ghost use Rattle.am_wire.specs.declared.reader.Standing.TheVariants.{Before};
 
@@ -86,17 +85,24 @@ impl<V: Message> Model for RowReader<V> {
 
     ghost view = { λ r. r.standing };
 
-    ghost invariant = { λ r. (at : ℕ) → r.standing ≡ Before at → at ≤ most };
+    ghost invariant = { λ r. (at limit : ℕ) → r.standing ≡ Before at limit → at ≤ limit };
 }
 
 impl<V: Message> RowReader<V> {
-    /// Stands before the first row of an input. It takes no memory.
+    /// Stands before the first row of an input of at most [`MOST_MESSAGE_BYTES`]. It takes no memory.
     pub fn new(alloc: Global) -> Self
-        ensures { result ≡ Before 0 }
+        ensures { result ≡ Before 0 most }
+    {
+        Self::within(alloc, MOST_MESSAGE_BYTES as u32)
+    }
+
+    /// Stands before the first row of an input of at most so many bytes. It takes no memory.
+    pub fn within(alloc: Global, limit: u32) -> Self
+        ensures { result ≡ Before 0 limit }
     {
         RowReader {
             alloc,
-            standing: Standing::Before { at: 0 },
+            standing: Standing::Before { at: 0, limit },
             message: Vec::new(alloc),
             of: PhantomData,
         }
@@ -109,41 +115,44 @@ impl<V: Message> RowReader<V> {
     ///
     /// [`RowFault::Wire`] for the first fault of a row, which is judged once it is whole or its length is at fault;
     /// [`RowFault::Read`] for a read that failed, which is not tried again; [`RowFault::TooLarge`] for an input
-    /// of over [`MOST_MESSAGE_BYTES`]; [`RowFault::Memory`]; and after a refusal at every call [`RowFault::Ended`].
+    /// of more bytes than it may have; [`RowFault::Memory`]; and after a refusal at every call [`RowFault::Ended`].
     pub fn next<R: Read>(&mut self, reader: &mut R) -> Result<Option<V>, RowFault>
         ensures { (bytes : List ℕ) × Consumes (R.remaining reader.old) (R.remaining reader.new) bytes ×
             Answers V.reads self.old bytes (R.remaining reader.new) result self.new }
     {
-        let at = match self.standing {
-            Standing::Before { at } => at,
+        let (at, limit) = match self.standing {
+            Standing::Before { at, limit } => (at, limit),
             Standing::Over => return Ok(None),
             Standing::Refused => return Err(RowFault::Ended),
         };
         self.standing = Standing::Refused;
-        let Some((size, start)) = read_length(reader, at)? else {
+        let Some((size, start)) = read_length(reader, at, limit)? else {
             self.standing = Standing::Over;
             return Ok(None);
         };
-        read_message_bytes(&mut self.message, reader, at, start, size)?;
+        read_message_bytes(&mut self.message, reader, limit, at, start, size)?;
         let value = V::decode_at(self.alloc, &self.message, start)?;
-        self.standing = Standing::Before { at: start + size };
+        self.standing = Standing::Before {
+            at: start + size,
+            limit,
+        };
         Ok(Some(value))
     }
 }
 
 /// Reads the byte that stands behind `place` others; none at the end of the input.
-fn read_byte<R: Read>(reader: &mut R, place: usize) -> Result<Option<u8>, RowFault>
+fn read_byte<R: Read>(reader: &mut R, place: usize, limit: u32) -> Result<Option<u8>, RowFault>
     ensures some { IfOk result (λ o. IfSome o (λ byte.
-        Consumes (R.remaining reader.old) (R.remaining reader.new) (byte ∷ []) × (place < most))) }
+        Consumes (R.remaining reader.old) (R.remaining reader.new) (byte ∷ []) × (place < limit))) }
     ensures none { IfOk result (λ o. o ≡ None →
         Consumes (R.remaining reader.old) (R.remaining reader.new) [] × IsAtEnd (R.remaining reader.new)) }
     ensures fault { IfErr result (λ fault. (bytes : List ℕ) ×
-        Consumes (R.remaining reader.old) (R.remaining reader.new) bytes × ByteStops place bytes fault) }
+        Consumes (R.remaining reader.old) (R.remaining reader.new) bytes × ByteStops limit place bytes fault) }
 {
     let mut byte = [0; 1];
     match reader.read(&mut byte) {
         Ok(0) => Ok(None),
-        Ok(_) if place as u64 >= MOST_MESSAGE_BYTES => Err(RowFault::TooLarge),
+        Ok(_) if place >= limit as usize => Err(RowFault::TooLarge),
         Ok(_) => Ok(Some(byte[0])),
         Err(_) => Err(RowFault::Read { at: place }),
     }
@@ -163,22 +172,26 @@ fn length_from(bytes: &[u8], at: usize) -> Result<usize, WireError>
 
 /// Reads the length of the row at the offset `at`. Answers it and where the message begins, and none at the
 /// end of the input.
-fn read_length<R: Read>(reader: &mut R, at: usize) -> Result<Option<(usize, usize)>, RowFault>
-    requires { at ≤ most }
+fn read_length<R: Read>(
+    reader: &mut R,
+    at: usize,
+    limit: u32,
+) -> Result<Option<(usize, usize)>, RowFault>
+    requires { at ≤ limit }
     ensures some { IfOk result (λ o. IfSome o (λ x. (bytes : List ℕ) ×
         Consumes (R.remaining reader.old) (R.remaining reader.new) bytes ×
-        IsLength at x.0 x.1 bytes × (x.1 ≤ most))) }
+        IsLength at x.0 x.1 bytes × (x.1 ≤ limit))) }
     ensures none { IfOk result (λ o. o ≡ None →
         Consumes (R.remaining reader.old) (R.remaining reader.new) [] × IsAtEnd (R.remaining reader.new)) }
     ensures fault { IfErr result (λ fault. (bytes : List ℕ) ×
         Consumes (R.remaining reader.old) (R.remaining reader.new) bytes ×
-        Stops at bytes (R.remaining reader.new) fault) }
+        Stops limit at bytes (R.remaining reader.new) fault) }
 {
     let cut = WireError::Truncated { at };
     let mut text = [0; 10];
     let mut len = 0;
     loop {
-        let Some(byte) = read_byte(reader, at + len)? else {
+        let Some(byte) = read_byte(reader, at + len, limit)? else {
             if len == 0 {
                 return Ok(None);
             }
@@ -256,19 +269,19 @@ fn read_up_to<R: Read>(
 fn read_message_bytes<R: Read>(
     bytes: &mut Vec<u8>,
     reader: &mut R,
+    limit: u32,
     at: usize,
     start: usize,
     size: usize,
 ) -> Result<(), RowFault>
-    requires place { start ≤ most }
-    requires size { size ≤ most }
+    requires { start ≤ limit }
     ensures { (read : List ℕ) × Consumes (R.remaining reader.old) (R.remaining reader.new) read ×
         ((text : List ℕ) → IsLength at size start text → MatchResult result
         (λ _. (bytes.new.items ≡ read) × (length read ≡ size) × IsRow at (text ++ read) read ×
-        (at + length (text ++ read) ≤ most))
-        (Stops at (text ++ read) (R.remaining reader.new))) }
+        (at + length (text ++ read) ≤ limit))
+        (Stops limit at (text ++ read) (R.remaining reader.new))) }
 {
-    let room = MOST_MESSAGE_BYTES as usize + 1 - start;
+    let room = limit as usize + 1 - start;
     read_up_to(bytes, reader, start, size.min(room))?;
     if bytes.len() == room {
         return Err(RowFault::TooLarge);

@@ -10,7 +10,7 @@ use crate::error::WireError;
 use crate::varint::varint_from;
 use std::marker::Model;
 
-/// The most bytes of a message, in a row or to be written, and of an input: 64 MiB.
+/// The most bytes of a message, in a row or to be written, and of an input that is given no other limit: 64 MiB.
 pub const MOST_MESSAGE_BYTES: u64 = 67_108_864;
 
 /// The message at the front of the bytes, and its length with that of its length.

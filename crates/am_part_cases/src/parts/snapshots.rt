@@ -66,8 +66,8 @@ impl Call for Calling<'_> {
 impl Calling<'_> {
     fn done(&self, alloc: Global, reader: &mut Pieces<'_>, writer: &mut Brittle) -> Outcome {
         match (self.verb, self.state) {
-            ("show", "nfl") => show_log(alloc, reader, writer, self.now),
-            ("show", _) => show_silences(alloc, reader, writer, self.now),
+            ("show", "nfl") => Ok(show_log(alloc, reader, writer, self.now)?.written),
+            ("show", _) => Ok(show_silences(alloc, reader, writer, self.now)?.written),
             ("send", _) => {
                 send(writer, reader.left)?;
                 Ok(reader.left.len() as u64)

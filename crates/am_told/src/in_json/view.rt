@@ -7,12 +7,15 @@ ghost use Rattle.serde_json.specs.View.{items_of};
 ghost use Rattle.am_merge.specs.Maps.{swept};
 ghost use Rattle.am_silence_json.specs.Tokens.{Adds, data_tokens, row_tokens};
 ghost use Rattle.am_snapshot.specs.Loads.{StopsLoad};
+ghost use Rattle.am_told.specs.Later.{has_later};
 ghost use Rattle.am_told.specs.Shows.{IsLoadedMap};
 ghost use Rattle.am_told.specs.Views.{StopsWriting};
 ghost use Rattle.am_told.specs.Json.Views.{view_line};
 
 use crate::in_json::tokens::line_of;
 use crate::in_json::values::InJson;
+use crate::later::has_later;
+use crate::show::Shown;
 use am_merge::Held;
 use am_silence_json::tokens::add;
 use am_snapshot::{SnapshotError, load};
@@ -88,7 +91,7 @@ pub fn write_view_json<V: InJson, W: Write>(
     Ok(line.len() as u64)
 }
 
-/// Writes the view of the map whose snapshot the whole input is, as [`write_view_json`] does, and answers its bytes.
+/// Writes the view of the map whose snapshot the whole input is, as [`write_view_json`] does.
 ///
 /// What was read is forgotten: the process is to end then, and its memory with it.
 ///
@@ -100,10 +103,11 @@ pub fn show_json<V: InJson + Message, R: Read, W: Write>(
     input: &mut R,
     output: &mut W,
     now: Moment,
-) -> Result<u64, SnapshotError>
-    ensures shown { IfOk result (λ written. IfSome (R.remaining input.old) (λ bytes. (held : List V) ×
+) -> Result<Shown, SnapshotError>
+    ensures shown { IfOk result (λ shown. IfSome (R.remaining input.old) (λ bytes. (held : List V) ×
         IsLoadedMap V.seen V.Key.cmp V.reads bytes held ×
-        (written ≡ length (view_line V.seen V.value now held)) ×
+        (shown.written ≡ length (view_line V.seen V.value now held)) ×
+        (shown.has_later ≡ has_later V.seen now held) ×
         Appends (W.contents output.old) (W.contents output.new) (view_line V.seen V.value now held))) }
     ensures end { OnOk result (IsAtEnd (R.remaining input.new)) }
     ensures stopped { IfErr result (λ e. IfSome (R.remaining input.old) (λ bytes.
@@ -112,7 +116,9 @@ pub fn show_json<V: InJson + Message, R: Read, W: Write>(
         StopsWriting W.contents output.old output.new (view_line V.seen V.value now held) e))) }
 {
     let held = load::<V, _>(alloc, input)?;
+    let has_later = has_later(&held, now);
     let written = write_view_json(alloc, &held, now, output);
     mem::forget(held);
-    written
+    let written = written?;
+    Ok(Shown { written, has_later })
 }

@@ -1,10 +1,11 @@
 //! All differences, written.
 
-ghost use Rattle.std.specs.Prelude.{ℕ, List, map, All, IfOk, IfErr};
+ghost use Rattle.std.specs.Prelude.{◌≡◌, ℕ, List, map, All, IfOk, IfErr};
 ghost use Rattle.std.specs.Io.KnownBytes.{Appends};
 ghost use Rattle.std.specs.List.{AllZip};
 ghost use Rattle.am_merge.specs.Maps.{IsMap};
 ghost use Rattle.am_told.specs.Sources.{Source, rest_of};
+ghost use Rattle.am_told.specs.Later.{has_later_source};
 ghost use Rattle.am_told.specs.Reads.{IsRead};
 ghost use Rattle.am_told.specs.Json.Written.{AreAdded, IsLine, StopsLine, StopsDiff};
 
@@ -13,7 +14,8 @@ use crate::differences::next_difference;
 use crate::in_json::difference::add_difference;
 use crate::in_json::tokens::line_of;
 use crate::in_json::values::InJson;
-use crate::inputs::{DiffError, Input, read_sources};
+use crate::inputs::{DiffError, DiffOutcome, Input, read_sources};
+use crate::later::has_later_source;
 use crate::replica::{Replica, sides_of};
 use crate::side::Side;
 use am_silence_json::tokens::add;
@@ -114,7 +116,6 @@ pub fn write_differences_json<V: InJson, W: Write>(
 }
 
 /// Reads sources as [`read_sources`] does, and then writes all their differences, as [`write_differences_json`] does.
-/// Answers whether there is a difference.
 ///
 /// What was read is forgotten: the process is to end then, and its memory with it.
 ///
@@ -127,19 +128,21 @@ pub fn diff_json<V: InJson + Message, R: Read + Drop, W: Write>(
     compared: Compared,
     now: Moment,
     writer: &mut W,
-) -> Result<bool, DiffError>
-    ensures line { IfOk result (λ found. (sources : List (Source V)) ×
+) -> Result<DiffOutcome, DiffError>
+    ensures line { IfOk result (λ outcome. (sources : List (Source V)) ×
         AllZip (IsRead V.seen V.Key.cmp V.reads R.remaining) inputs.old sources ×
-        (line : List ℕ) × IsLine V.seen V.Key.cmp V.key_data V.named (V.value now) compared now sources found line ×
+        (outcome.has_later ≡ has_later_source V.seen now sources) ×
+        (line : List ℕ) × IsLine V.seen V.Key.cmp V.key_data V.named (V.value now) compared now sources outcome.found line ×
         Appends (W.contents writer.old) (W.contents writer.new) line) }
     ensures stopped { IfErr result (StopsDiff V.seen V.Key.cmp V.key_data V.named (V.value now) compared now
         V.reads R.remaining inputs.old inputs.new W.contents writer.old writer.new) }
 {
     let replicas: Vec<Replica<'_, V>> = read_sources(alloc, inputs)?;
+    let has_later = has_later_source(&replicas, now);
     let written = write_differences_json(alloc, &replicas, compared, now, writer);
     mem::forget(replicas);
     match written {
-        Ok(found) => Ok(found),
+        Ok(found) => Ok(DiffOutcome { found, has_later }),
         Err(SnapshotError::Write { written }) => Err(DiffError::Write { written }),
         Err(_) => Err(DiffError::Memory),
     }

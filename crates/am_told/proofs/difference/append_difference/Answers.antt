@@ -11,5 +11,5 @@ append_others-requires g c = sym c.in-Some.ensures
 
 pub returns : goal.returns
 returns g c =
-    difference_is g.V.Version.seen g.V.Told.begins (g.V.Told.told c.args.now) (map holding_of c.args.sides.now) c.in-Some.greatest.now _ _ _ _
+    difference_is g.V.Version.seen g.V.Told.begins (g.V.Told.told c.args.manner.now) (g.V.Told.more c.args.manner.now) (map holding_of c.args.sides.now) c.in-Some.greatest.now _ _ _ _
     c.in-Some.ensures c.in_ok-append_greatest.ensures c.in_ok-append_others.ensures (rw c.key.ensures at c.in_ok-append_missing.ensures)

@@ -1,4 +1,4 @@
-use Rattle.std.proofs.Common.{ℕ, map, string_bytes}
+use Rattle.std.proofs.Common.{map, string_bytes}
 use Rattle.am_told.specs.Sources.{holding_of}
 use Rattle.am_told.proofs.Ranking.{below_count}
 use Rattle.am_told.specs.Told.{behind_line}
@@ -8,7 +8,7 @@ use Rattle.am_told.proofs.difference.append_others.Given as goal
 -- with the lines of the versions behind the last, all are appended
 abbrev pub invariant-loop-version : goal.invariant-loop-version
 invariant-loop-version g l =
-    IsWritten g.V.Version.seen (behind_line g.V.Version.seen g.V.Told.begins (g.V.Told.told l.now) (g.V.Version.seen l.greatest).key (map holding_of l.sides) l.greatest)
+    IsWritten g.V.Version.seen (behind_line g.V.Version.seen g.V.Told.begins (g.V.Told.told l.manner) (g.V.Told.more l.manner) (g.V.Version.seen l.greatest).key (map holding_of l.sides) l.greatest)
     (map holding_of l.sides) l.greatest l.last (string_bytes l.fn.out) (string_bytes l.out)
 
 abbrev pub decreases-loop-version : goal.decreases-loop-version

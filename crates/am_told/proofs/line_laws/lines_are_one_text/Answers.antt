@@ -8,6 +8,6 @@ returns-clause-list g c = λ sources compared now differences others are also.
     one_list g.V.Version.seen g.V.Key.Ord.cmp keys compared now sources differences others are also
 
 pub returns-clause-text : goal.returns-clause-text
-returns-clause-text g c = λ sources compared now found other_found lines others are also.
+returns-clause-text g c = λ sources compared manner found other_found lines others are also.
     let keys = key_order g.met.V.Key.Ord.total g.met.V.Version.exact_keys in
-    one_text g.V.Version.seen g.V.Key.Ord.cmp compared now g.V.Told.begins (g.V.Told.told now) keys sources found other_found lines others are also
+    one_text g.V.Version.seen g.V.Key.Ord.cmp compared manner.moment g.V.Told.begins (g.V.Told.told manner) (g.V.Told.more manner) keys sources found other_found lines others are also

@@ -8,7 +8,7 @@ use Rattle.am_told.proofs.writing.append_differences.Goals as goal
 pub returns : goal.returns
 returns g c =
     subst (λ (sources : List (Source g.row.V.Denot)). IfOk c.append_left.result (λ found. (lines : List ℕ)
-    × AreLines g.V.Version.seen g.V.Key.Ord.cmp g.V.Told.begins (g.V.Told.told c.args.now) c.args.compared c.args.now sources found lines
+    × AreLines g.V.Version.seen g.V.Key.Ord.cmp g.V.Told.begins (g.V.Told.told c.args.manner.now) (g.V.Told.more c.args.manner.now) c.args.compared c.args.manner.now.moment sources found lines
     × (string_bytes c.append_left.new.out ≡ string_bytes c.args.out.now ++ lines)))
     (ap (map rest_of) (c.deref_mut.ensures.value ∙ c.in_ok-sides.ensures.start) ∙ begins_there c.args.replicas.now)
     c.append_left.ensures

@@ -10,7 +10,7 @@ use Rattle.am_told.proofs.writing.append_left.Given as goal
 abbrev pub invariant-loop-compared : goal.invariant-loop-compared
 invariant-loop-compared g l = record {
   order : All (λ side. IsMap g.V.Version.seen g.V.Key.Ord.cmp side.left) l.sides;
-  told : AreTold g.V.Version.seen g.V.Key.Ord.cmp l.compared l.now (difference_lines g.V.Version.seen g.V.Told.begins (g.V.Told.told l.now)) l.fn.sides l.sides (string_bytes l.fn.out) (string_bytes l.out) l.found;
+  told : AreTold g.V.Version.seen g.V.Key.Ord.cmp l.compared l.manner.moment (difference_lines g.V.Version.seen g.V.Told.begins (g.V.Told.told l.manner) (g.V.Told.more l.manner)) l.fn.sides l.sides (string_bytes l.fn.out) (string_bytes l.out) l.found;
 }
 
 abbrev pub decreases-loop-compared : goal.decreases-loop-compared

@@ -1,36 +1,36 @@
 use Rattle.std.proofs.Common.{◌≡◌, ◌≤◌, ◌+◌, sym, ◌∙◌, arith}
 use Rattle.std.proofs.lemmas.Result.{err_from_is_err_and}
-use Rattle.am_wire.specs.Limits.{most}
 use Rattle.am_wire.specs.declared.reader.Standing.TheVariants.{Before}
 use Rattle.am_wire.proofs.ReaderLemmas.{answers_stop, answers_cut, answers_fault, answers_value, ends_below}
 use Rattle.am_wire.proofs.reader.RowReader.next.Goals as goal
 
 pub returns-in_err-size : goal.returns-in_err-size
 returns-in_err-size g c =
-    let here : c.args.self.now ≡ Before c.in-Before.at = sym c.self.view_is ∙ c.in-Before.is in
+    let here : c.args.self.now ≡ Before c.in-Before.at c.in-Before.limit = sym c.self.view_is ∙ c.in-Before.is in
     let p = err_from_is_err_and c.from_residual.result c.from_residual.ensures.1 in
     let (bytes, read, stop) = c.in_err-size.ensures.fault in
-    (bytes, read, rw (here, p.1, p.2) (answers_stop g.V.Message.reads _ _ _ _ stop))
+    (bytes, read, rw (here, p.1, p.2) (answers_stop g.V.Message.reads _ _ _ _ _ stop))
 
 pub returns-in_err-read_message_bytes : goal.returns-in_err-read_message_bytes
 returns-in_err-read_message_bytes g c =
-    let here : c.args.self.now ≡ Before c.in-Before.at = sym c.self.view_is ∙ c.in-Before.is in
+    let here : c.args.self.now ≡ Before c.in-Before.at c.in-Before.limit = sym c.self.view_is ∙ c.in-Before.is in
     let p = err_from_is_err_and c.from_residual-in_err-read_message_bytes.result c.from_residual-in_err-read_message_bytes.ensures.1 in
-    rw (here, p.1, p.2) (answers_cut g.V.Message.reads _ _ _ _ _ _ (rw c.in-Some.is at c.in_ok-size.ensures.some) _ c.in_err-read_message_bytes.ensures)
+    rw (here, p.1, p.2) (answers_cut g.V.Message.reads _ _ _ _ _ _ _ (rw c.in-Some.is at c.in_ok-size.ensures.some) _ c.in_err-read_message_bytes.ensures)
 
 pub returns-in_err-value : goal.returns-in_err-value
 returns-in_err-value g c =
-    let here : c.args.self.now ≡ Before c.in-Before.at = sym c.self.view_is ∙ c.in-Before.is in
+    let here : c.args.self.now ≡ Before c.in-Before.at c.in-Before.limit = sym c.self.view_is ∙ c.in-Before.is in
     let p = err_from_is_err_and c.from_residual-in_err-value.result c.from_residual-in_err-value.ensures.1 in
-    rw (here, p.1, p.2) (answers_fault g.V.Message.reads _ _ _ _ _ _ (rw c.in-Some.is at c.in_ok-size.ensures.some) _ c.in_ok-read_message_bytes.ensures _ c.deref.ensures.value _ c.in_err-value.ensures)
+    rw (here, p.1, p.2) (answers_fault g.V.Message.reads _ _ _ _ _ _ _ (rw c.in-Some.is at c.in_ok-size.ensures.some) _ c.in_ok-read_message_bytes.ensures _ c.deref.ensures.value _ c.in_err-value.ensures)
 
 pub invariant_of-self-2 : goal.invariant_of-self-2
-invariant_of-self-2 g c = λ at same.
-    let below : c.in-Some.start + c.in-Some.size ≤ most = ends_below g.V.Message.reads _ _ _ _ _ _ (rw c.in-Some.is at c.in_ok-size.ensures.some) _ c.in_ok-read_message_bytes.ensures in
+invariant_of-self-2 g c = λ at limit same.
+    let below : c.in-Some.start + c.in-Some.size ≤ c.in-Before.limit = ends_below g.V.Message.reads _ _ _ _ _ _ _ (rw c.in-Some.is at c.in_ok-size.ensures.some) _ c.in_ok-read_message_bytes.ensures in
     let e : c.in-Some.start + c.in-Some.size ≡ at = cc in
-    omega (arith, below, e)
+    let stays : c.in-Before.limit ≡ limit = cc in
+    omega (arith, below, e, stays)
 
 pub returns : goal.returns
 returns g c =
-    let here : c.args.self.now ≡ Before c.in-Before.at = sym c.self.view_is ∙ c.in-Before.is in
-    rw here (answers_value g.V.Message.reads _ _ _ _ _ _ (rw c.in-Some.is at c.in_ok-size.ensures.some) _ c.in_ok-read_message_bytes.ensures _ c.deref.ensures.value _ c.in_ok-value.ensures)
+    let here : c.args.self.now ≡ Before c.in-Before.at c.in-Before.limit = sym c.self.view_is ∙ c.in-Before.is in
+    rw here (answers_value g.V.Message.reads _ _ _ _ _ _ _ (rw c.in-Some.is at c.in_ok-size.ensures.some) _ c.in_ok-read_message_bytes.ensures _ c.deref.ensures.value _ c.in_ok-value.ensures)

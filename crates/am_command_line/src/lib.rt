@@ -1,0 +1,9 @@
+//! The command line of the program: its words as the job that they ask for, and the help texts.
+#![tactic(auto)]
+
+mod words;
+
+pub use words::{
+    DiffJob, FoldJob, Form, Job, Options, STANDARD_INPUT, ShowJob, SourceWord, StateName,
+    WordsError, job_of, words_of,
+};

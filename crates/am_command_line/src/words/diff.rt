@@ -1,0 +1,306 @@
+//! The words of `diff`.
+
+use super::instance::{flag, option, time_limit};
+use super::{
+    Form, JSON, StateName, WordsError, form_of, json_flag, mistake, now_flag, now_of, state_flag,
+    state_of,
+};
+use am_member::{Server, port_of, server_of};
+use am_told::Compared;
+use am_version_order::Moment;
+use clap::{Arg, ArgAction, ArgMatches, Command};
+use std::alloc::{AllocError, Global};
+use std::time::Duration;
+
+/// The name of the command.
+pub const NAME: &str = "diff";
+
+/// The file that is standard input.
+pub const STANDARD_INPUT: &str = "-";
+
+/// What a source begins with that is a server.
+const SCHEME: &str = "http://";
+
+/// What one begins with that isn't asked.
+const OTHER_SCHEME: &str = "https://";
+
+/// A source: its name, and its file, or the address of a server behind `http://`.
+#[derive(Clone, Copy, Debug)]
+pub struct SourceWord<'a> {
+    /// What the source is called.
+    pub name: &'a str,
+    /// The path of its file, `-`, or `http://HOST:PORT`.
+    pub file: &'a str,
+}
+
+impl<'a> SourceWord<'a> {
+    /// What stands behind `http://`, where the source is a server.
+    fn place(&self) -> Option<&'a str> {
+        self.file.strip_prefix(SCHEME)
+    }
+
+    /// The server that the source is, if it is one.
+    pub fn server(&self) -> Option<Server<'a>> {
+        server_of(self.place()?)
+    }
+
+    /// What is said of a source that was meant for a server, and isn't written so.
+    fn misspelling(&self) -> Option<&'static str> {
+        if self.file.starts_with(OTHER_SCHEME) {
+            return Some(NO_HTTPS);
+        }
+        if is_address(self.file) {
+            return Some(NO_SCHEME);
+        }
+        None
+    }
+}
+
+/// Which sources are to be compared.
+#[derive(Drop)]
+pub struct DiffJob<'a> {
+    /// The state that the sources are of.
+    pub state: StateName,
+    /// What of them is compared.
+    pub compared: Compared,
+    /// How the differences are printed.
+    pub form: Form,
+    /// Below the line of a version stands more of it.
+    pub is_long: bool,
+    /// The moment; without it, the clock's.
+    pub now: Option<Moment>,
+    /// What is compared: 2 to 16 sources, whose names differ.
+    pub sources: Vec<SourceWord<'a>>,
+    /// For how long a connection to a server may last.
+    pub time_limit: Duration,
+}
+
+impl DiffJob<'_> {
+    /// Whether a source is a server.
+    pub fn is_live(&self) -> bool {
+        are_live(&self.sources)
+    }
+}
+
+/// The command with its options, under a name.
+pub fn command<'a>(alloc: Global, name: &'a str) -> Result<Command<'a>, AllocError> {
+    Command::new(alloc, name)
+        .about(ABOUT)
+        .after_help(AFTER)
+        .arg(state_flag(alloc, STATE_HELP))?
+        .arg(now_flag(alloc, NOW_HELP))?
+        .arg(flag(alloc, HELD, HELD_HELP))?
+        .arg(flag(alloc, LONG, LONG_HELP).conflicts_with(JSON)?)?
+        .arg(json_flag(alloc, JSON_HELP))?
+        .arg(option(alloc, "time-limit", "S", TIME_LIMIT_HELP).default_value("5"))?
+        .arg(sources(alloc))
+}
+
+fn sources<'a>(alloc: Global) -> Arg<'a> {
+    Arg::new(alloc, SOURCES)
+        .value_name("SOURCE")
+        .help(SOURCES_HELP)
+        .required(true)
+        .num_args(1..)
+        .action(ArgAction::Append)
+}
+
+/// The job that the words name. The moment is judged first, and then the sources.
+pub fn read_job<'a>(alloc: Global, flags: &ArgMatches<'a>) -> Result<DiffJob<'a>, WordsError> {
+    let words = flags.get_strs(SOURCES).unwrap_or(&[]);
+    let sources = source_words(alloc, words)?;
+    match numbers_of(flags, &sources) {
+        Ok((now, time_limit)) => Ok(DiffJob {
+            state: state_of(flags),
+            compared: compared_of(flags),
+            form: form_of(flags),
+            is_long: flags.get_flag(LONG),
+            now,
+            sources,
+            time_limit,
+        }),
+        Err(text) => Err(mistake(command(alloc, "am_tool diff"), text)),
+    }
+}
+
+/// The moment and the time limit of a job with these sources, or what is said of what is at fault.
+fn numbers_of(
+    flags: &ArgMatches<'_>,
+    sources: &[SourceWord<'_>],
+) -> Result<(Option<Moment>, Duration), &'static str> {
+    let now = now_of(flags)?;
+    let time_limit = time_limit(flags)?;
+    match mistake_of(sources).or(live_mistake_of(flags, sources)) {
+        Some(text) => Err(text),
+        None => Ok((now, time_limit)),
+    }
+}
+
+/// Whether one of the sources is a server.
+fn are_live(sources: &[SourceWord<'_>]) -> bool {
+    sources.iter().any(|source| source.place().is_some())
+}
+
+/// What is said where a server can't be compared so, or has no address.
+fn live_mistake_of(flags: &ArgMatches<'_>, sources: &[SourceWord<'_>]) -> Option<&'static str> {
+    if !are_live(sources) {
+        return None;
+    }
+    if state_of(flags) == StateName::Log || flags.get_flag(HELD) {
+        return Some(SHOWN_ALONE);
+    }
+    let is_nowhere = |source: &SourceWord<'_>| source.place().is_some()
+        && source.server().is_none();
+    if sources.iter().any(is_nowhere) {
+        return Some(BAD_SERVER);
+    }
+    None
+}
+
+fn compared_of(flags: &ArgMatches<'_>) -> Compared {
+    if flags.get_flag(HELD) {
+        Compared::Held
+    } else {
+        Compared::Shown
+    }
+}
+
+/// The sources that the words name.
+fn source_words<'a>(alloc: Global, words: &[&'a str]) -> Result<Vec<SourceWord<'a>>, AllocError> {
+    let mut sources = Vec::with_capacity(alloc, words.len())?;
+    for word in words {
+        sources.push(source_of(word))?;
+    }
+    Ok(sources)
+}
+
+/// A source as NAME=FILE, which is cut at the first `=`, or as FILE, which is then its own name.
+fn source_of(word: &str) -> SourceWord<'_> {
+    match word.split_once('=') {
+        Some((name, file)) => SourceWord { name, file },
+        None => SourceWord {
+            name: word,
+            file: word,
+        },
+    }
+}
+
+/// What is said of sources that can't be compared.
+fn mistake_of(sources: &[SourceWord<'_>]) -> Option<&'static str> {
+    if sources.len() < FEWEST_SOURCES || sources.len() > MOST_SOURCES {
+        return Some(BAD_NUMBER);
+    }
+    if has_name_twice(sources) {
+        return Some(SAME_NAME);
+    }
+    if sources
+        .iter()
+        .filter(|source| source.file == STANDARD_INPUT)
+        .count()
+        > 1
+    {
+        return Some(INPUT_TWICE);
+    }
+    first_misspelling(sources)
+}
+
+/// What is said of the first source that was meant for a server, and isn't written so.
+fn first_misspelling(sources: &[SourceWord<'_>]) -> Option<&'static str> {
+    for source in sources {
+        if let Some(text) = source.misspelling() {
+            return Some(text);
+        }
+    }
+    None
+}
+
+/// Whether a file's name is a host with its port.
+fn is_address(file: &str) -> bool {
+    if file.contains('/') {
+        return false;
+    }
+    match file.rsplit_once(':') {
+        Some((host, digits)) => !host.is_empty() && port_of(digits).is_some(),
+        None => false,
+    }
+}
+
+/// Whether two sources have one name.
+fn has_name_twice(sources: &[SourceWord<'_>]) -> bool {
+    for (place, source) in sources.iter().enumerate() {
+        let name = source.name;
+        if sources[..place].iter().any(|other| other.name == name) {
+            return true;
+        }
+    }
+    false
+}
+
+/// The names of options.
+const HELD: &str = "held";
+
+const LONG: &str = "long";
+
+/// The name of the sources among the options.
+const SOURCES: &str = "source";
+
+const FEWEST_SOURCES: usize = 2;
+
+const MOST_SOURCES: usize = 16;
+
+const ABOUT: &str =
+    "Reads what several replicas hold, and prints in key order at which keys they differ, and which of them counts";
+
+const STATE_HELP: &str = "The state that the sources are of: silences or the notification log";
+
+const NOW_HELP: &str =
+    "The moment of the views, in nanoseconds since 1970 or as 2026-11-26T12:00:00Z; without it, the clock's";
+
+const HELD_HELP: &str =
+    "Compares all that the sources hold, what has expired too, and not only what they show";
+
+const LONG_HELP: &str =
+    "Also prints below each line the matchers, author and comment of a silence and what changed, or receiver and group of an entry";
+
+const JSON_HELP: &str =
+    "Prints the differences as a list in JSON, on one line, in place of the lines";
+
+const TIME_LIMIT_HELP: &str = "For how many seconds a connection to a server may last, 1 to 3600";
+
+const SOURCES_HELP: &str =
+    "NAME=FILE, cut at its first '=', or FILE, which is then its own name; '-' is standard input, and http://HOST:PORT a server, perhaps with a path; 2 to 16 of them";
+
+const AFTER: &str = "\
+Of each key that differs there is a line for each group of sources that hold the same there: first those that have the
+greatest version, which counts, then those that are behind, and by what (update, expiry or bytes), and then those that
+hold nothing.
+
+A server is a member or an Alertmanager, at an address of IPv4, of IPv6 in brackets, or localhost: what it lists at
+/api/v2/silences, below the path, is compared. Beside a server all sources are compared by what API v2 shows of them: moments are cut to
+milliseconds, and a silence counts until its end.
+
+The status is 0 where nothing is different, and 5 where something is.
+
+Examples:
+  am_tool diff --state sil a=http://127.0.0.1:9093 b=http://10.0.0.2:9093 c=c.sil
+  am_tool diff --state sil --long a=a.sil b=b.sil c=c.sil
+  ssh b cat b.nfl | am_tool diff --state nfl --held a=a.nfl b=-
+  am_tool diff --state sil --json a=a.sil b=b.sil | jq -r '.[].key.id'";
+
+const BAD_NUMBER: &str = "invalid values for '<SOURCE>...': 2 to 16 sources are wanted";
+
+const SAME_NAME: &str = "invalid values for '<SOURCE>...': two sources have one name";
+
+const SHOWN_ALONE: &str =
+    "invalid values for '<SOURCE>...': of a server only the silences that it shows are compared, so neither --held nor --state nfl goes with one";
+
+const NO_HTTPS: &str =
+    "invalid values for '<SOURCE>...': no server is asked by HTTPS: a proxy before it is named, as http://HOST:PORT";
+
+const NO_SCHEME: &str =
+    "invalid values for '<SOURCE>...': HOST:PORT is no source: a server is http://HOST:PORT, and a file of that name ./HOST:PORT";
+
+const BAD_SERVER: &str =
+    "invalid values for '<SOURCE>...': http://HOST:PORT is wanted, with an address or localhost as HOST, perhaps with a path";
+
+const INPUT_TWICE: &str = "invalid values for '<SOURCE>...': '-' is named twice";

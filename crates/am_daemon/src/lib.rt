@@ -1,0 +1,6 @@
+//! A member as a process: its start, its files, what it answers, what it does by itself, and the lines that it prints.
+#![tactic(auto)]
+
+mod member;
+
+pub use member::run;

@@ -1,0 +1,55 @@
+//! Requests whose patterns are compiled before they are answered, one in a turn of the loop.
+
+use super::Member;
+use super::dialogue::Dialogue;
+use super::host::Host;
+use am_api_silences::Read;
+use am_http::Cause;
+use am_http::session::Said;
+use am_member::{Judged, Judging};
+use std::alloc::{AllocError, Global};
+
+/// The patterns of what was said, where it has such.
+fn judging_of(alloc: Global, said: &Said) -> Result<Option<Judging>, AllocError> {
+    match &said.request {
+        Some(Read::Whole(request)) => Judging::of(alloc, request),
+        _ => Ok(None),
+    }
+}
+
+impl<R: Host> Member<'_, R> {
+    /// Answers what was said, or keeps it until its patterns are compiled.
+    pub(super) fn judge(&mut self, dialogue: &mut Dialogue, said: Said) {
+        if self.refuses(dialogue, &said) {
+            return;
+        }
+        let alloc = self.rt.alloc();
+        match judging_of(alloc, &said) {
+            Ok(Some(judging)) => dialogue.judging = Some((said, judging)),
+            Ok(None) => self.answer(dialogue, said),
+            Err(_) => dialogue.refuse(alloc, &Cause::Memory.refusal()),
+        }
+    }
+
+    /// Compiles the next pattern of a request. Where none is left it is answered.
+    pub(super) fn go_on_judging(&mut self, dialogue: &mut Dialogue, said: Said, judging: Judging) {
+        let alloc = self.rt.alloc();
+        let mut judging = judging;
+        match judging.go_on() {
+            Ok(Judged::More) => dialogue.judging = Some((said, judging)),
+            Ok(Judged::Done) => self.answer_by(dialogue, said, judging),
+            Ok(Judged::TooMuch) => dialogue.refuse(alloc, &judging.refusal()),
+            Err(_) => dialogue.refuse(alloc, &Cause::Memory.refusal()),
+        }
+    }
+
+    /// Answers a request by its patterns, which are compiled.
+    fn answer_by(&mut self, dialogue: &mut Dialogue, said: Said, judging: Judging) {
+        if self.refuses(dialogue, &said) {
+            return;
+        }
+        let own = self.instance.swap_patterns(judging.into_patterns());
+        self.answer(dialogue, said);
+        let _ = self.instance.swap_patterns(own);
+    }
+}

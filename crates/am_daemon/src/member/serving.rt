@@ -1,0 +1,306 @@
+//! What a member answers to those who connect to it, and what goes to its peers.
+
+ghost use Rattle.std.specs.Prelude.{drop, ⊤};
+ghost use Rattle.am_api_silences.specs.Replies.{bytes_of};
+
+use super::Member;
+use super::dialogue::{Dialogue, ends_pull, is_nothing, may_change};
+use super::host::Host;
+use super::room::bytes_said;
+use am_faults::Fault;
+use am_gossip::Frame;
+use am_http::session::Said;
+use am_instance::Place;
+use am_member::{
+    Exchanged, Fault as ConnectionFault, Parted, Spared, exchange, frames_text, next_moment,
+    part_frames, spare,
+};
+use am_reactor::{Broken, Failure, LinkFault, Outgoing, Service, Wake};
+use std::io::ErrorKind;
+use std::time::{Duration, Instant};
+
+/// The shorter one of two times, where there are such.
+fn sooner(one: Option<Duration>, other: Option<Duration>) -> Option<Duration> {
+    match (one, other) {
+        (Some(one), Some(other)) => Some(one.min(other)),
+        (one, None) => one,
+        (None, other) => other,
+    }
+}
+
+/// A connection that was closed before its end, as a fault.
+fn fault_of(broken: Broken, is_over: bool) -> Fault {
+    let write = ConnectionFault::Write {
+        written: broken.written,
+    };
+    let read = ConnectionFault::Read { at: broken.read };
+    match broken.why {
+        Failure::Write(_) => Fault::Connection(write),
+        Failure::Time if is_over => Fault::Connection(write),
+        Failure::Read(_) | Failure::Time => Fault::Connection(read),
+        Failure::Crowded => Fault::Crowded(broken.read),
+        Failure::Unfinished => Fault::Unfinished(broken.read),
+    }
+}
+
+impl<R: Host> Member<'_, R> {
+    /// Answers what was said, or keeps it until it may be answered.
+    fn hear(&mut self, dialogue: &mut Dialogue, said: Said) {
+        if let Some(said) = dialogue.hold(said, self.duties.waits_for_pull()) {
+            self.judge(dialogue, said);
+        }
+    }
+
+    /// Answers what was said.
+    pub(super) fn answer(&mut self, dialogue: &mut Dialogue, said: Said) {
+        if is_nothing(&said) && dialogue.session.name().is_none() {
+            return;
+        }
+        if self.refuses_disk(dialogue) {
+            return;
+        }
+        self.room.add(bytes_said(&said));
+        let pulled = ends_pull(&said);
+        self.is_changed |= may_change(&said);
+        let Spared { said, asks, ticks } = spare(said);
+        let exchanged = self.make_steps(dialogue, said);
+        if exchanged.fault.is_none() {
+            self.end_first_pull_after(dialogue.session.name(), pulled, asks);
+        }
+        if exchanged.fault != Some(ConnectionFault::UnknownName) {
+            self.owe(dialogue.session.name(), asks, ticks);
+        }
+        let news = self.keeping.news();
+        let peer = self.place_of(dialogue.session.name());
+        self.follow(peer, exchanged.effects, exchanged.fault);
+        dialogue.reply_with(self.rt.alloc(), exchanged.reply);
+        if self.keeping.has_news() {
+            dialogue.hold_back(self.keeping.news() != news);
+        }
+    }
+
+    /// Ends the first pull, if it is waited for, where a peer has sent all it has, or now that each has.
+    fn end_first_pull_after(&mut self, name: Option<&str>, pulled: bool, pushed: bool) {
+        if !self.duties.waits_for_pull() {
+            return;
+        }
+        let all = pushed && self.has_all_with(name);
+        if pulled || all {
+            self.end_first_pull();
+        }
+    }
+
+    /// Keeps in mind what the frames of a peer asked for: all that is held here, but while the first pull is waited for, and a
+    /// Tick.
+    fn owe(&mut self, name: Option<&str>, asks: bool, ticks: bool) {
+        if ticks {
+            self.duties.owe_tick();
+        }
+        if !asks || self.duties.waits_for_pull() {
+            return;
+        }
+        let Some(place) = self.place_of(name) else {
+            return;
+        };
+        self.hand_all(place as usize, false);
+    }
+
+    /// Answers what has waited: where it waited for a first pull that a stop has ended, that nothing is answered.
+    fn answer_late(&mut self, dialogue: &mut Dialogue, said: Said) {
+        if self.turns_away {
+            dialogue.turn_away(self.rt.alloc(), Some(said));
+        } else {
+            self.judge(dialogue, said);
+        }
+    }
+
+    /// Makes the steps of what was said.
+    fn make_steps(&mut self, dialogue: &mut Dialogue, said: Said) -> Exchanged {
+        let bits = self.random_bits();
+        let now = next_moment(self.rt, self.instance.last());
+        let alloc = self.rt.alloc();
+        let session = &mut dialogue.session;
+        exchange(alloc, &mut self.instance, session, said, bits, now)
+    }
+
+    /// Whether each peer has pushed all that it has, now that the one of this name did.
+    fn has_all_with(&mut self, name: Option<&str>) -> bool {
+        let Some(name) = name else {
+            return false;
+        };
+        let place = self.instance.config().place_named(name);
+        if let Some(at) = self
+            .awaited
+            .iter()
+            .position(|awaited| Some(*awaited) == place)
+        {
+            self.awaited.swap_remove(at);
+        }
+        self.awaited.is_empty()
+    }
+
+    /// What all peers have is here.
+    fn end_first_pull(&mut self) {
+        if let Ok(now) = Instant::now(self.rt) {
+            self.duties.end_first_pull(self.options, now);
+        }
+    }
+
+    /// A stop ends the first pull. What waits for it is turned away.
+    fn give_up_first_pull(&mut self, now: Instant) {
+        if self.duties.waits_for_pull() {
+            self.turns_away = true;
+            self.duties.end_first_pull(self.options, now);
+        }
+    }
+
+    /// The text of frames for a peer. Where there is none, they are told unsent.
+    pub fn text_of(&mut self, peer: Place, frames: &[Frame]) -> Option<Vec<u8>> {
+        match frames_text(self.rt.alloc(), frames) {
+            Ok(bytes) => Some(bytes),
+            Err(_) => {
+                self.tell_of(Some(peer), Fault::UnsentMemory(frames.len()));
+                None
+            }
+        }
+    }
+
+    /// The frames that wait for the peer of the first of them, as they go out.
+    fn next_outgoing(&mut self) -> Option<Outgoing> {
+        let place = self.queue.first()?.0;
+        let alloc = self.rt.alloc();
+        let frames = std::mem::replace(&mut self.queue, Vec::new(alloc));
+        let count = frames.len();
+        let Ok(Parted { own, others }) = part_frames(alloc, place, frames) else {
+            self.tell(Fault::UnsentMemory(count));
+            return None;
+        };
+        self.queue = others;
+        let bytes = self.text_of(place, &own)?;
+        let peer = place as usize;
+        Some(Outgoing { peer, bytes })
+    }
+}
+
+impl<R: Host> Service for Member<'_, R> {
+    type Session = Dialogue;
+
+    ghost pending = { λ dialogue. drop dialogue.written (bytes_of dialogue.reply) };
+
+    // What a session says of a piece, its own `feed` tells.
+    ghost fed = { λ _ _ _. ⊤ };
+
+    fn begin(&mut self) -> Dialogue {
+        Dialogue::new(self.rt.alloc())
+    }
+
+    fn feed(&mut self, session: &mut Dialogue, piece: &[u8]) {
+        if let Some(refusal) = session.screen(piece, self.options.hosts.as_slice()) {
+            return session.refuse(self.rt.alloc(), &refusal);
+        }
+        let said = session.session.feed(piece);
+        self.hear(session, said);
+    }
+
+    fn end(&mut self, session: &mut Dialogue) {
+        let said = session.session.end();
+        self.hear(session, said);
+    }
+
+    fn broken(&mut self, session: &mut Dialogue, broken: Broken) {
+        let peer = self.place_of(session.session.name());
+        self.tell_of(peer, fault_of(broken, session.session.is_over()));
+    }
+
+    fn waits(&self, session: &Dialogue) -> bool {
+        session.waits()
+    }
+
+    fn may_resume(&self) -> bool {
+        !self.duties.waits_for_pull()
+    }
+
+    fn resume(&mut self, session: &mut Dialogue) {
+        if let Some(making) = session.making.take() {
+            session.go_on(self.rt.alloc(), making);
+        } else if let Some((said, judging)) = session.judging.take() {
+            self.go_on_judging(session, said, judging);
+        } else if let Some(said) = session.waiting.take() {
+            self.answer_late(session, said);
+        }
+    }
+
+    fn has_uncommitted(&self) -> bool {
+        self.keeping.has_news()
+    }
+
+    fn commit(&mut self) {
+        self.keep();
+    }
+
+    fn is_held_back(&self, session: &Dialogue) -> bool {
+        session.is_held_back()
+    }
+
+    fn release(&mut self, session: &mut Dialogue) {
+        session.release(self.rt.alloc(), self.keeping.is_kept());
+    }
+
+    fn hurry(&mut self, session: &mut Dialogue) {
+        let said = session.waiting.take();
+        session.turn_away(self.rt.alloc(), said);
+    }
+
+    fn output<'a>(&self, session: &'a Dialogue) -> &'a [u8] {
+        session.output()
+    }
+
+    fn sent(&mut self, session: &mut Dialogue, count: usize) {
+        session.sent(count);
+    }
+
+    fn is_over(&self, session: &Dialogue) -> bool {
+        session.session.is_over()
+    }
+
+    fn held(&self, session: &Dialogue) -> usize {
+        session.session.waiting()
+    }
+
+    fn outgoing(&mut self) -> Option<Outgoing> {
+        if self.keeping.has_news() {
+            None
+        } else if self.queue.is_empty() {
+            self.open_link()
+        } else {
+            self.next_outgoing()
+        }
+    }
+
+    fn more(&mut self, peer: usize) -> Option<Vec<u8>> {
+        self.next_part(peer)
+    }
+
+    fn lost(&mut self, peer: usize, fault: LinkFault) {
+        self.hand_nothing(peer);
+        let port = self.ports.get(peer).copied().unwrap_or(0);
+        self.tell_of(Some(peer as Place), Fault::Lost(fault, port));
+    }
+
+    fn wake(&mut self, now: Instant) -> Wake {
+        self.do_duties(now);
+        if self.stops {
+            self.give_up_first_pull(now);
+            return Wake::Stop;
+        }
+        Wake::GoOn(sooner(self.duties.left(now), self.lines.left(now)))
+    }
+
+    fn input_ended(&mut self) {
+        self.stops = true;
+    }
+
+    fn accept_failed(&mut self, kind: ErrorKind) {
+        self.tell(Fault::Accept(kind));
+    }
+}

@@ -1,0 +1,240 @@
+//! The start of a member.
+
+use super::clock::Watch;
+use super::duties::Duties;
+use super::files::{OpenedState, StateFile, open_state};
+use super::handing::Share;
+use super::host::Host;
+use super::keeping::{DISK, Keeping};
+use super::room::Room;
+use super::started::Started;
+use super::told::Lines;
+use super::{Member, signals, times};
+use am_command_line::Options;
+use am_faults::{Fault, report, status};
+use am_instance::{Config, ConfigError, Instance, Place};
+use am_member::{Peer, greeting, next_moment};
+use am_reactor::{Limits, listen};
+use am_version_order::Moment;
+use am_wire::Text;
+use rand::make_rng;
+use rand::rngs::StdRng;
+use std::alloc::{AllocError, Global};
+use std::net::TcpListener;
+use std::random::RandomSource;
+use std::time::Instant;
+
+/// The most bytes that wait for a peer while a connection to it is open.
+const MOST_WAITING: usize = 134_217_728;
+
+/// Runs a member, prints why it ends early, and answers the exit status of the program.
+pub fn run<'a, R: Host>(rt: &'a R, options: &'a Options<'a>) -> u8 {
+    match run_on(rt, options) {
+        Ok(None) => status::DONE,
+        // (no input is refused where a state is too large to be saved)
+        Ok(Some(fault)) => fault.status().max(status::OUTSIDE),
+        Err(fault) => report(rt, fault),
+    }
+}
+
+/// Runs a member until it is told to end, or has taken its connections; then it saves both states. Answers with which fault it
+/// ended, which is told: that of the listener, or else why the last save failed.
+///
+/// # Errors
+///
+/// The first [`Fault`] of the start, in the order of names, silences, log, listener.
+fn run_on<'a, R: Host>(rt: &'a R, options: &'a Options<'a>) -> Result<Option<Fault>, Fault> {
+    let mut member = member(rt, options)?;
+    let listener = match listen(rt, options.port) {
+        Ok(listener) => listener,
+        Err(error) => return Err(Fault::Listen(error.kind(), options.port)),
+    };
+    tell_start(&mut member);
+    tell_torn(&mut member);
+    let failed = serve(&mut member, listener);
+    Ok(member.end(failed))
+}
+
+/// Prints that a member listens, and the times that it keeps, where that finds room.
+fn tell_start<R: Host>(member: &mut Member<'_, R>) {
+    if !member.lines.has_room() {
+        return;
+    }
+    let started = Started {
+        options: member.options,
+        silences: member.instance.silences().len(),
+        entries: member.instance.log().len(),
+    };
+    let _ = eprintln!(member.rt; "am_tool: {started}");
+    times::report(member.rt, member.options);
+}
+
+/// Prints how many bytes were cut off from the logs, where some were.
+fn tell_torn<R: Host>(member: &mut Member<'_, R>) {
+    let silences = member.silences.torn();
+    if silences > 0 {
+        member.tell(Fault::SilencesTorn(silences));
+    }
+    let log = member.log.torn();
+    if log > 0 {
+        member.tell(Fault::LogTorn(log));
+    }
+}
+
+/// Serves whoever connects, until the member is told to end or has taken its connections. Answers why it doesn't, or no more,
+/// which is told.
+fn serve<R: Host>(member: &mut Member<'_, R>, listener: TcpListener) -> Option<Fault> {
+    let rt = member.rt;
+    let options = member.options;
+    let Ok(greeting) = greeting(rt.alloc(), options.name) else {
+        member.tell(Fault::Config(ConfigError::Memory));
+        return Some(Fault::Config(ConfigError::Memory));
+    };
+    let Ok(ports) = member.ports.clone() else {
+        member.tell(Fault::Config(ConfigError::Memory));
+        return Some(Fault::Config(ConfigError::Memory));
+    };
+    let limits = Limits {
+        at_once: options.at_once,
+        connections: options.connections,
+        time: options.time_limit,
+        link_bytes: MOST_WAITING,
+        held_bytes: options.most_unfinished,
+        watch_input: options.stop_at_input_end,
+    };
+    let alloc = rt.alloc();
+    match am_reactor::run(alloc, rt, listener, &ports, &greeting, member, limits) {
+        Ok(()) => None,
+        Err(error) => {
+            let kind = error.kind();
+            member.tell(Fault::Accept(kind));
+            Some(Fault::Accept(kind))
+        }
+    }
+}
+
+/// The member before it listens.
+fn member<'a, R: Host>(rt: &'a R, options: &'a Options<'a>) -> Result<Member<'a, R>, Fault> {
+    let config = config(rt.alloc(), options)?;
+    let Ok(ports) = ports(rt.alloc(), &config, &options.peers) else {
+        return Err(Fault::Config(ConfigError::Memory));
+    };
+    let Ok(awaited) = peer_places(rt.alloc(), &ports) else {
+        return Err(Fault::Config(ConfigError::Memory));
+    };
+    let Ok(shares) = shares(rt.alloc(), ports.len()) else {
+        return Err(Fault::Config(ConfigError::Memory));
+    };
+    let (instance, silences, log) = instance(rt, config, options)?;
+    let room = Room::of(instance.silences(), options.most_bytes);
+    let keeping = Keeping::new(instance.config().place_named(DISK));
+    let has_old_log = silences.has_old_log() || log.has_old_log();
+    let random = random(rt)?;
+    let Ok(lines) = Lines::new(rt.alloc(), rt, options.lines) else {
+        return Err(Fault::Config(ConfigError::Memory));
+    };
+    let duties = match Instant::now(rt) {
+        Ok(now) => Duties::new(options, signals::are_blocked(rt), now),
+        Err(error) => return Err(Fault::Clock(error.kind())),
+    };
+    Ok(Member {
+        rt,
+        options,
+        instance,
+        silences,
+        log,
+        room,
+        keeping,
+        ports,
+        random,
+        queue: Vec::new(rt.alloc()),
+        duties,
+        lines,
+        watch: Watch::new(),
+        shares,
+        awaited,
+        is_changed: has_old_log,
+        stops: false,
+        turns_away: false,
+    })
+}
+
+/// What random bits are drawn from.
+fn random<R: RandomSource>(rt: &R) -> Result<StdRng, Fault> {
+    match make_rng(rt) {
+        Ok(random) => Ok(random),
+        Err(error) => Err(Fault::Random(error.kind())),
+    }
+}
+/// The names of the members, and how long things are kept.
+fn config(alloc: Global, options: &Options<'_>) -> Result<Config, Fault> {
+    let Ok(name) = Text::copied(alloc, options.name) else {
+        return Err(Fault::Config(ConfigError::Memory));
+    };
+    let Ok(peers) = names(alloc, &options.peers, options.keeps_log) else {
+        return Err(Fault::Config(ConfigError::Memory));
+    };
+    Ok(Config::new(alloc, name, peers, options.retention, options.peer_timeout)?)
+}
+
+/// The names of peers, and of the disk where logs are kept.
+fn names(alloc: Global, peers: &[Peer<'_>], keeps_log: bool) -> Result<Vec<Text>, AllocError> {
+    let mut names = Vec::with_capacity(alloc, peers.len())?;
+    if keeps_log {
+        names.push(Text::copied(alloc, DISK)?)?;
+    }
+    for peer in peers {
+        names.push(Text::copied(alloc, peer.name)?)?;
+    }
+    Ok(names)
+}
+
+/// At which port each member listens, by place.
+fn ports(alloc: Global, config: &Config, peers: &[Peer<'_>]) -> Result<Vec<u16>, AllocError> {
+    let mut ports = Vec::with_capacity(alloc, config.members().len())?;
+    for name in config.members() {
+        let peer = peers.iter().find(|peer| peer.name == name.as_str());
+        ports.push(peer.map_or(0, |peer| peer.port))?;
+    }
+    Ok(ports)
+}
+
+/// What each of so many members is handed: nothing yet.
+fn shares(alloc: Global, count: usize) -> Result<Vec<Share>, AllocError> {
+    let mut shares = Vec::with_capacity(alloc, count)?;
+    for _ in 0..count {
+        shares.push(Share::none())?;
+    }
+    Ok(shares)
+}
+
+/// The places of the peers: those at which a port is known.
+fn peer_places(alloc: Global, ports: &[u16]) -> Result<Vec<Place>, AllocError> {
+    let mut places = Vec::with_capacity(alloc, ports.len())?;
+    for (place, port) in ports.iter().enumerate() {
+        if *port > 0 {
+            places.push(place as Place)?;
+        }
+    }
+    Ok(places)
+}
+
+/// The instance that holds what its files hold, and the files of the silences and of the log.
+fn instance<R: Host>(
+    rt: &R,
+    config: Config,
+    options: &Options<'_>,
+) -> Result<(Instance, StateFile, StateFile), Fault> {
+    let most = options.most_bytes;
+    let silences = match open_state(rt, options.silences, most, options.keeps_log) {
+        Ok(opened) => opened,
+        Err(fault) => return Err(Fault::Silences(fault)),
+    };
+    let log = match open_state(rt, options.log, most, options.keeps_log) {
+        Ok(opened) => opened,
+        Err(fault) => return Err(Fault::Log(fault)),
+    };
+    let now = next_moment(rt, Moment::LEAST);
+    let instance = Instance::start(config, silences.held, log.held, now);
+    Ok((instance, silences.file, log.file))
+}

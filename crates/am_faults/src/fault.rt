@@ -1,0 +1,242 @@
+//! What is printed of a fault.
+
+ghost use Rattle.std.specs.Prelude.{◌<◌, ◌≤◌};
+
+mod lines;
+mod meaning;
+
+use crate::occasion::Occasion;
+use crate::status;
+use am_instance::ConfigError;
+use am_member::{Fault as ConnectionFault, FileFault, ServerFault};
+use am_reactor::LinkFault;
+use am_silence_json::ListError;
+use am_snapshot::SnapshotError;
+use am_told::Word;
+use lines::FileLine;
+use meaning::meaning_of;
+use std::fmt;
+use std::io::ErrorKind;
+use thiserror::Error;
+
+/// Prints a fault on standard error: its words, what it means, and when it is told.
+pub fn print<R: Eprint>(rt: &R, fault: &Fault, occasion: &Occasion<'_>) {
+    let meaning = fault.meaning();
+    let _ = eprintln!(rt; "am_tool: {fault}: {meaning}{occasion}");
+}
+
+/// Prints on standard error how many faults like this one were not printed.
+pub fn print_count<R: Eprint>(rt: &R, count: u64, fault: &Fault, occasion: &Occasion<'_>) {
+    let _ = eprintln!(rt; "am_tool: .. and {count} more like {fault}{occasion}");
+}
+
+/// Prints a fault on standard error. Gives the exit status of the program.
+pub fn report<R: Eprint>(rt: &R, fault: Fault) -> u8
+    ensures { (1 ≤ result) × (result ≤ 4) }
+{
+    let meaning = fault.meaning();
+    let _ = eprintln!(rt; "am_tool: {fault}: {meaning}");
+    fault.status()
+}
+
+/// Why a job was not done, or a part of it. It is printed as its names from outer to inner, and its numbers.
+#[derive(Clone, Copy, Debug, Error)]
+pub enum Fault {
+    /// In a row that is loaded or folded, or in what was written of one.
+    #[error(fmt = lines::write_snapshot_error)]
+    Snapshot(#[from] SnapshotError),
+    /// In the file of a source.
+    #[error(fmt = lines::write_file_fault)]
+    File(#[from] FileFault),
+    /// Of a source that is a server.
+    #[error(fmt = lines::write_server_fault)]
+    Server(#[from] ServerFault),
+    /// In the list that a server replied.
+    #[error(fmt = lines::write_list_error)]
+    List(#[from] ListError),
+    /// A peer is not NAME=PORT.
+    #[error("Peer")]
+    Peer,
+    /// The names of the members are at fault.
+    #[error(fmt = lines::write_config_error)]
+    Config(#[from] ConfigError),
+    /// In the file of the silences.
+    #[error("Silences {}", FileLine(.0))]
+    Silences(FileFault),
+    /// In the file of the notification log.
+    #[error("Log {}", FileLine(.0))]
+    Log(FileFault),
+    /// So many bytes at the end of the log of the silences were being written when the last process ended.
+    #[error("Silences Torn {0}")]
+    SilencesTorn(u64),
+    /// The same of the log of the notification log.
+    #[error("Log Torn {0}")]
+    LogTorn(u64),
+    /// The system refused random bytes.
+    #[error("Random {0:?}")]
+    Random(ErrorKind),
+    /// The system refused to listen at a port.
+    #[error("Listen {0:?} {1}")]
+    Listen(ErrorKind, u16),
+    /// The system refused a connection that came.
+    #[error("Accept {0:?}")]
+    Accept(ErrorKind),
+    /// In a connection.
+    #[error(fmt = lines::write_connection_fault)]
+    Connection(ConnectionFault),
+    /// A connection gave its place to another one, after so many bytes came.
+    #[error("Crowded {0}")]
+    Crowded(u64),
+    /// A connection was closed since too much of what came wasn't finished, after so many bytes came.
+    #[error("Unfinished {0}")]
+    Unfinished(u64),
+    /// The system's clock could not be read at the start.
+    #[error("Clock {0:?}")]
+    Clock(ErrorKind),
+    /// The system's clock is behind the moment of the last event, by so many seconds.
+    #[error("Clock Behind {0}")]
+    ClockBehind(u64),
+    /// It is no more.
+    #[error("Clock CaughtUp")]
+    ClockCaughtUp,
+    /// No peer answered the first pull in time, so requests are answered without it.
+    #[error("NoPull")]
+    NoPull,
+    /// So many frames for peers found no memory.
+    #[error("Unsent Memory {0}")]
+    UnsentMemory(usize),
+    /// So many frames for peers were over their limit.
+    #[error("Unsent Limit {0}")]
+    UnsentLimit(usize),
+    /// So many faults of a member were not told, since nobody read its lines.
+    #[error("Lines Lost {0}")]
+    LinesLost(u64),
+    /// What was to be sent to the peer at a port is lost.
+    #[error(fmt = lines::write_link_fault)]
+    Lost(LinkFault, u16),
+}
+
+impl Fault {
+    /// What it means, or what is to be done, as a sentence.
+    pub fn meaning(&self) -> &'static str {
+        meaning_of(self)
+    }
+
+    /// The exit status of the program, which is none of a job that is done.
+    pub fn status(self) -> u8
+        ensures { (1 ≤ result) × (result ≤ 4) }
+    {
+        match self {
+            Fault::Snapshot(error) => status_of_snapshot(error),
+            Fault::List(ListError::Memory) | Fault::Config(ConfigError::Memory) => status::MEMORY,
+            Fault::List(_) => status::REFUSED,
+            Fault::Peer | Fault::Config(_) => status::WORDS,
+            Fault::File(fault) | Fault::Silences(fault) | Fault::Log(fault) => status_of_file(
+                fault,
+            ),
+            Fault::Server(fault) => status_of_server(fault),
+            _ => status::OUTSIDE,
+        }
+    }
+}
+
+/// How many kinds of faults a member tells apart.
+pub const KINDS: usize = 16;
+
+impl Fault {
+    /// Which kind of fault of a member it is, from 0 on: one for each word with which a line begins.
+    pub fn kind(&self) -> usize
+        ensures { result < KINDS }
+    {
+        match self {
+            Fault::Silences(_) => 0,
+            Fault::Log(_) => 1,
+            Fault::Accept(_) => 2,
+            Fault::UnsentMemory(_) | Fault::UnsentLimit(_) => 3,
+            Fault::Lost(LinkFault::Connect(_), _) => 4,
+            Fault::Lost(_, _) => 5,
+            Fault::Connection(fault) => kind_of_connection(fault),
+            Fault::ClockBehind(_) | Fault::ClockCaughtUp => 12,
+            Fault::Crowded(_) => 13,
+            Fault::Unfinished(_) => 14,
+            _ => 15,
+        }
+    }
+}
+
+/// The kind of a fault of a connection.
+fn kind_of_connection(fault: &ConnectionFault) -> usize
+    ensures { result < KINDS }
+{
+    match fault {
+        ConnectionFault::Read { .. } => 6,
+        ConnectionFault::Write { .. } => 7,
+        ConnectionFault::TooLarge => 8,
+        ConnectionFault::Frame(_) => 9,
+        ConnectionFault::UnknownName => 10,
+        ConnectionFault::Step(_) => 11,
+    }
+}
+
+/// The exit status where a row is at fault.
+fn status_of_snapshot(error: SnapshotError) -> u8
+    ensures { (1 ≤ result) × (result ≤ 4) }
+{
+    match error {
+        SnapshotError::Wire(_) | SnapshotError::DuplicateKey | SnapshotError::TooLarge => {
+            status::REFUSED
+        }
+        SnapshotError::Read { .. } | SnapshotError::Write { .. } => status::OUTSIDE,
+        SnapshotError::Memory => status::MEMORY,
+    }
+}
+
+/// The exit status where a file is at fault.
+fn status_of_file(fault: FileFault) -> u8
+    ensures { (1 ≤ result) × (result ≤ 4) }
+{
+    match fault {
+        FileFault::File(_) | FileFault::NotAFile | FileFault::Locked => status::OUTSIDE,
+        FileFault::Snapshot(error) => status_of_snapshot(error),
+    }
+}
+
+/// The exit status where a server is at fault.
+fn status_of_server(fault: ServerFault) -> u8
+    ensures { (1 ≤ result) × (result ≤ 4) }
+{
+    match fault {
+        ServerFault::Connect(_) | ServerFault::Write { .. } | ServerFault::Read { .. } => {
+            status::OUTSIDE
+        }
+        ServerFault::TooLarge | ServerFault::NoHead | ServerFault::Status(_) => status::REFUSED,
+        ServerFault::Memory => status::MEMORY,
+    }
+}
+
+/// A fault, and the name of the source in which it is, if it is in one.
+#[derive(Clone, Copy)]
+pub struct SourceFault<'a> {
+    /// The name of the source.
+    pub name: Option<&'a str>,
+    /// What is wrong with it.
+    pub fault: Fault,
+}
+
+/// Prints a fault on standard error, behind the name of its source. Gives the exit status of the program.
+pub fn report_source<R: Eprint>(rt: &R, fault: &SourceFault<'_>) -> u8
+    ensures { (1 ≤ result) × (result ≤ 4) }
+{
+    let meaning = fault.fault.meaning();
+    let _ = eprintln!(rt; "am_tool: {fault}: {meaning}");
+    fault.fault.status()
+}
+
+impl fmt::Display for SourceFault<'_> {
+    fn fmt<W: fmt::Write>(&self, f: &mut fmt::Formatter<W>) -> fmt::Result {
+        if let Some(name) = self.name {
+            write!(f, "{} ", Word(name.as_bytes()))?;
+        }
+        write!(f, "{}", self.fault)
+    }
+}

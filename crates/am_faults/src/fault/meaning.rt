@@ -1,0 +1,235 @@
+//! What faults mean, and what is to be done, as a sentence for people: one for each kind.
+
+use crate::fault::Fault;
+use am_gossip::FrameError;
+use am_instance::{ConfigError, StepError};
+use am_member::{Fault as ConnectionFault, FileFault, ServerFault};
+use am_reactor::LinkFault;
+use am_silence_json::ListError;
+use am_snapshot::SnapshotError;
+use am_wire::WireError;
+use std::io::ErrorKind;
+
+const MEMORY: &str = "memory ran out";
+
+const READ: &str = "a read failed after so many bytes";
+
+const WRITE: &str = "a write failed after so many bytes, which went out";
+
+const LOST_READ: &str =
+    "the connection failed, or its time was over, after so many bytes that came";
+
+const LOST_WRITE: &str =
+    "the connection failed, or its time was over, after so many bytes that went out";
+
+const CROWDED: &str =
+    "a connection gave its place to another one, after so many bytes that came; --at-once has how many there may be";
+
+const UNFINISHED: &str =
+    "a connection kept too much that wasn't finished, after so many bytes that came; --most-unfinished has the limit";
+
+const CLOCK_BEHIND: &str = "the clock is so many seconds behind the last event; is it set right?";
+
+const NO_PULL: &str =
+    "no peer answered the first pull in time, so requests are answered without it";
+
+const TORN: &str =
+    "so many bytes at the end of the log were being written when the last process ended, and nobody was told of them; they are cut off";
+
+const LINES_LOST: &str = "so many faults were not told, since nobody read the lines before";
+
+const UNSENT_MEMORY: &str =
+    "memory ran out for so many frames to peers; a pull brings what they had";
+
+const UNSENT_LIMIT: &str =
+    "so many frames to peers were over their limit; a pull brings what they had";
+
+/// What a fault means.
+pub fn meaning_of(fault: &Fault) -> &'static str {
+    match *fault {
+        Fault::Snapshot(error) => meaning_of_snapshot(error),
+        Fault::File(fault) => meaning_of_file(fault),
+        Fault::Silences(fault) | Fault::Log(fault) => meaning_of_state(fault),
+        Fault::Server(fault) => meaning_of_server(fault),
+        Fault::List(error) => meaning_of_list(error),
+        Fault::Peer => "a peer is NAME=PORT, with a port from 1 to 65535",
+        Fault::Config(error) => meaning_of_names(error),
+        Fault::Connection(fault) => meaning_of_connection(fault),
+        Fault::Lost(fault, _) => meaning_of_link(fault),
+        Fault::SilencesTorn(_) | Fault::LogTorn(_) => TORN,
+        Fault::Random(_) => "the system gave no random bytes",
+        Fault::Listen(kind, _) => meaning_of_listen(kind),
+        Fault::Accept(_) => "a connection that came was not accepted",
+        Fault::Crowded(_) => CROWDED,
+        Fault::Unfinished(_) => UNFINISHED,
+        Fault::Clock(_) => "the system's clock can't be read",
+        Fault::ClockBehind(_) => CLOCK_BEHIND,
+        Fault::ClockCaughtUp => "the clock is behind the last event no more",
+        Fault::NoPull => NO_PULL,
+        Fault::LinesLost(_) => LINES_LOST,
+        Fault::UnsentMemory(_) => UNSENT_MEMORY,
+        Fault::UnsentLimit(_) => UNSENT_LIMIT,
+    }
+}
+
+/// Why it can't listen.
+fn meaning_of_listen(kind: ErrorKind) -> &'static str {
+    match kind {
+        ErrorKind::AddrInUse => "another process listens at this port",
+        _ => "the system doesn't let it listen at this port",
+    }
+}
+
+/// What is wrong with a row.
+fn meaning_of_snapshot(error: SnapshotError) -> &'static str {
+    match error {
+        SnapshotError::Read { .. } => READ,
+        SnapshotError::Write { .. } => WRITE,
+        SnapshotError::Wire(WireError::WrongType { .. }) => {
+            "the field at this byte has another type than its number; is this the other state? (--state, --sil, --nfl)"
+        }
+        SnapshotError::Wire(error) => meaning_of_wire(error),
+        SnapshotError::DuplicateKey =>
+            "a key comes twice; fold keeps of each key the version that counts",
+        SnapshotError::TooLarge => "the row, or a message in it, has over 67,108,864 bytes",
+        SnapshotError::Memory => MEMORY,
+    }
+}
+
+/// What is wrong with a message.
+fn meaning_of_wire(error: WireError) -> &'static str {
+    match error {
+        WireError::Truncated { .. } => "the input ends in what begins at this byte",
+        WireError::LongVarint { .. } => "the number at this byte has more than 64 bits",
+        WireError::FieldNumber { .. } => "the field at this byte has no possible number",
+        WireError::WireType { .. } => "the field at this byte has no known type",
+        WireError::WrongType { .. } => "the field at this byte has another type than its number",
+        WireError::NotUtf8 { .. } => "the text at this byte is not UTF-8",
+        WireError::Timestamp { .. } => "the timestamp at this byte is out of range",
+        WireError::MatcherType { .. } => "the matcher at this byte is of no known type",
+        WireError::MissingMessage { .. } => "the field of this number is missing",
+        WireError::TooLarge => "a message has over 67,108,864 bytes",
+        WireError::Memory => MEMORY,
+    }
+}
+
+/// Why a file isn't read or written.
+fn meaning_of_file(fault: FileFault) -> &'static str {
+    match fault {
+        FileFault::File(ErrorKind::NotFound) => "there is no such file or directory",
+        FileFault::File(ErrorKind::PermissionDenied) =>
+            "the system gives no leave for this file or directory",
+        FileFault::File(_) => "the system refuses the file",
+        FileFault::Snapshot(error) => meaning_of_snapshot(error),
+        FileFault::NotAFile =>
+            "a directory, a pipe, a socket or a device stands in the file's place",
+        FileFault::Locked => "another process has the file; does the member run already?",
+    }
+}
+
+/// Why a member's state isn't loaded or saved.
+fn meaning_of_state(fault: FileFault) -> &'static str {
+    match fault {
+        FileFault::Snapshot(SnapshotError::Write { .. }) => {
+            "the state isn't saved, since a write failed after so many bytes; the file is as it was"
+        }
+        FileFault::Snapshot(SnapshotError::TooLarge) => {
+            "the file, or the state that is to be saved, has more bytes than --most-bytes"
+        }
+        fault => meaning_of_file(fault),
+    }
+}
+
+/// Why a server didn't answer.
+fn meaning_of_server(fault: ServerFault) -> &'static str {
+    match fault {
+        ServerFault::Connect(kind) => meaning_of_connect(kind),
+        ServerFault::Write { .. } => LOST_WRITE,
+        ServerFault::Read { .. } => LOST_READ,
+        ServerFault::TooLarge => "the reply has over 67,125,248 bytes",
+        ServerFault::NoHead => "the reply is none of HTTP; is this an Alertmanager or a member?",
+        ServerFault::Status(_) =>
+            "the reply's status isn't 200; is this an Alertmanager or a member?",
+        ServerFault::Memory => MEMORY,
+    }
+}
+
+/// Why there is no connection.
+fn meaning_of_connect(kind: ErrorKind) -> &'static str {
+    match kind {
+        ErrorKind::ConnectionRefused => "nothing listens there",
+        ErrorKind::TimedOut => "nothing answers there in time",
+        _ => "nothing is reached there",
+    }
+}
+
+/// What is wrong with the list that a server replied.
+fn meaning_of_list(error: ListError) -> &'static str {
+    match error {
+        ListError::BadJson => "the reply is no JSON",
+        ListError::NoList => "the reply is JSON and no list",
+        ListError::Wrong(_, _) => {
+            "of the silence at this place of the list, what stands at this key is missing or of another kind"
+        }
+        ListError::TooLarge(_) => "the silence at this place of the list has over 67,108,864 bytes",
+        ListError::Memory => MEMORY,
+    }
+}
+
+/// What is wrong with the names of members.
+fn meaning_of_names(error: ConfigError) -> &'static str {
+    match error {
+        ConfigError::EmptyName => "a member's name has no byte",
+        ConfigError::LongName => "a member's name has over 255 bytes",
+        ConfigError::SameName => "two members have one name",
+        ConfigError::Memory => MEMORY,
+    }
+}
+
+/// Why a connection ended early.
+fn meaning_of_connection(fault: ConnectionFault) -> &'static str {
+    match fault {
+        ConnectionFault::Read { .. } => LOST_READ,
+        ConnectionFault::Write { .. } => LOST_WRITE,
+        ConnectionFault::TooLarge => "over 134,217,728 bytes came on one connection",
+        ConnectionFault::Frame(error) => meaning_of_frame(error),
+        ConnectionFault::UnknownName =>
+            "who greeted so is no peer of this member; --peer names those",
+        ConnectionFault::Step(error) => meaning_of_step(error),
+    }
+}
+
+/// What is wrong with a greeting or a frame.
+fn meaning_of_frame(error: FrameError) -> &'static str {
+    match error {
+        FrameError::Kind => "no frame begins with this byte; did a peer send it?",
+        FrameError::Length => "the length of a greeting or a frame is out of its range",
+        FrameError::Wire(error) => meaning_of_wire(error),
+        FrameError::UnknownState => "a part of a frame is of no known state",
+        FrameError::Ended => "the stream ended with an earlier fault",
+        FrameError::Memory => MEMORY,
+    }
+}
+
+/// Why a step was refused.
+fn meaning_of_step(error: StepError) -> &'static str {
+    match error {
+        StepError::MomentBack { .. } =>
+            "the step's moment is before that of the last event, which is this",
+        StepError::UnknownPeer => "no peer has this place",
+        StepError::Frame(error) => meaning_of_frame(error),
+        StepError::Memory { .. } =>
+            "memory ran out when so many versions were taken; a pull brings the others",
+    }
+}
+
+/// Why what waited for a peer is lost.
+fn meaning_of_link(fault: LinkFault) -> &'static str {
+    match fault {
+        LinkFault::Connect(kind) => meaning_of_connect(kind),
+        LinkFault::Write { .. } | LinkFault::Time { .. } => LOST_WRITE,
+        LinkFault::Full => "over 134,217,728 bytes wait for this peer; does it hang?",
+        LinkFault::Memory => "memory ran out for what waits for this peer",
+        LinkFault::NoPeer => "no member has this place",
+    }
+}

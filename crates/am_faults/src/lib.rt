@@ -1,0 +1,9 @@
+//! The faults of the program: the line that is printed of each, and the exit status.
+#![tactic(auto)]
+
+mod fault;
+mod occasion;
+pub mod status;
+
+pub use fault::{Fault, KINDS, SourceFault, print, print_count, report, report_source};
+pub use occasion::Occasion;

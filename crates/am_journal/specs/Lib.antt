@@ -1,0 +1,10 @@
+pub mod Batches
+pub mod Blocks
+pub mod Causes
+pub mod Device
+pub mod Events
+pub mod Journal
+pub mod Memory
+pub mod Past
+pub mod Reading
+pub mod StandIn

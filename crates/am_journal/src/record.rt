@@ -1,0 +1,32 @@
+//! A list of calls that only clauses read. It takes no memory.
+
+ghost use Rattle.std.specs.Prelude.{◌≡◌, List, [], ◌∷◌};
+ghost use Rattle.std.specs.Borrow.{ftrue};
+ghost use Rattle.am_journal.specs.Events.{Event, event_of};
+
+use std::marker::{Model, PhantomData};
+
+#[derive(Drop)]
+pub struct Record {
+    marker: PhantomData<u8>,
+    pub ghost events: { List Event },
+}
+
+impl Model for Record {
+    ghost also_owns = { λ _. ftrue };
+}
+
+impl Record {
+    pub(crate) fn new() -> Record
+        ensures { result.events ≡ [] }
+    {
+        Record {
+            marker: PhantomData,
+        }
+    }
+
+    /// The numbers are those of an `Event`: which call, an offset or a length, and 1 for success.
+    pub(crate) fn note(&mut self, _numbers: &[u64], _bytes: &[u8])
+        ensures { self.new.events ≡ event_of _numbers.now _bytes.now ∷ self.old.events }
+    {}
+}
