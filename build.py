@@ -32,7 +32,8 @@ PACES = {
     "am_nflog": 52, "am_gossip": 51, "am_merge": 86, "am_collect": 99, "am_runs": 51, "am_dedup": 59, "am_matcher": 69,
     "am_snapshot": 75, "am_http": 65, "am_instance": 71, "am_api_silences": 84, "am_steps": 73, "am_cluster": 76,
     "am_member": 95, "am_reactor": 62, "am_journal": 90, "am_told": 85, "am_replay": 78, "am_picture": 80, "am_faults": 80,
-    "am_command_line": 140, "am_daemon": 120, "am_tool": 130,
+    "am_files": 100, "am_command_line": 140, "am_daemon": 115, "am_tool": 165, "am_decision_json": 90, "am_api_decisions": 80,
+    "am_dialogue": 110, "am_lines": 110,
 }  # fmt: skip
 # That of a crate which was not measured.
 PACE = 90

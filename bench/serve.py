@@ -110,12 +110,12 @@ def write_state(folder, silences, entries):
         file.write(b"".join(entry(number, now) for number in range(entries)))
 
 
-def ours(folder, port, peers=(), name="a", program=PROGRAM, options=()):
+def ours(folder, port, peers=(), name="a", program=PROGRAM, options=(), stderr=subprocess.DEVNULL):
     words = [program, "instance", "--name", name, "--listen", str(port), "--time-limit", "60", *options]
     for peer, at in peers:
         words += ["--peer", f"{peer}={at}"]
     words += ["--sil", f"{folder}/silences", "--nfl", f"{folder}/nflog"]
-    return subprocess.Popen(words, stderr=subprocess.DEVNULL)
+    return subprocess.Popen(words, stderr=stderr)
 
 
 def theirs(folder, port):
@@ -407,7 +407,8 @@ def beside(part, before, has_other=True):
         starts["Alertmanager"] = theirs
     columns = {name: part(start) for name, start in starts.items()}
     print("%-40s " % part.__name__ + " ".join("%24s" % name for name in columns), flush=True)
-    figure = lambda found: "-" if found is None else " / ".join("%.2f" % it for it in found)
+    word = lambda it: "%.2f" % it if isinstance(it, float) else str(it)
+    figure = lambda found: "-" if found is None else " / ".join(map(word, found))
     for row in columns["am_tool"]:
         print("%-40s " % row + " ".join("%24s" % figure(column[row]) for column in columns.values()), flush=True)
 

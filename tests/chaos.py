@@ -1,17 +1,23 @@
 #!/usr/bin/env python3
 """Three members whose network, processes and disks fail at random, while people post, update and end silences.
 
-    tests/chaos.py [--seed N] [--seconds S] [PROGRAM]
+    tests/chaos.py [--seed N] [--seconds S] [--ignore log] [PROGRAM]
 
 PROGRAM is crates/am_tool/out/am_tool if it isn't given; ./am_tool and rt ci build it. The members tick, pull and save by
-themselves. What one sends to a peer goes through a proxy, which may lose, delay, repeat, reorder and cut it; members are
-killed, frozen, stopped by signals and started again, and their disks are full at times; silent, slow and broken clients
-are there all along, and now and then hundreds at once, floods of frames of two bytes, and pages of other sites. In the end the network is healed and all members run, and then all have to show the same: what was
-acknowledged and surely held by a member that lives, or stands in its file, and nothing that nobody made. Then all are
-stopped, and their files have to hold just that.
+themselves, and half of them keep logs, by a draw that is made again at some starts. What one sends to a peer goes through a
+proxy, which may lose, delay, repeat, reorder and cut it; members are killed, frozen, stopped by signals and started again, and
+their disks are full at times; silent, slow and broken clients are there all along, and now and then hundreds at once, floods of
+frames of two bytes, and pages of other sites. In the end the network is healed and all members run, and then all have to show
+the same: what was acknowledged and surely held by a member that lives, or stands in its files, and nothing that nobody made.
+Then all are stopped, and their files have to hold just that.
 
-What may be lost is what a member acknowledged that was killed before a save of it, and of which no connection had come
-whole to a member that held it on. Nothing else is left out.
+What may be lost is what a member without a log acknowledged that was killed before a save of it, and of which no connection had
+come whole to a member that held it on. What one with a log acknowledged is held by it from then on, whatever comes: it stands
+in its file and logs behind each end, and in each list that it shows. What is answered `held, but not kept on disk`, which is
+right where the disk is full or was a moment ago, may last or not. Nothing else is left out.
+
+The last check is of this script: it has to find members whose logs are gone before they start again. `--ignore log` tries such
+members, and nothing else.
 
 Chaos lasts S seconds, 20 by default, in two rounds or more of at most 30. In rounds of an odd seed all is kept. In those of
 an even one silences are forgotten a few seconds after their end, and nobody ends one before that, since a member that
@@ -46,6 +52,9 @@ from wire import EMPTY_PUSH, TICK, delta, field, greeting, timestamp, varint
 NAMES = ["a", "b", "c"]
 STATES = {"sil": "silences", "nfl": "entries of the log"}
 
+# What stands beside a file with what was taken since it was written: one log, and while a save goes on perhaps an older one.
+LOGS = ["log.old", "log"]
+
 # How long a connection may last, how often members do each thing, and how long they wait for a first Pull: in seconds.
 TIME_LIMIT, EVERY, FIRST = 2, 1, 3
 OPTIONS = ["--time-limit", str(TIME_LIMIT)]
@@ -55,6 +64,9 @@ AGAIN = ["--pull-first", "--pull-first-limit", str(FIRST)]
 # Signals that stop a member are blocked, as docs/OPERATING.md has it, and too large files are a fault of the write.
 STARTED_BY = ["env", "--block-signal=TERM", "--block-signal=INT", "--ignore-signal=XFSZ"]
 
+# Freezes a process as soon as one of four files is there. (Python is too slow for that.)
+STOP_WITHIN = 'until [ -e "$2" ] || [ -e "$3" ] || [ -e "$4" ] || [ -e "$5" ]; do :; done; kill -STOP "$1"'
+
 # How long a client waits for a reply; how late a save may be; and how long members may take to agree: in seconds.
 REPLY, LATE_SAVE, AGREEMENT = 4, 1.5, 60
 
@@ -63,6 +75,9 @@ RETENTIONS = {1: 432_000, 0: 4}
 
 # The most that a round lasts, in seconds; how many clients post; and how much a disk holds, in bytes.
 ROUND, CLIENTS, DISK = 30, 10, 16 << 20
+
+# How many members keep a log, and how many begin or cease to at a start; and within how many seconds a lost log has to be found.
+LOGGING, CHANGING, FOUND_WITHIN = 0.5, 0.25, 30
 
 # How many silent clients come at once, and how many frames that ask for something.
 CROWD, FLOOD = 300, 1000
@@ -83,6 +98,9 @@ OPENINGS = [
 
 # The reply of a member that still waits for its first pull.
 NOT_READY = (503, b'"not ready"')
+
+# The reply of a member whose log takes nothing.
+NOT_KEPT = (500, b'"held, but not kept on disk"')
 
 # The reply to a page of another site.
 FOREIGN = (403, b'"foreign host"')
@@ -135,37 +153,56 @@ class Member(members.Member):
     def __init__(self, name, port, disk):
         super().__init__(name, port, [], disk.folder)
         self.disk, self.starts = disk, 0
-        # the number of its start while it lives; what it acknowledged since, and when; what its file had and it surely took
-        self.generation, self.acknowledged, self.holds = None, [], {}
+        # whether it keeps a log, and is robbed of it before a start; what it ever acknowledged with a log
+        self.keeps_log, self.is_robbed, self.kept = False, False, []
+        # the number of its start while it lives; what it acknowledged since, and when
+        self.generation, self.acknowledged = None, []
+        # what stood in its files and logs at its start; the same with what it surely took
+        self.loaded, self.holds = {}, {}
         # whether it has answered since its start; whether it is frozen; when something was last done to it and to its disk
         self.is_open, self.is_frozen, self.meddled, self.full_at = False, False, 0.0, 0.0
 
     def command(self):
-        return [*STARTED_BY, *super().command()]
+        return [*STARTED_BY, *super().command(), *["--log"] * self.keeps_log]
 
-    def begin(self):
-        """Starts it; whether it listens, having loaded what stands in its files."""
-        found = {state: self.file(state) for state in STATES}
-        self.meddled, self.is_open = time.monotonic(), False
-        super().start()
+    def begin(self, keeps_log):
+        """Starts it, with a log or without; whether it listens, having loaded what stands in its files and logs."""
+        found = {state: self.stands(state) for state in STATES}
+        if self.is_robbed:
+            self.rob()
+        # from here on no reply is one of its former process
         self.starts += 1
-        self.acknowledged, self.holds = [], {**found["sil"], **found["nfl"]}
-        self.generation = self.starts
-        loaded = f"; loaded {len(found['sil'])} silences, {len(found['nfl'])} entries"
-        deadline = time.monotonic() + PATIENCE
-        while not any(" listens on " in it and it.endswith(loaded) for it in list(self.lines)):
-            if time.monotonic() > deadline or self.process.poll() is not None:
-                return False
-            time.sleep(0.01)
-        return True
+        self.keeps_log, self.meddled, self.is_open = keeps_log, time.monotonic(), False
+        listens = super().start()
+        self.loaded = {**found["sil"], **found["nfl"]}
+        self.acknowledged, self.holds = [], self.loaded
+        self.generation = self.starts if listens else None
+        return listens and self.lines[0].endswith(f"; loaded {len(found['sil'])} silences, {len(found['nfl'])} entries")
+
+    def rob(self):
+        """Takes its logs away."""
+        for path in (f"{self.path(state)}.{log}" for state in STATES for log in LOGS):
+            with contextlib.suppress(FileNotFoundError):
+                os.remove(path)
+
+    def path(self, state):
+        return {"sil": self.sil, "nfl": self.nfl}[state]
 
     def file(self, state):
         """The versions in one of its files."""
-        try:
-            with open(self.sil if state == "sil" else self.nfl, "rb") as file:
-                return versions_of(state, file.read())
-        except FileNotFoundError:
-            return {}
+        return versions_of(state, content(self.path(state)))
+
+    def stands(self, state):
+        """The versions in one of its files and in the logs beside it."""
+        return versions_of(state, *(content(f"{self.path(state)}{it}") for it in ["", *(f".{log}" for log in LOGS)]))
+
+    def saving(self):
+        """What stands there while one of its files is being written, or where it ended meanwhile."""
+        return [f"{self.path(state)}.{it}" for state in STATES for it in ("new", "log.old")]
+
+    def had_room(self, at):
+        """Whether there was room on its disk for long enough, at some moment, and has been since."""
+        return not self.disk.is_full and at > self.full_at + EVERY + LATE_SAVE
 
     def is_let_alone(self, since):
         """Whether nothing was done to it since then, and it answered before."""
@@ -191,7 +228,7 @@ class Member(members.Member):
 
     def saved(self, state, at):
         """What stands in one of its files at a moment, in milliseconds, as `show` tells it in JSON."""
-        with open(self.sil if state == "sil" else self.nfl, "rb") as file:
+        with open(self.path(state), "rb") as file:
             words = ["show", "--state", state, "--json", "--now", str(at * 10**6)]
             status, output, error = run(words, stdin=file)
         return json.loads(output) if status == 0 else error
@@ -226,6 +263,8 @@ class Client:
             self.round.slowest = max(self.round.slowest, took)
             if not reply[0]:
                 self.round.complain("answers", f"{member.name} {method} {path} after {took:.2f} s")
+        if reply == NOT_KEPT and member.had_room(begun):
+            self.round.complain("room", f"{member.name} {method} {path}")
         return reply
 
     def posted(self, value, ends_in, starts_in=0.0, key=None):
@@ -262,7 +301,7 @@ class Client:
         status, body = self.ask(member, "POST", "/api/v2/silences", silence)
         if status == 200:
             key = ("sil", json.loads(body)["silenceID"])
-            self.ledger.acknowledge(operation, key, member, generation)
+            self.acknowledge(operation, key, member, generation)
             return key
         self.fail(member, operation, status, body)
         return None
@@ -272,19 +311,30 @@ class Client:
         operation = self.ledger.begin("end", key)
         status, body = self.ask(member, "DELETE", f"/api/v2/silence/{key[1]}")
         if status == 200:
-            self.ledger.acknowledge(operation, key, member, generation)
+            self.acknowledge(operation, key, member, generation)
         else:
             self.fail(member, operation, status, body)
 
+    def acknowledge(self, operation, key, member, generation):
+        """Writes down that a member says that an operation is made, and whether its log keeps it."""
+        with self.ledger.lock:
+            self.ledger.acknowledge(operation, key, member, generation)
+            if generation == member.starts and member.keeps_log:
+                self.ledger.counts["kept"] += 1
+                member.kept.append(operation)
+
     def fail(self, member, operation, status, body):
-        """Writes down that an operation was refused, where that is known."""
+        """Writes down that an operation was refused, where that is known: what isn't kept on disk is held, for now."""
+        if (status, body) == NOT_KEPT:
+            self.ledger.counts["not kept"] += 1
+            return
         if status is not None:
             self.ledger.refuse(operation)
         if status and (status, body) not in REFUSALS:
             self.round.complain("refusals", f"{member.name}: {operation}: {status} {body!r}")
 
     def look(self, member):
-        begun = now()
+        begun, kept = now(), [*member.kept]
         status, body = self.ask(member, "GET", "/api/v2/silences")
         if status != 200:
             return
@@ -292,9 +342,20 @@ class Client:
         keys = [it["id"] for it in found]
         if keys != sorted(set(keys)):
             self.round.complain("lists", f"{member.name}: {keys}")
-        for it in map(shown, found):
+        versions = {it.key: it for it in map(shown, found)}
+        for it in versions.values():
             if not self.ledger.has_begun(it) or self.ledger.is_forgotten(it.ends, begun):
                 self.round.complain("lists", f"{member.name}: {it}")
+        for it in kept:
+            if not it.is_passed_by(versions.get(it.key)) and not self.ledger.is_forgotten(it.ends):
+                self.round.complain("kept", f"{member.name} doesn't show {it}")
+
+
+def content(path):
+    """What a file holds: nothing where there is none."""
+    with contextlib.suppress(FileNotFoundError), open(path, "rb") as file:
+        return file.read()
+    return b""
 
 
 def moment(milliseconds_since_1970):
@@ -312,11 +373,15 @@ class Meddler:
         self.client = Client(round_, f"last of {member.name}")
 
     def work(self):
-        acts = [self.freeze, self.kill, self.kill_behind_a_post, self.stop, self.fill]
+        acts = [self.freeze, self.kill, self.kill_behind_a_post, self.kill_within_a_save, self.stop, self.fill]
         while not self.round.is_over.wait(self.draw.uniform(0.3, 4)):
-            (act,) = self.draw.choices(acts, [3, 3, 2, 2, 3])
+            (act,) = self.draw.choices(acts, [3, 2, 2, 2, 2, 3])
             self.round.acts[act.__name__] += 1
             act()
+
+    def go_on_killing(self):
+        while not self.round.is_over.wait(self.draw.uniform(0.3, 4)):
+            self.kill_behind_a_post()
 
     def pause(self, most):
         self.round.is_over.wait(self.draw.uniform(0, most))
@@ -338,6 +403,12 @@ class Meddler:
         self.client.post(self.member)
         self.kill()
 
+    def kill_within_a_save(self):
+        """Kills a member as soon as one of its files is being written."""
+        pid, paths = self.member.process.pid, self.member.saving()
+        outcome(["timeout", str(EVERY + LATE_SAVE), "bash", "-c", STOP_WITHIN, "bash", str(pid), *paths])
+        self.kill()
+
     def stop(self):
         self.halt(self.draw.choice([signal.SIGTERM, signal.SIGINT]))
         self.pause(2)
@@ -351,10 +422,17 @@ class Meddler:
             self.draw.choice([self.kill, self.stop])()
         self.member.disk.free(self.member.process)
         self.member.full_at = time.monotonic()
+        if self.member.generation is None:
+            self.begin()
 
     def begin(self):
-        if not self.member.begin():
-            self.round.complain("starts", f"{self.member.name}: {self.member.lines}")
+        """Starts a member. Where it is to begin a log, and its disk is full, it may refuse to."""
+        member = self.member
+        keeps_log = member.keeps_log if member.is_robbed else member.keeps_log != (self.draw.random() < CHANGING)
+        is_full = member.disk.is_full
+        if not member.begin(keeps_log) and not (keeps_log and is_full and member.generation is None and member.end() == 3):
+            self.round.complain("starts", f"{member.name}, with a log: {keeps_log}: {member.lines}")
+        self.round.acts["starts with a log" if keeps_log else "starts without"] += 1
 
     def leave(self):
         """Takes from a member, before it ends, what it acknowledged and what it held."""
@@ -367,14 +445,16 @@ class Meddler:
         return left
 
     def crash(self):
-        """Kills a member, behind which its file has what it acknowledged some time ago, where nothing was done to it."""
+        """Kills a member, behind which its file and log have what it acknowledged some time ago, where nothing was done to it."""
         member, killed = self.member, time.monotonic()
         acknowledged, _ = self.leave()
         member.kill()
         self.told()
-        found, least = member.file("sil"), max(member.meddled, member.full_at + EVERY + LATE_SAVE)
+        self.judge_kept()
+        self.round.acts["saves cut off"] += any(map(os.path.exists, member.saving()))
+        found = member.stands("sil")
         for at, operation in acknowledged:
-            is_late = least < at < killed - EVERY - LATE_SAVE and not member.disk.is_full
+            is_late = member.meddled < at < killed - EVERY - LATE_SAVE and member.had_room(at)
             if is_late and not operation.stands_in(found) and not self.ledger.is_forgotten(operation.ends):
                 self.round.complain("saves", f"{member.name} acknowledged {killed - at:.1f} s before: {operation}")
 
@@ -386,6 +466,7 @@ class Meddler:
         member.process.send_signal(number)
         begun, status = time.monotonic(), member.end()
         self.told()
+        self.judge_kept()
         if is_full:
             return
         if status != 0 or time.monotonic() - begun > TIME_LIMIT + REPLY:
@@ -397,6 +478,16 @@ class Meddler:
             if not self.ledger.is_forgotten(it.ends):
                 self.round.complain("stops", f"{member.name} {number} lost {it}")
 
+    def judge_kept(self):
+        """Looks whether in the files and logs of a member that ended stands what stood there at its start, and what it ever
+        acknowledged with a log."""
+        member, found = self.member, {**self.member.stands("sil"), **self.member.stands("nfl")}
+        lost = [it for it in member.loaded.values() if it.key not in found or found[it.key].updated < it.updated]
+        lost += [it for it in [*member.kept] if not it.stands_in(found)]
+        for it in lost:
+            if not self.ledger.is_forgotten(it.ends):
+                self.round.complain("kept", f"{member.name} {member.starts} lost {it}")
+
     def told(self):
         """Looks at what a member printed while it ran."""
         for line in self.member.lines:
@@ -407,8 +498,9 @@ class Meddler:
 class Round:
     """Three members with their proxies, in folders of their own."""
 
-    def __init__(self, seed, top):
+    def __init__(self, seed, top, is_robbed=False):
         self.seed, self.retention, self.is_over = seed, RETENTIONS[seed % 2], threading.Event()
+        self.is_robbed = is_robbed
         self.ledger = Ledger(1000 * self.retention)
         self.complaints, self.acts, self.slowest = collections.defaultdict(list), collections.Counter(), 0.0
         self.draw = random.Random(f"{seed} weather")
@@ -425,17 +517,24 @@ class Round:
     def complain(self, kind, what):
         with self.ledger.lock:
             self.complaints[kind].append(what)
+        if self.is_robbed and kind == "kept":
+            self.is_over.set()
 
     def run(self, seconds):
         """Has all that may go wrong go wrong for some time, while clients work."""
         for it in self.members:
             it.words += [*OPTIONS, "--retention", str(self.retention)]
-            if not it.begin():
+            if not it.begin(self.is_robbed or self.draw.random() < LOGGING):
                 raise ValueError(f"{it.name} does not start: {it.lines}")
             # all begin with nothing; later starts pull before they answer
             it.words += AGAIN
         clients = [Client(self, f"client {number}") for number in range(CLIENTS)]
-        work = [it.work for it in [*clients, *self.meddlers]] + [self.change_weather, self.loiter, self.notify, self.pester]
+        work = [it.work for it in clients]
+        if self.is_robbed:
+            self.rob()
+            work += [it.go_on_killing for it in self.meddlers]
+        else:
+            work += [it.work for it in self.meddlers] + [self.change_weather, self.loiter, self.notify, self.pester]
         threads = [threading.Thread(target=self.guarded, args=(it,), daemon=True) for it in work]
         for it in threads:
             it.start()
@@ -443,6 +542,13 @@ class Round:
         self.is_over.set()
         for it in threads:
             it.join(PATIENCE)
+
+    def rob(self):
+        """From now on each member loses its logs at each start, and no peer brings back what was in them."""
+        for it in self.members:
+            it.is_robbed = True
+        for it in self.proxies:
+            it.weather = "apart"
 
     def guarded(self, work):
         try:
@@ -592,7 +698,7 @@ class Round:
             saved = [{**silence, "status": None} for silence in it.saved("sil", at)]
             check(f"the file of {it.name} shows what was listed", saved == listed, self.differences([saved, listed]))
         for state in STATES:
-            sources = [f"{it.name}={it.sil if state == 'sil' else it.nfl}" for it in self.members]
+            sources = [f"{it.name}={it.path(state)}" for it in self.members]
             found = run(["diff", "--state", state, *["--held"][: self.seed % 2], *sources])
             check(f"the files hold the same {STATES[state]}", found == (0, b"", ""), found)
         found = self.members[0].file("nfl")
@@ -613,6 +719,7 @@ class Round:
             fates += it.fates
         words = lambda counter: ", ".join(f"{count} {name}" for name, count in sorted(counter.items()))
         print(f"  {counts['requests']} requests; {counts['acknowledged']} acknowledged; {counts['lasting']} had to last")
+        print(f"  {counts['kept']} acknowledged with a log; {counts['not kept']} held, but not kept on disk")
         print(f"  connections: {words(fates)}; members: {words(self.acts)}")
         print(f"  slowest reply of a member let alone {self.slowest:.2f} s; all agreed after {self.took:.1f} s", flush=True)
 
@@ -629,13 +736,15 @@ class Round:
 
 # What may be complained of while members run, and what is right.
 COMPLAINTS = {
-    "starts": "each start listens, and loads what stands in the files",
+    "starts": "each start listens, and loads what stands in the files and logs",
     "lives": "no member ends by itself",
     "answers": "a member that is let alone answers each request",
     "refusals": "no request is refused without cause",
     "pages": "a page of another site is refused",
     "lists": "each list has what was posted, and each silence once",
     "saves": "what was acknowledged is saved in time",
+    "kept": "what was acknowledged with a log stays, and what stood in the files",
+    "room": "a log takes what is acknowledged where there is room",
     "stops": "a stop by a signal ends well, and saves all",
     "lines": "each line that is printed is one of the program, whole",
     "script": "this script makes no mistake",
@@ -665,6 +774,20 @@ def play(seed, seconds):
             one.close()
 
 
+def find_lost_logs(seed):
+    """A round of members whose logs are gone when they start again, which has to be found."""
+    print(f"chaos: seed {seed}, logs are gone at each start", flush=True)
+    with tempfile.TemporaryDirectory() as top:
+        one = Round(seed, top, is_robbed=True)
+        try:
+            one.run(FOUND_WITHIN)
+        finally:
+            one.close()
+    found = one.complaints["kept"]
+    check("a lost log is found", found, dict(one.complaints))
+    print(f"  {[*found, 'not found'][0]}", flush=True)
+
+
 def stop(*_):
     """Ends this script, so that it leaves nothing behind."""
     signal.signal(signal.SIGTERM, signal.SIG_IGN)
@@ -675,13 +798,15 @@ def main():
     words = argparse.ArgumentParser(description=__doc__, formatter_class=argparse.RawDescriptionHelpFormatter)
     words.add_argument("--seed", type=int, default=1)
     words.add_argument("--seconds", type=int, default=20)
+    words.add_argument("--ignore", choices=["log"])
     words.add_argument("program", nargs="*")
     words = words.parse_args()
     members.choose("chaos", words.program)
     signal.signal(signal.SIGTERM, stop)
-    rounds = max(2, -(-words.seconds // ROUND))
+    rounds = 0 if words.ignore else max(2, -(-words.seconds // ROUND))
     for number in range(rounds):
         play(words.seed + number, words.seconds // rounds)
+    find_lost_logs(words.seed)
     finish("chaos")
 
 

@@ -56,26 +56,39 @@ Options:
 
 FOLD_HELP = """Reads a row of versions, and writes the one that counts of each key, in key order
 
-Usage: am_tool fold --state <STATE> --now <MOMENT>
+Usage: am_tool fold [OPTIONS] --state <STATE> [FILE]...
+
+Arguments:
+  [FILE]...  Files with rows, which are folded together; '-' is standard input, which is read where no file is named
 
 Options:
       --state <STATE>  The state that the row is of: silences or the notification log [possible values: sil, nfl]
-      --now <MOMENT>   The moment of taking, in nanoseconds since 1970 or as 2026-11-26T12:00:00Z
+      --now <MOMENT>   The moment of taking, in nanoseconds since 1970 or as 2026-11-26T12:00:00Z; with --log it may be left out
+      --log            Joins each file with the logs beside it, FILE.log and FILE.log.old, which a member with --log keeps
   -h, --help           Print help
+
+Examples:
+  cat am1/silences am2/silences | am_tool fold --state sil --now 0 > silences
+  am_tool fold --log --state sil a.sil > silences
 """
 
 SHOW_HELP = """Reads a snapshot, and prints a line for each version that is live, in key order
 
-Usage: am_tool show [OPTIONS] --state <STATE>
+Usage: am_tool show [OPTIONS] --state <STATE> [FILE]
+
+Arguments:
+  [FILE]  The file of the snapshot; '-' is standard input, which is read where no file is named
 
 Options:
       --state <STATE>  The state that the snapshot is of: silences or the notification log [possible values: sil, nfl]
       --now <MOMENT>   The moment of the view, in nanoseconds since 1970 or as 2026-11-26T12:00:00Z; without it, the clock's
       --json           Prints a list in JSON, on one line: silences as API v2 shows them, or entries of the log
+      --log            Joins each file with the logs beside it, FILE.log and FILE.log.old, which a member with --log keeps
   -h, --help           Print help
 
 Examples:
   am_tool show --state sil < silences
+  am_tool show --state sil --log a.sil
   am_tool show --state sil --now 2026-11-26T12:00:00Z --json < silences | jq -r '.[].comment'
 """
 
@@ -93,6 +106,7 @@ Options:
       --long            Also prints below each line the matchers, author and comment of a silence and what changed, or receiver and group of an entry
       --json            Prints the differences as a list in JSON, on one line, in place of the lines
       --time-limit <S>  For how many seconds a connection to a server may last, 1 to 3600 [default: 5]
+      --log             Joins each file with the logs beside it, FILE.log and FILE.log.old, which a member with --log keeps
   -h, --help            Print help
 
 Of each key that differs there is a line for each group of sources that hold the same there: first those that have the
@@ -108,6 +122,7 @@ The status is 0 where nothing is different, and 5 where something is.
 Examples:
   am_tool diff --state sil a=http://127.0.0.1:9093 b=http://10.0.0.2:9093 c=c.sil
   am_tool diff --state sil --long a=a.sil b=b.sil c=c.sil
+  am_tool diff --state sil --log a=a.sil b=b.sil
   ssh b cat b.nfl | am_tool diff --state nfl --held a=a.nfl b=-
   am_tool diff --state sil --json a=a.sil b=b.sil | jq -r '.[].key.id'
 """
@@ -127,6 +142,7 @@ Options:
       --connections <N>          After how many connections it saves both files and ends, 1 to 18446744073709551615; without it, it goes on
       --time-limit <S>           For how many seconds a connection may last, of a client or to a peer, 1 to 3600 [default: 5]
       --at-once <N>              How many connections it serves at once, 1 to 65535; one that comes beyond gets the place of the one on which nothing has moved for longest [default: 256]
+      --waiting <N>              How many requests for a decision wait for its turn, 1 to 65535, and no more than half of --at-once; one that comes beyond is answered 503 [default: 128]
       --most-unfinished <BYTES>  How many bytes of unfinished requests and frames it keeps in all, 1 to 18446744073709551615; beyond, the connection that has most of them is closed [default: 134217728]
       --most-bytes <BYTES>       How many bytes a file may have, of the silences or of the log, 1 to 4294967295; a post for which there is no room is answered 500 [default: 1073741824]
       --lines-a-second <N>       How many lines of one kind of fault it prints in a second, 1 to 65535; further ones are counted in a line [default: 10]
@@ -158,14 +174,16 @@ INSTANCE_USAGE = (
 )
 
 USAGE = "\nUsage: am_tool <COMMAND>\n\nFor more information, try '--help'.\n"
-FOLD_USAGE = "\nUsage: am_tool fold --state <STATE> --now <MOMENT>\n\nFor more information, try '--help'.\n"
+FOLD_USAGE = "\nUsage: am_tool fold [OPTIONS] --state <STATE> [FILE]...\n\nFor more information, try '--help'.\n"
 REPLAY_USAGE = "\nUsage: am_tool replay [OPTIONS]\n\nFor more information, try '--help'.\n"
-SHOW_USAGE = "\nUsage: am_tool show [OPTIONS] --state <STATE>\n\nFor more information, try '--help'.\n"
+SHOW_USAGE = "\nUsage: am_tool show [OPTIONS] --state <STATE> [FILE]\n\nFor more information, try '--help'.\n"
 DIFF_USAGE = "\nUsage: am_tool diff [OPTIONS] --state <STATE> <SOURCE>...\n\nFor more information, try '--help'.\n"
 
 TWICE = "error: the argument '{}' cannot be used multiple times\n" + FOLD_USAGE
-MISSING = "error: the following required arguments were not provided:\n{}" + FOLD_USAGE
+FOLD_WANTS = FOLD_USAGE.replace("[OPTIONS] --state <STATE>", "--state <STATE> --now <MOMENT>")
+MISSING = "error: the following required arguments were not provided:\n{}" + FOLD_WANTS
 UNEXPECTED = "error: unexpected argument '{}' found\n"
+AS_VALUE = "\n  tip: to pass '{0}' as a value, use '-- {0}'\n"
 BAD_NOW = (
     "error: invalid value for '--now <MOMENT>': nanoseconds since 1970 are wanted, below 2^64 and in digits alone, or a moment as"
     " 2026-11-26T12:00:00Z\n" + FOLD_USAGE
@@ -250,18 +268,18 @@ CASES = [
     (["fold", "--state", "SIL", "--now", "0"], FIRST, 2, b"", BAD_STATE.format("SIL")),
     (["fold", "--now", "0", "--state"], FIRST, 2, b"", NO_STATE),
     # unknown words
-    (FOLD + ["extra"], b"", 2, b"", UNEXPECTED.format("extra") + FOLD_USAGE),
+    (FOLD + ["extra"], b"", 3, b"", "am_tool: extra File NotFound\n"),
     (
         ["fold", "--stat", "sil", "--now", "0"],
         b"",
         2,
         b"",
-        UNEXPECTED.format("--stat") + "\n  tip: a similar argument exists: '--state'\n" + FOLD_USAGE,
+        UNEXPECTED.format("--stat") + "\n  tip: a similar argument exists: '--state'\n" + FOLD_USAGE.replace("[OPTIONS] ", ""),
     ),
     (["--now", "0"], b"", 2, b"", UNEXPECTED.format("--now") + USAGE),
     (["--version"], b"", 0, b"am_tool 0.1.0\n", ""),
     (["-V"], b"", 0, b"am_tool 0.1.0\n", ""),
-    (["fold", "--version"], b"", 2, b"", UNEXPECTED.format("--version") + FOLD_USAGE),
+    (["fold", "--version"], b"", 2, b"", UNEXPECTED.format("--version") + AS_VALUE.format("--version") + FOLD_USAGE),
     (["unfold"], b"", 2, b"", UNKNOWN.format("unfold") + "\n  tip: a similar subcommand exists: 'fold'\n" + USAGE),
     (["replay", "extra"], b"", 2, b"", UNEXPECTED.format("extra") + REPLAY_USAGE),
     (["replay", "--now", "0"], b"", 2, b"", UNEXPECTED.format("--now") + REPLAY_USAGE),
@@ -293,8 +311,9 @@ CASES = [
     (["help", "show"], b"", 0, SHOW_HELP.encode(), ""),
     (["diff", "--help"], b"", 0, DIFF_HELP.encode(), ""),
     (["help", "diff"], b"", 0, DIFF_HELP.encode(), ""),
-    (["show"], b"", 2, b"", MISSING.replace(FOLD_USAGE, SHOW_USAGE.replace("[OPTIONS] ", "")).format("  --state <STATE>\n")),
-    (SHOW + ["0", "extra"], b"", 2, b"", UNEXPECTED.format("extra") + SHOW_USAGE),
+    (["show"], b"", 2, b"", MISSING.replace(FOLD_WANTS, SHOW_USAGE.replace("[OPTIONS] ", "")).format("  --state <STATE>\n")),
+    (SHOW + ["0", "extra"], b"", 3, b"", "am_tool: extra File NotFound\n"),
+    (SHOW + ["0", "-", "extra"], b"", 2, b"", UNEXPECTED.format("extra") + SHOW_USAGE),
     (SHOW + ["+5"], SECOND, 2, b"", BAD_NOW.replace(FOLD_USAGE, SHOW_USAGE)),
     # sources that were meant for servers, and mistakes that show the usage of their command
     (
@@ -335,7 +354,7 @@ CASES = [
         b"",
         2,
         b"",
-        MISSING.replace(FOLD_USAGE, INSTANCE_USAGE).format(
+        MISSING.replace(FOLD_WANTS, INSTANCE_USAGE).format(
             "  --name <NAME>\n  --listen <PORT>\n  --sil <FILE>\n  --nfl <FILE>\n"
         ),
     ),
@@ -512,8 +531,8 @@ def test_memory():
     lines = range(RESTARTED.count(b"\n") + 1)
     wants = {(4, b"", "am_tool: Memory\n"), *((4, b"", f"am_tool: Memory {line}\n") for line in lines)}
     compare("refused memory for a schedule", [told for told in replayed[:-1] if told not in wants], [])
-    many = FOLD + ["x"] * 20_000
-    mistake = (2, b"", UNEXPECTED.format("x") + FOLD_USAGE)
+    many = ["replay"] + ["x"] * 20_000
+    mistake = (2, b"", UNEXPECTED.format("x") + REPLAY_USAGE)
     compare("refused memory among many words", outcomes_under_limits(many), [refused, mistake])
 
 

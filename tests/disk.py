@@ -9,9 +9,13 @@ Then its directory is left as it is, as where the process alone died, or as test
 leaves; several are drawn of a kill, and over each the member starts. It starts again until it was killed K times.
 
 A save has ended where the member went on: it began the next save, ended with status 0, or answered what it was asked behind
-the rename. After a failure each file is as a save wrote it, whole: the last one that had ended, or one since. This is asked
-behind each call, and not only behind the last one. What a save writes has all that the member loaded and that it had
-answered before, and nothing that nobody made. A member that starts again prints no fault, and shows what its files hold.
+the rename. A member that keeps logs answers while it saves, so there it has ended once the directory was handed over. After a
+failure each file is as a save wrote it, whole: the last one that had ended, or one since. This is asked behind each call, and
+not only behind the last one. What a save writes has all that the member loaded and that it had answered before, and nothing
+that nobody made. A member that starts again prints no fault, and shows what its files hold.
+
+Of one that keeps logs more is asked, at each start and behind most calls that change names: what its file and both logs hold
+together has all that was answered, and no silence is back whose end was forgotten meanwhile.
 
 The last checks are of this script: it has to find members that don't sync a file before they rename it, or don't sync the
 directory, and that an answer alone is no promise. `--ignore` tries one such member, and nothing else. `--answers` asks of
@@ -59,6 +63,12 @@ CALLS_OF_LOGS = 4
 
 # For how many seconds a silence is kept after its end, so that none is forgotten.
 RETENTION = 432_000
+
+# But for some that a peer brings, whose ends are kept for so many milliseconds: so are their keys.
+BRIEFLY, BRIEF_KEY = 300, "brief"
+
+# How often what is left behind a call that changes no name is looked at, where logs are kept.
+SHARE = 0.1
 
 # How many failures of the power are drawn of a kill, over each of which the member starts: where files are judged, which are
 # behind each call, and where answers are.
@@ -108,6 +118,17 @@ class Saves:
         return any(row.content == content for row in self.rows[self.ended :])
 
 
+def batches(log):
+    """What a log has, as docs/FORMATS.md says: the batches of its whole blocks."""
+    at = 0
+    while len(log) >= at + 9 and log[at] == 1:
+        end = at + 9 + int.from_bytes(log[at + 1 : at + 9], "little")
+        if end > len(log):
+            return
+        yield log[at + 9 : end]
+        at = end
+
+
 class Member(members.Member):
     """A member over the library, and what it acknowledged: when, and what."""
 
@@ -138,8 +159,11 @@ class Life:
         self.state, self.calls = f"{folder}/state", f"{folder}/calls"
         os.mkdir(self.state)
         self.directory = power.Directory(self.state)
-        # what it is asked for, the silences that were made of late, and what was ever answered
+        # what it is asked for, the silences that were made of late, and what was ever answered, each with when it was
         self.ledger, self.keys, self.answered = Ledger(1000 * RETENTION), [], []
+        # silences that were brought whose ends are kept briefly: those that last, those whose end was taken of late, and when, and
+        # since when an answer says that it is kept
+        self.brief, self.ended, self.over = [], [], {}
         self.complaints, self.kills, self.counts = [], 0, collections.Counter()
         self.settle()
 
@@ -163,6 +187,7 @@ class Life:
         (kind,) = self.draw.choices([BRIEF, LASTING], [4, 1])
         member = Member(self, self.options(kind), self.environment(kind))
         loaded, self.replies = self.found(), []
+        self.ended.clear()
         for it in self.saves.values():
             it.start()
         if member.start():
@@ -211,10 +236,12 @@ class Life:
 
     def judge_answers(self, listed):
         """Looks whether all is there that was ever answered with status 200, and nothing that nobody made."""
-        lost = [it for it in self.answered if not it.stands_in(listed)]
+        lost = [it for _, it in self.answered if not it.stands_in(listed)]
         unmade = [it for it in listed.values() if not self.ledger.is_made(it)]
         if lost or unmade:
             self.complain(f"{len(lost)} of {len(self.answered)} answers are lost, as {lost[:1]}; nobody made {unmade[:1]}")
+        if back := [it for it in listed.values() if it.updated < self.over.get(it.key, (0, 0))[1]]:
+            self.complain(f"{len(back)} silences are back that were ended, as {back[:1]}")
 
     def listed(self, member):
         """The versions that it shows by their keys, if it lives."""
@@ -226,10 +253,11 @@ class Life:
 
     def work(self, member):
         """Asks it for one thing after the other until it has ended."""
-        acts = [self.post, self.update, self.end, self.bring_silence, self.bring_entry, self.tick]
+        acts = [self.post, self.update, self.end, self.bring_silence, self.bring_entry, self.tick, self.bring_brief]
+        weights = [30, 15, 10, 15, 20, 10, 15 if self.keeps_log else 0]
         deadline = time.monotonic() + PATIENCE
         while member.process.poll() is None and time.monotonic() < deadline:
-            (act,) = self.draw.choices(acts, [30, 15, 10, 15, 20, 10])
+            (act,) = self.draw.choices(acts, weights)
             act(member)
             # two versions of one silence have moments of their own
             time.sleep(0.002)
@@ -267,8 +295,7 @@ class Life:
         status, body = self.ask(member, "POST", "/api/v2/silences", silence)
         if status == 200:
             made = ("sil", json.loads(body)["silenceID"])
-            self.ledger.acknowledge(operation, made, member, 1)
-            self.answered.append(operation)
+            self.acknowledge(operation, made, member)
             self.keys = [*self.keys, (made, silence)][-20:]
         else:
             self.refuse(operation, status, body)
@@ -279,10 +306,16 @@ class Life:
             operation = self.ledger.begin("end", key)
             status, body = self.ask(member, "DELETE", f"/api/v2/silence/{key[1]}")
             if status == 200:
-                self.ledger.acknowledge(operation, key, member, 1)
-                self.answered.append(operation)
+                self.acknowledge(operation, key, member)
             else:
                 self.refuse(operation, status, body)
+
+    def acknowledge(self, operation, key, member):
+        """Writes down what was answered, which says the same of all that was taken before it was asked."""
+        self.ledger.acknowledge(operation, key, member, 1)
+        self.answered.append((time.monotonic(), operation))
+        self.over.update((key, (time.monotonic(), at)) for key, at in self.ended)
+        self.ended.clear()
 
     def refuse(self, operation, status, body):
         if status is not None:
@@ -304,17 +337,39 @@ class Life:
         words = f"{operation.key[1]} team/email/0 updated {at} expires {expires} firing 1"
         self.bring(member, operation, delta("nfl", versions.entry(words)))
 
+    def bring_brief(self, member):
+        """Brings a silence, or the end of one, which is kept briefly. The silence may not come back then."""
+        if self.brief and self.draw.random() < 0.5:
+            key, starts = self.brief.pop(self.draw.randrange(len(self.brief)))
+            operation = self.ledger.begin("end", key)
+            at, expires = operation.begun, operation.begun + BRIEFLY
+            words = f"{key[1]} job=x {seconds(starts)}..{seconds(at)} updated {seconds(at)} expires {seconds(expires)} by peer saying over"
+            # (what comes when it has expired is in no log)
+            if self.send(member, delta("sil", versions.silence(words))) and now() < expires:
+                self.ended.append((key, at))
+        else:
+            key, comment, ends = ("sil", f"{BRIEF_KEY}{len(self.ledger.operations)}"), self.comment(), now() + 3_600_000
+            starts = self.ledger.begin("post", key, comment, ends).begun
+            at, expires = seconds(starts), seconds(ends + 1000 * RETENTION)
+            words = f"{key[1]} job=x {at}..{seconds(ends)} updated {at} expires {expires} by peer saying {comment}"
+            if self.send(member, delta("sil", versions.silence(words))):
+                self.brief.append((key, starts))
+
     def tick(self, member):
         self.bring(member, None, TICK)
 
     def bring(self, member, operation, frame):
-        """Sends a frame as the peer does. It was taken where the member ends the connection."""
+        if self.send(member, frame) and operation is not None:
+            self.ledger.acknowledge(operation, operation.key, member, 1)
+
+    def send(self, member, frame):
+        """Sends a frame as the peer does, and answers whether the member ended the connection: it was taken then."""
         with contextlib.suppress(OSError):
             with socket.create_connection(("127.0.0.1", member.port), timeout=PATIENCE) as stream:
                 stream.sendall(greeting("p") + frame)
                 stream.shutdown(socket.SHUT_WR)
-                if stream.recv(1) == b"" and operation is not None:
-                    self.ledger.acknowledge(operation, operation.key, member, 1)
+                return stream.recv(1) == b""
+        return False
 
     # ---- what it leaves
 
@@ -328,23 +383,41 @@ class Life:
             self.directory.take(call)
             for it in self.saves.values():
                 it.take(call, self.directory)
-            begins_save = call.kind == "create" and call.words[1].endswith(".new")
-            answered = [asked for asked, came in self.replies if came < call.moment]
-            self.end_saves(call.moment if begins_save else max(answered, default=0.0))
+            self.end_saves(self.goes_on(call))
             self.look_ahead(call)
-        self.end_saves(time.monotonic() if status == 0 else max((asked for asked, _ in self.replies), default=0.0))
+        self.end_saves(time.monotonic() if status == 0 else self.goes_on())
         if self.directory.seen() != self.directory.found():
             self.complain(f"its directory isn't as its calls have it, of which the last are {[it[:3] for it in calls[-3:]]}")
+
+    def goes_on(self, call=None):
+        """The moment at which the member surely went on, before which it had saved what it renamed: at this call, or at its end."""
+        if self.keeps_log:
+            return call.moment if call and call.kind == "settle" else 0.0
+        if call and call.kind == "create" and call.words[1].endswith(".new"):
+            return call.moment
+        return max((asked for asked, came in self.replies if call is None or came < call.moment), default=0.0)
 
     def end_saves(self, before):
         for it in self.saves.values():
             it.end(before)
 
     def look_ahead(self, call):
-        names = self.directory.left(self.draw)
-        for state, saves in self.saves.items():
-            file = names.get(f"m.{state}")
-            self.judge_left(saves, None if file is None else file.left(self.draw), call)
+        left = {name: file.left(self.draw) for name, file in self.directory.left(self.draw).items()}
+        for saves in self.saves.values():
+            self.judge_left(saves, left.get(saves.name), call)
+        if self.keeps_log and not self.complaints and (call.kind in power.NAMING or self.draw.random() < SHARE):
+            self.judge_logs(left, call)
+
+    def judge_logs(self, left, call):
+        """Looks whether a file and its logs, as they are left behind a call, have together what was answered before it."""
+        names = [f"m.sil{ending}" for ending in (".log.old", ".log")]
+        held = versions_of("sil", left.get("m.sil", b"") + b"".join(it for name in names for it in batches(left.get(name, b""))))
+        lost = [it for came, it in self.answered if came < call.moment and not it.stands_in(held)]
+        if lost:
+            self.complain(f"{len(lost)} answers are lost behind {call[:3]}, as {lost[:1]}, where there is {[*left]}")
+        ended = [(key, at) for key, (came, at) in self.over.items() if came < call.moment and key in held]
+        if back := [held[key] for key, at in ended if held[key].updated < at]:
+            self.complain(f"{len(back)} silences are back behind {call[:3]}, as {back[:1]}, where there is {[*left]}")
 
     def judge_left(self, saves, content, call):
         if not saves.may_leave(content):
@@ -354,7 +427,7 @@ class Life:
 
     def judge_rows(self, state, rows, member, loaded):
         """Looks at what saves of a process wrote, that had loaded something."""
-        base = versions_of(state, loaded or b"").values()
+        base = [it for it in versions_of(state, loaded or b"").values() if not it.key[1].startswith(BRIEF_KEY)]
         self.counts["saves"] += len(rows)
         for row in rows:
             held = versions_of(state, row.content)

@@ -31,6 +31,7 @@ BLOCKED = ["env", "--block-signal=TERM", "--block-signal=INT"]
 # The options with a number, and numbers that each refuses.
 NUMBERS = [
     ("--at-once", ("0", "65536", "+1", "x")),
+    ("--waiting", ("0", "65536", "-1")),
     ("--most-unfinished", ("0", "18446744073709551616", "1e6")),
     ("--most-bytes", ("0", "4294967296", "1G")),
     ("--lines-a-second", ("0", "65536", "x")),

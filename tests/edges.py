@@ -179,11 +179,14 @@ def test_one_file(folder):
         ("missing", "dangling"),
         ("file", "file.new"),
         ("file.lock", "here/file"),
+        ("file", "file.log"),
+        ("file.log.old", "here/file"),
     ]:
         status, output, error = run(words(one, other, port=1), cwd=folder, timeout=20)
         compare(f"{one} and {other}", (status, output, error.split("\n")[0]), (2, b"", ONE_FILE))
     compare("the file is as it was", bytes_of(f"{folder}/file"), b"")
-    check("nothing is beside it", not os.path.exists(f"{folder}/file.new"))
+    beside = [f"file{ending}" for ending in (".new", ".lock", ".log", ".log.old")]
+    check("nothing is beside it", not {*beside} & {*os.listdir(folder)}, os.listdir(folder))
 
 
 def test_links(folder):
@@ -391,6 +394,60 @@ def test_full_log(folder):
     begun(member)
     compare("and with them all that are held", member.comments(), comments)
     check("which are these", {"x", "y", "z", "w"} <= {*comments}, comments)
+    compare("a stop", member.stop(), 0)
+
+
+def is_compacted(member, count, logs=(".log",)):
+    """Whether the files of a member are written anew: that of the silences has so many, and beside it stand these."""
+    shown = run(["show", "--state", "sil"], input=bytes_of(member.sil) or b"")[1].count(b"active")
+    beside = {ending for ending in (".log", ".log.old", ".new") if os.path.exists(member.sil + ending)}
+    return shown == count and beside == {*logs}
+
+
+def test_compaction(folder):
+    """A member with --log writes its files anew while it serves, and goes on with what one that crashed has left."""
+    member = begun(Logging("c", *free_ports(1), [], folder, ["--log", "--save-every", "1"]))
+    for value in "x", "y":
+        compare("a post", post(member, value)[0], 200)
+    check("its file is written anew", eventually(lambda: is_compacted(member, 2), 10), os.listdir(folder))
+    compare("and its log begun anew", bytes_of(f"{member.sil}.log"), b"\0")
+    compare("nothing is told", member.lines[1:], [])
+    compare("a post behind it", post(member, "z")[0], 200)
+    member.kill()
+    # what a compaction leaves that crashed behind its first stage
+    os.rename(f"{member.sil}.log", f"{member.sil}.log.old")
+    write(f"{member.sil}.new", b"a part")
+    member = begun(Logging("c", *free_ports(1), [], folder, ["--log"]))
+    compare("what both logs have is loaded", member.comments(), ["x", "y", "z"])
+    check("and the old one is done with at once", eventually(lambda: is_compacted(member, 3), 10), os.listdir(folder))
+    compare("a post, of which the log has", post(member, "w")[0], 200)
+    member.kill()
+    os.rename(f"{member.sil}.log", f"{member.sil}.log.old")
+    other = begun(Stoppable("c", *free_ports(1), [], folder))
+    compare("without --log", sorted(it["comment"] for it in other.listed()), ["w", "x", "y", "z"])
+    compare("a stop", other.stop(), 0)
+    check("both logs are gone", is_compacted(member, 4, ()), os.listdir(folder))
+
+
+def test_full_compaction(folder):
+    """Where the disk has no room for the file that is written anew, that is told, and what is asked meanwhile is done and kept."""
+    member = begun(Logging("d", *free_ports(1), [], folder, ["--log", "--save-every", "1"]))
+    for number in range(20):
+        compare("a post", post(member, f"{number} {'x' * 1000}")[0], 200)
+    check("its file is written anew", eventually(lambda: is_compacted(member, 20), 10), os.listdir(folder))
+    before, told = bytes_of(member.sil), "am_tool: Silences File FileTooLarge"
+    member.limit_files(16_384)
+    for value in "a", "b", "c":
+        compare("a post", post(member, value)[0], 200)
+        check("what can't be written is told", eventually(lambda: told in member.lines, 10), member.lines)
+    check("what was written of it is gone", eventually(lambda: bytes_of(f"{member.sil}.new") is None, 10), os.listdir(folder))
+    compare("the file is as it was", bytes_of(member.sil), before)
+    member.limit_files(resource.RLIM_INFINITY)
+    check("later it is written", eventually(lambda: is_compacted(member, 23), 10), os.listdir(folder))
+    compare("nothing else is told", {*member.lines[1:]}, {told})
+    member.kill()
+    begun(member)
+    compare("all is there", len(member.listed()), 23)
     compare("a stop", member.stop(), 0)
 
 
@@ -968,6 +1025,8 @@ def main():
             test_clock,
             test_log,
             test_full_log,
+            test_compaction,
+            test_full_compaction,
             test_lines,
             test_full_pipe,
             test_foreign,

@@ -5,10 +5,10 @@
 
 PROGRAM is crates/am_tool/out/am_tool if it isn't given; ./am_tool and rt ci build it. A round is some thousand inputs, in
 less than a minute; each input follows from the seed (1), its kind and its number, so a run is made again by the same
-words. Random bytes, good input with bytes changed, and rows of the worst kinds go to `fold`, `show` and `replay`; words to
-the command line; requests and frames to a member. At fault is a signal, a status that is not documented, a hang, output
-beside a refusal, a line of another form, a fold that folded again is another, and a member that doesn't answer a good
-request afterwards. Prints each input that is answered so, and at the end how many inputs passed.
+words. Random bytes, good input with bytes changed, and rows of the worst kinds go to `fold`, `show` and `replay`, and in logs
+beside a file to the first two; words to the command line; requests and frames to a member. At fault is a signal, a status that
+is not documented, a hang, output beside a refusal, a line of another form, a fold that folded again is another, and a member
+that doesn't answer a good request afterwards. Prints each input that is answered so, and at the end how many inputs passed.
 """
 
 import argparse
@@ -26,7 +26,7 @@ from samples import silence_of_job
 from wire import TICK, delimited, field, frame, varint
 
 # How many inputs of each kind a round has.
-COUNTS = {"rows": 2400, "schedules": 800, "words": 400, "requests": 2400, "frames": 1600}
+COUNTS = {"rows": 2400, "logs": 400, "schedules": 800, "words": 400, "requests": 2400, "frames": 1600}
 
 WIRE = (
     r"Wire (TooLarge|(Truncated|LongVarint|FieldNumber|WireType|WrongType|NotUtf8|Timestamp|MatcherType|MissingMessage) \d+)"
@@ -34,6 +34,8 @@ WIRE = (
 FRAME = rf"Frame (Kind|Length|UnknownState|{WIRE})"
 ROW_FAULT = re.compile(rf"am_tool: ({WIRE}|TooLarge|DuplicateKey)\n")
 SCHEDULE_FAULT = re.compile(r"am_tool: (Schedule (NotUtf8|Cluster|Words|Number|Name) \d+|TooLarge)\n")
+LOG_FAULT = re.compile(rf"am_tool: [!-~]+/a\.log ({WIRE}|TooLarge)\n")
+FILE_FAULT = re.compile(r"am_tool: [!-~]+ (File \w+|Read \d+)\n")
 MEMBER_LINE = re.compile(
     rf"am_tool: (Read \d+|Write \d+|TooLarge|{FRAME}|UnknownName|Step ({FRAME}|MomentBack -?\d+ \d+|UnknownPeer)"
     r"|Unsent Limit \d+|Connect \w+ \d+|Send Write \d+ \d+)"
@@ -212,6 +214,38 @@ def test_row(seed):
     return fault_of_row([draw.choice(["fold", "show"]), "--state", state, "--now", str(now)], given), given
 
 
+def some_log(draw, state):
+    """A log: blocks of rows and what stands behind them, sometimes with bytes changed."""
+    batches = [some_row(draw, state) if draw.random() < 0.1 else row(draw, state) for _ in range(draw.randrange(5))]
+    log = b"".join(b"\1" + len(batch).to_bytes(8, "little") + batch for batch in batches)
+    log += draw.choice([b"", b"\0", b"\1", b"\0" + draw.randbytes(20), b"\1" + draw.randbytes(20)])
+    return changed(draw, log) if draw.random() < 0.3 else log
+
+
+def fault_of_log(file, state, log):
+    """What is wrong in how a file is answered beside which a log stands, or None."""
+    status, output, error = run(["fold", "--state", state, "--log", file])
+    shown = run(["show", "--state", state, "--now", "0", "--log", file])
+    if status == 1:
+        told = LOG_FAULT.fullmatch(error) and not output and shown == (status, output, error)
+        return None if told else f"{output!r}, {error!r}, {shown}"
+    if (status, error, shown[0]) != (0, "", 0):
+        return f"{status}, {error!r}, {shown}"
+    again = run(["fold", "--state", state, "--now", "0"], input=output)
+    return None if again == (0, output, "") else f"folded again: {again}"
+
+
+def test_log(seed):
+    draw = random.Random(seed)
+    state = draw.choice(["sil", "nfl"])
+    log = some_log(draw, state)
+    with tempfile.TemporaryDirectory() as folder:
+        for name, data in ("a", b""), ("a.log", log):
+            with open(f"{folder}/{name}", "wb") as file:
+                file.write(data)
+        return fault_of_log(f"{folder}/a", state, log), log
+
+
 SCHEDULES = [
     b"""cluster 100 15 a b c
 sil s1 x 10 10 50 200 job m
@@ -275,7 +309,7 @@ def test_schedule(seed):
     return f"replay: {status}, {output[:200]!r}, {error!r}", given
 
 
-WORDS = b"""fold show instance replay help --state --now --name --listen --peer --sil --nfl --retention --connections --help -h
+WORDS = b"""fold show instance replay help --state --now --log --name --listen --peer --sil --nfl --retention --connections --help -h
 sil nfl mem 0 5 -5 18446744073709551616 = == --state=sil --now=0 -- - a=b a=0 x=99999""".split()
 
 
@@ -287,12 +321,14 @@ def test_words(seed):
     words = [word.replace(b"\0", b"") for word in words if word != b"instance" or draw.random() < 0.9]
     status, output, error = run(words, input=b"")
     shown = b" ".join(words)
-    if status not in (0, 1, 2):
+    if status not in (0, 1, 2, 3):
         return f"{words}: {status}, {output[:200]!r}, {error!r}", shown
     # a mistake is told in the words of the command line's library, and nothing is printed beside it
     if status == 2 and (output or not error):
         return f"{words}: {status}, {output[:200]!r}, {error!r}", shown
     if status == 1 and not (SCHEDULE_FAULT.fullmatch(error) or ROW_FAULT.fullmatch(error)):
+        return f"{words}: {status}, {error!r}", shown
+    if status == 3 and not FILE_FAULT.fullmatch(error):
         return f"{words}: {status}, {error!r}", shown
     return None, shown
 
@@ -480,7 +516,7 @@ def main():
         for kind, make in (("requests", some_request), ("frames", some_frames)):
             os.mkdir(f"{folder}/{kind}")
             played.append(pool.submit(test_member, seeds(kind), make, f"{folder}/{kind}"))
-        jobs = [("rows", test_row), ("words", test_words)] + ([("schedules", test_schedule)] if has_replay else [])
+        jobs = [("rows", test_row), ("logs", test_log), ("words", test_words)] + ([("schedules", test_schedule)] if has_replay else [])
         for kind, test in jobs:
             for seed, (fault, data) in zip(seeds(kind), pool.map(test, seeds(kind))):
                 settle(seed, fault, data)

@@ -6,7 +6,7 @@ import functools
 import threading
 import time
 
-from wire import PUSH, fields_of, frames_of, items, nanos, rows_of
+from wire import PUSH, batches, fields_of, frames_of, items, nanos, rows_of
 
 # A version of a silence or of an entry: its key, and in milliseconds since 1970 its update and its end.
 Version = collections.namedtuple("Version", "key updated ends comment")
@@ -26,9 +26,10 @@ def version_of(state, data):
     return Version((state, inner[1].decode()), updated, nanos(inner[4]) // 10**6, inner.get(9, b"").decode())
 
 
-def versions_of(state, row):
-    """The versions of a row by their keys: those that count."""
-    return greatest(version_of(state, bytes(it)) for it in items(row))
+def versions_of(state, row, *logs):
+    """The versions of a row, and of the logs beside it, by their keys: those that count."""
+    rows = [row, *(batch for log in logs for batch in batches(log))]
+    return greatest(version_of(state, bytes(it)) for row in rows for it in items(row))
 
 
 def greatest(versions):
@@ -161,6 +162,6 @@ class Ledger:
 
     def lasting(self, members):
         """The acknowledged operations that have to last, since what they made, or something greater, is surely held now."""
-        kept = {id(it) for member in members for _, it in member.acknowledged}
+        kept = {id(it) for member in members for it in [*member.kept, *(it for _, it in member.acknowledged)]}
         stands = lambda it: id(it) in kept or any(it.stands_in(member.holds) for member in members)
         return [it for it in self.operations if it.ended is not None and stands(it)]

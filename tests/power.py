@@ -125,10 +125,13 @@ class Directory:
 
     def left(self, draw):
         """The files by the names that a failure of the power may leave: of the steps since the directory was handed to the disk
-        any first part stands."""
-        names = dict(self.kept)
-        for step in self.steps[: draw.choice([0, len(self.steps), draw.randint(0, len(self.steps))])]:
-            rename(names, *step)
+        any stand, but for those behind one with a name of theirs that doesn't."""
+        names, undone, share = dict(self.kept), set(), draw.choice([0, 0.5, 0.8, 1])
+        for step in self.steps:
+            if undone.isdisjoint(step[1]) and draw.random() < share:
+                rename(names, *step)
+            else:
+                undone.update(step[1])
         return names
 
     def fail(self, draw):

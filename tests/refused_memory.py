@@ -58,7 +58,16 @@ JOBS = [
     (["replay"], ORDERS, ORDERS_OUTPUT),
     (["replay"], RESTARTED, RESTARTED_OUTPUT),
     (["replay"], SETTLED, SETTLED_OUTPUT),
+    (["fold", "--state", "sil", "--log", "{folder}/a", "{folder}/b"], b"", SECOND),
+    (["show", "--state", "sil", "--now", "50000000000", "--log", "{folder}/a"], b"", b"sil a active\n"),
+    (["show", "--state", "sil", "--now", "50000000000", "--json", "--log", "{folder}/a"], b"", SECOND_IN_JSON),
+    (["show", "--state", "nfl", "--now", "50000000000", "--log", "{folder}/n"], b"", b"nfl g r w 0 1,2 -\n"),
+    (["diff", "--state", "sil", "--now", "50000000000", "--log", "{folder}/a", "-"], SECOND, b""),
 ]
+
+# Files in which something of these rows stands.
+BLOCK = bytes([1, 33]) + bytes(7)
+FILES = {"a": FIRST, "a.log": BLOCK + FIRST + b"\0", "a.log.old": BLOCK + SECOND + b"\0", "b": FIRST, "n": ENTRY, "n.log": b"\0"}
 
 
 def settle(name, faults, said=""):
@@ -169,7 +178,17 @@ MOMENT = re.compile(r"^(holds \d+ \d+) at \S+$", re.MULTILINE)
 # How the members of a cluster stand behind a line of a schedule, and one that found no memory.
 REFUSED_LINE = "no memory at "
 STANDING = re.compile(rf"(?:{REFUSED_LINE})?line \d+: (.*), (\d+) frames")
-MEMBER = re.compile(r"\S+ (\d+) (\d+) at (\S+)( uncalm)?")
+MEMBER = re.compile(r"\S+ (\d+) (\d+) at (\S+)((?: uncalm)?(?: lossy)?)")
+
+
+def line_of_reply(status, body):
+    """How am_cases prints a reply."""
+    head = rf"HTTP/1.1 {status}\r\ncontent-type: application/json\r\ncontent-length: {len(body)}\r\nconnection: close\r\n\r\n"
+    return head + body
+
+
+RAN_BACK = line_of_reply("500 Internal Server Error", '"clock ran back"')
+LOGGED, NOT_LOGGED = line_of_reply("200 OK", '{"logged":true}'), line_of_reply("200 OK", '{"logged":false}')
 
 
 def without_frames(lines):
@@ -177,8 +196,8 @@ def without_frames(lines):
 
 
 def standing_of(line):
-    """How a line of `steps` says that a cluster stands: of each member what it holds, its moment and whether it is uncalm; and
-    the frames that fly."""
+    """How a line of `steps` says that a cluster stands: of each member what it holds, its moment and whether it is uncalm or
+    lossy; and the frames that fly."""
     row = STANDING.fullmatch(line)
     members = [MEMBER.fullmatch(it) for it in row[1].split(", ")]
     return [(int(it[1]), int(it[2]), it[3], it[4]) for it in members], int(row[2])
@@ -198,7 +217,7 @@ def is_line_made_again(lines, wanted):
         return False
     at = told[0]
     found, goal = [standing_of(line) for line in lines], [standing_of(line) for line in wanted]
-    stood, newborn = found.pop(at), ([(0, 0, "least", None) for _ in goal[0][0]], 0)
+    stood, newborn = found.pop(at), ([(0, 0, "least", "") for _ in goal[0][0]], 0)
     before = found[at - 1] if at > 0 else newborn
     is_part = all(is_between(*member) for member in zip(stood[0], before[0], goal[at][0]))
     is_rest = all(row[0] == want[0] and row[1] <= want[1] for row, want in zip(found[at:], goal[at:]))
@@ -232,6 +251,18 @@ def how_refused(lines, wanted):
     if len(counted) == 1 and others == without_frames(wanted) and missing == int(counted[0][1]) > 0:
         return "unsent"
     return None
+
+
+def how_called(lines, wanted):
+    """What the lines of a request for decisions say of one that found no memory behind a step, which stands: of a call whose
+    last step has a later moment than its first, that is before it where it is made again; of a notice, that its frame isn't
+    sent, or that its entry is there already."""
+    words, found = lines[0], lines[1:]
+    if ", then " in words and found == ["! Memory", RAN_BACK]:
+        return "too late again"
+    if wanted[:1] == [LOGGED] and found == [LOGGED]:
+        return "unsent"
+    return "something stands" if wanted[:1] == [LOGGED] and found == ["! Memory", NOT_LOGGED] else None
 
 
 def answers_of(output):
@@ -268,7 +299,8 @@ def judge_try(tried):
     """What a try says of the request that was refused; None where it isn't right."""
     if tried.status != 0 or len(tried.found) != len(tried.cases):
         return None
-    kinds = [how_refused(lines[1:], wanted_of(case)) for case, lines in zip(tried.cases, tried.found)]
+    found = [(lines, wanted_of(case)) for case, lines in zip(tried.cases, tried.found)]
+    kinds = [how_refused(lines[1:], wanted) or how_called(lines, wanted) for lines, wanted in found]
     if any(kind != "as wanted" for kind in kinds[0 if tried.is_told else 1 :]):
         return None
     if tried.is_told:
@@ -325,15 +357,21 @@ def differing(tried):
 
 def tells_memory(words, given, error):
     """Whether the line says that memory ran out, for replay with one of the schedule's lines, or 0 where it was at none."""
+    if "--log" in words:
+        return re.fullmatch(r"am_tool: (\S+ )?Memory\n", error) is not None
     if words[0] != "replay":
         return error == MEMORY
     told = re.fullmatch(r"am_tool: Memory(?: (\d+))?\n", error)
     return bool(told) and int(told[1] or 0) <= given.count(b"\n")
 
 
-def test_jobs(lanes):
+def test_jobs(lanes, folder):
+    for file, data in FILES.items():
+        with open(f"{folder}/{file}", "wb") as out:
+            out.write(data)
     for place, (words, given, wanted) in enumerate(JOBS):
         name = f"am_tool {' '.join(words)}, {place}"
+        words = [word.format(folder=folder) for word in words]
         if run([words[0], "--help"])[0] != 0:
             print(f"{name}: am_tool has no {words[0]}, so this is not tried")
             continue
@@ -509,7 +547,7 @@ def main():
         library = compiled(folder)
         lanes = Lanes(folder, library)
         test_cases(lanes, folder)
-        test_jobs(lanes)
+        test_jobs(lanes, folder)
         for test in (test_starts, test_connections):
             place = f"{folder}/{test.__name__}"
             os.mkdir(place)

@@ -279,7 +279,8 @@ def test_clients(folder):
     compare("a stranger has no name", len(re.findall(stranger, wholes)), 2)
     cut = rf"am_tool: Frame Kind: no frame begins with this byte; did a peer send it\? \((.*?){when}\)\n"
     compare("a peer has", re.findall(cut, wholes), ["", "peer p, "])
-    compare("the Tick before a fault was a step", member.saved("sil"), (0, "", ""))
+    check("the Tick before a fault is a step", eventually(lambda: os.path.exists(member.sil)), member.lines)
+    compare("behind which it saves", member.saved("sil"), (0, "", ""))
     compare("a frame that is cut", member.send(greeting("p") + b"\4"), b"")
     check("a client is served then too", well())
     compare("which is no fault", member.lines[told:], [])

@@ -75,6 +75,22 @@ def items(row):
         at += length
 
 
+def block(row):
+    """A row in a block of a log."""
+    return b"\1" + len(row).to_bytes(8, "little") + row
+
+
+def batches(log):
+    """The rows in the whole blocks of a log."""
+    at = 0
+    while log[at : at + 1] == b"\1":
+        end = at + 9 + int.from_bytes(log[at + 1 : at + 9], "little")
+        if len(log) < end:
+            return
+        yield log[at + 9 : end]
+        at = end
+
+
 def nanos(data):
     """The message of a moment, as nanoseconds since 1970."""
     found = dict(fields_of(data))

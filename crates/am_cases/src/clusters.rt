@@ -95,7 +95,12 @@ fn say_members(case: &Case, cluster: &Cluster, number: u64) {
         put!(case; " ", name_at(instance.config(), place));
         print_held(case, " ", instance);
         let is_calm = cluster.calm(place).calm;
-        case.put(if is_calm { "," } else { " uncalm," });
+        case.put(if is_calm { "" } else { " uncalm" });
+        case.put(if cluster.durable(place) {
+            ","
+        } else {
+            " lossy,"
+        });
     }
     say!(case; " ", cluster.in_flight().len(), " frames");
 }

@@ -1,5 +1,6 @@
 //! Cases of instances, their requests and connections, of clusters, and of the command line.
 
+use crate::calls::call;
 use crate::clusters::{carried, cluster, refused, replay, settle, steps};
 use crate::connections::{connect, send};
 use crate::events::asks;
@@ -30,6 +31,7 @@ pub fn answer(case: &Case, member: &mut Option<Instance>, is_whole: bool, verb: 
         "state" => say_state(case, instance),
         "at" => happen(case, instance, rest),
         "ask" | "connect" | "hear" => connect(case, instance, is_whole, verb, rest),
+        "call" => call(case, instance, rest),
         "asks" => asks(case, instance.config(), rest),
         "places" => {
             for name in rest.split(',') {

@@ -1,6 +1,7 @@
 //! Answers cases: reads them from standard input, a line each, and prints each with its answer below it (docs/CASES.md).
 #![tactic(auto)]
 
+mod calls;
 mod clusters;
 mod connections;
 mod events;

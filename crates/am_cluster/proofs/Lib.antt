@@ -19,3 +19,7 @@ pub mod Admitted
 pub mod Settled
 pub mod OneOfBoth
 pub mod Asking
+pub mod DurableHas
+pub mod DurableShown
+pub mod DurableTold
+pub mod DurableWorked

@@ -19,3 +19,7 @@ pub mod Settling
 pub mod Replicas
 pub mod Shown
 pub mod Questions
+pub mod Durable
+pub mod DurableTests
+pub mod DurableRuns
+pub mod DurableExamples

@@ -10,6 +10,7 @@ ghost use Rattle.am_runs.specs.Steps.{delivered_in};
 ghost use Rattle.am_cluster.specs.Reports.{AreRuns, AreTimely, IsCalmInBoth, IsLineOfFault};
 ghost use Rattle.am_cluster.specs.Twins.{AreTwins};
 ghost use Rattle.am_cluster.specs.Beginnings.{AreNewborn, AreUnborn, newborns};
+ghost use Rattle.am_cluster.specs.DurableRuns.{IsDurableInBoth};
 ghost use Rattle.am_cluster.specs.Ties.{IsWorld};
 ghost use Rattle.am_cluster.specs.Worlds.{replica_at};
 
@@ -183,5 +184,13 @@ impl Cluster {
             IsCalmInBoth (length self.now.replicas) place self.now.silences self.now.log }
     {
         self.journal.timely(spread, flight)
+    }
+
+    /// Whether the member at a place is durable: whether it was started only where it had been saved behind each step that
+    /// had brought it something live, as a member is that has each such step in a log on its disk. It takes no memory.
+    pub fn durable(&self, place: Place) -> bool
+        ensures { IsTrue result ↔ IsDurableInBoth place self.now.silences self.now.log }
+    {
+        self.journal.durable(place as usize)
     }
 }

@@ -6,6 +6,7 @@ ghost use Rattle.am_runs.specs.Records.{step_of};
 ghost use Rattle.am_runs.specs.Steps.{delivered_by, delivered_in, flights_by, flights_of};
 ghost use Rattle.am_silence.specs.Mesh.{IsMesh};
 ghost use Rattle.am_nflog.specs.Mesh.{IsMesh as IsLogMesh};
+ghost use Rattle.am_cluster.specs.DurableRuns.{IsDurableInBoth};
 ghost use Rattle.am_cluster.specs.Marks.{step_of_mark};
 ghost use Rattle.am_cluster.specs.Reports.{AreRuns, AreTimely, IsCalmInBoth, IsLineOfFault, IsPossibleForLog, IsPossibleForSilences};
 ghost use Rattle.am_cluster.specs.Twins.{AreTwins, IsTwin};
@@ -14,6 +15,7 @@ pub mod laws;
 mod mark;
 mod report;
 
+use crate::durable::is_durable;
 use am_nflog::MeshEntry;
 use am_runs::{Run, RunStep};
 use am_silence::MeshSilence;
@@ -244,5 +246,13 @@ impl Journal {
             IsCalmInBoth self.now.members place self.now.silences self.now.log }
     {
         self.silences.timely(spread, flight) && self.log.timely(spread, flight)
+    }
+
+    /// Whether a member is durable in both runs: whether, at each start of it, a save stood behind each step that had brought
+    /// it something live. It takes no memory.
+    pub fn durable(&self, place: usize) -> bool
+        ensures { IsTrue result ↔ IsDurableInBoth place self.now.silences self.now.log }
+    {
+        is_durable(place, &self.silences) && is_durable(place, &self.log)
     }
 }

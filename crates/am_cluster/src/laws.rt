@@ -1,9 +1,14 @@
 //! What holds of all members of a cluster, as it stands after any steps: laws, which do nothing.
 
+mod durable;
 mod first;
 mod later;
 mod shown;
 
+pub use durable::{
+    durable_members_lose_nothing, durable_members_show_what_came,
+    durable_runs_are_timely_by_what_came, timely_runs_bring_all_in_time, worked_restarts,
+};
 pub use first::{first_is_told_after_a_spread, first_is_told_exactly};
 pub use later::{first_is_told_where_old_ones_ended, members_agree_on_what_is_old};
 pub use shown::{

@@ -3,6 +3,7 @@
 
 mod cluster;
 mod delivering;
+mod durable;
 mod error;
 mod events;
 mod flight;

@@ -12,6 +12,7 @@ use clap::error::ErrorKind;
 use clap::{Arg, ArgAction, ArgMatches, Command};
 pub use diff::{DiffJob, STANDARD_INPUT, SourceWord};
 pub use instance::Options;
+use instance::flag;
 use std::alloc::{AllocError, Global};
 use std::rt::{Env, Files};
 use std::{env, io};
@@ -21,30 +22,38 @@ use std::{env, io};
 pub enum Job<'a> {
     /// The schedule that stands on standard input is to be played, and drawn where a file is named.
     Replay(Option<&'a str>),
-    /// The row that stands on standard input is to be folded.
-    Fold(FoldJob),
-    /// The snapshot that stands on standard input is to be shown.
-    Show(ShowJob),
+    /// Rows are to be folded.
+    Fold(FoldJob<'a>),
+    /// A snapshot is to be shown.
+    Show(ShowJob<'a>),
     /// Sources are to be compared.
     Diff(DiffJob<'a>),
     /// A member is to be run.
     Instance(Options<'a>),
 }
 
-/// A row of versions that is to be folded.
-#[derive(Clone, Copy)]
-pub struct FoldJob {
-    /// The state that the row is of.
+/// Rows of versions that are to be folded.
+#[derive(Drop)]
+pub struct FoldJob<'a> {
+    /// The state that the rows are of.
     pub state: StateName,
+    /// The files in which they stand; none where one stands on standard input.
+    pub files: Vec<&'a str>,
+    /// Each file stands for itself and the logs beside it.
+    pub has_logs: bool,
     /// The moment of taking.
     pub now: Moment,
 }
 
 /// A snapshot of which is to be shown what is live.
 #[derive(Clone, Copy)]
-pub struct ShowJob {
+pub struct ShowJob<'a> {
     /// The state that the snapshot is of.
     pub state: StateName,
+    /// The file in which it stands; without one, standard input.
+    pub file: Option<&'a str>,
+    /// The file stands for itself and the logs beside it.
+    pub has_logs: bool,
     /// How it is shown.
     pub form: Form,
     /// The moment of the view; without it, the clock's.
@@ -169,11 +178,19 @@ fn picture_option<'a>(alloc: Global) -> Arg<'a> {
 fn fold_command<'a>(alloc: Global, name: &'a str) -> Result<Command<'a>, AllocError> {
     let about = "Reads a row of versions, and writes the one that counts of each key, in key order";
     let state = "The state that the row is of: silences or the notification log";
-    let now = "The moment of taking, in nanoseconds since 1970 or as 2026-11-26T12:00:00Z";
+    let now =
+        "The moment of taking, in nanoseconds since 1970 or as 2026-11-26T12:00:00Z; with --log it may be left out";
     Command::new(alloc, name)
         .about(about)
+        .after_help(AFTER_FOLD)
         .arg(state_flag(alloc, state))?
-        .arg(now_flag(alloc, now).required(true))
+        .arg(now_flag(alloc, now).required_unless_present(LOG)?)?
+        .arg(flag(alloc, LOG, LOG_HELP))?
+        .arg(
+            file_words(alloc, FOLD_FILE_HELP)
+                .num_args(1..)
+                .action(ArgAction::Append),
+        )
 }
 
 fn show_command<'a>(alloc: Global, name: &'a str) -> Result<Command<'a>, AllocError> {
@@ -186,7 +203,14 @@ fn show_command<'a>(alloc: Global, name: &'a str) -> Result<Command<'a>, AllocEr
         .after_help(AFTER_SHOW)
         .arg(state_flag(alloc, state))?
         .arg(now_flag(alloc, now))?
-        .arg(json_flag(alloc, SHOW_JSON_HELP))
+        .arg(json_flag(alloc, SHOW_JSON_HELP))?
+        .arg(flag(alloc, LOG, LOG_HELP))?
+        .arg(file_words(alloc, SHOW_FILE_HELP).action(ArgAction::Set))
+}
+
+/// The words that name files.
+fn file_words<'a>(alloc: Global, help: &'a str) -> Arg<'a> {
+    Arg::new(alloc, FILE).value_name("FILE").help(help)
 }
 
 fn state_flag<'a>(alloc: Global, help: &'a str) -> Arg<'a> {
@@ -236,10 +260,13 @@ fn read_job<'a, R: Files + AllocGlobal>(
 }
 
 /// The snapshot that is to be shown.
-fn read_show(alloc: Global, flags: &ArgMatches<'_>) -> Result<ShowJob, WordsError> {
-    match now_of(flags) {
+fn read_show<'a>(alloc: Global, flags: &ArgMatches<'a>) -> Result<ShowJob<'a>, WordsError> {
+    let file = flags.get_str(FILE);
+    match now_beside(flags, file.as_slice()) {
         Ok(now) => Ok(ShowJob {
             state: state_of(flags),
+            file,
+            has_logs: flags.get_flag(LOG),
             form: form_of(flags),
             now,
         }),
@@ -247,15 +274,38 @@ fn read_show(alloc: Global, flags: &ArgMatches<'_>) -> Result<ShowJob, WordsErro
     }
 }
 
-/// The row that is to be folded.
-fn read_fold(alloc: Global, flags: &ArgMatches<'_>) -> Result<FoldJob, WordsError> {
-    match now_of(flags) {
-        Ok(Some(now)) => Ok(FoldJob {
+/// The rows that are to be folded.
+fn read_fold<'a>(alloc: Global, flags: &ArgMatches<'a>) -> Result<FoldJob<'a>, WordsError> {
+    let files = Vec::from_slice(alloc, flags.get_strs(FILE).unwrap_or(&[]))?;
+    match now_beside(flags, &files) {
+        Ok(now) => Ok(FoldJob {
             state: state_of(flags),
-            now,
+            files,
+            has_logs: flags.get_flag(LOG),
+            now: now.unwrap_or(Moment::LEAST),
         }),
-        _ => Err(mistake(fold_command(alloc, "am_tool fold"), BAD_NOW)),
+        Err(text) => Err(mistake(fold_command(alloc, "am_tool fold"), text)),
     }
+}
+
+/// The moment that an option names, where it is given, or what is said of a word that names none, or of logs beside none of
+/// these files.
+fn now_beside(flags: &ArgMatches<'_>, files: &[&str]) -> Result<Option<Moment>, &'static str> {
+    let now = now_of(flags)?;
+    match log_mistake(flags, files.iter().any(|file| is_file(file))) {
+        Some(text) => Err(text),
+        None => Ok(now),
+    }
+}
+
+/// What is said where logs are asked for and no file is named.
+fn log_mistake(flags: &ArgMatches<'_>, names_file: bool) -> Option<&'static str> {
+    (flags.get_flag(LOG) && !names_file).then_some(NO_FILE)
+}
+
+/// Whether a word names a file, and not standard input.
+fn is_file(word: &str) -> bool {
+    word != STANDARD_INPUT
 }
 
 /// The state that an option names.
@@ -318,12 +368,36 @@ const SHOW: &str = "show";
 /// The name of the option for JSON.
 const JSON: &str = "json";
 
+/// The name of the option for the logs beside files.
+const LOG: &str = "log";
+
+/// The name of the words that name files.
+const FILE: &str = "file";
+
+const LOG_HELP: &str =
+    "Joins each file with the logs beside it, FILE.log and FILE.log.old, which a member with --log keeps";
+
+const FOLD_FILE_HELP: &str =
+    "Files with rows, which are folded together; '-' is standard input, which is read where no file is named";
+
+const SHOW_FILE_HELP: &str =
+    "The file of the snapshot; '-' is standard input, which is read where no file is named";
+
+const NO_FILE: &str =
+    "'--log' wants a file that is named: neither standard input nor a server has a log beside it";
+
 const SHOW_JSON_HELP: &str =
     "Prints a list in JSON, on one line: silences as API v2 shows them, or entries of the log";
+
+const AFTER_FOLD: &str = "\
+Examples:
+  cat am1/silences am2/silences | am_tool fold --state sil --now 0 > silences
+  am_tool fold --log --state sil a.sil > silences";
 
 const AFTER_SHOW: &str = "\
 Examples:
   am_tool show --state sil < silences
+  am_tool show --state sil --log a.sil
   am_tool show --state sil --now 2026-11-26T12:00:00Z --json < silences | jq -r '.[].comment'";
 
 const BAD_NOW: &str =

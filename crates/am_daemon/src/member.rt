@@ -1,41 +1,32 @@
 //! A member of a cluster that runs: what it answers, and what it does by itself.
 
-mod clock;
-mod dialogue;
-mod duties;
-mod files;
+mod compaction;
+mod deciding;
 mod handing;
 mod host;
 mod judging;
 mod keeping;
-mod log;
 mod room;
 mod serving;
-mod signals;
-mod standard_error;
 mod start;
 mod started;
 mod times;
-mod told;
 
 use am_command_line::Options;
+use am_dialogue::{Duties, Keeping, Room, Share, Turns};
 use am_faults::Fault;
+use am_files::StateFile;
 use am_gossip::Frame;
 use am_instance::{Event, Instance, Outbox, Place, Unsent};
+use am_lines::{Lines, Told, Watch, signals};
 use am_member::{Effects, Fault as ConnectionFault, next_moment};
-use clock::Watch;
-use duties::Duties;
-use files::StateFile;
-use handing::Share;
+use compaction::Compacting;
 use host::Host;
-use keeping::Keeping;
 use rand::rngs::StdRng;
 use rand_core::Rng;
-use room::Room;
 pub use start::run;
 use std::rt::Clock;
 use std::time::Instant;
-use told::{Lines, Told};
 
 /// A member that runs.
 #[derive(Drop)]
@@ -64,7 +55,11 @@ pub struct Member<'a, R> {
     awaited: Vec<Place>,
     /// What is to be in the logs, where they are kept.
     keeping: Keeping,
-    /// Something may have changed since the last save.
+    /// Which files are written anew while it serves.
+    compacting: Compacting,
+    /// The requests that wait for this member's turn.
+    turns: Turns,
+    /// Something may have changed since the last save, or since one was begun.
     is_changed: bool,
     /// It is to stop.
     stops: bool,
@@ -176,8 +171,9 @@ impl<R: Host> Member<'_, R> {
         }
     }
 
-    /// Saves the silences, and then the log. Answers the first fault; each is told.
+    /// Saves the silences, and then the log, while everybody waits. Answers the first fault; each is told.
     fn save(&mut self) -> Option<Fault> {
+        self.give_up_compaction();
         let silences = self.save_silences();
         let log = self.save_log();
         self.is_changed = silences.is_some() || log.is_some();
@@ -217,6 +213,23 @@ impl<R: Host> Member<'_, R> {
     /// Drops what has expired, and saves both states.
     fn tick(&mut self) {
         if self.step(Event::Tick) {
+            self.save_in_turn();
+        }
+    }
+
+    /// Saves both states at the start, where a log stands that is to go. Without logs that is before anything comes: what ended a
+    /// version that such a log has would be in no log, and could have gone before the log does.
+    fn save_owed(&mut self) {
+        if self.is_changed {
+            self.save_in_turn();
+        }
+    }
+
+    /// Saves both states: at once, or where logs are kept, behind the duties and while it serves.
+    fn save_in_turn(&mut self) {
+        if self.keeping.is_on() {
+            self.want_both();
+        } else {
             self.save();
         }
     }
@@ -246,14 +259,14 @@ impl<R: Host> Member<'_, R> {
             self.tick();
         }
         if self.duties.is_save_due(now) && self.is_changed {
-            self.save();
+            self.save_in_turn();
         }
         if self.duties.is_pull_due(now) {
             self.pull();
         }
         if self.duties.is_first_pull_over(now) {
             self.tell(Fault::NoPull);
-            self.duties.end_first_pull(self.options, now);
+            self.duties.end_first_pull(now);
         }
         if self.duties.is_clock_due(now) {
             self.look_at_clock(now);

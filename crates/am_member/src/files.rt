@@ -47,8 +47,22 @@ pub fn load_file<V: Version + Message, R: Files + AllocGlobal>(
     Ok(load_within(rt.alloc(), &mut reader, most)?)
 }
 
-/// Writes a new file whole, and hands it to the disk. It has the permissions of the file that it is to replace. Whatever
-/// stood in its own place is taken away first, so that nothing is written through a link.
+/// A new file at a path, with the permissions of the file that it is to replace. Whatever stood at the path is taken away first,
+/// so that nothing is written through a link.
+///
+/// # Errors
+///
+/// What the system says, as a [`FileFault`].
+pub fn new_file<R: Files>(rt: &R, path: &str, replaced: &str) -> Result<R::File, FileFault> {
+    let _ = fs::remove_file(rt, path);
+    let file = File::create_new(rt, path)?;
+    if let Ok(found) = fs::metadata(rt, replaced) {
+        file.set_permissions(found.permissions())?;
+    }
+    Ok(file)
+}
+
+/// Writes a new file whole, and hands it to the disk.
 fn write_file<V: Version, R: Files + AllocGlobal>(
     rt: &R,
     path: &str,
@@ -59,11 +73,7 @@ fn write_file<V: Version, R: Files + AllocGlobal>(
     ensures count { IfOk result (λ written. written ≡ length (row_text V.seen held.now)) }
     ensures room { IfOk result (λ written. written ≤ most) }
 {
-    let _ = fs::remove_file(rt, path);
-    let mut file = File::create_new(rt, path)?;
-    if let Ok(found) = fs::metadata(rt, replaced) {
-        file.set_permissions(found.permissions())?;
-    }
+    let mut file = new_file(rt, path, replaced)?;
     let written = save_within(rt.alloc(), held, &mut file, most)?;
     file.sync_all()?;
     Ok(written)

@@ -32,7 +32,7 @@ pub use error::{FileFault, ServerFault};
 pub use exchanged::{Effects, Exchanged};
 pub use fault::{Fault, SendError};
 pub use fetching::{Server, fetch, server_of};
-pub use files::{is_there, load_file, save_file, sync_directory};
+pub use files::{is_there, load_file, new_file, save_file, sync_directory};
 pub use judging::{Judged, Judging};
 pub use paths::{are_one_file, directory_of, target_of};
 pub use peer::{Peer, number_within, peer_of, port_of};

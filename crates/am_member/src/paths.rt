@@ -97,7 +97,10 @@ fn is_one_node<R: Files>(rt: &R, one: &str, other: &str) -> bool {
 
 /// Whether a name is another one, or that of what a member puts beside the file of that name.
 fn is_taken_by(name: &str, other: &str) -> bool {
-    matches!(name.strip_prefix(other), Some("" | ".new" | ".lock"))
+    matches!(
+        name.strip_prefix(other),
+        Some("" | ".new" | ".lock" | ".log" | ".log.old")
+    )
 }
 
 /// Whether two paths behind all links are of one file, or one of them of what a member puts beside the other.

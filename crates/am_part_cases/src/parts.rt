@@ -1,9 +1,11 @@
 //! Cases of what stands below an instance. The functions `answer` hand on to one another what is no verb of theirs.
 
 mod frames;
+mod hashes;
 mod json;
 mod maps;
 mod matchers;
+mod messages;
 mod requests;
 mod snapshots;
 mod versions;

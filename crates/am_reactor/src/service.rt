@@ -70,6 +70,14 @@ pub trait Service {
     /// The commit is over for which a reply of the session waited: it goes out from now on.
     fn release(&mut self, session: &mut Self::Session);
 
+    /// The moment for which the reply of a session waits, where one does. Of two sessions that wait so, the one that began
+    /// first is due first.
+    fn due(&self, session: &Self::Session) -> Option<Instant>;
+
+    /// The moment has come for which the reply of a session waited, or the loop stops: it waits for it no more. The time of the
+    /// connection, which didn't count meanwhile, begins anew.
+    fn come_due(&mut self, session: &mut Self::Session);
+
     /// Does what waits at once, or gives it up: it may not be done now, and the time of the connection is over in a quarter of
     /// a second, or another connection is to get its place. The first is looked for in each turn, so a service in which
     /// something waits for long is to be woken often.

@@ -1,38 +1,24 @@
 //! How replicas differ.
 
 use crate::moment::{moment_of, warn};
-use am_command_line::{DiffJob, Form, STANDARD_INPUT, SourceWord, StateName};
-use am_faults::{Fault, SourceFault, report, report_source, status};
-use am_member::{FileFault, Server, body_of, fetch, held_of, shown_of_row};
+use crate::source::{Keys, Origin, ReadFault, Source, open_row, report_read};
+use am_command_line::{DiffJob, Form, SourceWord, StateName};
+use am_faults::{Fault, SourceFault, report, status};
+use am_member::{Server, body_of, fetch, held_of, shown_of_row};
 use am_merge::Held;
 use am_nflog::MeshEntry;
 use am_silence::MeshSilence;
 use am_silence_json::read_silences;
-use am_snapshot::SnapshotError;
+use am_snapshot::{SnapshotError, row_bytes, row_length};
 use am_told::{
-    Compared, DiffError, DiffOutcome, Input, Manner, Replica, diff_json, diff_rows,
+    DiffError, DiffOutcome, InJson, Input, Manner, Replica, Told, diff_json, diff_rows,
     has_later_source, write_differences, write_differences_json,
 };
-use am_version_order::Moment;
-use std::fs::{self, File};
-use std::io::{self, BufReader, Read, Stdin};
+use am_version_order::{Moment, Version};
+use am_wire::Message;
+use std::io::BufReader;
+use std::mem;
 use std::time::Duration;
-
-/// Where the row of a source stands.
-#[derive(Drop)]
-enum Origin {
-    File(File),
-    StandardInput(Stdin),
-}
-
-impl Read for Origin {
-    fn read(&mut self, buf: &mut [u8]) -> io::Result<usize> {
-        match self {
-            Origin::File(file) => file.read(buf),
-            Origin::StandardInput(input) => input.read(buf),
-        }
-    }
-}
 
 /// A source that is opened.
 type Opened<'a> = Input<'a, BufReader<Origin>>;
@@ -45,7 +31,7 @@ pub fn run<'a>(rt: &'a HostRuntime, job: &DiffJob<'a>) -> u8 {
     };
     match compare(rt, job, now) {
         Ok(outcome) => tell(rt, job, outcome),
-        Err(fault) => report_source(rt, &fault),
+        Err(fault) => report_read(rt, &fault),
     }
 }
 
@@ -66,15 +52,18 @@ fn compare<'a>(
     rt: &HostRuntime,
     job: &DiffJob<'a>,
     now: Moment,
-) -> Result<DiffOutcome, SourceFault<'a>> {
+) -> Result<DiffOutcome, ReadFault<'a>> {
     if job.is_live() {
         let replicas = match ask_all(rt, job) {
             Ok(replicas) => replicas,
             Err(fault) => return Err(fault),
         };
-        return match compare_shown(rt, job, now, &replicas) {
-            Ok(outcome) => Ok(outcome),
-            Err(error) => Err(unnamed(error)),
+        return Ok(compare_held(rt, job, now, &replicas)?);
+    }
+    if job.has_logs {
+        return match job.state {
+            StateName::Silences => compare_logged::<MeshSilence>(rt, job, now),
+            StateName::Log => compare_logged::<MeshEntry>(rt, job, now),
         };
     }
     let mut inputs = match open_all(rt, &job.sources) {
@@ -87,23 +76,15 @@ fn compare<'a>(
     }
 }
 
-/// A fault that is in no source.
-fn unnamed<'a>(error: SnapshotError) -> SourceFault<'a> {
-    SourceFault {
-        name: None,
-        fault: Fault::Snapshot(error),
-    }
-}
-
 /// Why sources of rows were not compared.
-fn named<'a>(job: &DiffJob<'a>, error: DiffError) -> SourceFault<'a> {
+fn named<'a>(job: &DiffJob<'a>, error: DiffError) -> ReadFault<'a> {
     match error {
-        DiffError::Source { number, fault } => SourceFault {
+        DiffError::Source { number, fault } => ReadFault::Source(SourceFault {
             name: job.sources.get(number).map(|source| source.name),
             fault: Fault::Snapshot(fault),
-        },
-        DiffError::Write { written } => unnamed(SnapshotError::Write { written }),
-        DiffError::Memory => unnamed(SnapshotError::Memory),
+        }),
+        DiffError::Write { written } => ReadFault::from(SnapshotError::Write { written }),
+        DiffError::Memory => ReadFault::from(SnapshotError::Memory),
     }
 }
 
@@ -111,75 +92,151 @@ fn named<'a>(job: &DiffJob<'a>, error: DiffError) -> SourceFault<'a> {
 fn open_all<'a>(
     rt: &HostRuntime,
     sources: &[SourceWord<'a>],
-) -> Result<Vec<Opened<'a>>, SourceFault<'a>> {
+) -> Result<Vec<Opened<'a>>, ReadFault<'a>> {
     let mut inputs = Vec::new(rt.alloc());
     for source in sources {
-        let reader = match open(rt, source.file) {
+        let name = source.name;
+        let reader = match open_row(rt, source.file) {
             Ok(reader) => reader,
-            Err(fault) => {
-                return Err(SourceFault {
-                    name: Some(source.name),
-                    fault: Fault::File(fault),
-                });
-            }
+            Err(fault) => return Err(ReadFault::of(name, Fault::File(fault))),
         };
-        let input = Input {
-            name: source.name,
-            reader,
-        };
-        if inputs.push(input).is_err() {
-            return Err(SourceFault {
-                name: Some(source.name),
-                fault: Fault::Snapshot(SnapshotError::Memory),
-            });
+        if inputs.push(Input { name, reader }).is_err() {
+            return Err(ReadFault::of(name, NO_MEMORY));
         }
     }
     Ok(inputs)
 }
 
-/// Opens a source: a file, or standard input.
-fn open(rt: &HostRuntime, file: &str) -> Result<BufReader<Origin>, FileFault> {
-    let origin = if file == STANDARD_INPUT {
-        Origin::StandardInput(rt.stdin())
-    } else {
-        Origin::File(fs::open(rt, file)?)
+/// That memory ran out.
+const NO_MEMORY: Fault = Fault::Snapshot(SnapshotError::Memory);
+
+/// Writes all differences of files, each joined with the logs beside it, to standard output. What was read is forgotten: the
+/// process ends then, and its memory with it.
+fn compare_logged<'a, V: Told + InJson + Message>(
+    rt: &HostRuntime,
+    job: &DiffJob<'a>,
+    now: Moment,
+) -> Result<DiffOutcome, ReadFault<'a>> {
+    let opened = match open_logged(rt, &job.sources) {
+        Ok(opened) => opened,
+        Err(fault) => return Err(fault),
     };
-    Ok(BufReader::new(rt.alloc(), origin)?)
+    let replicas: Vec<Replica<'a, V>> = match read_logged(rt, opened) {
+        Ok(replicas) => replicas,
+        Err(fault) => return Err(fault),
+    };
+    let outcome = compare_held(rt, job, now, &replicas);
+    mem::forget(replicas);
+    Ok(outcome?)
+}
+
+/// Opens all sources, each with the logs beside it.
+fn open_logged<'a>(
+    rt: &HostRuntime,
+    sources: &[SourceWord<'a>],
+) -> Result<Vec<Source<'a>>, ReadFault<'a>> {
+    let mut opened = Vec::new(rt.alloc());
+    for source in sources {
+        let name = source.name;
+        let source = match Source::open(rt, name, source.file, true) {
+            Ok(source) => source,
+            Err(fault) => return Err(fault),
+        };
+        if opened.push(source).is_err() {
+            return Err(ReadFault::of(name, NO_MEMORY));
+        }
+    }
+    Ok(opened)
+}
+
+/// Reads all sources, each to its end before the next.
+fn read_logged<'a, V: Version + Message>(
+    rt: &HostRuntime,
+    opened: Vec<Source<'a>>,
+) -> Result<Vec<Replica<'a, V>>, ReadFault<'a>> {
+    let mut replicas = Vec::new(rt.alloc());
+    for source in opened {
+        let name = source.name();
+        let held: Held<V> = match source.read(rt.alloc(), Keys::Repeated) {
+            Ok(held) => held,
+            Err(fault) => return Err(fault),
+        };
+        if replicas.push(Replica::new(name, held)).is_err() {
+            return Err(ReadFault::of(name, NO_MEMORY));
+        }
+    }
+    Ok(replicas)
 }
 
 /// What all sources show, of which one at least is a server.
 fn ask_all<'a>(
     rt: &HostRuntime,
     job: &DiffJob<'a>,
-) -> Result<Vec<Replica<'a, MeshSilence>>, SourceFault<'a>> {
+) -> Result<Vec<Replica<'a, MeshSilence>>, ReadFault<'a>> {
     let mut replicas = Vec::new(rt.alloc());
     for source in &job.sources {
-        let name = Some(source.name);
-        let held = match shown_by(rt, source, job.time_limit) {
+        let name = source.name;
+        let held = match shown_by(rt, job, source) {
             Ok(held) => held,
-            Err(fault) => return Err(SourceFault { name, fault }),
+            Err(fault) => return Err(fault),
         };
-        if replicas.push(Replica::new(source.name, held)).is_err() {
-            let fault = Fault::Snapshot(SnapshotError::Memory);
-            return Err(SourceFault { name, fault });
+        if replicas.push(Replica::new(name, held)).is_err() {
+            return Err(ReadFault::of(name, NO_MEMORY));
         }
     }
     Ok(replicas)
 }
 
 /// What a source shows.
-fn shown_by(
+fn shown_by<'a>(
     rt: &HostRuntime,
-    source: &SourceWord<'_>,
-    time_limit: Duration,
-) -> Result<Held<MeshSilence>, Fault> {
-    match source.server() {
-        Some(server) => shown_by_server(rt, &server, time_limit),
-        None => {
-            let mut reader = open(rt, source.file)?;
-            Ok(shown_of_row(rt.alloc(), &mut reader)?)
-        }
+    job: &DiffJob<'a>,
+    source: &SourceWord<'a>,
+) -> Result<Held<MeshSilence>, ReadFault<'a>> {
+    let shown = match source.server() {
+        Some(server) => shown_by_server(rt, &server, job.time_limit),
+        None if job.has_logs => return shown_by_logged(rt, source),
+        None => shown_by_file(rt, source.file),
+    };
+    match shown {
+        Ok(held) => Ok(held),
+        Err(fault) => Err(ReadFault::of(source.name, fault)),
     }
+}
+
+/// What a file shows.
+fn shown_by_file(rt: &HostRuntime, file: &str) -> Result<Held<MeshSilence>, Fault> {
+    let mut reader = open_row(rt, file)?;
+    Ok(shown_of_row(rt.alloc(), &mut reader)?)
+}
+
+/// What a file shows that is joined with the logs beside it.
+fn shown_by_logged<'a>(
+    rt: &HostRuntime,
+    source: &SourceWord<'a>,
+) -> Result<Held<MeshSilence>, ReadFault<'a>> {
+    let name = source.name;
+    let source = match Source::open(rt, name, source.file, true) {
+        Ok(source) => source,
+        Err(fault) => return Err(fault),
+    };
+    let held: Held<MeshSilence> = source.read(rt.alloc(), Keys::Repeated)?;
+    match shown_of(rt, &held) {
+        Ok(shown) => Ok(shown),
+        Err(error) => Err(ReadFault::of(name, Fault::Snapshot(error))),
+    }
+}
+
+/// What a state shows, by its row.
+fn shown_of(
+    rt: &HostRuntime,
+    held: &Held<MeshSilence>,
+) -> Result<Held<MeshSilence>, SnapshotError> {
+    let Some(length) = row_length(held) else {
+        return Err(SnapshotError::TooLarge);
+    };
+    let row = row_bytes(rt.alloc(), held, length)?;
+    shown_of_row(rt.alloc(), &mut row.as_slice())
 }
 
 /// What a server shows.
@@ -205,12 +262,12 @@ fn manner_of(job: &DiffJob<'_>, now: Moment) -> Manner {
     }
 }
 
-/// Writes all differences of what sources show to standard output.
-fn compare_shown(
+/// Writes all differences of what sources hold to standard output.
+fn compare_held<V: Told + InJson>(
     rt: &HostRuntime,
     job: &DiffJob<'_>,
     now: Moment,
-    replicas: &[Replica<'_, MeshSilence>],
+    replicas: &[Replica<'_, V>],
 ) -> Result<DiffOutcome, SnapshotError> {
     let alloc = rt.alloc();
     let mut output = rt.stdout();
@@ -218,11 +275,9 @@ fn compare_shown(
     let found = match job.form {
         Form::Lines => {
             let manner = manner_of(job, now);
-            write_differences(alloc, replicas, Compared::Shown, &manner, &mut output)?
+            write_differences(alloc, replicas, job.compared, &manner, &mut output)?
         }
-        Form::Json => {
-            write_differences_json(alloc, replicas, Compared::Shown, now, &mut output)?
-        }
+        Form::Json => write_differences_json(alloc, replicas, job.compared, now, &mut output)?,
     };
     Ok(DiffOutcome { found, has_later })
 }

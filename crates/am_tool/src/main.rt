@@ -8,12 +8,14 @@ ghost use Rattle.am_replay.specs.Replays.{IsReplay};
 ghost use Rattle.am_snapshot.specs.Folds.{IsFold};
 
 mod diff;
+mod fold;
 mod moment;
 mod picture;
 mod progress;
 mod refusal;
 mod schedule_fault;
 mod show;
+mod source;
 
 use am_command_line::{FoldJob, Job, StateName, job_of, words_of};
 use am_faults::{Fault, report, status};
@@ -35,10 +37,19 @@ fn run<'a>(rt: &'a HostRuntime, job: Job<'a>) -> u8 {
     match job {
         Job::Replay(None) => status_of_schedule(rt, replay(rt)),
         Job::Replay(Some(file)) => status_of_schedule(rt, picture::run(rt, file)),
-        Job::Fold(job) => status_of(rt, fold(rt, job)),
+        Job::Fold(job) => run_fold(rt, &job),
         Job::Show(job) => show::run(rt, &job),
         Job::Diff(job) => diff::run(rt, &job),
         Job::Instance(options) => am_daemon::run(rt, &options),
+    }
+}
+
+/// Folds what a job names, and answers the exit status of the program.
+fn run_fold(rt: &HostRuntime, job: &FoldJob<'_>) -> u8 {
+    if job.files.is_empty() {
+        status_of(rt, fold_input(rt, job))
+    } else {
+        fold::run(rt, job)
     }
 }
 
@@ -83,14 +94,14 @@ fn play<R: Read, W: Write, P: Progress>(
 }
 
 /// Folds the row that stands on standard input.
-fn fold(rt: &HostRuntime, job: FoldJob) -> Result<(), Fault> {
+fn fold_input(rt: &HostRuntime, job: &FoldJob<'_>) -> Result<(), Fault> {
     let alloc = rt.alloc();
     let Ok(mut input) = BufReader::new(alloc, rt.stdin()) else {
         return Err(Fault::from(SnapshotError::Memory));
     };
     let mut output = rt.stdout();
-    let FoldJob { state, now } = job;
-    match state {
+    let now = job.now;
+    match job.state {
         StateName::Silences => fold_row::<MeshSilence, _, _>(alloc, &mut input, &mut output, now),
         StateName::Log => fold_row::<MeshEntry, _, _>(alloc, &mut input, &mut output, now),
     }

@@ -2,8 +2,8 @@
 
 use super::instance::{flag, option, time_limit};
 use super::{
-    Form, JSON, StateName, WordsError, form_of, json_flag, mistake, now_flag, now_of, state_flag,
-    state_of,
+    Form, JSON, LOG, LOG_HELP, StateName, WordsError, form_of, is_file, json_flag, log_mistake,
+    mistake, now_flag, now_of, state_flag, state_of,
 };
 use am_member::{Server, port_of, server_of};
 use am_told::Compared;
@@ -44,6 +44,11 @@ impl<'a> SourceWord<'a> {
         server_of(self.place()?)
     }
 
+    /// Whether the source is a file.
+    fn is_file(&self) -> bool {
+        self.place().is_none() && is_file(self.file)
+    }
+
     /// What is said of a source that was meant for a server, and isn't written so.
     fn misspelling(&self) -> Option<&'static str> {
         if self.file.starts_with(OTHER_SCHEME) {
@@ -73,6 +78,8 @@ pub struct DiffJob<'a> {
     pub sources: Vec<SourceWord<'a>>,
     /// For how long a connection to a server may last.
     pub time_limit: Duration,
+    /// Each file stands for itself and the logs beside it.
+    pub has_logs: bool,
 }
 
 impl DiffJob<'_> {
@@ -93,6 +100,7 @@ pub fn command<'a>(alloc: Global, name: &'a str) -> Result<Command<'a>, AllocErr
         .arg(flag(alloc, LONG, LONG_HELP).conflicts_with(JSON)?)?
         .arg(json_flag(alloc, JSON_HELP))?
         .arg(option(alloc, "time-limit", "S", TIME_LIMIT_HELP).default_value("5"))?
+        .arg(flag(alloc, LOG, LOG_HELP))?
         .arg(sources(alloc))
 }
 
@@ -118,6 +126,7 @@ pub fn read_job<'a>(alloc: Global, flags: &ArgMatches<'a>) -> Result<DiffJob<'a>
             now,
             sources,
             time_limit,
+            has_logs: flags.get_flag(LOG),
         }),
         Err(text) => Err(mistake(command(alloc, "am_tool diff"), text)),
     }
@@ -130,7 +139,11 @@ fn numbers_of(
 ) -> Result<(Option<Moment>, Duration), &'static str> {
     let now = now_of(flags)?;
     let time_limit = time_limit(flags)?;
-    match mistake_of(sources).or(live_mistake_of(flags, sources)) {
+    let names_file = sources.iter().any(|source| source.is_file());
+    let said = mistake_of(sources)
+        .or(live_mistake_of(flags, sources))
+        .or(log_mistake(flags, names_file));
+    match said {
         Some(text) => Err(text),
         None => Ok((now, time_limit)),
     }
@@ -284,6 +297,7 @@ The status is 0 where nothing is different, and 5 where something is.
 Examples:
   am_tool diff --state sil a=http://127.0.0.1:9093 b=http://10.0.0.2:9093 c=c.sil
   am_tool diff --state sil --long a=a.sil b=b.sil c=c.sil
+  am_tool diff --state sil --log a=a.sil b=b.sil
   ssh b cat b.nfl | am_tool diff --state nfl --held a=a.nfl b=-
   am_tool diff --state sil --json a=a.sil b=b.sil | jq -r '.[].key.id'";
 

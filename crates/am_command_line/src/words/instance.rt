@@ -40,6 +40,8 @@ pub struct Options<'a> {
     pub time_limit: Duration,
     /// How many connections it serves at once.
     pub at_once: u16,
+    /// How many requests for a decision may wait for its turn.
+    pub waiting: u16,
     /// The most bytes of unfinished requests, greetings and frames that it keeps.
     pub most_unfinished: usize,
     /// The most bytes of the file of one state.
@@ -73,6 +75,7 @@ struct Numbers {
     connections: u64,
     time_limit: Duration,
     at_once: u16,
+    waiting: u16,
     most_unfinished: usize,
     most_bytes: u32,
     lines: u32,
@@ -111,6 +114,7 @@ fn limits<'a>(alloc: Global, command: Command<'a>) -> Result<Command<'a>, AllocE
         .arg(option(alloc, "connections", "N", CONNECTIONS_HELP))?
         .arg(option(alloc, "time-limit", "S", TIME_LIMIT_HELP).default_value("5"))?
         .arg(option(alloc, "at-once", "N", AT_ONCE_HELP).default_value("256"))?
+        .arg(option(alloc, "waiting", "N", WAITING_HELP).default_value("128"))?
         .arg(option(alloc, "most-unfinished", "BYTES", UNFINISHED_HELP).default_value("134217728"))?
         .arg(option(alloc, "most-bytes", "BYTES", MOST_BYTES_HELP).default_value("1073741824"))?
         .arg(option(alloc, "lines-a-second", "N", LINES_HELP).default_value("10"))
@@ -175,6 +179,7 @@ pub fn read_options<'a, R: Files + AllocGlobal>(
         connections: numbers.connections,
         time_limit: numbers.time_limit,
         at_once: numbers.at_once,
+        waiting: numbers.waiting,
         most_unfinished: numbers.most_unfinished,
         most_bytes: numbers.most_bytes,
         lines: numbers.lines,
@@ -207,6 +212,7 @@ fn read_numbers(flags: &ArgMatches<'_>) -> Result<Numbers, &'static str> {
     let connections = connections(flags).ok_or(BAD_CONNECTIONS)?;
     let time_limit = time_limit(flags)?;
     let at_once = number(flags, "at-once", 65_535).ok_or(BAD_AT_ONCE)?;
+    let waiting = number(flags, "waiting", 65_535).ok_or(BAD_WAITING)?;
     let most_unfinished = number(flags, "most-unfinished", u64::MAX).ok_or(BAD_UNFINISHED)?;
     let most_bytes = number(flags, "most-bytes", 4_294_967_295).ok_or(BAD_MOST_BYTES)?;
     let lines = number(flags, "lines-a-second", 65_535).ok_or(BAD_LINES)?;
@@ -217,6 +223,7 @@ fn read_numbers(flags: &ArgMatches<'_>) -> Result<Numbers, &'static str> {
         connections,
         time_limit,
         at_once: at_once as u16,
+        waiting: waiting as u16,
         most_unfinished: most_unfinished as usize,
         most_bytes: most_bytes as u32,
         lines: lines as u32,
@@ -349,6 +356,10 @@ const AT_ONCE_HELP: &str =
     "How many connections it serves at once, 1 to 65535; one that comes beyond gets the place of the one on which nothing \
     has moved for longest";
 
+const WAITING_HELP: &str =
+    "How many requests for a decision wait for its turn, 1 to 65535, and no more than half of --at-once; one that comes \
+    beyond is answered 503";
+
 const UNFINISHED_HELP: &str =
     "How many bytes of unfinished requests and frames it keeps in all, 1 to 18446744073709551615; beyond, the connection \
     that has most of them is closed";
@@ -409,6 +420,9 @@ const BAD_TIME_LIMIT: &str =
 
 const BAD_AT_ONCE: &str =
     "invalid value for '--at-once <N>': a whole number from 1 to 65535 is wanted, in digits alone";
+
+const BAD_WAITING: &str =
+    "invalid value for '--waiting <N>': a whole number from 1 to 65535 is wanted, in digits alone";
 
 const BAD_UNFINISHED: &str =
     "invalid value for '--most-unfinished <BYTES>': a whole number from 1 to 18446744073709551615 is wanted, in digits alone";

@@ -1,9 +1,9 @@
 //! Requests whose patterns are compiled before they are answered, one in a turn of the loop.
 
 use super::Member;
-use super::dialogue::Dialogue;
 use super::host::Host;
 use am_api_silences::Read;
+use am_dialogue::{Dialogue, Work, is_call};
 use am_http::Cause;
 use am_http::session::Said;
 use am_member::{Judged, Judging};
@@ -20,12 +20,15 @@ fn judging_of(alloc: Global, said: &Said) -> Result<Option<Judging>, AllocError>
 impl<R: Host> Member<'_, R> {
     /// Answers what was said, or keeps it until its patterns are compiled.
     pub(super) fn judge(&mut self, dialogue: &mut Dialogue, said: Said) {
+        if is_call(&said) {
+            return self.answer_call(dialogue, said);
+        }
         if self.refuses(dialogue, &said) {
             return;
         }
         let alloc = self.rt.alloc();
         match judging_of(alloc, &said) {
-            Ok(Some(judging)) => dialogue.judging = Some((said, judging)),
+            Ok(Some(judging)) => dialogue.work = Work::Judging(said, judging),
             Ok(None) => self.answer(dialogue, said),
             Err(_) => dialogue.refuse(alloc, &Cause::Memory.refusal()),
         }
@@ -36,7 +39,7 @@ impl<R: Host> Member<'_, R> {
         let alloc = self.rt.alloc();
         let mut judging = judging;
         match judging.go_on() {
-            Ok(Judged::More) => dialogue.judging = Some((said, judging)),
+            Ok(Judged::More) => dialogue.work = Work::Judging(said, judging),
             Ok(Judged::Done) => self.answer_by(dialogue, said, judging),
             Ok(Judged::TooMuch) => dialogue.refuse(alloc, &judging.refusal()),
             Err(_) => dialogue.refuse(alloc, &Cause::Memory.refusal()),

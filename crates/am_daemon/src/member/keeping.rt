@@ -4,111 +4,18 @@
 //! sent to it too, and what is sent to it goes into the logs.
 
 use super::Member;
-use super::dialogue::Dialogue;
 use super::host::Host;
+use am_dialogue::{DISK, Dialogue};
 use am_faults::Fault;
 use am_gossip::{Frame, Part, StateKey};
 use am_instance::Place;
 use am_member::{Parted, part_frames};
-use std::time::{Duration, Instant};
-
-/// The name of the disk among the members: as text it comes behind all names that somebody gives.
-pub const DISK: &str =
-    "\u{10FFFF}\u{10FFFF}\u{10FFFF}\u{10FFFF}\u{10FFFF}\u{10FFFF}\u{10FFFF}\u{10FFFF}";
-
-/// How many milliseconds are between two saves at the least that are made since the logs lack something.
-const SAVE_AT_MOST_EVERY: u64 = 1_000;
-
-/// What is to be in the logs.
-#[derive(Clone, Copy)]
-pub struct Keeping {
-    /// The place of the disk among the members, where logs are kept.
-    disk: Option<Place>,
-    /// How many times something came that is to be in a log.
-    news: u64,
-    /// Something came since the last commit.
-    has_news: bool,
-    /// The logs lack something, so that nothing is kept before a save.
-    is_behind: bool,
-    /// All that was done before the last commit is kept.
-    is_kept: bool,
-    /// Before this no save is made since the logs lack something.
-    next_save: Option<Instant>,
-}
-
-impl Keeping {
-    /// Nothing came yet. The disk has this place, where logs are kept.
-    pub fn new(disk: Option<Place>) -> Keeping {
-        Keeping {
-            disk,
-            news: 0,
-            has_news: false,
-            is_behind: false,
-            is_kept: true,
-            next_save: None,
-        }
-    }
-
-    /// Whether logs are kept.
-    fn is_on(&self) -> bool {
-        self.disk.is_some()
-    }
-
-    /// Something came that is to be in a log.
-    fn add(&mut self) {
-        self.news = self.news.saturating_add(1);
-        self.has_news = true;
-    }
-
-    /// Something came that is in no log.
-    pub fn lose(&mut self) {
-        if self.is_on() {
-            self.add();
-            self.is_behind = true;
-        }
-    }
-
-    /// How many times something came.
-    pub fn news(&self) -> u64 {
-        self.news
-    }
-
-    /// Whether something came since the last commit.
-    pub fn has_news(&self) -> bool {
-        self.has_news
-    }
-
-    /// Whether all that was done before the last commit is kept.
-    pub fn is_kept(&self) -> bool {
-        self.is_kept
-    }
-
-    /// All is in the files, and the logs are begun anew.
-    pub fn is_saved(&mut self) {
-        self.is_behind = false;
-    }
-
-    /// Whether a save may be made since the logs lack something. If so, none may before a second is over.
-    fn may_save(&mut self, now: Instant) -> bool {
-        if let Some(next) = self.next_save
-            && now < next
-        {
-            return false;
-        }
-        self.next_save = now.checked_add(Duration::from_millis(SAVE_AT_MOST_EVERY));
-        true
-    }
-
-    /// Whether this is the place of the disk.
-    pub fn is_disk(&self, place: Place) -> bool {
-        self.disk == Some(place)
-    }
-}
+use std::time::Instant;
 
 impl<R: Host> Member<'_, R> {
     /// Puts what goes to the disk into the logs, and gives what goes to peers.
     pub(super) fn log_frames(&mut self, frames: Vec<(Place, Frame)>) -> Vec<(Place, Frame)> {
-        let Some(disk) = self.keeping.disk else {
+        let Some(disk) = self.keeping.disk() else {
             return frames;
         };
         let alloc = self.rt.alloc();
@@ -153,22 +60,18 @@ impl<R: Host> Member<'_, R> {
 
     /// Makes sure of what was done so far: it is in the logs, or, where they lack something, in the files.
     pub(super) fn keep(&mut self) {
-        self.keeping.has_news = false;
+        self.keeping.begin_commit();
         let alloc = self.rt.alloc();
         let silences = self.silences.commit(alloc).err().map(Fault::Silences);
         self.tell_behind(silences);
         let log = self.log.commit(alloc).err().map(Fault::Log);
         self.tell_behind(log);
-        self.keeping.has_news = false;
-        if self.keeping.is_behind || self.is_outgrown() {
+        self.keeping.begin_commit();
+        if self.keeping.is_behind() {
             self.save_behind();
         }
-        self.keeping.is_kept = !self.keeping.is_behind;
-    }
-
-    /// Whether a log has outgrown its file.
-    fn is_outgrown(&self) -> bool {
-        self.silences.is_outgrown() || self.log.is_outgrown()
+        self.keeping.end_commit();
+        self.want_outgrown();
     }
 
     /// Saves, where the last such save is a second ago.

@@ -4,9 +4,8 @@ ghost use Rattle.std.specs.Prelude.{drop, ⊤};
 ghost use Rattle.am_api_silences.specs.Replies.{bytes_of};
 
 use super::Member;
-use super::dialogue::{Dialogue, ends_pull, is_nothing, may_change};
 use super::host::Host;
-use super::room::bytes_said;
+use am_dialogue::{Dialogue, Work, bytes_said, ends_pull, is_nothing, may_change};
 use am_faults::Fault;
 use am_gossip::Frame;
 use am_http::session::Said;
@@ -17,10 +16,11 @@ use am_member::{
 };
 use am_reactor::{Broken, Failure, LinkFault, Outgoing, Service, Wake};
 use std::io::ErrorKind;
+use std::mem;
 use std::time::{Duration, Instant};
 
 /// The shorter one of two times, where there are such.
-fn sooner(one: Option<Duration>, other: Option<Duration>) -> Option<Duration> {
+pub fn sooner(one: Option<Duration>, other: Option<Duration>) -> Option<Duration> {
     match (one, other) {
         (Some(one), Some(other)) => Some(one.min(other)),
         (one, None) => one,
@@ -142,7 +142,7 @@ impl<R: Host> Member<'_, R> {
     /// What all peers have is here.
     fn end_first_pull(&mut self) {
         if let Ok(now) = Instant::now(self.rt) {
-            self.duties.end_first_pull(self.options, now);
+            self.duties.end_first_pull(now);
         }
     }
 
@@ -150,7 +150,7 @@ impl<R: Host> Member<'_, R> {
     fn give_up_first_pull(&mut self, now: Instant) {
         if self.duties.waits_for_pull() {
             self.turns_away = true;
-            self.duties.end_first_pull(self.options, now);
+            self.duties.end_first_pull(now);
         }
     }
 
@@ -208,6 +208,9 @@ impl<R: Host> Service for Member<'_, R> {
     }
 
     fn broken(&mut self, session: &mut Dialogue, broken: Broken) {
+        if session.due().is_some() {
+            self.turns.end();
+        }
         let peer = self.place_of(session.session.name());
         self.tell_of(peer, fault_of(broken, session.session.is_over()));
     }
@@ -221,12 +224,16 @@ impl<R: Host> Service for Member<'_, R> {
     }
 
     fn resume(&mut self, session: &mut Dialogue) {
-        if let Some(making) = session.making.take() {
-            session.go_on(self.rt.alloc(), making);
-        } else if let Some((said, judging)) = session.judging.take() {
-            self.go_on_judging(session, said, judging);
-        } else if let Some(said) = session.waiting.take() {
-            self.answer_late(session, said);
+        let alloc = self.rt.alloc();
+        match mem::replace(&mut session.work, Work::Nothing) {
+            Work::Nothing => {}
+            Work::Request(said) => self.answer_late(session, said),
+            Work::Judging(said, judging) => self.go_on_judging(session, said, judging),
+            Work::Making(making) => session.go_on(alloc, making),
+            Work::Turn(turn) => session.work = Work::Turn(turn),
+            Work::Due(turn) => self.answer_turn(session, &turn),
+            Work::Deciding(deciding) => self.go_on_deciding(session, deciding),
+            Work::Log(writing) => session.go_on_log(alloc, writing),
         }
     }
 
@@ -246,8 +253,19 @@ impl<R: Host> Service for Member<'_, R> {
         session.release(self.rt.alloc(), self.keeping.is_kept());
     }
 
+    fn due(&self, session: &Dialogue) -> Option<Instant> {
+        session.due()
+    }
+
+    fn come_due(&mut self, session: &mut Dialogue) {
+        match mem::replace(&mut session.work, Work::Nothing) {
+            Work::Turn(turn) => self.take_turn(session, turn),
+            other => session.work = other,
+        }
+    }
+
     fn hurry(&mut self, session: &mut Dialogue) {
-        let said = session.waiting.take();
+        let said = session.take_waiting();
         session.turn_away(self.rt.alloc(), said);
     }
 
@@ -264,7 +282,7 @@ impl<R: Host> Service for Member<'_, R> {
     }
 
     fn held(&self, session: &Dialogue) -> usize {
-        session.session.waiting()
+        session.held()
     }
 
     fn outgoing(&mut self) -> Option<Outgoing> {
@@ -293,7 +311,11 @@ impl<R: Host> Service for Member<'_, R> {
             self.give_up_first_pull(now);
             return Wake::Stop;
         }
-        Wake::GoOn(sooner(self.duties.left(now), self.lines.left(now)))
+        let compaction = self.compact(now);
+        Wake::GoOn(sooner(
+            compaction,
+            sooner(self.duties.left(now), self.lines.left(now)),
+        ))
     }
 
     fn input_ended(&mut self) {

@@ -1,18 +1,15 @@
 //! The start of a member.
 
-use super::clock::Watch;
-use super::duties::Duties;
-use super::files::{OpenedState, StateFile, open_state};
-use super::handing::Share;
+use super::compaction::Compacting;
 use super::host::Host;
-use super::keeping::{DISK, Keeping};
-use super::room::Room;
 use super::started::Started;
-use super::told::Lines;
-use super::{Member, signals, times};
+use super::{Member, times};
 use am_command_line::Options;
+use am_dialogue::{DISK, Duties, Intervals, Keeping, Room, Share, Turns};
 use am_faults::{Fault, report, status};
+use am_files::{StateFile, open_state};
 use am_instance::{Config, ConfigError, Instance, Place};
+use am_lines::{Lines, Watch, signals};
 use am_member::{Peer, greeting, next_moment};
 use am_reactor::{Limits, listen};
 use am_version_order::Moment;
@@ -51,6 +48,7 @@ fn run_on<'a, R: Host>(rt: &'a R, options: &'a Options<'a>) -> Result<Option<Fau
     };
     tell_start(&mut member);
     tell_torn(&mut member);
+    member.save_owed();
     let failed = serve(&mut member, listener);
     Ok(member.end(failed))
 }
@@ -128,13 +126,13 @@ fn member<'a, R: Host>(rt: &'a R, options: &'a Options<'a>) -> Result<Member<'a,
     let (instance, silences, log) = instance(rt, config, options)?;
     let room = Room::of(instance.silences(), options.most_bytes);
     let keeping = Keeping::new(instance.config().place_named(DISK));
-    let has_old_log = silences.has_old_log() || log.has_old_log();
+    let owes_save = silences.owes_save() || log.owes_save();
     let random = random(rt)?;
     let Ok(lines) = Lines::new(rt.alloc(), rt, options.lines) else {
         return Err(Fault::Config(ConfigError::Memory));
     };
     let duties = match Instant::now(rt) {
-        Ok(now) => Duties::new(options, signals::are_blocked(rt), now),
+        Ok(now) => Duties::new(&intervals(options), signals::are_blocked(rt), now),
         Err(error) => return Err(Fault::Clock(error.kind())),
     };
     Ok(Member {
@@ -145,6 +143,8 @@ fn member<'a, R: Host>(rt: &'a R, options: &'a Options<'a>) -> Result<Member<'a,
         log,
         room,
         keeping,
+        compacting: Compacting::new(),
+        turns: Turns::new(options.waiting.min(options.at_once / 2)),
         ports,
         random,
         queue: Vec::new(rt.alloc()),
@@ -153,10 +153,25 @@ fn member<'a, R: Host>(rt: &'a R, options: &'a Options<'a>) -> Result<Member<'a,
         watch: Watch::new(),
         shares,
         awaited,
-        is_changed: has_old_log,
+        is_changed: owes_save,
         stops: false,
         turns_away: false,
     })
+}
+
+/// How often it does what it does by itself.
+fn intervals(options: &Options<'_>) -> Intervals {
+    let waits = options.pull_first && !options.peers.is_empty();
+    Intervals {
+        tick: options.tick_every,
+        pull: options.pull_every,
+        save: options.save_every,
+        first_pull: if waits {
+            Some(options.pull_first_limit)
+        } else {
+            None
+        },
+    }
 }
 
 /// What random bits are drawn from.

@@ -130,7 +130,8 @@ impl Case {
         })
     }
 
-    fn print_hashes(&self, word: &str, hashes: HashIter<'_>) {
+    /// Prints hashes, a word before them; nothing where there are none.
+    pub fn print_hashes(&self, word: &str, hashes: HashIter<'_>) {
         let mut is_first = true;
         for hash in hashes {
             put!(self; if is_first { word } else { "," }, hash);

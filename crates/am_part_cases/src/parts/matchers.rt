@@ -1,7 +1,7 @@
 //! Matchers, filters and mutes; whether a group is notified, and when an instance is due.
 
 use crate::common::{Case, Printed, Spelled, behind, cut, first};
-use crate::parts::requests;
+use crate::parts::hashes;
 use am_dedup::{decide, decide_over, due};
 use am_matcher::{
     BuildError, Compiled, Filter, FilterError, Ids, Labels, Mutes, PatternCache, mutes, verdict,
@@ -24,7 +24,7 @@ pub fn answer(case: &Case, verb: &str, rest: &str) {
         "many-mutes" => many_mutes(case, rest),
         "decide" => say_decisions(case, rest),
         "due" => say_due(case, rest),
-        _ => requests::answer(case, verb, rest),
+        _ => hashes::answer(case, verb, rest),
     }
 }
 

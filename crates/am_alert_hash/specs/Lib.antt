@@ -1,0 +1,2 @@
+pub mod Xxh64
+pub mod Alerts

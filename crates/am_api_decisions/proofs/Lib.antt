@@ -1,0 +1,6 @@
+pub mod Decimals
+pub mod Faults
+pub mod AskedMore
+pub mod Whole
+pub mod EntryRows
+pub mod Told

@@ -1,0 +1,32 @@
+-- What the bodies of requests say, or what is at fault with them. Memory may run out in any of them.
+use Rattle.std.specs.Prelude.{ℕ, List, ⊤}
+use Rattle.serde_json.specs.Data.{Data}
+use Rattle.am_silence_json.specs.Posts.{IsObjectText}
+use Rattle.am_decision_json.specs.Messages as messages
+use Rattle.am_decision_json.specs.Notices as notices
+use Rattle.am_decision_json.specs.declared.message.Message.{Message}
+use Rattle.am_decision_json.specs.declared.notice.Notice.{Notice}
+use Rattle.am_api_decisions.specs.declared.cause.Cause.{Cause}
+use Rattle.am_api_decisions.specs.declared.cause.Cause.TheVariants.{BadJson, BadMessage, Memory}
+
+-- the body is the text of a JSON object that is this message
+abbrev pub IsMessageIn : List ℕ → Message → Type 0
+IsMessageIn body message = (d : Data) × IsObjectText body d × messages.IsMessage d message
+
+-- the body is that of no object, or this is the first key of the object that is at fault
+abbrev pub IsMessageFault : List ℕ → Cause → Type 0
+IsMessageFault body BadJson = (d : Data) → ¬ IsObjectText body d
+IsMessageFault body (BadMessage key) = (d : Data) × IsObjectText body d × messages.IsFirstFault d key
+IsMessageFault body Memory = ⊤
+IsMessageFault body _ = ⊥
+
+-- the body is the text of a JSON object that is this notice
+abbrev pub IsNoticeIn : List ℕ → Notice → Type 0
+IsNoticeIn body notice = (d : Data) × IsObjectText body d × notices.IsNotice d notice
+
+-- the body is that of no object, or this is the first key of the object that is at fault
+abbrev pub IsNoticeFault : List ℕ → Cause → Type 0
+IsNoticeFault body BadJson = (d : Data) → ¬ IsObjectText body d
+IsNoticeFault body (BadMessage key) = (d : Data) × IsObjectText body d × notices.IsFirstFault d key
+IsNoticeFault body Memory = ⊤
+IsNoticeFault body _ = ⊥

@@ -1,0 +1,11 @@
+pub mod Calls
+pub mod Words
+pub mod Terms
+pub mod Bodies
+pub mod Lines
+pub mod Asked
+pub mod Asking
+pub mod Deciding
+pub mod Settling
+pub mod Noticing
+pub mod Entries

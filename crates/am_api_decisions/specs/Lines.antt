@@ -1,0 +1,47 @@
+-- The table of statuses of the calls on decisions: the line that each cause of a refusal has.
+use Rattle.std.specs.Prelude.{ℕ, List, ◌++◌, false, Some, codes}
+use Rattle.am_decision_json.specs.declared.key.MessageKey.{MessageKey}
+use Rattle.am_decision_json.specs.Keys.{key_text}
+use Rattle.am_http.specs.Lines.{RefusalLine, line}
+use Rattle.am_api_silences.specs.Table.{clock_line, memory_line}
+use Rattle.am_instance.specs.declared.error.StepError.{StepError}
+use Rattle.am_instance.specs.declared.error.StepError.TheVariants.{MomentBack, Frame}
+use Rattle.am_api_decisions.specs.declared.cause.Cause.{Cause}
+use Rattle.am_api_decisions.specs.declared.cause.Cause.TheVariants.{NoSuchPath, MethodNotAllowed, BadQuery, BadJson, BadMessage, Memory}
+use Rattle.am_api_decisions.specs.declared.cause.Resource.{Resource}
+use Rattle.am_api_decisions.specs.declared.cause.Resource.TheVariants.{Decisions, Notices, Entries}
+use Rattle.am_api_decisions.specs.declared.cause.Word.{Word}
+use Rattle.am_api_decisions.specs.declared.cause.Word.TheVariants.{Repeat, Resolved, Wait, Index}
+
+-- the method of what a path names
+abbrev pub allowed_at : Resource → List ℕ
+allowed_at Decisions = codes "POST"
+allowed_at Notices = codes "POST"
+allowed_at Entries = codes "GET"
+
+-- what is said of a word of the query
+abbrev pub bad_word : Word → List ℕ
+bad_word Repeat = codes "bad query: repeat"
+bad_word Resolved = codes "bad query: resolved"
+bad_word Wait = codes "bad query: wait"
+bad_word Index = codes "bad query: index"
+
+-- what is said of a key of a message
+abbrev pub bad_key : MessageKey → List ℕ
+bad_key key = codes "bad message: " ++ key_text key
+
+-- the table, in the order in which its lines are tested (status codes of RFC 9110, section 15)
+abbrev pub line_of : Cause → RefusalLine
+line_of NoSuchPath = line 404 (codes "no such path")
+line_of (MethodNotAllowed resource) =
+    record { status = 405; text = codes "method not allowed"; allow = Some (allowed_at resource); bare = false }
+line_of (BadQuery word) = line 400 (bad_word word)
+line_of BadJson = line 400 (codes "bad JSON")
+line_of (BadMessage key) = line 400 (bad_key key)
+line_of Memory = line 500 (codes "out of memory")
+
+-- the line of a step that is refused: the moment is before the last one, an entry is over the limit of its text, or there is no memory
+abbrev pub error_line : StepError → RefusalLine
+error_line (MomentBack last) = clock_line
+error_line (Frame fault) = line 400 (codes "entry too large")
+error_line _ = memory_line

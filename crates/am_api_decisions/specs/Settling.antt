@@ -1,0 +1,116 @@
+-- What a decision is answered, once all alerts of its group are asked.
+use Rattle.std.specs.Prelude.{◌≡◌, ◌⊎◌, ◌&&◌, ◌==◌, ◌*◌, ℕ, Bool, true, false, List, [], length, map, Result, Ok, Err}
+use Rattle.am_dedup.specs.declared.decision.Decision.{Decision}
+use Rattle.am_dedup.specs.declared.decision.Decision.TheVariants.{Skip, Notify}
+use Rattle.am_decision_json.specs.Answers.{answer_data}
+use Rattle.am_decision_json.specs.declared.answer.Answer.{Answer}
+use Rattle.am_decision_json.specs.declared.answer.Why.{Why}
+use Rattle.am_decision_json.specs.declared.answer.Why.TheVariants as whys
+use Rattle.am_http.specs.Lines.{RefusalLine}
+use Rattle.am_instance.specs.InstanceStates.{InstanceState}
+use Rattle.am_instance.specs.OneStep.{IsStep}
+use Rattle.am_instance.specs.declared.error.StepError.{StepError}
+use Rattle.am_instance.specs.declared.event.Event.{Event}
+use Rattle.am_instance.specs.declared.event.Event.TheVariants as events
+use Rattle.am_instance.specs.declared.reply.Outcome.{Outcome}
+use Rattle.am_instance.specs.declared.reply.Reply.{Reply}
+use Rattle.am_instance.specs.declared.reply.Reply.TheVariants as replies
+use Rattle.am_nflog.specs.declared.receiver.Receiver.{Receiver}
+use Rattle.serde_json.specs.Written.{compact_text}
+use Rattle.am_api_silences.specs.Making.{IsNoMemory}
+use Rattle.am_api_silences.specs.Replies.{Says, good_bytes, line_bytes}
+use Rattle.am_api_silences.specs.declared.replies.ReplyBytes.{ReplyBytes}
+use Rattle.am_api_decisions.specs.Asking.{AskedAlert, Counted, IsAskedOn, IsStopped, silenced_in}
+use Rattle.am_api_decisions.specs.Deciding.{Underway}
+use Rattle.am_api_decisions.specs.Lines.{error_line}
+use Rattle.am_api_decisions.specs.declared.group.Group.{Group}
+
+-- the receiver that the log knows: that of the message, with the integration of the terms
+abbrev pub receiver_of : Group → Receiver
+receiver_of group = record { group_name = group.receiver; integration = group.terms.integration; idx = group.terms.index }
+
+-- all alerts are muted
+abbrev pub has_none : Counted → Bool
+has_none counted = (length counted.firing == 0) && (length counted.resolved == 0)
+
+-- the question of a group's alerts that no silence mutes
+abbrev pub decide_event : Group → Counted → Event
+decide_event group counted =
+    events.Decide group.group_key (receiver_of group) counted.firing counted.resolved (group.terms.repeat.seconds * 1_000_000_000)
+    group.terms.send_resolved
+
+-- why a group is notified, or why not
+abbrev pub why_of : Decision → Why
+why_of Skip = whys.Skip
+why_of (Notify reason) = whys.Notify reason
+
+-- it is to be notified
+abbrev pub is_notified : Why → Bool
+is_notified (whys.Notify reason) = true
+is_notified whys.Skip = false
+is_notified whys.Muted = false
+
+-- the answer that tells of a group what is decided, and why
+pub record IsAnswerOf (group : Group) (counted : Counted) (why : Why) (answer : Answer) : Type 0 where
+  pub firing : answer.firing ≡ counted.firing
+  pub resolved : answer.resolved ≡ counted.resolved
+  pub muted : map silenced_in answer.muted.items ≡ counted.muted
+  pub notify : answer.notify ≡ is_notified why
+  pub reason : answer.reason ≡ why
+  pub group_key : answer.group_key ≡ group.group_key
+  pub receiver : answer.receiver ≡ group.receiver
+  pub integration : answer.integration ≡ group.terms.integration
+  pub index : answer.index ≡ group.terms.index
+  pub repeat : answer.repeat ≡ group.terms.repeat.seconds
+
+-- the bytes are the reply 200 with that answer in JSON
+abbrev pub IsAnswerBytes : Group → Counted → Why → List ℕ → Type 0
+IsAnswerBytes group counted why bytes =
+    (answer : Answer) × IsAnswerOf group counted why answer × (bytes ≡ good_bytes (compact_text (answer_data answer)))
+
+-- the bytes that tell what a step decided
+abbrev pub IsDecisionBytes : Group → Counted → Reply → List ℕ → Type 0
+IsDecisionBytes group counted (replies.Decided decision) bytes = IsAnswerBytes group counted (why_of decision) bytes
+IsDecisionBytes group counted _ bytes = ⊥
+
+-- the decision of a step is told, or why it was refused
+abbrev pub TellsDecision : Group → Counted → Result Outcome StepError → ReplyBytes → Type 0
+TellsDecision group counted (Ok outcome) reply = Says (IsDecisionBytes group counted outcome.reply) reply
+TellsDecision group counted (Err error) reply = Says (λ bytes. bytes ≡ line_bytes (error_line error)) reply
+
+-- No step is made, and that all alerts are muted is told.
+pub record IsMutedWhole (group : Group) (counted : Counted) (old : InstanceState) (reply : ReplyBytes) (new : InstanceState) : Type 0 where
+  pub says : Says (IsAnswerBytes group counted whys.Muted) reply
+  pub same : new ≡ old
+
+-- One step decides, over the alerts that no silence mutes, and what it decided is told; or there was no memory to ask for it.
+abbrev pub IsDecidedByStep : ℕ → Group → Counted → InstanceState → ReplyBytes → InstanceState → Type 0
+IsDecidedByStep now group counted old reply new = (IsNoMemory reply × (new ≡ old))
+    ⊎ ((step : Result Outcome StepError) × IsStep old (decide_event group counted) now step new × TellsDecision group counted step reply)
+
+-- what a group is answered, by whether an alert is left
+abbrev pub IsSettledBy : Bool → ℕ → Group → Counted → InstanceState → ReplyBytes → InstanceState → Type 0
+IsSettledBy true now group counted old reply new = IsMutedWhole group counted old reply new
+IsSettledBy false now group counted old reply new = IsDecidedByStep now group counted old reply new
+
+-- What a group is answered, all of whose alerts were asked: where each is muted, no step is made; else one step decides.
+abbrev pub IsSettled : ℕ → Group → Counted → InstanceState → ReplyBytes → InstanceState → Type 0
+IsSettled now group counted old reply new = IsSettledBy (has_none counted) now group counted old reply new
+
+-- All alerts that were left were asked, and then the group is answered.
+pub record IsDecidedOverAll (now : ℕ) (before : Underway) (old : InstanceState) (reply : ReplyBytes) (new : InstanceState) : Type 0 where
+  pub asked : List AskedAlert
+  pub counted : Counted
+  pub mid : InstanceState
+  pub all : IsAskedOn now before.left before.counted old asked [] counted mid
+  pub settled : IsSettled now before.group counted mid reply new
+
+-- Asking stopped at one of the alerts that were left, and why is told.
+pub record IsCutOff (now : ℕ) (before : Underway) (old : InstanceState) (reply : ReplyBytes) (new : InstanceState) : Type 0 where
+  pub line : RefusalLine
+  pub stopped : IsStopped now before.left old line new
+  pub says : Says (λ bytes. bytes ≡ line_bytes line) reply
+
+-- What a decision is answered: that over all alerts, or why not all were asked.
+abbrev pub IsDecided : ℕ → Underway → InstanceState → ReplyBytes → InstanceState → Type 0
+IsDecided now before old reply new = IsDecidedOverAll now before old reply new ⊎ IsCutOff now before old reply new

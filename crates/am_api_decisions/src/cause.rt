@@ -1,0 +1,117 @@
+//! Why a request is refused, and the line of the table of statuses that says so.
+
+ghost use Rattle.std.specs.Prelude.{◌≡◌};
+ghost use Rattle.am_http.specs.Lines.{line_seen, told_to};
+ghost use Rattle.am_api_decisions.specs.Lines.{allowed_at, bad_key, bad_word, line_of};
+
+use am_decision_json::MessageKey;
+use am_http::Refusal;
+
+/// What a path under `/v1/` names.
+#[derive(Clone, Copy, Debug, PartialEq, Eq)]
+pub enum Resource {
+    /// `/v1/decide`
+    Decisions,
+    /// `/v1/notified`
+    Notices,
+    /// `/v1/log`
+    Entries,
+}
+
+/// A word of the query that may be at fault.
+#[derive(Clone, Copy, Debug, PartialEq, Eq)]
+pub enum Word {
+    Repeat,
+    Resolved,
+    Wait,
+    Index,
+}
+
+/// What is at fault in a request before a step is made, in the order in which it is tested.
+#[derive(Clone, Copy, Debug, PartialEq, Eq)]
+pub enum Cause {
+    /// The path names nothing.
+    NoSuchPath,
+    /// What the path names has no such method.
+    MethodNotAllowed(Resource),
+    /// This word of the query has a value that is none.
+    BadQuery(Word),
+    /// The body is no JSON object.
+    BadJson,
+    /// The message in the body has this key wanting or wrong.
+    BadMessage(MessageKey),
+    /// Memory ran out.
+    Memory,
+}
+
+impl Resource {
+    /// The method of the resource, as a field `allow` names it.
+    pub const fn allowed(self) -> &'static str
+        ensures { result.now ≡ allowed_at self }
+    {
+        match self {
+            Resource::Decisions => "POST",
+            Resource::Notices => "POST",
+            Resource::Entries => "GET",
+        }
+    }
+}
+
+/// What is said where the value of a word is none.
+const fn bad_word(word: Word) -> &'static str
+    ensures { result.now ≡ bad_word word }
+{
+    match word {
+        Word::Repeat => "bad query: repeat",
+        Word::Resolved => "bad query: resolved",
+        Word::Wait => "bad query: wait",
+        Word::Index => "bad query: index",
+    }
+}
+
+/// What is said where a key of a message is wanting or wrong.
+const fn bad_key(key: MessageKey) -> &'static str
+    ensures { result.now ≡ bad_key key }
+{
+    match key {
+        MessageKey::GroupKey => "bad message: groupKey",
+        MessageKey::Receiver => "bad message: receiver",
+        MessageKey::Alerts => "bad message: alerts",
+        MessageKey::Labels => "bad message: labels",
+        MessageKey::Status => "bad message: status",
+        MessageKey::Integration => "bad message: integration",
+        MessageKey::Index => "bad message: index",
+        MessageKey::Repeat => "bad message: repeat",
+        MessageKey::Notify => "bad message: notify",
+        MessageKey::Firing => "bad message: firing",
+        MessageKey::Resolved => "bad message: resolved",
+    }
+}
+
+impl Cause {
+    /// The line of the table that the request is refused with.
+    pub const fn refusal(self) -> Refusal
+        ensures { line_seen result ≡ line_of self }
+    {
+        match self {
+            Cause::NoSuchPath => Refusal::new(404, "no such path"),
+            Cause::MethodNotAllowed(resource) => Refusal {
+                status: 405,
+                text: "method not allowed",
+                allow: Some(resource.allowed()),
+                is_bare: false,
+            },
+            Cause::BadQuery(word) => Refusal::new(400, bad_word(word)),
+            Cause::BadJson => Refusal::new(400, "bad JSON"),
+            Cause::BadMessage(key) => Refusal::new(400, bad_key(key)),
+            Cause::Memory => Refusal::new(500, "out of memory"),
+        }
+    }
+
+    /// That line, as it is told to a request of this method.
+    pub fn refusal_to(self, method: &str) -> Refusal
+        ensures { line_seen result ≡ told_to method.now (line_of self) }
+    {
+        self.refusal().told_to(method.as_bytes())
+    }
+}

@@ -1,0 +1,57 @@
+//! The group that a decision is about.
+
+ghost use Rattle.std.specs.Prelude.{◌≡◌, IfOk};
+ghost use Rattle.am_api_decisions.specs.Settling.{decide_event, receiver_of};
+
+use crate::tally::Tally;
+use crate::terms::Terms;
+use am_instance::Event;
+use am_nflog::{Hashes, Receiver};
+use am_wire::{Bytes, Text};
+use std::alloc::{AllocError, Global};
+
+/// A group of alerts, to whom they go, and on which terms.
+#[derive(Drop)]
+pub struct Group {
+    pub group_key: Text,
+    pub receiver: Text,
+    pub terms: Terms,
+}
+
+impl Group {
+    /// The receiver that the log knows.
+    fn log_receiver(&self, alloc: Global) -> Result<Receiver, AllocError>
+        ensures { IfOk result (λ receiver. receiver ≡ receiver_of self.now) }
+    {
+        Ok(Receiver {
+            group_name: self.receiver.try_clone(alloc)?,
+            integration: self.terms.integration.try_clone(alloc)?,
+            idx: self.terms.index,
+        })
+    }
+
+    /// Whether to notify of the alerts that no silence mutes.
+    ///
+    /// # Errors
+    ///
+    /// [`AllocError`] where memory ran out.
+    pub fn event(&self, alloc: Global, tally: &Tally) -> Result<Event, AllocError>
+        ensures { IfOk result (λ event. event ≡ decide_event self.now tally.now) }
+    {
+        Ok(Event::Decide {
+            group_key: Bytes::copied(alloc, self.group_key.as_str().as_bytes())?,
+            receiver: self.log_receiver(alloc)?,
+            firing: copied_hashes(alloc, &tally.firing)?,
+            resolved: copied_hashes(alloc, &tally.resolved)?,
+            repeat: self.terms.repeat.interval(),
+            send_resolved: self.terms.send_resolved,
+        })
+    }
+}
+
+/// A copy of hashes.
+fn copied_hashes(alloc: Global, hashes: &[u64]) -> Result<Hashes, AllocError>
+    ensures { IfOk result (λ copy. copy ≡ hashes.now) }
+{
+    Ok(Hashes::new(hashes.to_vec(alloc)?))
+}

@@ -1,0 +1,68 @@
+//! The calls on decisions.
+
+ghost use Rattle.std.specs.Prelude.{◌≡◌, codes, nat_eq, string_bytes};
+ghost use Rattle.std.specs.List.{before_first, after_first, starts_with};
+ghost use Rattle.am_http.specs.Paths.{path_of, query_of};
+ghost use Rattle.am_api_decisions.specs.Calls.{IsCallOf, is_below};
+
+use crate::cause::{Cause, Resource};
+use am_http::Request;
+
+/// A call on decisions.
+#[derive(Clone, Copy, Debug, PartialEq, Eq)]
+pub enum Call<'a> {
+    /// Whether a group is to be notified, on the terms of the query, which is not decoded.
+    Decide { query: &'a str },
+    /// A group was notified.
+    Notified,
+    /// The live entries of the log.
+    Log,
+}
+
+/// What the paths of all calls on decisions begin with.
+const FRONT: &[u8] = b"/v1/";
+
+/// Whether a request is for one of these calls: its path begins with `/v1/`, whatever its method. All others are for the
+/// silences.
+pub fn is_for_decisions(request: &Request) -> bool
+    ensures { result ≡ is_below (string_bytes request.now.target) }
+{
+    request.target.as_bytes().starts_with(FRONT)
+}
+
+/// The path and the query of a target, cut at the first `?`.
+fn cut(target: &str) -> (&str, &str)
+    ensures path { result.0.now ≡ path_of target.now }
+    ensures query { result.1.now ≡ query_of target.now }
+{
+    match target.split_once('?') {
+        Some(parts) => parts,
+        None => (target, ""),
+    }
+}
+
+/// The call that a request with this method and target asks for.
+///
+/// # Errors
+///
+/// [`Cause::NoSuchPath`] for any other path, and [`Cause::MethodNotAllowed`] for another method on a path that is one.
+pub fn call_of<'a>(method: &str, target: &'a str) -> Result<Call<'a>, Cause>
+    ensures { IsCallOf method.now target.now result }
+{
+    let (path, query) = cut(target);
+    match path {
+        "/v1/decide" => match method {
+            "POST" => Ok(Call::Decide { query }),
+            _ => Err(Cause::MethodNotAllowed(Resource::Decisions)),
+        },
+        "/v1/notified" => match method {
+            "POST" => Ok(Call::Notified),
+            _ => Err(Cause::MethodNotAllowed(Resource::Notices)),
+        },
+        "/v1/log" => match method {
+            "GET" => Ok(Call::Log),
+            _ => Err(Cause::MethodNotAllowed(Resource::Entries)),
+        },
+        _ => Err(Cause::NoSuchPath),
+    }
+}

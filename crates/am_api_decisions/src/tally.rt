@@ -1,0 +1,87 @@
+//! What came of the alerts that were asked.
+
+ghost use Rattle.std.specs.Prelude.{◌≡◌, ◌&&◌, ◌==◌, [], ◌∷◌, OnOk, false, length};
+ghost use Rattle.am_api_decisions.specs.Asking.{counted_with, nothing_counted};
+
+use am_alert_hash::alert_hash;
+use am_decision_json::{Alert, Muted};
+use am_matcher::Ids;
+use std::alloc::{AllocError, Global};
+use std::marker::Model;
+
+/// What came of alerts: the hashes of those that no silence mutes, by whether they fire, and those that are muted.
+#[derive(Drop)]
+pub struct Tally {
+    pub firing: Vec<u64>,
+    pub resolved: Vec<u64>,
+    pub muted: Vec<Muted>,
+}
+
+impl Model for Tally {
+    ghost use Rattle.std.specs.Prelude.{map};
+    ghost use Rattle.am_api_decisions.specs.Asking.{Counted, silenced_in};
+
+    ghost Value = { Counted };
+
+    ghost view = { λ t. record { firing = t.firing.items; resolved = t.resolved.items; muted = map silenced_in t.muted.items } };
+}
+
+impl Tally {
+    /// Nothing so far. It takes no memory.
+    pub fn new(alloc: Global) -> Tally
+        ensures { result ≡ nothing_counted }
+    {
+        Tally {
+            firing: Vec::new(alloc),
+            resolved: Vec::new(alloc),
+            muted: Vec::new(alloc),
+        }
+    }
+
+    /// Whether all alerts are muted.
+    pub fn has_none(&self) -> bool
+        ensures { result ≡ (length self.now.firing == 0) && (length self.now.resolved == 0) }
+    {
+        self.firing.is_empty() && self.resolved.is_empty()
+    }
+
+    /// Adds an alert that no silence mutes.
+    fn add_open(&mut self, alloc: Global, alert: &Alert) -> Result<(), AllocError>
+        ensures { OnOk result (self.new ≡ counted_with self.old (record { alert = alert.now; ids = [] } ∷ [])) }
+    {
+        let hash = alert_hash(alloc, &alert.labels)?;
+        if alert.is_firing {
+            self.firing.push(hash)?;
+        } else {
+            self.resolved.push(hash)?;
+        }
+        Ok(())
+    }
+
+    /// Adds an alert that silences mute.
+    fn add_muted(&mut self, alert: Alert, ids: Ids) -> Result<(), AllocError>
+        requires { (length ids == 0) ≡ false }
+        ensures { OnOk result (self.new ≡ counted_with self.old (record { alert = alert; ids = ids } ∷ [])) }
+    {
+        self.muted.push(Muted {
+            labels: alert.labels,
+            silenced_by: ids.into_vec(),
+        })?;
+        Ok(())
+    }
+
+    /// Adds an alert, and the silences that mute it.
+    ///
+    /// # Errors
+    ///
+    /// [`AllocError`] where memory ran out.
+    pub fn add(&mut self, alloc: Global, alert: Alert, ids: Ids) -> Result<(), AllocError>
+        ensures { OnOk result (self.new ≡ counted_with self.old (record { alert = alert; ids = ids } ∷ [])) }
+    {
+        if ids.as_slice().is_empty() {
+            self.add_open(alloc, &alert)
+        } else {
+            self.add_muted(alert, ids)
+        }
+    }
+}

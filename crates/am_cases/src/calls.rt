@@ -1,0 +1,138 @@
+//! Requests for decisions that come to a member: what they ask, and what is answered.
+
+use crate::members::print_held;
+use am_api_decisions::{
+    Asked, Deciding, Question, asked_of, begin_log, is_for_decisions, log_notice,
+};
+use am_api_silences::{Begun, Making, ReplyBytes, turn_away};
+use am_http::{Read, Refusal, Request, read_request};
+use am_instance::{Instance, Outbox};
+use am_part_cases::common::{Case, Fault, cut, phrase};
+use am_part_cases::put;
+use am_version_order::Moment;
+
+/// How a request is answered.
+#[derive(Clone, Copy)]
+struct Calling {
+    /// The moment of the first alerts' steps, or of the only one.
+    now: Moment,
+    /// The moment of the steps behind those.
+    then: Moment,
+    /// So many alerts or entries come first.
+    most: usize,
+}
+
+/// An answer with which nothing is sent.
+fn quiet(case: &Case, reply: ReplyBytes) -> Begun {
+    Begun {
+        making: Making::Whole(reply),
+        outbox: Outbox::new(case.alloc),
+    }
+}
+
+/// What a request is told that is refused.
+fn refused(case: &Case, refusal: &Refusal) -> ReplyBytes {
+    turn_away(case.alloc, refusal).making.finish(case.alloc)
+}
+
+/// What is decided: the first alerts are asked, and then the others.
+fn decided(
+    case: &Case,
+    instance: &mut Instance,
+    question: Question,
+    calling: Calling,
+) -> ReplyBytes {
+    let deciding = Deciding::new(case.alloc, question);
+    match deciding.go_on(case.alloc, instance, calling.most, calling.now) {
+        Ok(deciding) => deciding.decide(case.alloc, instance, calling.then),
+        Err(refusal) => refused(case, &refusal),
+    }
+}
+
+/// The live entries of the log: the first ones, and then the others.
+fn told(case: &Case, instance: &Instance, calling: Calling) -> Result<ReplyBytes, Refusal> {
+    let writing = begin_log(case.alloc, instance, calling.now)?;
+    let writing = writing.go_on(case.alloc, calling.most)?;
+    Ok(writing.finish(case.alloc))
+}
+
+/// What a request is answered.
+fn answered(case: &Case, instance: &mut Instance, request: &Request, calling: Calling) -> Begun {
+    match asked_of(case.alloc, request) {
+        Err(refusal) => turn_away(case.alloc, &refusal),
+        Ok(Asked::Decide(question)) => {
+            let waits = question.waits();
+            let reply = decided(case, instance, question, calling);
+            if !waits {
+                case.put("at once: ");
+            }
+            quiet(case, reply)
+        }
+        Ok(Asked::Notified(notice)) => log_notice(case.alloc, instance, notice, calling.now),
+        Ok(Asked::Log) => match told(case, instance, calling) {
+            Ok(reply) => quiet(case, reply),
+            Err(refusal) => turn_away(case.alloc, &refusal),
+        },
+    }
+}
+
+/// The request that a text is, of which the body stands in the case where it is posted to a target.
+fn request_in(case: &Case, phrases: &str, text: &str) -> Option<Request> {
+    let bytes = case.unescaped(text);
+    let target = phrase(phrases, "post ");
+    let head = if target.is_empty() {
+        String::new(case.alloc)
+    } else {
+        let size = bytes.len();
+        case.made(format!(in case.alloc;
+            "POST {target} HTTP/1.1\r\ncontent-length: {size}\r\n\r\n"
+        ))?
+    };
+    let mut whole = Vec::new(case.alloc);
+    case.append(&mut whole, head.as_bytes());
+    case.append(&mut whole, bytes.as_slice());
+    match read_request(case.alloc, whole.as_slice(), true) {
+        Read::Whole(request) => return Some(request),
+        Read::Refused(refusal) if refusal.status == 500 => case.fail(Fault::Memory),
+        _ => case.fail(Fault::Words),
+    }
+    None
+}
+
+/// `call at T, then T, first N, post TARGET: TEXT`
+pub fn call(case: &Case, instance: &mut Instance, rest: &str) {
+    let (phrases, text) = cut(rest, ": ");
+    let Some(request) = request_in(case, phrases, text) else {
+        return;
+    };
+    if !is_for_decisions(&request) {
+        return case.put("for the silences\n");
+    }
+    let now = case.moment(phrase(phrases, "at "));
+    let then = phrase(phrases, "then ");
+    let most = phrase(phrases, "first ");
+    let calling = Calling {
+        now,
+        then: if then.is_empty() {
+            now
+        } else {
+            case.moment(then)
+        },
+        most: if most.is_empty() {
+            0
+        } else {
+            case.number(most) as usize
+        },
+    };
+    let Begun { making, outbox } = answered(case, instance, &request, calling);
+    let reply = making.finish(case.alloc);
+    if reply.as_slice().ends_with(b"\"out of memory\"") {
+        case.fail(Fault::Memory);
+    }
+    case.say_text(reply.as_slice());
+    if !outbox.frames.is_empty() {
+        print_held(case, "holds ", instance);
+        put!(case; ", sends ", outbox.frames.len());
+        case.put("\n");
+    }
+}

@@ -1,0 +1,157 @@
+//! Decisions for programs that send pages: what they ask is answered at once, or at this member's turn.
+
+use super::Member;
+use super::host::Host;
+use am_api_decisions::{Asked, Deciding, Notice, Question, asked_of, begin_log, log_notice};
+use am_api_silences::{Begun, Making, Read, Refusal, Request};
+use am_dialogue::{Dialogue, Turn, Work};
+use am_http::session::Said;
+use am_instance::Outbox;
+use am_member::next_moment;
+use am_version_order::Moment;
+use std::time::{Duration, Instant};
+
+/// About how many times an alert is held against a silence in a turn of the loop.
+const STRETCH: usize = 65_536;
+
+/// An alert costs as much as holding it against so many silences, beside those that there are.
+const BESIDE: usize = 64;
+
+/// How long it is from one moment to a later one.
+fn time_between(from: Moment, to: Moment) -> Duration {
+    let (first, before) = from.parts();
+    let (last, behind) = to.parts();
+    Duration::new(last.saturating_sub(first).max(0) as u64, behind).saturating_sub(Duration::new(
+        0, before,
+    ))
+}
+
+/// How many alerts are held against so many silences in a turn of the loop.
+fn stretch_over(silences: usize) -> usize {
+    (STRETCH / silences.max(BESIDE)).max(1)
+}
+
+impl<R: Host> Member<'_, R> {
+    /// Answers a call of a program that sends pages, or keeps it until its turn.
+    pub(super) fn answer_call(&mut self, dialogue: &mut Dialogue, said: Said) {
+        let Said { request, .. } = said;
+        let Some(Read::Whole(request)) = request else {
+            return;
+        };
+        match asked_of(self.rt.alloc(), &request) {
+            Ok(asked) => self.take_up(dialogue, request, asked),
+            Err(refusal) => dialogue.refuse(self.rt.alloc(), &refusal),
+        }
+    }
+
+    /// Answers what is asked, or keeps its request until its turn.
+    fn take_up(&mut self, dialogue: &mut Dialogue, request: Request, asked: Asked) {
+        match asked {
+            Asked::Decide(question) => match self.turn_of(&question) {
+                Some(due) => self.wait_for_turn(dialogue, Turn::new(request, due)),
+                None => self.begin_deciding(dialogue, question),
+            },
+            Asked::Notified(notice) => self.log(dialogue, notice),
+            Asked::Log => self.list_log(dialogue),
+        }
+    }
+
+    /// When it is this member's turn to answer a question that came now, if not at once.
+    fn turn_of(&self, question: &Question) -> Option<Instant> {
+        if !question.waits() {
+            return None;
+        }
+        let now = next_moment(self.rt, self.instance.last());
+        let wait = time_between(now, self.instance.due_from(now)?);
+        if wait == Duration::ZERO {
+            return None;
+        }
+        Instant::now(self.rt).ok()?.checked_add(wait)
+    }
+
+    /// Has a request wait for its turn, where another one may.
+    fn wait_for_turn(&mut self, dialogue: &mut Dialogue, turn: Turn) {
+        if self.turns.begin() {
+            dialogue.work = Work::Turn(turn);
+        } else {
+            dialogue.refuse(self.rt.alloc(), &Refusal::new(503, "too many wait"));
+        }
+    }
+
+    /// The turn of a request has come: it is answered, or waits for its place in the line. Where the member stops, it is turned
+    /// away.
+    pub(super) fn take_turn(&mut self, dialogue: &mut Dialogue, turn: Turn) {
+        self.turns.end();
+        if self.stops {
+            return dialogue.refuse(self.rt.alloc(), &Refusal::new(503, "member stops"));
+        }
+        if turn.is_dear() {
+            dialogue.work = Work::Due(turn);
+        } else {
+            self.answer_turn(dialogue, &turn);
+        }
+    }
+
+    /// Begins to answer a request whose turn has come.
+    pub(super) fn answer_turn(&mut self, dialogue: &mut Dialogue, turn: &Turn) {
+        let alloc = self.rt.alloc();
+        match asked_of(alloc, turn.request()) {
+            Ok(Asked::Decide(question)) => self.begin_deciding(dialogue, question),
+            Ok(_) => {}
+            Err(refusal) => dialogue.refuse(alloc, &refusal),
+        }
+    }
+
+    /// Begins to answer a question.
+    fn begin_deciding(&mut self, dialogue: &mut Dialogue, question: Question) {
+        let deciding = Deciding::new(self.rt.alloc(), question);
+        self.go_on_deciding(dialogue, deciding);
+    }
+
+    /// Holds a stretch more of the alerts against the silences. Where none is left, it is decided.
+    pub(super) fn go_on_deciding(&mut self, dialogue: &mut Dialogue, deciding: Deciding) {
+        let alloc = self.rt.alloc();
+        let now = next_moment(self.rt, self.instance.last());
+        let most = stretch_over(self.instance.silences().len());
+        match deciding.go_on(alloc, &mut self.instance, most, now) {
+            Ok(deciding) if deciding.is_asked() => self.decide(dialogue, deciding, now),
+            Ok(deciding) => dialogue.work = Work::Deciding(deciding),
+            Err(refusal) => dialogue.refuse(alloc, &refusal),
+        }
+    }
+
+    /// Decides, now that all alerts were held against the silences.
+    fn decide(&mut self, dialogue: &mut Dialogue, deciding: Deciding, now: Moment) {
+        let alloc = self.rt.alloc();
+        let reply = deciding.decide(alloc, &mut self.instance, now);
+        self.reply_to_call(dialogue, Making::Whole(reply), Outbox::new(alloc));
+    }
+
+    /// Logs what was notified.
+    fn log(&mut self, dialogue: &mut Dialogue, notice: Notice) {
+        self.is_changed = true;
+        let now = next_moment(self.rt, self.instance.last());
+        let Begun { making, outbox } = log_notice(self.rt.alloc(), &mut self.instance, notice, now);
+        self.reply_to_call(dialogue, making, outbox);
+    }
+
+    /// Begins to write the entries of the log that are live.
+    fn list_log(&mut self, dialogue: &mut Dialogue) {
+        let alloc = self.rt.alloc();
+        let now = next_moment(self.rt, self.instance.last());
+        match begin_log(alloc, &self.instance, now) {
+            Ok(writing) => dialogue.work = Work::Log(writing),
+            Err(refusal) => dialogue.refuse(alloc, &refusal),
+        }
+    }
+
+    /// Has a reply go out, and what its step sends: behind the next commit, where something came since the last one.
+    fn reply_to_call(&mut self, dialogue: &mut Dialogue, making: Making, outbox: Outbox) {
+        let news = self.keeping.news();
+        self.follow_step(outbox);
+        dialogue.reply_with(self.rt.alloc(), Some(making));
+        if self.keeping.has_news() {
+            dialogue.hold_back(self.keeping.news() != news);
+        }
+    }
+}

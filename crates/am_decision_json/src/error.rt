@@ -1,0 +1,47 @@
+//! Why a body is refused.
+
+use crate::key::MessageKey;
+use std::alloc::{AllocError, AllocFailed};
+use std::fmt;
+use thiserror::Error;
+
+/// Why the body of a message or of a notice is refused.
+#[derive(Clone, Copy, Debug, PartialEq, Eq, Error)]
+pub enum MessageError {
+    /// It is no JSON, or no object.
+    #[error("bad JSON")]
+    BadJson,
+    /// What stands at this key is wanting or of another kind.
+    #[error("bad message: {0}")]
+    BadMessage(MessageKey),
+    #[error("out of memory")]
+    Memory,
+}
+
+impl fmt::Display for MessageKey {
+    fn fmt<W: fmt::Write>(&self, f: &mut fmt::Formatter<W>) -> fmt::Result {
+        f.write_str(self.text())
+    }
+}
+
+impl From<AllocError> for MessageError {
+    ghost use Rattle.std.specs.Prelude.{◌≡◌};
+    ghost use Rattle.am_decision_json.specs.declared.error.MessageError.TheVariants.{Memory};
+
+    ghost from_gives = { λ _ e. e ≡ Memory };
+
+    fn from(_: AllocError) -> MessageError {
+        MessageError::Memory
+    }
+}
+
+impl<T: Drop> From<AllocFailed<T>> for MessageError {
+    ghost use Rattle.std.specs.Prelude.{◌≡◌};
+    ghost use Rattle.am_decision_json.specs.declared.error.MessageError.TheVariants.{Memory};
+
+    ghost from_gives = { λ _ e. e ≡ Memory };
+
+    fn from(_: AllocFailed<T>) -> MessageError {
+        MessageError::Memory
+    }
+}

@@ -1,0 +1,40 @@
+//! What stands at a key of an object.
+
+ghost use Rattle.std.specs.Prelude.{◌≡◌, option_copied, option_map, option_and_then};
+ghost use Rattle.serde_json.specs.Find.{as_array, get};
+ghost use Rattle.serde_json.specs.View.{view, items_view};
+ghost use Rattle.am_silence_json.specs.Posts.{text_in, truth_in};
+ghost use Rattle.am_decision_json.specs.Found.{number_in};
+
+use serde_json::Value;
+
+/// The text at a key.
+pub fn text_in<'v>(object: &'v Value, key: &str) -> Option<&'v str>
+    ensures { option_copied result ≡ text_in key.now (view object.now) }
+{
+    object.get(key).and_then(Value::as_str)
+}
+
+/// The truth value at a key.
+pub fn truth_in(object: &Value, key: &str) -> Option<bool>
+    ensures { result ≡ truth_in key.now (view object.now) }
+{
+    object.get(key).and_then(Value::as_bool)
+}
+
+/// The whole number at a key.
+pub fn number_in(object: &Value, key: &str) -> Option<u64>
+    ensures { result ≡ number_in key.now (view object.now) }
+{
+    object.get(key).and_then(Value::as_u64)
+}
+
+/// The values of the array at a key.
+pub fn array_in<'v>(object: &'v Value, key: &str) -> Option<&'v [Value]>
+    ensures { option_map (λ values. items_view values.now) result ≡ option_and_then as_array (get key.now (view object.now)) }
+{
+    match object.get(key).and_then(Value::as_array) {
+        Some(values) => Some(values.as_slice()),
+        None => None,
+    }
+}

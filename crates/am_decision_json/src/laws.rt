@@ -1,0 +1,27 @@
+//! What holds of answers and notices.
+
+ghost use Rattle.std.specs.Prelude.{◌≡◌, ℕ, ◌<◌, ◌^◌, Some};
+ghost use Rattle.serde_json.specs.Data.{Data};
+ghost use Rattle.serde_json.specs.Written.{compact_text};
+ghost use Rattle.am_silence_json.specs.Posts.{IsObjectText};
+ghost use Rattle.am_decision_json.specs.declared.answer.Answer.{Answer};
+ghost use Rattle.am_decision_json.specs.Hashes.{hash_text, hash_of};
+ghost use Rattle.am_decision_json.specs.Answers.{answer_data};
+ghost use Rattle.am_decision_json.specs.Notices.{IsNotice};
+ghost use Rattle.am_decision_json.specs.Sound.{IsAnswer, IsToNotify, notice_from};
+
+/// The text of a hash is read as that hash.
+pub fn a_written_hash_is_read()
+    ensures { (hash : ℕ) → hash < 2 ^ 64 → hash_of (hash_text hash) ≡ Some hash }
+{}
+
+/// What [`write_answer`](crate::write_answer) writes of an answer is the text of its value.
+pub fn a_written_answer_is_read()
+    ensures { (a : Answer) → IsAnswer a → IsObjectText (compact_text (answer_data a)) (answer_data a) }
+{}
+
+/// What [`write_answer`](crate::write_answer) writes of an answer to notify is read as the notice that says the same.
+pub fn a_written_answer_is_a_notice()
+    ensures { (a : Answer) (d : Data) → IsAnswer a → IsToNotify a → IsObjectText (compact_text (answer_data a)) d →
+        IsNotice d (notice_from a) }
+{}

@@ -1,0 +1,151 @@
+//! What was notified: an answer, as it is posted back.
+
+ghost use Rattle.std.specs.Prelude.{◌≡◌, ◌≢◌, IfOk, IsErrOf, Ok, Err};
+ghost use Rattle.serde_json.specs.Data.{Data};
+ghost use Rattle.serde_json.specs.View.{view};
+ghost use Rattle.am_silence_json.specs.Posts.{IsObjectText};
+ghost use Rattle.am_decision_json.specs.declared.error.MessageError.TheVariants as errors;
+ghost use Rattle.am_decision_json.specs.declared.key.MessageKey.{MessageKey};
+ghost use Rattle.am_decision_json.specs.Notices.{index_of, index_in, interval_of, repeat_in, is_told, receiver_of, hash_lists_of};
+ghost use Rattle.am_decision_json.specs.Notices.{IsNotice, IsFirstFault};
+
+use crate::bodies::object_in;
+use crate::error::MessageError;
+use crate::find::{number_in, text_in, truth_in};
+use crate::hashes::read_hashes;
+use crate::key::MessageKey;
+use am_nflog::{Hashes, Receiver, ReceiverRef};
+use am_version_order::Interval;
+use am_wire::Text;
+use serde_json::Value;
+use std::alloc::Global;
+
+/// What was notified: an answer, as it is posted back.
+#[derive(Drop)]
+pub struct Notice {
+    pub group_key: Text,
+    pub receiver: Receiver,
+    pub firing: Hashes,
+    pub resolved: Hashes,
+    pub repeat: Interval,
+}
+
+/// A number of 32 bits.
+fn index_of(number: u64) -> Option<u32>
+    ensures { result ≡ index_of number }
+{
+    if number < 1 << 32 {
+        Some(number as u32)
+    } else {
+        None
+    }
+}
+
+/// The number of an integration in its receiver.
+fn index_in(object: &Value) -> Option<u32>
+    ensures { result ≡ index_in (view object.now) }
+{
+    index_of(number_in(object, "index")?)
+}
+
+/// An interval of so many seconds.
+fn interval_of(seconds: u64) -> Option<Interval>
+    ensures { result ≡ interval_of seconds }
+{
+    Interval::from_seconds(seconds)
+}
+
+/// The repeat interval.
+fn repeat_in(object: &Value) -> Option<Interval>
+    ensures { result ≡ repeat_in (view object.now) }
+{
+    interval_of(number_in(object, "repeat")?)
+}
+
+/// Whether somebody was to be notified.
+fn is_told(object: &Value) -> bool
+    ensures { result ≡ is_told (view object.now) }
+{
+    truth_in(object, "notify").unwrap_or(false)
+}
+
+/// Who was notified.
+fn read_receiver(alloc: Global, object: &Value) -> Result<Receiver, MessageError>
+    ensures read { IfOk result (λ receiver. receiver_of (view object.now) ≡ Ok receiver) }
+    ensures wrong { (key : MessageKey) → IsErrOf result (errors.BadMessage key) → receiver_of (view object.now) ≡ Err key }
+    ensures object { result ≢ Err errors.BadJson }
+{
+    let Some(group_name) = text_in(object, "receiver") else {
+        return Err(MessageError::BadMessage(MessageKey::Receiver));
+    };
+    let Some(integration) = text_in(object, "integration") else {
+        return Err(MessageError::BadMessage(MessageKey::Integration));
+    };
+    let Some(idx) = index_in(object) else {
+        return Err(MessageError::BadMessage(MessageKey::Index));
+    };
+    let receiver = ReceiverRef::new(group_name, integration, idx).copied(alloc)?;
+    Ok(receiver)
+}
+
+/// The hashes of the alerts that fire, and of those that are resolved.
+fn read_lists(alloc: Global, object: &Value) -> Result<(Hashes, Hashes), MessageError>
+    ensures read { IfOk result (λ lists. hash_lists_of (view object.now) ≡ Ok lists) }
+    ensures wrong { (key : MessageKey) → IsErrOf result (errors.BadMessage key) → hash_lists_of (view object.now) ≡ Err key }
+    ensures object { result ≢ Err errors.BadJson }
+{
+    let Some(firing) = read_hashes(alloc, object, "firing")? else {
+        return Err(MessageError::BadMessage(MessageKey::Firing));
+    };
+    let Some(resolved) = read_hashes(alloc, object, "resolved")? else {
+        return Err(MessageError::BadMessage(MessageKey::Resolved));
+    };
+    Ok((firing, resolved))
+}
+
+/// The notice that an object is.
+#[tactic(auto, unfolding(crate::specs::Notices::notice_of))]
+fn read_object(alloc: Global, object: &Value) -> Result<Notice, MessageError>
+    ensures read { IfOk result (IsNotice (view object.now)) }
+    ensures wrong { (key : MessageKey) → IsErrOf result (errors.BadMessage key) → IsFirstFault (view object.now) key }
+    ensures object { result ≢ Err errors.BadJson }
+{
+    let Some(group_key) = text_in(object, "groupKey") else {
+        return Err(MessageError::BadMessage(MessageKey::GroupKey));
+    };
+    let group_key = Text::copied(alloc, group_key)?;
+    let receiver = read_receiver(alloc, object)?;
+    let Some(repeat) = repeat_in(object) else {
+        return Err(MessageError::BadMessage(MessageKey::Repeat));
+    };
+    if !is_told(object) {
+        return Err(MessageError::BadMessage(MessageKey::Notify));
+    }
+    let (firing, resolved) = read_lists(alloc, object)?;
+    Ok(Notice {
+        group_key,
+        receiver,
+        firing,
+        resolved,
+        repeat,
+    })
+}
+
+/// What the body of a request says was notified: an answer, as [`write_answer`](crate::write_answer) writes it. `muted` and
+/// `reason` are passed over, as all keys that answers don't have; of a key that comes twice the last counts.
+///
+/// # Errors
+///
+/// [`MessageError::BadJson`] where the body is no JSON, or no object; else [`MessageError::BadMessage`] with the first key
+/// that is wanting or of another kind, in the order `groupKey`, `receiver`, `integration`, `index`, `repeat`, `notify`, which
+/// has to be true, `firing`, `resolved`; [`MessageError::Memory`] where memory runs out.
+pub fn read_notice(alloc: Global, body: &[u8]) -> Result<Notice, MessageError>
+    ensures notice { IfOk result (λ n. (d : Data) × IsObjectText body.now d × IsNotice d n) }
+    ensures bad_json { IsErrOf result errors.BadJson → (d : Data) → ¬ IsObjectText body.now d }
+    ensures wrong { (key : MessageKey) → IsErrOf result (errors.BadMessage key) →
+        (d : Data) × IsObjectText body.now d × IsFirstFault d key }
+{
+    let object = object_in(alloc, body)?;
+    let notice = read_object(alloc, &object)?;
+    Ok(notice)
+}

@@ -1,0 +1,27 @@
+-- What logs have, and what they make of a map.
+-- X is the type of versions, `seen` is what the merge sees of one, and `reads` what reading one gives.
+use Rattle.std.specs.Prelude.{◌≡◌, ℕ, List, [], ◌∷◌, ◌++◌, Result}
+use Rattle.am_version_order.specs.Versions.{Version}
+use Rattle.am_wire.specs.declared.error.WireError.{WireError}
+use Rattle.am_wire.specs.Inputs.{AreMessages}
+use Rattle.am_journal.specs.Blocks.{recovered}
+use Rattle.am_snapshot.specs.Best.{HoldsBest}
+
+module _ {K X : Type 0} (seen : X → Version K) (reads : ℕ → List ℕ → Result X WireError) where
+  -- the versions of batches, each of which is a row of some, in their order
+  abbrev pub AreInBatches : List (List ℕ) → List X → Type 0
+  AreInBatches [] versions = versions ≡ []
+  AreInBatches (batch ∷ batches) versions =
+      (first : List X) × (others : List X) × AreMessages reads batch first × AreInBatches batches others × (versions ≡ first ++ others)
+
+  -- a map has of each key the best among the versions of another map and of a row
+  pub record JoinsRow (map : List X) (row : List ℕ) (joined : List X) : Type 0 where
+    pub versions : List X
+    pub all : AreMessages reads row versions
+    pub best : HoldsBest seen (map ++ versions) joined
+
+  -- a map has of each key the best among the versions of another map and of all whole batches of a log
+  pub record JoinsLog (map : List X) (log : List ℕ) (joined : List X) : Type 0 where
+    pub versions : List X
+    pub all : AreInBatches (recovered log) versions
+    pub best : HoldsBest seen (map ++ versions) joined

@@ -1,0 +1,18 @@
+//! The files of a state: one that has all of it, the logs beside it of what came since, and how the one is written anew while
+//! the state changes.
+#![tactic(auto)]
+
+mod beside;
+mod compaction;
+mod lock;
+mod log;
+mod logs;
+mod reading;
+mod recovering;
+mod state;
+
+pub use compaction::{Compaction, compact};
+pub use logs::{LogFault, Logs};
+pub use reading::{FoundLogs, LogEnd, join_batches};
+pub use recovering::{Recovered, load_state, recover};
+pub use state::{OpenedState, StateFile, open_state};

@@ -1,0 +1,174 @@
+//! The log of a state: what was taken since its file was written, on the disk before it is answered.
+
+use crate::beside::{LOG, OLD_LOG, beside, remove_logs};
+use crate::reading::{LogEnd, NO_LOG, fault_of};
+use am_journal::{Found, Journal, LogError, LogFile, open_file};
+use am_member::{FileFault, directory_of, sync_directory};
+use am_snapshot::SnapshotError;
+use std::alloc::Global;
+use std::fs::{self, File, OpenOptions};
+use std::rt::Files;
+
+/// The most bytes of a batch, but where one row has more: what comes beyond is a batch of its own.
+const MOST_OF_BATCH: usize = 1 << 24;
+
+/// How many bytes a log may have before the file of its state is written anew, where that has fewer.
+const LEAST_OUTGROWN: u64 = 1 << 20;
+
+/// The log of a state.
+#[derive(Drop)]
+pub struct StateLog {
+    /// The file of the log, as long as it is trusted.
+    journal: Option<Journal<LogFile<Found>>>,
+    /// The rows that wait for the next commit.
+    batch: Vec<u8>,
+}
+
+/// The log that stands in a file, whose whole blocks take so many bytes.
+fn log_in(file: File, end: u64) -> Result<Journal<LogFile<Found>>, FileFault> {
+    let Some(found) = Found::new(end) else {
+        return Err(NO_LOG);
+    };
+    match open_file(file, found) {
+        Ok(journal) => Ok(journal),
+        Err(error) => Err(fault_of(error)),
+    }
+}
+
+/// A new log at a path at which nothing stands, which is in its directory from now on.
+fn new_log<R: Files<File = File>>(
+    rt: &R,
+    path: &str,
+) -> Result<Journal<LogFile<Found>>, FileFault> {
+    let journal = log_in(File::create_new(rt, path)?, 0)?;
+    sync_directory(rt, directory_of(path))?;
+    Ok(journal)
+}
+
+/// The log that was read up to its end, or a new one where there was none. It is in its directory from now on: the process that
+/// made it may have ended before it handed that to the disk.
+fn old_log<R: Files<File = File>>(
+    rt: &R,
+    path: &str,
+    read: Option<LogEnd>,
+) -> Result<Journal<LogFile<Found>>, FileFault> {
+    let Some(LogEnd { end, .. }) = read else {
+        return new_log(rt, path);
+    };
+    let mut how = OpenOptions::new();
+    how.read(true).write(true);
+    let journal = log_in(how.open(rt, path)?, end)?;
+    sync_directory(rt, directory_of(path))?;
+    Ok(journal)
+}
+
+impl StateLog {
+    /// The log beside the file of this path, which was read so far.
+    ///
+    /// # Errors
+    ///
+    /// What the system says.
+    pub fn open<R: Files<File = File> + AllocGlobal>(
+        rt: &R,
+        path: &str,
+        read: Option<LogEnd>,
+    ) -> Result<StateLog, FileFault> {
+        let name = beside(rt.alloc(), path, LOG)?;
+        let journal = old_log(rt, name.as_str(), read)?;
+        Ok(StateLog {
+            journal: Some(journal),
+            batch: Vec::new(rt.alloc()),
+        })
+    }
+
+    /// Whether what is added to it will be on the disk.
+    pub fn is_trusted(&self) -> bool {
+        self.journal.is_some()
+    }
+
+    /// Adds rows to those that wait. Where they are many, those before them are committed.
+    ///
+    /// # Errors
+    ///
+    /// Why they don't wait, or weren't committed.
+    pub fn append(&mut self, alloc: Global, rows: &[u8]) -> Result<(), FileFault> {
+        if rows.len() > MOST_OF_BATCH.saturating_sub(self.batch.len()) {
+            self.commit(alloc)?;
+        }
+        match self.batch.extend_from_slice(rows) {
+            Ok(()) => Ok(()),
+            Err(_) => Err(FileFault::Snapshot(SnapshotError::Memory)),
+        }
+    }
+
+    /// Hands to the disk what waits. Where that fails, the log is trusted no more, and nothing waits.
+    ///
+    /// # Errors
+    ///
+    /// Why it isn't on the disk.
+    pub fn commit(&mut self, alloc: Global) -> Result<(), FileFault> {
+        if self.batch.is_empty() {
+            return Ok(());
+        }
+        let committed = match &mut self.journal {
+            Some(journal) => journal.commit(alloc, &self.batch),
+            None => Err(LogError::Closed),
+        };
+        self.batch.clear();
+        match committed {
+            Ok(()) => Ok(()),
+            Err(error) => {
+                self.journal = None;
+                Err(fault_of(error))
+            }
+        }
+    }
+
+    /// Whether it is larger than the file of the state, which has so many bytes, and than 1 MiB.
+    pub fn is_outgrown(&self, file: u64) -> bool {
+        match &self.journal {
+            Some(journal) => journal.len() > file.max(LEAST_OUTGROWN),
+            None => false,
+        }
+    }
+
+    /// Begins a new one, and leaves what was committed so far as the old log, where none stands. What waits goes into the new
+    /// one.
+    ///
+    /// # Errors
+    ///
+    /// What the system says. Where the old log stands then and no new one, none is trusted.
+    pub fn rotate<R: Files<File = File> + AllocGlobal>(
+        &mut self,
+        rt: &R,
+        path: &str,
+    ) -> Result<(), FileFault> {
+        let name = beside(rt.alloc(), path, LOG)?;
+        let old = beside(rt.alloc(), path, OLD_LOG)?;
+        if !self.is_trusted() {
+            return Err(NO_LOG);
+        }
+        fs::rename(rt, name.as_str(), old.as_str())?;
+        self.journal = None;
+        self.journal = Some(new_log(rt, name.as_str())?);
+        Ok(())
+    }
+
+    /// Begins it anew, now that all is in the file of the state. What waits is there, too.
+    ///
+    /// # Errors
+    ///
+    /// What the system says. The log isn't trusted then.
+    pub fn begin_anew<R: Files<File = File> + AllocGlobal>(
+        &mut self,
+        rt: &R,
+        path: &str,
+    ) -> Result<(), FileFault> {
+        self.journal = None;
+        self.batch.clear();
+        remove_logs(rt, path)?;
+        let name = beside(rt.alloc(), path, LOG)?;
+        self.journal = Some(new_log(rt, name.as_str())?);
+        Ok(())
+    }
+}

@@ -1,0 +1,174 @@
+//! The logs beside a file, as one reads them who doesn't have the file: nothing is locked, written, cut or handed to the disk.
+
+ghost use Rattle.std.specs.Prelude.{OnOk, IfSome};
+ghost use Rattle.am_snapshot.specs.Saving.{FitsRow};
+ghost use Rattle.am_files.specs.Logs.{JoinsLog};
+
+use crate::beside::{LOG, OLD_LOG, beside};
+use crate::reading::join_batches;
+use am_member::{FileFault, is_there, target_of};
+use am_merge::Held;
+use am_snapshot::{SnapshotError, row_length_within};
+use am_version_order::Version;
+use am_wire::Message;
+use std::alloc::Global;
+use std::fs::{self, File};
+use std::io::{BufReader, ErrorKind, Read};
+use std::rt::Files;
+
+/// The logs that stand beside a file, opened.
+#[derive(Drop)]
+pub struct Logs {
+    opened: Vec<OpenedLog>,
+}
+
+/// A log that is opened.
+#[derive(Drop)]
+struct OpenedLog {
+    path: String,
+    file: File,
+}
+
+/// Why a log isn't read.
+#[derive(Drop)]
+pub struct LogFault {
+    /// Its path; none where memory ran out before there was one.
+    pub path: Option<String>,
+    /// What is wrong.
+    pub fault: FileFault,
+}
+
+/// That memory ran out.
+fn no_memory() -> LogFault {
+    LogFault {
+        path: None,
+        fault: FileFault::Snapshot(SnapshotError::Memory),
+    }
+}
+
+impl Logs {
+    /// No logs.
+    pub fn none(alloc: Global) -> Logs {
+        Logs {
+            opened: Vec::new(alloc),
+        }
+    }
+
+    /// Opens the logs that stand beside a file, behind all links. Beside what is no file, or isn't reached, there are none: who
+    /// opens that is told why.
+    ///
+    /// The file is to be opened behind this. What a member takes goes from `FILE.log` to `FILE.log.old`, which is the same file
+    /// renamed, and from there to `FILE`, before `FILE.log.old` is removed. So who opens them in this order misses nothing that
+    /// was on the disk before, whatever is renamed and removed meanwhile; what is met twice is joined twice, which makes no
+    /// difference.
+    ///
+    /// # Errors
+    ///
+    /// The first [`LogFault`] that stands.
+    pub fn open<R: Files<File = File> + AllocGlobal>(rt: &R, path: &str) -> Result<Logs, LogFault> {
+        let mut logs = Logs::none(rt.alloc());
+        let target = match target_of(rt, path) {
+            Ok(target) => target,
+            Err(FileFault::Snapshot(_)) => return Err(no_memory()),
+            Err(_) => return Ok(logs),
+        };
+        logs.add(rt, target.as_str(), LOG)?;
+        logs.add(rt, target.as_str(), OLD_LOG)?;
+        Ok(logs)
+    }
+
+    /// Opens one more log, where it stands there.
+    fn add<R: Files<File = File> + AllocGlobal>(
+        &mut self,
+        rt: &R,
+        target: &str,
+        ending: &str,
+    ) -> Result<(), LogFault> {
+        let Ok(path) = beside(rt.alloc(), target, ending) else {
+            return Err(no_memory());
+        };
+        let file = match open_log(rt, path.as_str()) {
+            Ok(Some(file)) => file,
+            Ok(None) => return Ok(()),
+            Err(fault) => {
+                return Err(LogFault {
+                    path: Some(path),
+                    fault,
+                });
+            }
+        };
+        match self.opened.push(OpenedLog { path, file }) {
+            Ok(()) => Ok(()),
+            Err(_) => Err(no_memory()),
+        }
+    }
+
+    /// Whether there are any.
+    pub fn are_there(&self) -> bool {
+        !self.opened.is_empty()
+    }
+
+    /// Joins what they have into a state, up to the first block of each that isn't whole: what stands behind is being written,
+    /// or was when a process ended, and nobody was answered of it.
+    ///
+    /// # Errors
+    ///
+    /// The first [`LogFault`] that stands, [`SnapshotError::TooLarge`] where the state comes to over so many bytes.
+    pub fn join<V: Version + Message>(
+        self,
+        alloc: Global,
+        held: &mut Held<V>,
+        most: u32,
+    ) -> Result<(), LogFault> {
+        for log in self.opened {
+            let OpenedLog { path, file } = log;
+            if let Err(fault) = join_file(alloc, held, file, most) {
+                return Err(LogFault {
+                    path: Some(path),
+                    fault,
+                });
+            }
+        }
+        Ok(())
+    }
+}
+
+/// Opens a log, where it stands there. It may be renamed or removed at any moment.
+fn open_log<R: Files<File = File>>(rt: &R, path: &str) -> Result<Option<File>, FileFault> {
+    if !is_there(rt, path)? {
+        return Ok(None);
+    }
+    match fs::open(rt, path) {
+        Ok(file) => Ok(Some(file)),
+        Err(error) if error.kind() == ErrorKind::NotFound => Ok(None),
+        Err(error) => Err(FileFault::from(error)),
+    }
+}
+
+/// Joins what is left of a log into a state of at most so many bytes.
+fn join_within<V: Version + Message, R: Read>(
+    alloc: Global,
+    held: &mut Held<V>,
+    reader: &mut R,
+    most: u32,
+) -> Result<(), FileFault>
+    ensures joined { OnOk result (IfSome (R.remaining reader.old) (λ log. JoinsLog V.seen V.reads held.old log held.new)) }
+    ensures fits { OnOk result (FitsRow V.seen most held.new) }
+{
+    join_batches(alloc, held, reader)?;
+    match row_length_within(held, most) {
+        Some(_) => Ok(()),
+        None => Err(FileFault::Snapshot(SnapshotError::TooLarge)),
+    }
+}
+
+/// Joins what an open log has into a state of at most so many bytes.
+fn join_file<V: Version + Message>(
+    alloc: Global,
+    held: &mut Held<V>,
+    file: File,
+    most: u32,
+) -> Result<(), FileFault> {
+    let mut reader = BufReader::new(alloc, file)?;
+    join_within(alloc, held, &mut reader, most)
+}

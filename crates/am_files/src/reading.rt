@@ -1,0 +1,150 @@
+//! What the logs beside a file have.
+
+ghost use Rattle.std.specs.Prelude.{OnOk, IfSome};
+ghost use Rattle.am_files.specs.Logs.{JoinsRow, JoinsLog};
+
+use crate::beside::beside;
+use am_journal::{Batches, LogError, settle};
+use am_member::{FileFault, is_there};
+use am_merge::Held;
+use am_snapshot::{SnapshotError, take_row};
+use am_version_order::{Moment, Version};
+use am_wire::Message;
+use std::alloc::Global;
+use std::fs::{self, File};
+use std::io::{BufReader, ErrorKind, Read};
+use std::rt::Files;
+
+/// A log may have no file; there is no other one that is trusted.
+pub const NO_LOG: FileFault = FileFault::File(ErrorKind::Other);
+
+/// What was read of a log.
+#[derive(Clone, Copy)]
+pub struct LogEnd {
+    /// How many bytes its whole blocks take.
+    pub end: u64,
+    /// How many bytes stand behind them, of what was being written when the last process ended.
+    pub torn: u64,
+}
+
+/// What was read of both logs beside a file, where they stand there.
+#[derive(Clone, Copy)]
+pub struct FoundLogs {
+    /// Of `FILE.log.old`.
+    pub old: Option<LogEnd>,
+    /// Of `FILE.log`.
+    pub log: Option<LogEnd>,
+}
+
+impl FoundLogs {
+    /// How many bytes of both were being written when the last process ended.
+    pub fn torn(&self) -> u64 {
+        torn_of(self.old).saturating_add(torn_of(self.log))
+    }
+}
+
+/// How many bytes of a log were being written.
+fn torn_of(log: Option<LogEnd>) -> u64 {
+    match log {
+        Some(log) => log.torn,
+        None => 0,
+    }
+}
+
+/// The fault of a file, where a log is at fault.
+pub fn fault_of(error: LogError) -> FileFault {
+    match error {
+        LogError::Memory => FileFault::Snapshot(SnapshotError::Memory),
+        LogError::Failed(error) => FileFault::from(error),
+        LogError::Full | LogError::Closed => NO_LOG,
+    }
+}
+
+/// Joins the versions of a batch into a state.
+fn join_batch<V: Version + Message>(
+    alloc: Global,
+    held: &mut Held<V>,
+    batch: &[u8],
+) -> Result<(), FileFault>
+    ensures { OnOk result (JoinsRow V.seen V.reads held.old batch.now held.new) }
+{
+    held.has_values();
+    let mut row = batch;
+    let taken: Held<V> = match take_row(alloc, &mut row) {
+        Ok(taken) => taken,
+        Err(fault) => return Err(FileFault::Snapshot(SnapshotError::from(fault))),
+    };
+    match held.merge(&taken, Moment::LEAST) {
+        Ok(_) => Ok(()),
+        Err(_) => Err(FileFault::Snapshot(SnapshotError::Memory)),
+    }
+}
+
+/// Joins what is left of a log into a state: of each key it has the greatest version then, among its own and those of all whole
+/// batches.
+///
+/// # Errors
+///
+/// The first [`FileFault`] that stands. Some batches are joined then, each whole.
+pub fn join_batches<V: Version + Message, R: Read>(
+    alloc: Global,
+    held: &mut Held<V>,
+    reader: &mut R,
+) -> Result<LogEnd, FileFault>
+    ensures { OnOk result (IfSome (R.remaining reader.old) (λ log. JoinsLog V.seen V.reads held.old log held.new)) }
+{
+    held.has_values();
+    let mut batches = Batches::new(alloc);
+    'blocks: for _ in 0..u64::MAX {
+        match batches.next(reader) {
+            Ok(Some(batch)) => join_batch(alloc, held, &batch)?,
+            Ok(None) => return Ok(end_of(&batches)),
+            Err(error) => return Err(fault_of(error)),
+        }
+    }
+    Err(NO_LOG)
+}
+
+/// Where a log ends that was read whole.
+fn end_of(batches: &Batches) -> LogEnd {
+    LogEnd {
+        end: batches.end(),
+        // (one is the closed gate)
+        torn: batches.behind().saturating_sub(1),
+    }
+}
+
+/// A file that is to be read, if one is there.
+///
+/// # Errors
+///
+/// [`FileFault::NotAFile`], and what the system says.
+pub fn opened<R: Files<File = File> + AllocGlobal>(
+    rt: &R,
+    path: &str,
+) -> Result<Option<BufReader<File>>, FileFault> {
+    if !is_there(rt, path)? {
+        return Ok(None);
+    }
+    let file = fs::open(rt, path)?;
+    Ok(Some(BufReader::new(rt.alloc(), file)?))
+}
+
+/// A log beside a file, if one is there: as it stands on the disk.
+///
+/// # Errors
+///
+/// Those of [`opened`].
+pub fn opened_log<R: Files<File = File> + AllocGlobal>(
+    rt: &R,
+    path: &str,
+    ending: &str,
+) -> Result<Option<BufReader<File>>, FileFault> {
+    let name = beside(rt.alloc(), path, ending)?;
+    if !is_there(rt, name.as_str())? {
+        return Ok(None);
+    }
+    let file = fs::open(rt, name.as_str())?;
+    settle(&file)?;
+    Ok(Some(BufReader::new(rt.alloc(), file)?))
+}

@@ -1,0 +1,232 @@
+//! The files of a state, which are one process's own for as long as it lives.
+
+use crate::beside::{NEW, OLD_LOG, beside, remove, remove_logs};
+use crate::lock::lock_beside;
+use crate::log::StateLog;
+use crate::reading::FoundLogs;
+use crate::recovering::{Recovered, load_state};
+use am_member::{FileFault, directory_of, is_there, save_file, sync_directory, target_of};
+use am_merge::Held;
+use am_snapshot::{SnapshotError, row_length_within};
+use am_version_order::Version;
+use am_wire::Message;
+use std::alloc::Global;
+use std::fs::{self, File};
+use std::io::ErrorKind;
+use std::path::PathBuf;
+use std::rt::Files;
+
+/// A file of a state that no other process has, and the logs beside it.
+#[derive(Drop)]
+pub struct StateFile {
+    /// Where it stands, behind all links.
+    path: PathBuf,
+    /// The file beside it, which is locked until this is dropped.
+    _lock: File,
+    /// The log beside it, where one is kept.
+    log: Option<StateLog>,
+    /// A log stands beside it that is to go once all is in the file.
+    owes_save: bool,
+    /// How many bytes of the logs were being written when the last process ended.
+    torn: u64,
+    /// How many bytes it has.
+    size: u64,
+}
+
+/// A state as it is opened.
+#[derive(Drop)]
+pub struct OpenedState<V: Version> {
+    pub file: StateFile,
+    /// What the file has, joined with what the logs beside it have.
+    pub held: Held<V>,
+}
+
+/// The file that a path names, and the state that it and the logs beside it hold. A file has at most so many bytes; a log is
+/// kept from now on, or not.
+///
+/// # Errors
+///
+/// The first [`FileFault`] that stands.
+pub fn open_state<V: Version + Message, R: Files<File = File> + AllocGlobal>(
+    rt: &R,
+    path: &str,
+    most: u32,
+    keeps_log: bool,
+) -> Result<OpenedState<V>, FileFault> {
+    let path = target_of(rt, path)?;
+    let lock = lock_beside(rt, path.as_str())?;
+    let Recovered { held, logs } = load_state(rt, path.as_str(), most)?;
+    let file = state_file(rt, path, lock, logs, keeps_log)?;
+    Ok(OpenedState { file, held })
+}
+
+/// The file at a path that was locked and read, with its logs.
+fn state_file<R: Files<File = File> + AllocGlobal>(
+    rt: &R,
+    path: PathBuf,
+    lock: File,
+    found: FoundLogs,
+    keeps_log: bool,
+) -> Result<StateFile, FileFault> {
+    let size = size_of(rt, path.as_str())?;
+    let log = if keeps_log {
+        Some(StateLog::open(rt, path.as_str(), found.log)?)
+    } else {
+        None
+    };
+    Ok(StateFile {
+        path,
+        _lock: lock,
+        log,
+        owes_save: found.old.is_some() || (found.log.is_some() && !keeps_log),
+        torn: found.torn(),
+        size,
+    })
+}
+
+/// How many bytes a file has; 0 where there is none.
+fn size_of<R: Files>(rt: &R, path: &str) -> Result<u64, FileFault> {
+    match fs::metadata(rt, path) {
+        Ok(found) => Ok(found.len()),
+        Err(error) if error.kind() == ErrorKind::NotFound => Ok(0),
+        Err(error) => Err(FileFault::from(error)),
+    }
+}
+
+impl StateFile {
+    /// Where it stands, behind all links.
+    pub fn path(&self) -> &str {
+        self.path.as_str()
+    }
+
+    /// Whether a log stands beside it that is to go once all is in the file: one of an earlier time where none is kept, or one
+    /// that an earlier compaction has left.
+    pub fn owes_save(&self) -> bool {
+        self.owes_save
+    }
+
+    /// How many bytes at the end of its logs were being written when the last process ended. Where a log is kept, they are cut
+    /// off.
+    pub fn torn(&self) -> u64 {
+        self.torn
+    }
+
+    /// Saves a state of at most so many bytes, and begins its log anew. Answers how many bytes it has.
+    ///
+    /// # Errors
+    ///
+    /// Why it isn't saved, or the log not begun.
+    pub fn save<V: Version, R: Files<File = File> + AllocGlobal>(
+        &mut self,
+        rt: &R,
+        held: &Held<V>,
+        most: u32,
+    ) -> Result<u64, FileFault> {
+        let bytes = save_file(rt, self.path.as_str(), held, most)?;
+        self.size = bytes;
+        self.end_logs(rt)?;
+        self.owes_save = false;
+        Ok(bytes)
+    }
+
+    /// Begins the log anew, where one is kept, and removes those of an earlier time. All they had is in the file.
+    fn end_logs<R: Files<File = File> + AllocGlobal>(&mut self, rt: &R) -> Result<(), FileFault> {
+        let path = self.path.as_str();
+        match &mut self.log {
+            Some(log) => log.begin_anew(rt, path),
+            None if self.owes_save => {
+                remove_logs(rt, path)?;
+                sync_directory(rt, directory_of(path))
+            }
+            None => Ok(()),
+        }
+    }
+
+    /// Begins to write the file anew, which is to have at most so many bytes: what is committed from now on goes into a new log,
+    /// and the one before it is left as `FILE.log.old`. Where that stands already, nothing is renamed: what is written has all
+    /// of both logs. Answers how many bytes the state has now.
+    ///
+    /// # Errors
+    ///
+    /// [`SnapshotError::TooLarge`], with nothing done, and what the system says.
+    pub fn part_logs<V: Version, R: Files<File = File> + AllocGlobal>(
+        &mut self,
+        rt: &R,
+        held: &Held<V>,
+        most: u32,
+    ) -> Result<u64, FileFault> {
+        let Some(bytes) = row_length_within(held, most) else {
+            return Err(FileFault::Snapshot(SnapshotError::TooLarge));
+        };
+        let old = beside(rt.alloc(), self.path.as_str(), OLD_LOG)?;
+        if !is_there(rt, old.as_str())? {
+            self.rotate(rt)?;
+        }
+        Ok(bytes)
+    }
+
+    /// Begins a new log, where one is kept.
+    fn rotate<R: Files<File = File> + AllocGlobal>(&mut self, rt: &R) -> Result<(), FileFault> {
+        match &mut self.log {
+            Some(log) => log.rotate(rt, self.path.as_str()),
+            None => Ok(()),
+        }
+    }
+
+    /// The file has so many bytes from now on.
+    pub(crate) fn is_written(&mut self, bytes: u64) {
+        self.size = bytes;
+    }
+
+    /// Ends the old log. All it had is in the file.
+    pub(crate) fn end_old_log<R: Files + AllocGlobal>(&mut self, rt: &R) -> Result<(), FileFault> {
+        remove(rt, self.path.as_str(), OLD_LOG)?;
+        self.owes_save = false;
+        Ok(())
+    }
+
+    /// Removes what was written of the file anew.
+    pub fn drop_new<R: Files + AllocGlobal>(&self, rt: &R) {
+        let _ = remove(rt, self.path.as_str(), NEW);
+    }
+
+    /// Whether what is added to its log will be on the disk, where one is kept.
+    pub fn is_trusted(&self) -> bool {
+        match &self.log {
+            Some(log) => log.is_trusted(),
+            None => true,
+        }
+    }
+
+    /// Adds rows to those that wait for the next commit of the log, where one is kept.
+    ///
+    /// # Errors
+    ///
+    /// Why they don't wait.
+    pub fn append(&mut self, alloc: Global, rows: &[u8]) -> Result<(), FileFault> {
+        match &mut self.log {
+            Some(log) => log.append(alloc, rows),
+            None => Ok(()),
+        }
+    }
+
+    /// Hands to the disk what waits, where a log is kept.
+    ///
+    /// # Errors
+    ///
+    /// Why it isn't on the disk.
+    pub fn commit(&mut self, alloc: Global) -> Result<(), FileFault> {
+        match &mut self.log {
+            Some(log) => log.commit(alloc),
+            None => Ok(()),
+        }
+    }
+
+    /// Whether a log is kept that has outgrown the file.
+    pub fn is_outgrown(&self) -> bool {
+        match &self.log {
+            Some(log) => log.is_outgrown(self.size),
+            None => false,
+        }
+    }
+}

@@ -1,0 +1,242 @@
+//! The lines of faults that a member prints: of each kind so many a second, and how many were left out; and none that would
+//! have to wait until somebody reads.
+
+ghost use Rattle.std.specs.Prelude.{◌<◌};
+
+use crate::standard_error::StandardError;
+use am_faults::{Fault, KINDS, Occasion, print, print_count};
+use am_instance::Place;
+use am_member::later_moment;
+use am_version_order::Moment;
+use am_wire::Text;
+use std::alloc::{AllocError, Global};
+use std::mem;
+use std::net::Net;
+use std::rt::Clock;
+use std::time::{Duration, Instant};
+
+/// A fault of a member that runs, and the place of the peer that it is about, if it is about one.
+#[derive(Clone, Copy)]
+pub struct Told {
+    pub fault: Fault,
+    pub peer: Option<Place>,
+}
+
+impl Told {
+    /// When it is told, now, and the name of its peer, by the names of the members.
+    fn occasion<'a, R: Clock>(&self, rt: &R, members: &'a [Text]) -> Occasion<'a> {
+        let peer = match self.peer {
+            Some(place) => members.get(place as usize).map(|name| name.as_str()),
+            None => None,
+        };
+        let moment = match rt.since_1970() {
+            Ok(since_1970) => Some(later_moment(since_1970, Moment::LEAST)),
+            Err(_) => None,
+        };
+        Occasion { peer, moment }
+    }
+}
+
+/// What is printed of faults.
+#[derive(Clone, Copy)]
+enum Line {
+    /// A fault.
+    One(Told),
+    /// So many more like this one.
+    Count(u64, Told),
+}
+
+impl Line {
+    /// Prints it. The members' names stand by place.
+    fn print<R: Clock + Eprint>(&self, rt: &R, members: &[Text]) {
+        match self {
+            Line::One(told) => print(rt, &told.fault, &told.occasion(rt, members)),
+            Line::Count(count, last) => {
+                print_count(rt, *count, &last.fault, &last.occasion(rt, members));
+            }
+        }
+    }
+
+    /// How many faults it tells.
+    fn count(&self) -> u64 {
+        match self {
+            Line::One(_) => 1,
+            Line::Count(count, _) => *count,
+        }
+    }
+}
+
+/// The lines of one kind in a second.
+#[derive(Clone, Copy)]
+struct Tally {
+    /// When the second is over.
+    end: Option<Instant>,
+    printed: u32,
+    left_out: u64,
+    /// The last fault that was left out.
+    last: Option<Told>,
+}
+
+/// The lines of all kinds.
+#[derive(Drop)]
+pub struct Lines {
+    /// The most lines of a kind in a second.
+    most: u32,
+    tallies: [Tally; KINDS],
+    output: StandardError,
+    /// How many faults weren't told, since nobody read what was.
+    lost: u64,
+}
+
+/// After how many milliseconds it is looked again whether somebody reads.
+const LOOK_EVERY: u64 = 500;
+
+/// No line.
+const NONE: Tally = Tally {
+    end: None,
+    printed: 0,
+    left_out: 0,
+    last: None,
+};
+
+impl Tally {
+    /// Whether a second has begun that is over by now.
+    fn is_over(&self, now: Instant) -> bool {
+        match self.end {
+            Some(end) => end <= now,
+            None => false,
+        }
+    }
+
+    /// Counts a fault, and answers whether it is printed.
+    fn count(&mut self, told: Told, most: u32, now: Instant) -> bool {
+        if self.end.is_none() {
+            self.end = now.checked_add(Duration::from_secs(1));
+        }
+        if self.printed < most {
+            self.printed = self.printed.saturating_add(1);
+            return true;
+        }
+        self.left_out = self.left_out.saturating_add(1);
+        self.last = Some(told);
+        false
+    }
+
+    /// Tells how many were left out, if any were, and begins anew.
+    fn settle(&mut self) -> Option<Line> {
+        let Tally { left_out, last, .. } = mem::replace(self, NONE);
+        Some(Line::Count(left_out, last?))
+    }
+}
+
+impl Lines {
+    /// No line was printed yet.
+    ///
+    /// # Errors
+    ///
+    /// [`AllocError`] where memory runs out.
+    pub fn new<R: Net>(alloc: Global, rt: &R, most: u32) -> Result<Lines, AllocError> {
+        Ok(Lines {
+            most,
+            tallies: [NONE; KINDS],
+            output: StandardError::new(alloc, rt)?,
+            lost: 0,
+        })
+    }
+
+    /// Prints a fault, or counts it as left out. The members' names stand by place.
+    pub fn tell<R: Clock + Eprint>(&mut self, rt: &R, members: &[Text], told: Told) {
+        let Ok(now) = Instant::now(rt) else {
+            return self.print(rt, members, Some(Line::One(told)));
+        };
+        let kind = told.fault.kind();
+        self.settle_kind(rt, members, kind, Some(now));
+        let tally = &mut self.tallies[kind];
+        if tally.count(told, self.most, now) {
+            self.print(rt, members, Some(Line::One(told)));
+        }
+    }
+
+    /// Whether a line of at most 4,096 bytes finds room.
+    pub fn has_room(&mut self) -> bool {
+        self.output.has_room()
+    }
+
+    /// Whether a line finds room. It is told first how many faults weren't told.
+    fn makes_room<R: Clock + Eprint>(&mut self, rt: &R, members: &[Text]) -> bool {
+        if !self.output.has_room() {
+            return false;
+        }
+        if self.lost == 0 {
+            return true;
+        }
+        let lost = Told {
+            fault: Fault::LinesLost(mem::replace(&mut self.lost, 0)),
+            peer: None,
+        };
+        Line::One(lost).print(rt, members);
+        self.output.has_room()
+    }
+
+    /// Prints a line, if there is one, where it finds room.
+    fn print<R: Clock + Eprint>(&mut self, rt: &R, members: &[Text], line: Option<Line>) {
+        let Some(line) = line else {
+            return;
+        };
+        if self.makes_room(rt, members) {
+            line.print(rt, members);
+        } else {
+            self.lost = self.lost.saturating_add(line.count());
+        }
+    }
+
+    /// Prints how many were left out of a kind, where its second is over by then, or in any case.
+    fn settle_kind<R: Clock + Eprint>(
+        &mut self,
+        rt: &R,
+        members: &[Text],
+        kind: usize,
+        now: Option<Instant>,
+    )
+        requires { kind < KINDS }
+    {
+        let tally = &mut self.tallies[kind];
+        let is_due = match now {
+            Some(now) => tally.is_over(now),
+            None => true,
+        };
+        if is_due {
+            let line = tally.settle();
+            self.print(rt, members, line);
+        }
+    }
+
+    /// Prints how many were left out of each kind whose second is over by now, and how many faults weren't told.
+    pub fn settle<R: Clock + Eprint>(&mut self, rt: &R, members: &[Text], now: Instant) {
+        for kind in 0..KINDS {
+            self.settle_kind(rt, members, kind, Some(now));
+        }
+        if self.lost > 0 {
+            self.makes_room(rt, members);
+        }
+    }
+
+    /// Prints how many were left out of each kind.
+    pub fn settle_all<R: Clock + Eprint>(&mut self, rt: &R, members: &[Text]) {
+        for kind in 0..KINDS {
+            self.settle_kind(rt, members, kind, None);
+        }
+    }
+
+    /// How long it is until a count of lines that were left out is due, or it is looked again for room.
+    pub fn left(&self, now: Instant) -> Option<Duration> {
+        let mut left = (self.lost > 0).then_some(Duration::from_millis(LOOK_EVERY));
+        for tally in &self.tallies {
+            if let (Some(end), Some(_)) = (tally.end, tally.last) {
+                let due = end.saturating_duration_since(now);
+                left = Some(left.unwrap_or(due).min(due));
+            }
+        }
+        left
+    }
+}

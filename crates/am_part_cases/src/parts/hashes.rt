@@ -1,0 +1,23 @@
+//! Hashes of bytes, and of alerts by their labels.
+
+use crate::common::Case;
+use crate::parts::requests;
+use am_alert_hash::{alert_hash, xxh64};
+use am_matcher::Labels;
+
+/// Cases of hashes: `xxh64 BYTES` and `alert-hash LABEL ..`.
+pub fn answer(case: &Case, verb: &str, rest: &str) {
+    match verb {
+        "xxh64" => {
+            let bytes = case.bytes(rest);
+            let hash = xxh64(bytes.as_slice());
+            say!(case; format_args!("{hash:016x}"));
+        }
+        "alert-hash" => {
+            let labels = Labels::new(case.list(rest, " "));
+            given!(hash = case.made(alert_hash(case.alloc, &labels)));
+            say!(case; hash, format_args!(" {hash:016x}"));
+        }
+        _ => requests::answer(case, verb, rest),
+    }
+}

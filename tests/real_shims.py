@@ -1,0 +1,181 @@
+#!/usr/bin/env python3
+"""Three real Alertmanagers that don't gossip, each with a webhook to samples/pager.py beside a member of its own, page once.
+
+    tests/real_shims.py [PROGRAM]
+
+PROGRAM is crates/am_tool/out/am_tool if it isn't given; ./am_tool and rt ci build it. The Alertmanagers are Debian's
+prometheus-alertmanager on loopback; where it isn't installed nothing is tried. Each alert is posted to all three. Then it
+is paged once, as is its end; once, where the first member isn't there, or where one is killed while it waits for its turn; and
+twice at most, where the first is killed between the page and `notified`. It takes two minutes or so. Prints each case that
+fails, and at the end how many passed.
+"""
+
+import contextlib
+import json
+import os
+import shutil
+import subprocess
+import sys
+import tempfile
+import time
+import urllib.request
+
+import members
+from chaos import moment
+from members import PATIENCE, TOP, Member, eventually, free_ports
+from tally import check, compare, count, finish
+
+TITLE = "real shims"
+ALERTMANAGER = shutil.which("prometheus-alertmanager")
+NAMES = ["a", "b", "c"]
+
+# How long a member waits for each one before it, and from when on nothing more is paged, in seconds.
+TURN, ALL_TURNS = 2, 4
+OPTIONS = ["--peer-timeout", str(TURN), "--time-limit", "2", "--pull-first", "--pull-first-limit", "3"]
+OPTIONS += [word for what in ("tick", "pull", "save") for word in (f"--{what}-every", "1")]
+
+CONFIG = """
+route: {{receiver: pager, group_by: [alertname], group_wait: 1s, group_interval: 6s, repeat_interval: 4h}}
+receivers: [{{name: pager, webhook_configs: [{{url: "http://127.0.0.1:{}/?repeat=14400"}}]}}]
+"""
+
+# What sends a page: it writes down whose it is, and kills the process whose number stands in a file, if that is there.
+COMMAND = 'm=$(cat); printf "%s %s\\n" "$0" "$m" >>"$1/pages"; if [ -e "$1/trap-$0" ]; then kill -9 "$(cat "$1/trap-$0")"; fi'
+
+
+class Site:
+    """An Alertmanager, its shim and its member."""
+
+    def __init__(self, name, ports, folder):
+        self.name, self.folder, self.processes = name, folder, []
+        self.member = Member(name, ports[name], [(it, ports[it]) for it in NAMES if it != name], folder, OPTIONS)
+        self.web, self.shim = free_ports(2)
+        self.config = f"{folder}/{name}.yml"
+        with open(self.config, "w", encoding="utf-8") as file:
+            file.write(CONFIG.format(self.shim))
+
+    def start(self):
+        self.start_member()
+        pager = [f"{TOP}/samples/pager.py", str(self.shim), str(self.member.port), "sh", "-c", COMMAND, self.name, self.folder]
+        words = [ALERTMANAGER, f"--config.file={self.config}", f"--storage.path={self.folder}/{self.name}"]
+        words += [f"--web.listen-address=127.0.0.1:{self.web}", "--cluster.listen-address="]
+        for command in (pager, words):
+            with open(f"{self.folder}/{self.name}.log", "ab") as log:
+                self.processes.append(subprocess.Popen(command, stdin=subprocess.DEVNULL, stdout=log, stderr=log))
+
+    def start_member(self):
+        check(f"{self.name} listens", self.member.start(), self.member.lines)
+
+    def post(self, alert):
+        url = f"http://127.0.0.1:{self.web}/api/v2/alerts"
+        request = urllib.request.Request(url, json.dumps([alert]).encode(), {"Content-Type": "application/json"})
+        with contextlib.suppress(OSError), urllib.request.urlopen(request, timeout=PATIENCE) as reply:
+            return reply.status == 200
+        return False
+
+    def stop(self):
+        for it in [*self.processes, self.member.process]:
+            it.kill()
+            it.wait()
+
+
+class Three:
+    """Three sites, whose pages stand in one file."""
+
+    def __init__(self, folder):
+        ports = dict(zip(NAMES, free_ports(3)))
+        self.folder, self.sites = folder, {name: Site(name, ports, folder) for name in NAMES}
+
+    def post(self, name, ends_in=3600):
+        """Has an alert fire at all sites, or be over."""
+        now = int(1000 * time.time())
+        alert = {"labels": {"alertname": name}, "startsAt": moment(now - 5000), "endsAt": moment(now + 1000 * ends_in)}
+        for it in self.sites.values():
+            check(f"{it.name} takes {name}", eventually(lambda: it.post(alert)), it.folder)
+
+    def pages(self, name, status="firing"):
+        """Who paged an alert in a state, one after the other."""
+        found = []
+        with contextlib.suppress(FileNotFoundError), open(f"{self.folder}/pages", encoding="utf-8") as file:
+            for line in file:
+                who, _, message = line.partition(" ")
+                states = [(it["labels"]["alertname"], it["status"]) for it in json.loads(message)["alerts"]]
+                found += [who] * ((name, status) in states)
+        return found
+
+    def paged(self, name, status="firing"):
+        """Who paged it, once somebody has, and all turns are over for long."""
+        eventually(lambda: self.pages(name, status), 30)
+        time.sleep(ALL_TURNS + 8)
+        return self.pages(name, status)
+
+
+def test_once(three):
+    three.post("Once")
+    compare("an alert is paged once", three.paged("Once"), ["a"])
+    three.post("Once", -1)
+    compare("its end too", len(three.paged("Once", "resolved")), 1)
+
+
+def test_first_away(three):
+    """The next one pages where the first isn't there, and the first doesn't once it is back."""
+    three.sites["a"].member.kill()
+    three.post("Away")
+    compare("b pages", three.paged("Away"), ["b"])
+    three.sites["a"].start_member()
+    time.sleep(8)
+    compare("and nobody again", three.pages("Away"), ["b"])
+
+
+def test_killed_in_its_turn(three):
+    """The last one pages where the first isn't there, and the next one is killed while it waits for its turn."""
+    three.sites["a"].member.kill()
+    three.post("Turn")
+    # the group waits for a second, and b then waits for two
+    time.sleep(2)
+    three.sites["b"].member.kill()
+    compare("c pages", three.paged("Turn"), ["c"])
+    for name in ("a", "b"):
+        three.sites[name].start_member()
+    time.sleep(8)
+    compare("and nobody again", three.pages("Turn"), ["c"])
+
+
+def test_killed_behind_a_page(three):
+    """The next one pages, too, where the first is killed before it heard that it has."""
+    first = three.sites["a"].member
+    with open(f"{three.folder}/trap-a", "w", encoding="utf-8") as file:
+        file.write(str(first.process.pid))
+    three.post("Behind")
+    found = three.paged("Behind")
+    os.remove(f"{three.folder}/trap-a")
+    compare("it is paged by a and b", found, ["a", "b"])
+    first.kill()
+    three.sites["a"].start_member()
+    time.sleep(8)
+    compare("and by nobody again", three.pages("Behind"), found)
+
+
+def main():
+    if ALERTMANAGER is None:
+        print(f"{TITLE}: prometheus-alertmanager is not here, so nothing is tried: 0 passed, 0 failed")
+        return
+    members.choose(TITLE, sys.argv[1:])
+    with tempfile.TemporaryDirectory() as folder:
+        three = Three(folder)
+        try:
+            for it in three.sites.values():
+                it.start()
+            for test in (test_once, test_first_away, test_killed_in_its_turn, test_killed_behind_a_page):
+                test(three)
+        except Exception as error:  # what can't go on is a case that fails
+            print(f"the sites: {error!r}", flush=True)
+            count(False)
+        finally:
+            for it in three.sites.values():
+                it.stop()
+    finish(TITLE)
+
+
+if __name__ == "__main__":
+    main()

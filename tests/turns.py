@@ -1,0 +1,218 @@
+#!/usr/bin/env python3
+"""Asks running members of am_tool whether to notify: when they answer, how many may wait, and what others see meanwhile.
+
+    tests/turns.py [PROGRAM]
+
+PROGRAM is crates/am_tool/out/am_tool if it isn't given. What is wanted is written by hand, from docs/FORMATS.md. What is
+decided cases/ have, and tests/pages.py programs that send pages.
+"""
+
+import contextlib
+import json
+import signal
+import socket
+import sys
+import tempfile
+import time
+
+import members
+from members import PATIENCE, Member, eventually, free_ports, parted, received
+from tally import check, compare, finish, try_each
+
+# The time for which members wait for one another, in seconds.
+TURN = 2
+
+# The smallest limits of bytes and the largest body.
+MOST_BODY = 1_048_576
+
+
+class Stoppable(Member):
+    """A member that stops by SIGTERM."""
+
+    def command(self):
+        return ["env", "--block-signal=TERM", "--block-signal=INT", *super().command()]
+
+
+def member(name, folder, options=(), before=("a",)):
+    """A member behind others, which aren't there; it has begun."""
+    ports = free_ports(1 + len(before))
+    peers = list(zip(before, ports[1:]))
+    made = Stoppable(name, ports[0], peers, folder, ["--peer-timeout", str(TURN), *options])
+    check(f"{name} listens", made.start(), made.lines)
+    return made
+
+
+def message(key, *alerts, status="firing"):
+    """A message of a group whose alerts have these names."""
+    listed = [{"status": status, "labels": {"alertname": name}} for name in alerts or ("Down",)]
+    return json.dumps({"version": "4", "receiver": "team", "groupKey": key, "alerts": listed}).encode()
+
+
+def request(method, path, body=b""):
+    return f"{method} {path} HTTP/1.1\r\nHost: localhost\r\nContent-Length: {len(body)}\r\n\r\n".encode() + body
+
+
+def asked(of, path, body):
+    """A connection on which a decision is asked for."""
+    stream = socket.create_connection(("127.0.0.1", of.port), timeout=PATIENCE)
+    stream.sendall(request("POST", path, body))
+    return stream
+
+
+def answered(stream):
+    """The status and the value of the reply on a connection, and when it came."""
+    with stream:
+        status, body = parted(received(stream))
+    return status, json.loads(body) if body else None, time.monotonic()
+
+
+def decided(reply):
+    """What a reply decides."""
+    status, value, _ = reply
+    return status, value["notify"] if status == 200 else value, value["reason"] if status == 200 else None
+
+
+def post(of, name):
+    """Posts a silence of all alerts of a name; its status."""
+    moment = lambda seconds: time.strftime("%Y-%m-%dT%H:%M:%SZ", time.gmtime(seconds))
+    matcher = {"name": "alertname", "value": name, "isRegex": False}
+    times = {"startsAt": moment(time.time()), "endsAt": moment(time.time() + 3600)}
+    body = {"matchers": [matcher], **times, "createdBy": "me", "comment": "x"}
+    return of.ask("POST", "/api/v2/silences", json.dumps(body).encode())[0]
+
+
+def test_turn(folder):
+    """The first of all answers at once, and the second when its turn has come, by what it holds then."""
+    first = member("a", folder, before=("b",))
+    start = time.monotonic()
+    reply = answered(asked(first, "/v1/decide", message("g")))
+    compare("the first decides at once", (decided(reply), reply[2] - start < TURN / 2), ((200, True, "First"), True))
+    first.kill()
+    second = member("b", folder, ["--time-limit", "1"])
+    start = time.monotonic()
+    early, late = (asked(second, "/v1/decide", message(key)) for key in ("g", "h"))
+    silenced = asked(second, "/v1/decide", message("i", "Muted"))
+    at_once = answered(asked(second, "/v1/decide?wait=false", message("g")))
+    compare("without a wait", (decided(at_once), at_once[2] - start < TURN / 2), ((200, True, "First"), True))
+    notice = json.dumps(at_once[1]).encode()
+    compare("it is logged", second.ask("POST", "/v1/notified", notice), (200, b'{"logged":true}'))
+    compare("a silence is posted meanwhile", post(second, "Muted"), 200)
+    replies = [answered(stream) for stream in (early, late, silenced)]
+    compare("what was told meanwhile counts", decided(replies[0]), (200, False, "Skip"))
+    compare("what wasn't is first", decided(replies[1]), (200, True, "First"))
+    compare("what was silenced meanwhile is muted", decided(replies[2]), (200, False, "Muted"))
+    waited = [at - start for _, _, at in replies]
+    check("each waits for its turn, and no longer", all(TURN <= it < TURN + 1 for it in waited), waited)
+    listed = json.loads(second.ask("GET", "/v1/log")[1])
+    compare("the log lists it", [it["receiver"]["groupName"] for it in listed], ["team"])
+    second.kill()
+
+
+def test_limit(folder):
+    """So many wait, and one more doesn't; places are free again behind their turns."""
+    of = member("b", folder, ["--at-once", "8", "--waiting", "3"])
+    waiting = [asked(of, "/v1/decide", message(f"g{number}")) for number in range(3)]
+    time.sleep(0.3)
+    compare("one more", answered(asked(of, "/v1/decide", message("more")))[:2], (503, "too many wait"))
+    compare("one that doesn't wait", decided(answered(asked(of, "/v1/decide?wait=false", message("more")))), (200, True, "First"))
+    compare("others are answered", of.ask("GET", "/api/v2/silences"), (200, b"[]"))
+    silent = [socket.create_connection(("127.0.0.1", of.port), timeout=PATIENCE) for _ in range(20)]
+    compare("those that wait keep their places", [decided(answered(it)) for it in waiting], [(200, True, "First")] * 3)
+    for stream in silent:
+        stream.close()
+    compare("then others may", decided(answered(asked(of, "/v1/decide", message("more")))), (200, True, "First"))
+    of.kill()
+    half = member("b", folder, ["--at-once", "4", "--waiting", "100"])
+    waiting = [asked(half, "/v1/decide", message(f"g{number}")) for number in range(2)]
+    time.sleep(0.3)
+    compare("no more than half of all", answered(asked(half, "/v1/decide", message("more")))[:2], (503, "too many wait"))
+    for stream in waiting:
+        stream.close()
+    half.kill()
+
+
+def test_gone(folder):
+    """One that goes before its turn leaves its place, once its turn has come."""
+    of = member("b", folder, ["--at-once", "4", "--waiting", "1"])
+    asked(of, "/v1/decide", message("g")).close()
+    again = lambda: answered(asked(of, "/v1/decide", message("h")))
+    found = eventually(lambda: (reply := again())[0] == 200 and decided(reply), 3 * TURN)
+    compare("its place is free", found, (200, True, "First"))
+    of.kill()
+
+
+def test_stop(folder):
+    """What waits when a member stops is answered at once, and the stop takes no turn."""
+    of = member("b", folder, before=("a", "aa", "ab"))
+    waiting = [asked(of, "/v1/decide", message(f"g{number}")) for number in range(3)]
+    time.sleep(0.3)
+    start = time.monotonic()
+    of.process.send_signal(signal.SIGTERM)
+    compare("what waits", [answered(it)[:2] for it in waiting], [(503, "member stops")] * 3)
+    compare("the stop", of.end(), 0)
+    check("it takes no turn", time.monotonic() - start < TURN, time.monotonic() - start)
+
+
+def test_faults(folder):
+    """A fault is told at once, also of one that would wait."""
+    of = member("b", folder)
+    start = time.monotonic()
+    for path, body, wanted in (
+        ("/v1/decide", b"{", (400, "bad JSON")),
+        ("/v1/decide", b"{}", (400, "bad message: groupKey")),
+        ("/v1/decide?wait=yes", message("g"), (400, "bad query: wait")),
+        ("/v1/decided", message("g"), (404, "no such path")),
+        ("/v1/notified", message("g"), (400, "bad message: integration")),
+    ):
+        compare(f"{path} {body[:9]}", answered(asked(of, path, body))[:2], wanted)
+    check("at once", time.monotonic() - start < TURN, time.monotonic() - start)
+    compare("another method", parted(of.send(request("HEAD", "/v1/log")))[0], 405)
+    too_large = b"POST /v1/decide HTTP/1.1\r\nContent-Length: %d\r\n\r\n" % (MOST_BODY + 1)
+    compare("a body that is too large", parted(of.send(too_large))[0], 413)
+    compare("no line is printed", [it for it in of.lines[1:] if " Connect " not in it], [])
+    of.kill()
+
+
+def test_large(folder):
+    """The largest messages wait for one another, and nobody else does."""
+    of = member("b", folder)
+    for number in range(50):
+        post(of, f"s{number}")
+    alerts = [f"n{number:05}" for number in range(17_000)]
+    body = message("large", *alerts)
+    check("it is nearly as large as may be", MOST_BODY * 0.8 < len(body) <= MOST_BODY, len(body))
+    streams = [asked(of, f"/v1/decide?wait={wait}", body) for wait in ("false", "true") * 4]
+    slowest, end = 0, time.monotonic() + TURN + 1
+    while time.monotonic() < end:
+        start = time.monotonic()
+        compare("beside them", of.ask("GET", "/api/v2/silence/x")[0], 404)
+        slowest = max(slowest, time.monotonic() - start)
+        time.sleep(0.05)
+    replies = [answered(stream) for stream in streams]
+    compare("each is answered", [(it[0], it[1]["reason"], len(it[1]["firing"])) for it in replies], [(200, "First", 17_000)] * 8)
+    check("nobody waits for long", slowest < 0.5, slowest)
+    of.kill()
+
+
+def test_log(folder):
+    """What is logged is on the disk before it is answered, where logs are kept."""
+    of = member("b", folder, ["--log"])
+    reply = answered(asked(of, "/v1/decide?wait=false", message("g")))[1]
+    compare("it is logged", of.ask("POST", "/v1/notified", json.dumps(reply).encode()), (200, b'{"logged":true}'))
+    of.kill()
+    check("it starts again", of.start(), of.lines)
+    reply = answered(asked(of, "/v1/decide?wait=false", message("g")))
+    compare("it is known behind a kill", decided(reply), (200, False, "Skip"))
+    of.kill()
+
+
+def main():
+    members.choose("turns", sys.argv[1:])
+    with tempfile.TemporaryDirectory(prefix="am_turns_") as folder:
+        with contextlib.suppress(KeyboardInterrupt):
+            try_each([test_turn, test_limit, test_gone, test_stop, test_faults, test_large, test_log], folder)
+    finish("turns")
+
+
+if __name__ == "__main__":
+    main()
