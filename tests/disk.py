@@ -33,9 +33,7 @@ import json
 import os
 import random
 import re
-import shutil
 import socket
-import subprocess
 import sys
 import tempfile
 import time
@@ -45,8 +43,8 @@ import power
 import versions
 from chaos import REFUSALS, moment
 from ledger import Ledger, now, shown, versions_of
-from members import PATIENCE, TOP, free_ports, silent_peer
-from tally import check, count, finish, give_up
+from members import PATIENCE, free_ports, silent_peer
+from tally import check, count, finish
 from wire import TICK, delta, greeting
 
 # The kills of one seed; how many seeds are tried at once; and within how many kills a wrong member has to be found.
@@ -465,20 +463,13 @@ def seconds(milliseconds):
     return f"{milliseconds // 1000}.{milliseconds % 1000:03}"
 
 
-def compiled(folder):
-    path = f"{folder}/disk.so"
-    if shutil.which("cc") is None:
-        give_up("disk", "cc is not there, so nothing can stand between a member and its disk")
-    subprocess.run(["cc", "-O1", "-Wall", "-Werror", "-shared", "-fPIC", "-o", path, f"{TOP}/tests/disk.c"], check=True)
-    return path
-
-
 class Trial:
     """Lives, side by side in so many lanes, each with a port of its own."""
 
     def __init__(self, top, seed):
         self.top, self.seed = top, seed
-        self.library, self.peer, self.ports = compiled(top), silent_peer().getsockname()[1], free_ports(LANES)
+        self.library = members.compiled("disk", "disk", top, "nothing can stand between a member and its disk")
+        self.peer, self.ports = silent_peer().getsockname()[1], free_ports(LANES)
 
     def life(self, number, kills, **how):
         """A life of so many kills, behind it."""

@@ -19,7 +19,6 @@ import resource
 import shutil
 import signal
 import socket
-import subprocess
 import sys
 import tempfile
 import threading
@@ -29,8 +28,8 @@ from urllib.parse import quote
 
 import members
 import versions
-from members import ALL_LINES, PATIENCE, STRANGER, TOLD_OF_STRANGER, TOP, Member, eventually, free_ports, parted, received, run
-from tally import check, compare, finish, give_up, try_each
+from members import ALL_LINES, PATIENCE, STRANGER, TOLD_OF_STRANGER, Member, eventually, free_ports, parted, received, run
+from tally import check, compare, finish, try_each
 from wire import EMPTY_PUSH, PULL, PUSH, TICK, delimited, delta, field, frame, greeting, items, number_at, varint
 
 # Words in front of a member's that have it see SIGTERM and SIGINT.
@@ -998,20 +997,11 @@ def test_large(folder):
     compare("64 MiB are too few for it", run(options), refused("Silences TooLarge", 1))
 
 
-def compiled(folder):
-    """The library between a member and the C library."""
-    path = f"{folder}/system.so"
-    if shutil.which("cc") is None:
-        give_up("edges", "cc is not there, so no clock can be set")
-    subprocess.run(["cc", "-O1", "-Wall", "-Werror", "-shared", "-fPIC", "-o", path, f"{TOP}/tests/system.c"], check=True)
-    return path
-
-
 def main():
     global library
     members.choose("edges", sys.argv[1:])
     with tempfile.TemporaryDirectory(prefix="am_edges_") as folder:
-        library = compiled(folder)
+        library = members.compiled("edges", "system", folder, "no clock can be set")
         tests = [
             test_last_save,
             test_directory,

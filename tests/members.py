@@ -4,6 +4,7 @@ import contextlib
 import json
 import os
 import random
+import shutil
 import socket
 import subprocess
 import threading
@@ -42,6 +43,17 @@ def choose(title, words):
 def must_be_there(title, path):
     if not os.access(path, os.X_OK):
         give_up(title, f"{path} is not there: rt ci builds it")
+
+
+def compiled(title, name, folder, why):
+    """The library of tests/NAME.c, which stands between a program and the C library. Without a compiler of C nothing can be
+    tried, which is a failure."""
+    library = f"{folder}/{name}.so"
+    if shutil.which("cc") is None:
+        give_up(title, f"cc is not there, so {why}")
+    source = f"{TOP}/tests/{name}.c"
+    subprocess.run(["cc", "-O1", "-Wall", "-Werror", "-shared", "-fPIC", "-o", library, source], check=True)
+    return library
 
 
 def outcome(command, **how):

@@ -19,7 +19,6 @@ import json
 import mmap
 import os
 import re
-import shutil
 import struct
 import subprocess
 import sys
@@ -29,7 +28,7 @@ import cases as cases_of
 import members
 from members import LANES, TOP, Member, free_ports, outcome, parted, run, silent_peer
 from samples import ENTRY, FIRST, ORDERS, ORDERS_OUTPUT, RESTARTED, RESTARTED_OUTPUT, SECOND, SETTLED, SETTLED_OUTPUT, silence_of_job
-from tally import count, finish, give_up
+from tally import count, finish
 from wire import EMPTY_PUSH, TICK, delta, field, greeting, timestamp
 
 # What is on standard error where memory ran out.
@@ -108,16 +107,6 @@ class Counts:
 
     def environment(self, library):
         return {**os.environ, "LD_PRELOAD": library, "MEMORY": self.path}
-
-
-def compiled(folder):
-    """The library that refuses. Without a compiler of C nothing can be tried, which is a failure."""
-    library = f"{folder}/memory.so"
-    words = ["cc", "-O1", "-Wall", "-Werror", "-shared", "-fPIC", "-o", library, f"{TOP}/tests/memory.c"]
-    if shutil.which("cc") is None:
-        give_up("refused memory", "cc is not there, so no memory can be refused")
-    subprocess.run(words, check=True)
-    return library
 
 
 Ran = collections.namedtuple("Ran", "status output error asked refused")
@@ -544,7 +533,7 @@ def main():
     members.choose("refused memory", sys.argv[1:])
     members.must_be_there("refused memory", cases_of.CASES)
     with tempfile.TemporaryDirectory() as folder:
-        library = compiled(folder)
+        library = members.compiled("refused memory", "memory", folder, "no memory can be refused")
         lanes = Lanes(folder, library)
         test_cases(lanes, folder)
         test_jobs(lanes, folder)
