@@ -4,10 +4,10 @@
     build.py [--anew] [--report]
 
 It runs `rt ci` on a copy of the crates that am_tool wants, without their wrong bodies, and puts the program into
-crates/am_tool/out. What any checkout on this machine proved of the same files is kept, here as in the gate, and not proved
-again, and where nothing has changed nothing is done; --anew proves all. How far it is goes to standard error: at the start how
-long all takes, and then a line as each crate is done. --report prints in the end what these lines estimated, beside what came
-true.
+crates/am_tool/out. Where nothing has changed since, nothing is done. Else all is proved from nothing, but by a kit that keeps
+what it proves: such a one proves nothing again that any checkout on this machine proved of the same files. --anew proves all
+in any case. How far it is goes to standard error: at the start how long all takes, and then a line as each crate is done.
+--report prints in the end what these lines estimated, beside what came true.
 """
 
 import contextlib
@@ -31,19 +31,28 @@ PACES = {
     "am_version_order": 41, "am_streams": 165, "am_wire": 48, "am_schedule": 82, "am_silence": 55, "am_silence_json": 63,
     "am_nflog": 52, "am_gossip": 51, "am_merge": 86, "am_collect": 99, "am_runs": 51, "am_dedup": 59, "am_matcher": 69,
     "am_snapshot": 75, "am_http": 65, "am_instance": 71, "am_api_silences": 84, "am_steps": 73, "am_cluster": 76,
-    "am_member": 95, "am_reactor": 62, "am_journal": 90, "am_told": 85, "am_replay": 78, "am_picture": 80, "am_faults": 80,
-    "am_files": 100, "am_command_line": 140, "am_daemon": 115, "am_tool": 165, "am_decision_json": 90, "am_api_decisions": 80,
-    "am_dialogue": 110, "am_lines": 110,
+    "am_member": 95, "am_reactor": 62, "am_journal": 65, "am_told": 85, "am_replay": 78, "am_picture": 80, "am_faults": 80,
+    "am_files": 90, "am_command_line": 120, "am_daemon": 130, "am_tool": 500, "am_decision_json": 80, "am_api_decisions": 68,
+    "am_dialogue": 75, "am_lines": 60, "am_alert_hash": 55, "am_jobs": 45, "am_commands": 130, "am_player": 90,
+    "am_metrics": 105, "am_figures": 85, "am_api_status": 30,
 }  # fmt: skip
 # That of a crate which was not measured.
 PACE = 90
 
-# For how many seconds the first estimate counts beside what crates have taken.
+# How many times as long they took where whole builds were measured, and for how many seconds that counts beside what crates
+# have taken in this one.
+SLOWER = 1.6
 TRUSTED = 60
 
 # What rt ci says of a crate that is done, and where it waits.
 DONE = re.compile(r"rt: (\w+) (proved|NOT PROVED|is kept)\b")
 WAITS = re.compile(r"rt: (\w+: another run on this machine is proving the same)")
+
+
+def keeps():
+    """Whether rt ci of this kit keeps what it proves. Then it has the word --anew, by which it proves all."""
+    how = {"stdin": subprocess.DEVNULL, "stdout": subprocess.PIPE, "stderr": subprocess.STDOUT, "errors": "replace"}
+    return "--anew" in subprocess.run(["rt", "help"], check=False, **how).stdout
 
 
 def dependencies(top=TOP):
@@ -89,14 +98,20 @@ def copy_crates(names, folder):
     os.mkdir(f"{folder}/.git")
 
 
-def seconds_of(folder, name):
-    """How long the proof of a crate takes where bench/RESULTS.md was measured."""
+def lines_of(folder, name):
+    """How many lines of code a crate has."""
     lines = 0
-    for at, _, files in os.walk(f"{folder}/crates/{name}"):
+    for at, folders, files in os.walk(f"{folder}/crates/{name}"):
+        folders[:] = [it for it in folders if it != "out"]
         for file in files:
             if file.endswith(".rt"):
                 with open(f"{at}/{file}", "rb") as text:
                     lines += text.read().count(b"\n")
+    return lines
+
+
+def seconds_of(name, lines):
+    """How long the proof of a crate of so many lines takes where bench/RESULTS.md was measured."""
     return max(10, PACES.get(name, PACE) * lines / 1000)
 
 
@@ -111,20 +126,23 @@ class Plan:
     """Which crates are done, which run and since when, and how long is left.
 
     rt ci says when a crate is done, and not when it begins: as soon as there is a place and its libraries are done, and first
-    those with the longest chain of others behind them. That is told here once more, with what crates take for how long they
-    are said to take.
+    those with the longest chain of others behind them, by lines. That is told here once more, with what crates take for how
+    long they are said to take. Each has one process, since RT_JOBS is set: of itself rt ci gives a proof more of them where
+    processors are idle, but begins it only where it is sure of memory, and so has two or three proofs side by side in 23 GB
+    where there is room for four.
     """
 
     def __init__(self, tree, folder, number):
         self.tree, self.number = tree, number
-        self.seconds = {name: seconds_of(folder, name) for name in tree}
-        self.behind = dict(self.seconds)
+        lines = {name: lines_of(folder, name) for name in tree}
+        self.seconds = {name: seconds_of(name, lines[name]) for name in tree}
+        self.behind = dict(lines)
         for name in reversed(with_below(tree, tree)):
             above = [self.behind[it] for it in tree if name in tree[it]]
             self.behind[name] += max(above, default=0)
         self.done, self.running = set(), {}
         # How long the crates that were proved took, and how long they are said to take.
-        self.taken, self.said = TRUSTED, TRUSTED
+        self.taken, self.said = SLOWER * TRUSTED, TRUSTED
 
     def next_of(self, done, running):
         """The crate that begins next, if one is ready."""
@@ -168,11 +186,12 @@ def say(text):
 class Told:
     """What is told while crates are proved, and what it estimated."""
 
-    def __init__(self, plan):
-        self.plan, self.begun, self.estimates = plan, time.time(), []
+    def __init__(self, plan, keeps):
+        self.plan, self.keeps, self.begun, self.estimates = plan, keeps, time.time(), []
         plan.fill(self.begun)
         left = self.estimate("the start")
-        say(f"proves {len(plan.tree)} crates, {plan.number} side by side: about {minutes(left)} in all, and less where some are proved")
+        less = ", and less where some are proved" if keeps else ""
+        say(f"proves {len(plan.tree)} crates, {plan.number} side by side: about {minutes(left)} in all{less}")
 
     def estimate(self, when):
         now = time.time()
@@ -212,7 +231,7 @@ def prove(folder, told=None, words=(), last=None):
 
     Where a crate is named as the last, it ends once that is proved, and runs no program.
     """
-    told = told or Told(Plan(dependencies(folder), folder, places()))
+    told = told or Told(Plan(dependencies(folder), folder, places()), keeps())
     how = {"cwd": folder, "stdin": subprocess.DEVNULL, "stdout": subprocess.PIPE, "stderr": subprocess.STDOUT, "errors": "replace"}
     said = []
     with ended(subprocess.Popen(["rt", "ci", *words], env={**os.environ, "RT_JOBS": str(told.plan.number)}, **how)) as ran:
@@ -287,8 +306,8 @@ def build(words, reports):
         if content(f"{PROGRAM}.sum") == stamp(sources) and "--anew" not in words:
             say("nothing has changed since it was built")
         else:
-            told = Told(Plan({it: crates[it] for it in names}, folder, places()))
-            failed = prove(folder, told, words)
+            told = Told(Plan({it: crates[it] for it in names}, folder, places()), keeps())
+            failed = prove(folder, told, words if told.keeps else ())
             if failed is not None:
                 say(f"not built; rt said:\n{failed[-4000:]}")
                 return 1
@@ -311,7 +330,7 @@ def main():
     try:
         return build([it for it in words if it == "--anew"], "--report" in words)
     except KeyboardInterrupt:
-        say("stopped; what was proved so far is kept")
+        say("stopped; what was proved so far is kept" if keeps() else "stopped; nothing of what was proved is kept")
         return 130
 
 

@@ -13,7 +13,7 @@ import build
 
 
 def ours(name, folder):
-    """Proves and builds a program, and says where it is. What is kept of the crates isn't proved again."""
+    """Proves and builds a program, and all crates that it wants, and says where it is."""
     source = os.path.join(TOP, "bench", "programs", name)
     with open(os.path.join(source, "needs"), encoding="utf-8") as f:
         needs = f.read().split()

@@ -8,7 +8,7 @@
 entries, and saves both files every other second. Told are the middle, the 99th part and the most of the milliseconds, of posts
 beside which no save goes on, and of the others; how much more the most of these is; and how long saves took, and how many there
 were. A save goes on while FILE.new or FILE.log.old stands there, for which another process looks some thousand times a second,
-and 20 ms before and behind that, in which versions are counted, and what was removed is given back to the disk.
+and 20 ms before and behind that, in which versions are counted, and the directory is handed to the disk.
 
 `starts`: seconds from the start of the process to the line that says that it listens, over a file of N silences; over the same
 and a log of N others, in any order, of one in each batch, as one client makes them, and of 16; and over a file of all; and how

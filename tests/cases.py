@@ -29,7 +29,7 @@ TOOL = f"{TOP}/crates/am_tool/out/am_tool"
 
 # The subjects of texts: each has its file.
 SUBJECTS = (
-    "api calls carried clusters connections decisions events frames hashes instance instance_large json log maps matchers"
+    "api calls carried clusters connections decisions events figures frames hashes instance instance_large json log maps matchers"
     " messages moments replays requests rows rows_large schedules sessions silences snapshots views wire"
 ).split()
 

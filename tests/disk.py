@@ -62,6 +62,10 @@ CALLS_OF_LOGS = 4
 # For how many seconds a silence is kept after its end, so that none is forgotten.
 RETENTION = 432_000
 
+# How many bytes comments have, and those of some that are posted to members with logs: so many that their files are given back
+# in pieces.
+COMMENTS, LARGE, LARGE_SHARE = [0, 30, 700, 3000], 150_000, 0.1
+
 # But for some that a peer brings, whose ends are kept for so many milliseconds: so are their keys.
 BRIEFLY, BRIEF_KEY = 300, "brief"
 
@@ -274,7 +278,8 @@ class Life:
     def comment(self):
         """One by which a version is known again, of any length."""
         number = len(self.ledger.operations)
-        return f"{number} {'c' * self.draw.choice([0, 30, 700, 3000])}".rstrip()
+        is_large = self.keeps_log and self.draw.random() < LARGE_SHARE
+        return f"{number} {'c' * (LARGE if is_large else self.draw.choice(COMMENTS))}".rstrip()
 
     def post(self, member):
         ends = now() + self.draw.choice([3_600_000, 7_200_000])

@@ -42,9 +42,13 @@ MEMBER_LINE = re.compile(
 )
 SHOWN = re.compile(rb"(sil \S+ (pending|active|expired)|nfl \S+ \S+ \S+ \d+ \S+ \S+)")
 REPLY = re.compile(
-    rb"HTTP/1\.1 (200|400|404|405|413|431|500|501) [A-Za-z ]+\r\ncontent-type: application/json\r\n"
-    rb"content-length: (\d+)\r\n(allow: GET, (POST|DELETE)\r\n)?connection: close\r\n\r\n"
+    rb"HTTP/1\.1 (200|400|404|405|413|431|500|501) [A-Za-z ]+\r\ncontent-type: (?P<type>application/json|text/(?:plain|html);[a-z0-9 .;=-]+)\r\n"
+    rb"(?:(?:content-security-policy|x-content-type-options|referrer-policy|cache-control): [^\r\n]+\r\n)*"
+    rb"content-length: (?P<length>\d+)\r\n(allow: GET, (POST|DELETE|HEAD)\r\n)?connection: close\r\n\r\n"
 )
+
+# What a member is asked of itself.
+ITSELF = [b"/", b"/-/healthy", b"/-/ready", b"/api/v2/status", b"/api/v2/receivers", b"/metrics", b"/?a", b"/-/", b"/metrics?" + b"b" * 9_000]
 
 
 def settle(name, fault, data):
@@ -378,7 +382,7 @@ FILTERS = [b"job=x", b"job=~x", b"1a=x", b"a", b"a=", b"%66ilter=a=b", b"a=~(", 
 
 def some_request(draw):
     body = b""
-    kind = draw.randrange(8)
+    kind = draw.randrange(9)
     if kind == 0:
         return draw.randbytes(draw.randrange(300))
     if kind == 1:
@@ -389,6 +393,8 @@ def some_request(draw):
     elif kind == 3:
         target = b"/api/v2/silence/" + draw.choice([b"a", b"%2F", b"", b"a/b", b"?", b"a" * 15_000, b"\xc3\xbc", b"../silences"])
         head = draw.choice([b"GET ", b"DELETE ", b"PUT ", b"HEAD "]) + target
+    elif kind == 4:
+        head = draw.choice([b"GET ", b"GET ", b"HEAD ", b"POST "]) + draw.choice(ITSELF)
     else:
         body = some_json(draw)
         head = draw.choice([b"POST", b"POST", b"POST", b"GET", b"PUT"]) + b" /api/v2/silences"
@@ -450,11 +456,11 @@ def fault_after(member, data, reply):
     if reply:
         head = REPLY.match(reply)
         body = reply[head.end() :] if head else b""
-        has_length = head and (len(body) == int(head[2]) or data.startswith(b"HEAD ") and not body)
+        has_length = head and (len(body) == int(head["length"]) or data.startswith(b"HEAD ") and not body)
         if not has_length or data[0] < 0x20:
             return f"the reply {reply[:300]!r}"
         try:
-            if body:
+            if body and head["type"] == b"application/json":
                 json.loads(body)
         except ValueError:
             return f"no JSON: {body[:300]!r}"

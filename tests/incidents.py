@@ -1,4 +1,5 @@
-"""Incidents and faults that are drawn beforehand, and the judge of what was paged: of tests/pages.py and tests/real_pages.py.
+"""Incidents and faults that are drawn beforehand, what goes on around those who page, and the judge of what was paged: of
+tests/pages.py and tests/real_pages.py.
 
 Moments and times are seconds, and moments count from the start of a round.
 """
@@ -8,9 +9,9 @@ import contextlib
 import json
 import math
 import random
-import threading
 import time
 
+from chaos import moment
 from hashes import hash_of, text_of
 
 NAMES = ["a", "b", "c"]
@@ -34,10 +35,12 @@ SPREAD, LATE = 0.6, 4
 # How late something is where the machine has much else to do.
 LATE_REPLY = 0.25
 
-# Causes of pages of what had been paged: none; that somebody waited for a turn with what its incident showed no more; and that
-# a member took long to answer, or all did.
+# Causes of pages of what had been paged: none; that somebody waited for a turn with what its incident showed no more; that a
+# member took long to answer, or all did; that a notifier came to ask so late that two turns met; and that one asks at another
+# moment than the others since something went wrong with it.
 NO_CAUSE, CHANGED_MEANWHILE = "no cause", "changed while somebody waited"
-SLOW, SLOW_MACHINE = "a member answered late", "slow machine"
+SLOW, SLOW_MACHINE, LATE_CALLER = "a member answered late", "slow machine", "a notifier came late"
+APART = "asked at other moments since a fault"
 
 # What may happen to a member and to a notifier, and how often among the others.
 MEMBERS_FAULTS = {"kill": 3, "freeze": 3, "stop": 2}
@@ -238,19 +241,89 @@ class Troubles:
         return begin if end - begin >= need else None
 
 
+class Silencer:
+    """Posts the silence of an incident to any member that takes it, and looks which members hold it."""
+
+    def __init__(self, round_, incident):
+        self.round, self.clock, self.over = round_, round_.clock, round_.is_over
+        self.incident, self.silence = incident, incident.silence
+        self.draw = random.Random(f"{round_.seed} {incident.name}")
+
+    def work(self):
+        if not self.clock.wait(self.silence.at, self.over):
+            return
+        while self.clock.wait(self.clock.now() + 0.2, self.over) and self.clock.now() < self.silence.until:
+            member = self.draw.choice(self.round.members)
+            status, body = member.request("POST", "/api/v2/silences", self.posted())
+            if status == 200:
+                self.watch(json.loads(body)["silenceID"])
+                return
+
+    def posted(self):
+        parts = "|".join(map(str, self.silence.parts))
+        matchers = [("incident", self.incident.name, False), ("part", parts, True)]
+        now = time.time()
+        return json.dumps({
+            "matchers": [{"name": name, "value": value, "isRegex": regex} for name, value, regex in matchers],
+            "startsAt": moment(int(1000 * now)),
+            "endsAt": moment(int(1000 * (now + self.silence.until - self.clock.now()))),
+            "createdBy": "pages.py",
+            "comment": self.incident.name,
+        }).encode()  # fmt: skip
+
+    def watch(self, key):
+        """Writes down since when which members hold it."""
+        until = min(self.silence.until, self.incident.ends + INTERVAL)
+        while self.clock.wait(self.clock.now() + 0.3, self.over) and self.clock.now() < until:
+            for it in self.round.members:
+                start = self.round.start_of(it)
+                if it.request("GET", f"/api/v2/silence/{key}", limit=0.5)[0] == 200 and start == self.round.start_of(it):
+                    self.silence.held.setdefault((it.name, start), self.clock.now())
+
+
+class Surroundings:
+    """What goes on in a round beside members and notifiers: silences are posted, the weather changes, and who is slow is written
+    down."""
+
+    def begin_around(self):
+        for it in self.plan.incidents:
+            if it.silence:
+                self.thread(Silencer(self, it).work)
+        self.thread(self.change_weather)
+        self.thread(self.troubles.watch, self.is_over)
+        for it in self.members:
+            self.thread(self.troubles.ping, it, self.is_over)
+
+    def change_weather(self):
+        for at, weather, pairs in self.plan.weathers:
+            if not self.clock.wait(at, self.is_over):
+                return
+            for it in pairs:
+                self.set_weather(it, weather)
+                self.troubles.change(it, weather)
+
+
 class Page:
     """A page that went out: of which incident and what, who sent it and when; when its member was asked, when it was due to
-    answer, and when it did; and when the page was in the log."""
+    answer, and when it did; when the page was in the log; and by how much later its notifier asked than it was to."""
 
-    def __init__(self, incident, who, content, asked, due, replied, at):
-        self.incident, self.who, self.content = incident, who, content
+    def __init__(self, incident, who, content, asked, due, replied, at, late=0):
+        self.incident, self.who, self.content, self.late = incident, who, content, late
         self.asked, self.due, self.replied, self.at, self.logged = asked, due, replied, at, None
         # whether its notifier died behind it; by which start of its member it was decided on, if by one
         self.is_last, self.start = False, None
 
     def __repr__(self):
         moments = ["-" if it is None else f"{it:.2f}" for it in (self.asked, self.replied, self.at, self.logged)]
-        return f"{self.incident.name} {self.content.firing}{self.content.resolved} by {self.who} at {'/'.join(moments)}"
+        late = f", asked {self.late:.2f} late" if self.late > LATE_REPLY else ""
+        return f"{self.incident.name} {self.content.firing}{self.content.resolved} by {self.who} at {'/'.join(moments)}{late}"
+
+
+def met_by_lateness(former, page):
+    """Whether the turns of two pages met, and would not have if their notifiers had asked when they were to."""
+    met = abs(page.due - former.due) < SPREAD + LATE_REPLY
+    meant = abs((page.due - page.late) - (former.due - former.late))
+    return met and meant > SPREAD and max(former.late, page.late) > LATE_REPLY
 
 
 class Judge:
@@ -294,7 +367,7 @@ class Judge:
             if before:
                 cause = self.cause(before[-1], page)
                 self.causes[cause] += 1
-                if cause in (CHANGED_MEANWHILE, SLOW, SLOW_MACHINE):
+                if cause in (CHANGED_MEANWHILE, SLOW, SLOW_MACHINE, LATE_CALLER):
                     self.spoiled.add(incident)
                 if NO_CAUSE in (self.cause(it, page) for it in before):
                     self.twice.append(f"{before} and then {page}")
@@ -313,8 +386,10 @@ class Judge:
             # it was logged too late for the later one, or is that one's own
             found = self.troubles.kinds([former.who], former.asked, former.logged or math.inf)
             found += self.troubles.kinds([page.who], page.asked, page.at)
-            apart = self.troubles.kinds(both, page.incident.begins - LATE, page.asked)
-            found += ["asked at other moments since a fault"] if apart else []
+            since = page.incident.begins - LATE
+            apart = [kind for it in (former, page) for kind in self.troubles.kinds([it.who], since, it.asked)]
+            found += [APART] if apart else []
+            found += [LATE_CALLER] if met_by_lateness(former, page) else []
         waits = [it.replied - it.due for it in (former, page)] + [(former.logged or former.at) - former.at]
         if max(waits) > LATE_REPLY:
             found.append(SLOW)

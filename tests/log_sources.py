@@ -10,11 +10,12 @@ cases/show/logs.txt and cases/diff/logs.txt have logs that are written by hand. 
 import json
 import os
 import signal
+import subprocess
 import sys
 import tempfile
 
 import members
-from members import Member, free_ports, run
+from members import Member, eventually, free_ports, run
 from samples import ENTRY, FIRST, SECOND, silence_of_job
 from tally import check, compare, finish, try_each
 from versions import row
@@ -174,6 +175,75 @@ def test_live(folder):
     compare("all of them behind a kill", sorted(shown("--log", member.sil)), sorted(posted))
 
 
+class Slow:
+    """A comparison that has opened a file, and reads it once a pipe that stands before it is filled."""
+
+    def __init__(self, folder, file):
+        os.mkfifo(f"{folder}/pipe")
+        words = [members.program, "diff", "--state", "sil", f"a={folder}/pipe", f"b={file}"]
+        self.process = subprocess.Popen(words, stdout=subprocess.PIPE, stderr=subprocess.PIPE)
+        self.pipe = open(f"{folder}/pipe", "wb")
+        check("the file is opened", eventually(lambda: file in self.opened()), self.opened())
+
+    def opened(self):
+        folder = f"/proc/{self.process.pid}/fd"
+        return [os.readlink(f"{folder}/{it}") for it in os.listdir(folder)]
+
+    def go_on(self, row):
+        """Fills the pipe with a row. Answers the status, how many lines there are, and the error."""
+        self.pipe.write(row)
+        self.pipe.close()
+        output, error = self.process.communicate()
+        return self.process.returncode, len(output.splitlines()), error.decode()
+
+
+def saved_member(folder):
+    """A member with a file of over a megabyte, that saves every second where something may have changed."""
+    member = begun("a", folder, ["--save-every", "1"])
+    for number in range(COUNT):
+        post(member, f"{number} {COMMENT}")
+    check("its file is written", eventually(lambda: holds(member.sil, COUNT)), os.listdir(folder))
+    return member
+
+
+def holds(file, count):
+    return os.path.exists(file) and len(shown(file)) == count
+
+
+def replace(member, count):
+    """Has the member put a file of so many silences in the place of its own, by a post."""
+    before = os.stat(member.sil).st_ino
+    post(member, f"{count} {COMMENT}")
+    check("its file is replaced", eventually(lambda: os.stat(member.sil).st_ino != before and holds(member.sil, count)), before)
+
+
+def test_replaced(folder):
+    """A file that a member replaces while it is read is read as it was; once the member saves again, its end is a fault."""
+    for times, wanted in (1, (0, 0, False)), (2, (3, 0, True)):
+        place = f"{folder}/{times}"
+        member = saved_member(place)
+        row = content(place)["a.sil"]
+        slow = Slow(place, member.sil)
+        for number in range(times):
+            replace(member, COUNT + 1 + number)
+        status, lines, error = slow.go_on(row)
+        compare(f"a file that is replaced, {times}: {error}", (status, lines, error.startswith("am_tool: b Read ")), wanted)
+        member.kill()
+
+
+def test_other_name(folder):
+    """A file that has another name stays whole, however often the member saves."""
+    member = saved_member(folder)
+    row = content(folder)["a.sil"]
+    os.link(member.sil, f"{folder}/kept")
+    with open(f"{folder}/kept", "rb") as kept:
+        for number in range(3):
+            replace(member, COUNT + 1 + number)
+        compare("what is read of it", kept.read() == row, True)
+    member.kill()
+    compare("what stands there", content(folder)["kept"] == row, True)
+
+
 def test_links(folder):
     """The logs of a link stand beside the file behind it."""
     member = begun("a", f"{folder}/place")
@@ -231,7 +301,8 @@ def test_large(folder):
 
 def main():
     members.choose("log sources", sys.argv[1:])
-    tests = [test_killed, test_old_log, test_torn, test_two_members, test_live, test_links, test_pipes, test_folds, test_large]
+    tests = [test_killed, test_old_log, test_torn, test_two_members, test_live, test_replaced, test_other_name]
+    tests += [test_links, test_pipes, test_folds, test_large]
     with tempfile.TemporaryDirectory() as folder:
         try_each(tests, os.path.realpath(folder))
     finish("log sources")

@@ -1,7 +1,7 @@
 #!/usr/bin/env python3
 """Three members with a notifier beside each, whose network, processes and notifiers fail at random, while incidents come and go.
 
-    tests/pages.py [--seed N] [--seconds S] [PROGRAM]
+    tests/pages.py [--seed N] [--seconds S] [--ignore turn|log] [PROGRAM]
 
 PROGRAM is crates/am_tool/out/am_tool if it isn't given; ./am_tool and rt ci build it. A notifier does what docs/OPERATING.md has
 programs do that send pages: it asks its member by `decide`, in its turn, sends a page where the reply says so, and hands the
@@ -14,8 +14,12 @@ Right is: each alert that fires for longer than all turns is paged, where a noti
 what is shown is paged once, where since the incident began nothing went wrong; what is paged again has a cause, a fault within
 the spread before the turn of the one who paged it again, or that the incident changed while that one waited; no alert is paged
 by a member that was seen to hold its silence; each reply of `decide` has the alerts of its message, but for those that are
-silenced; and in the end all members have the same log, with nothing in it that nobody paged. A table tells what was paged, and
-the causes of what was paged again.
+silenced; none comes before its member's turn, and each comes that no fault fell on; and in the end all members have the same log,
+with nothing in it that nobody paged. A notifier that was so late itself to ask that two turns met is a cause, too: by how much
+later than it was to it asks is measured each time. A table tells what was paged, and the causes of what was paged again.
+
+The judge is tried before, with pages of members that decide too early or twice. `--ignore turn` has the last member's notifier not
+wait for its turn, and `--ignore log` has nobody tell the log: the judge has to find both.
 
 All lasts S seconds, 60 by default, in two rounds or more of at most 60. In rounds of an odd seed members have `--log`. `--seed`
 repeats what is drawn at random, and not what comes of it. Nothing leaves 127.0.0.1. Prints each case that fails, and at the end
@@ -27,7 +31,7 @@ import base64
 import collections
 import contextlib
 import json
-import random
+import math
 import signal
 import socket
 import tempfile
@@ -35,12 +39,13 @@ import threading
 import time
 
 import members
-from chaos import STARTED_BY, moment, stop
-from incidents import ALL_TURNS, GROUP_WAIT, INTERVAL, LATE, NAMES, NEED, PAIRS, SLOW, SLOW_MACHINE, TURN, TURNS
-from incidents import Clock, Content, Judge, Page, Plan, Troubles, tell
+from chaos import STARTED_BY, stop
+from incidents import ALL_TURNS, GROUP_WAIT, INTERVAL, LATE, LATE_CALLER, NAMES, NEED, NO_CAUSE, PAIRS, SLOW, SLOW_MACHINE
+from incidents import APART, TURN, TURNS
+from incidents import Clock, Content, Judge, Page, Plan, Surroundings, Trouble, Troubles, tell
 from members import PATIENCE, eventually, free_ports, parted, received
 from proxies import Proxy
-from tally import check, finish
+from tally import check, compare, finish
 
 # How long a connection may last, how often members do each thing, and how long they wait for a first Pull: in seconds.
 TIME_LIMIT, EVERY, FIRST = 2, 1, 3
@@ -53,6 +58,9 @@ LONGEST = 3 * EVERY + 2 * (2 * TIME_LIMIT + 1) + 1
 
 # How long somebody waits for a reply, beyond a turn; for how long it lets be what failed; and how often it tries `notified`.
 REPLY, RETRY, TRIES = 2 * TIME_LIMIT, 0.3, 5
+
+# By how much a clock of this script may be behind that of a member, in seconds.
+EARLY = 0.02
 
 # The most that a round lasts, in seconds.
 ROUND = 60
@@ -129,37 +137,45 @@ class Notifier:
 
     def watch(self, life):
         """Follows each incident from its begin, or from the start of this life."""
+        begun = self.clock.now()
         for it in self.round.plan.incidents:
-            if not self.clock.wait(it.begins + it.skew[self.name], life.is_over):
+            seen = max(begun, it.begins + it.skew[self.name])
+            if not self.clock.wait(seen, life.is_over):
                 return
             # what is long over is no alert any more
             if self.clock.now() < it.ends + INTERVAL + ALL_TURNS:
-                self.round.thread(self.follow, it, life)
+                self.round.thread(self.follow, it, life, seen + GROUP_WAIT)
 
-    def follow(self, incident, life):
-        """Looks at an incident again and again, until its end is told."""
-        due = self.clock.now() + GROUP_WAIT
+    def follow(self, incident, life, due):
+        """Looks at an incident from a moment on, again and again, until its end is told."""
         while self.clock.wait(due, life.is_over):
-            due = max(due + INTERVAL, self.clock.now())
-            while (content := self.handle(incident, life)) is None:
-                if life.is_over.wait(RETRY):
+            begins = due
+            while (content := self.handle(incident, life, begins)) is None:
+                begins = self.clock.now() + RETRY
+                if not self.clock.wait(begins, life.is_over):
                     return
             if not content.firing:
                 return
+            due = max(due + INTERVAL, self.clock.now())
 
-    def handle(self, incident, life):
-        """Asks and, where the reply says so, pages and tells it; the content where that came to an end."""
+    def handle(self, incident, life, begins):
+        """Asks and, where the reply says so, pages and tells it; the content where that came to an end. It was to do so from a
+        moment on, and it is measured how much later it does."""
+        late = self.clock.now() - begins
         if not life.goes_on():
             return None
         asked, start = self.clock.now(), self.round.start_of(self.member)
         content = incident.content(asked - incident.skew[self.name])
-        reply = self.ask(life, "/v1/decide?wait=true&resolved=true", incident.message(content))
+        wait = "false" if self.round.ignored == "turn" and self.name == NAMES[-1] else "true"
+        reply = self.ask(life, f"/v1/decide?wait={wait}&resolved=true", incident.message(content))
         if reply is None or not life.goes_on():
             return None
-        replied, found = self.clock.now(), json.loads(reply)
+        turn, replied, found = asked + TURNS[self.name], self.clock.now(), json.loads(reply)
+        if replied < turn - EARLY:
+            self.round.complain("early", f"{self.name} asked at {asked:.2f} replied at {replied:.2f}")
         paged = self.round.look_at(incident, content, found)
         if found["notify"]:
-            page = Page(incident, self.name, paged, asked, asked + TURNS[self.name], replied, self.clock.now())
+            page = Page(incident, self.name, paged, asked, turn, replied, self.clock.now(), late)
             page.start = start if start == self.round.start_of(self.member) else None
             self.send(page, life, reply)
         return content
@@ -173,17 +189,20 @@ class Notifier:
         for _ in range(TRIES):
             if not life.goes_on():
                 return
-            if self.ask(life, "/v1/notified", reply) is not None:
+            if self.round.ignored == "log" or self.ask(life, "/v1/notified", reply) is not None:
                 page.logged = self.clock.now()
                 return
             life.is_over.wait(RETRY)
 
     def ask(self, life, target, body):
         """The body of a good reply, if one comes."""
+        asked = self.clock.now()
         status, found = self.member.request("POST", target, body, ALL_TURNS + REPLY, life.streams)
         self.round.replies[status or "no reply"] += 1
         if status not in (None, 200, UNAVAILABLE) or found == CROWDED:
             self.round.complain("replies", f"{self.name} {target}: {status} {found!r}")
+        if status != 200 and not life.is_over.is_set():
+            self.round.unanswered.append((self.name, asked, self.clock.now(), f"{target}: {status} {found!r}"))
         return found if status == 200 else None
 
 
@@ -248,52 +267,15 @@ class Meddler:
             self.notifier.life.is_awake.set()
 
 
-class Silencer:
-    """Posts the silence of an incident to any member that takes it, and looks which members hold it."""
-
-    def __init__(self, round_, incident):
-        self.round, self.clock, self.over = round_, round_.clock, round_.is_over
-        self.incident, self.silence = incident, incident.silence
-        self.draw = random.Random(f"{round_.seed} {incident.name}")
-
-    def work(self):
-        while self.clock.wait(self.clock.now() + 0.2, self.over) and self.clock.now() < self.silence.until:
-            member = self.draw.choice(self.round.members)
-            status, body = member.request("POST", "/api/v2/silences", self.posted())
-            if status == 200:
-                self.watch(json.loads(body)["silenceID"])
-                return
-
-    def posted(self):
-        parts = "|".join(map(str, self.silence.parts))
-        matchers = [("incident", self.incident.name, False), ("part", parts, True)]
-        now = time.time()
-        return json.dumps({
-            "matchers": [{"name": name, "value": value, "isRegex": regex} for name, value, regex in matchers],
-            "startsAt": moment(int(1000 * now)),
-            "endsAt": moment(int(1000 * (now + self.silence.until - self.clock.now()))),
-            "createdBy": "pages.py",
-            "comment": self.incident.name,
-        }).encode()  # fmt: skip
-
-    def watch(self, key):
-        """Writes down since when which members hold it."""
-        until = min(self.silence.until, self.incident.ends + INTERVAL)
-        while self.clock.wait(self.clock.now() + 0.3, self.over) and self.clock.now() < until:
-            for it in self.round.members:
-                start = self.round.start_of(it)
-                if it.request("GET", f"/api/v2/silence/{key}", limit=0.5)[0] == 200 and start == self.round.start_of(it):
-                    self.silence.held.setdefault((it.name, start), self.clock.now())
-
-
-class Round:
+class Round(Surroundings):
     """Three members with their notifiers and their proxies, in a folder of their own."""
 
-    def __init__(self, seed, seconds, folder):
-        self.seed, self.has_log, self.is_over = seed, seed % 2 == 1, threading.Event()
+    def __init__(self, seed, seconds, folder, ignored=None):
+        self.seed, self.has_log, self.is_over, self.ignored = seed, seed % 2 == 1, threading.Event(), ignored
         self.plan, self.clock = Plan(seed, seconds), Clock()
         self.troubles, self.pages, self.threads = Troubles(self.clock), [], []
         self.complaints, self.replies, self.acts = collections.defaultdict(list), collections.Counter(), collections.Counter()
+        self.unanswered = []
         options = [*OPTIONS, *["--log"] * self.has_log]
         self.members = [Member(name, port, [], folder, options) for name, port in zip(NAMES, free_ports(3))]
         of_name = dict(zip(NAMES, self.members))
@@ -335,13 +317,7 @@ class Round:
             meddler = Meddler(self, member, notifier)
             self.thread(meddler.work, self.plan.members[member.name])
             self.thread(meddler.work, self.plan.notifiers[member.name])
-        for it in self.plan.incidents:
-            if it.silence:
-                self.thread(self.silence, it)
-        self.thread(self.change_weather)
-        self.thread(self.troubles.watch, self.is_over)
-        for it in self.members:
-            self.thread(self.troubles.ping, it, self.is_over)
+        self.begin_around()
         self.is_over.wait(self.plan.end)
         self.is_over.set()
         for it in self.notifiers:
@@ -349,17 +325,8 @@ class Round:
         for it in self.threads:
             it.join(PATIENCE)
 
-    def silence(self, incident):
-        if self.clock.wait(incident.silence.at, self.is_over):
-            Silencer(self, incident).work()
-
-    def change_weather(self):
-        for at, weather, pairs in self.plan.weathers:
-            if not self.clock.wait(at, self.is_over):
-                return
-            for it in pairs:
-                self.proxies[it].weather = weather
-                self.troubles.change(it, weather)
+    def set_weather(self, pair, weather):
+        self.proxies[pair].weather = weather
 
     def look_at(self, incident, content, reply):
         """Looks at a reply, and answers what is paged by it: the message, without what is silenced."""
@@ -383,10 +350,14 @@ class Round:
         counts.update(judge.counts)
         causes.update(judge.causes)
         self.judge_logs()
+        self.judge_unanswered()
         self.complaints.update(lost=judge.lost, twice=judge.twice, muted=judge.muted)
         for kind, title in COMPLAINTS.items():
             found = self.complaints[kind]
-            check(title, not found, f"{len(found)} times: {found[:3]}")
+            if kind == FOUND.get(self.ignored):
+                check(f"the judge finds it: {title}", found)
+            elif not (kind == "twice" and self.ignored):
+                check(title, not found, f"{len(found)} times: {found[:3]}")
 
     def judge_logs(self):
         """All members come to have the same log, and nothing stands in it that nobody paged."""
@@ -404,6 +375,12 @@ class Round:
             content = Content(parts("firingAlerts"), parts("resolvedAlerts"))
             if (key, content) not in paged:
                 self.complain("log", f"{key}: {content}")
+
+    def judge_unanswered(self):
+        """What a notifier asked and wasn't answered has a cause."""
+        for name, asked, ended, what in self.unanswered:
+            if not self.troubles.kinds([name], asked - LATE, ended):
+                self.complain("unanswered", f"{name} from {asked:.2f} to {ended:.2f}: {what}")
 
     def log_of(self, member):
         status, body = member.request("GET", "/v1/log")
@@ -433,6 +410,8 @@ COMPLAINTS = {
     "twice": "where no fault fell within the spread before a turn, what is shown is paged once",
     "muted": "no alert is paged whose silence is held",
     "replies": "each reply has what its message had",
+    "early": "no decision comes before its member's turn",
+    "unanswered": "what no fault fell on is answered",
     "log": "nothing is in the log that nobody paged",
     "starts": "each start listens",
     "stops": "a stop by a signal ends well, and soon",
@@ -440,11 +419,45 @@ COMPLAINTS = {
 }
 
 
-def play(seed, seconds, counts, causes):
+# What the judge has to find where the last member decides before its turn, and where nobody's log is told.
+FOUND = {"turn": "early", "log": "twice"}
+
+
+def page(incident, who, asked, took, late=0):
+    """A page of a member that took so long to decide."""
+    replied = asked + took
+    made = Page(incident, who, incident.content(incident.begins), asked, asked + TURNS[who], replied, replied + 0.01, late)
+    made.logged = made.at + 0.01
+    return made
+
+
+def try_judge():
+    """The judge knows a notifier that came late, and takes it for no cause of what a member does wrong."""
+    plan, died = Plan(0, ROUND), Trouble("a notifier died", "a", 10.5)
+    died.ended = 11.5
+    incident = next(it for it in plan.incidents if not it.silence and it.changes == math.inf)
+    cases = {
+        "a notifier came late": (LATE_CALLER, page(incident, "c", 10, 2), page(incident, "a", 12.02, 0, 2)),
+        "a notifier died between the two": (APART, page(incident, "a", 11.9, 0), page(incident, "c", 10, 2)),
+        "the last decides before its turn": (NO_CAUSE, page(incident, "c", 10, 0), page(incident, "a", 10.1, 0)),
+        "and the first comes late": (NO_CAUSE, page(incident, "c", 10, 0.4), page(incident, "a", 10.5, 0, 0.5)),
+        "one decides twice": (NO_CAUSE, page(incident, "a", 10, 0), page(incident, "a", 13.5, 0)),
+        "and comes late": (NO_CAUSE, page(incident, "a", 10, 0), page(incident, "a", 15.5, 0, 2)),
+        "the next one has not heard": (NO_CAUSE, page(incident, "a", 10, 0), page(incident, "b", 10.1, 1)),
+        "and comes late to hear": (NO_CAUSE, page(incident, "a", 10, 0), page(incident, "b", 10.5, 1, 0.5)),
+    }
+    for name, (cause, *pages) in cases.items():
+        judge = Judge(plan, pages, Troubles(Clock()), LONGEST, NEED)
+        judge.troubles.found = [died] if cause == APART else []
+        judge.judge_twice(incident)
+        compare(name, (dict(judge.causes), len(judge.twice)), ({cause: 1}, int(cause == NO_CAUSE)))
+
+
+def play(seed, seconds, counts, causes, ignored=None):
     """One round."""
     print(f"pages: seed {seed}, {seconds} seconds{', with --log' * (seed % 2)}", flush=True)
     with tempfile.TemporaryDirectory() as folder:
-        one = Round(seed, seconds, folder)
+        one = Round(seed, seconds, folder, ignored)
         try:
             one.run()
             one.judge(counts, causes)
@@ -459,13 +472,15 @@ def main():
     words = argparse.ArgumentParser(description=__doc__, formatter_class=argparse.RawDescriptionHelpFormatter)
     words.add_argument("--seed", type=int, default=1)
     words.add_argument("--seconds", type=int, default=60)
+    words.add_argument("--ignore", choices=FOUND)
     words.add_argument("program", nargs="*")
     words = words.parse_args()
     members.choose("pages", words.program)
     signal.signal(signal.SIGTERM, stop)
+    try_judge()
     rounds, counts, causes = max(2, -(-words.seconds // ROUND)), collections.Counter(), collections.Counter()
     for number in range(rounds):
-        play(words.seed + number, words.seconds // rounds, counts, causes)
+        play(words.seed + number, words.seconds // rounds, counts, causes, words.ignore)
     tell(counts, causes)
     finish("pages")
 

@@ -29,9 +29,9 @@ import urllib.request
 
 from chaos import moment, stop
 from incidents import ALL_TURNS, GROUP_WAIT, INTERVAL, NAMES, NEED, TURN
-from incidents import Clock, Content, Judge, Page, Plan, Troubles, tell
+from incidents import Clock, Content, Judge, Page, Plan, Surroundings, Troubles, tell
 from members import PATIENCE, eventually, free_ports
-from pages import FIRST, LONGEST, ROUND, Silencer
+from pages import FIRST, LONGEST, ROUND
 from proxies import WEATHERS, reset
 from tally import check, finish
 
@@ -288,7 +288,7 @@ class Hook(http.server.BaseHTTPRequestHandler):
         pass
 
 
-class Round:
+class Round(Surroundings):
     """Three replicas, in a folder of their own."""
 
     def __init__(self, seed, seconds, folder):
@@ -344,27 +344,12 @@ class Round:
         for it in self.members:
             self.thread(it.feed)
             self.thread(it.work)
-        for it in self.plan.incidents:
-            if it.silence:
-                self.thread(self.silence, it)
-        self.thread(self.change_weather)
-        self.thread(self.troubles.watch, self.is_over)
-        for it in self.members:
-            self.thread(self.troubles.ping, it, self.is_over)
+        self.begin_around()
         self.is_over.wait(self.plan.end)
         self.is_over.set()
 
-    def silence(self, incident):
-        if self.clock.wait(incident.silence.at, self.is_over):
-            Silencer(self, incident).work()
-
-    def change_weather(self):
-        for at, weather, pairs in self.plan.weathers:
-            if not self.clock.wait(at, self.is_over):
-                return
-            for it in pairs:
-                self.weather[it] = weather
-                self.troubles.change(it, weather)
+    def set_weather(self, pair, weather):
+        self.weather[pair] = weather
 
     def close(self):
         self.is_over.set()

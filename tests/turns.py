@@ -9,6 +9,7 @@ decided cases/ have, and tests/pages.py programs that send pages.
 
 import contextlib
 import json
+import select
 import signal
 import socket
 import sys
@@ -72,10 +73,10 @@ def decided(reply):
     return status, value["notify"] if status == 200 else value, value["reason"] if status == 200 else None
 
 
-def post(of, name):
-    """Posts a silence of all alerts of a name; its status."""
+def post(of, name, is_pattern=False):
+    """Posts a silence of all alerts of a name, or of a pattern; its status."""
     moment = lambda seconds: time.strftime("%Y-%m-%dT%H:%M:%SZ", time.gmtime(seconds))
-    matcher = {"name": "alertname", "value": name, "isRegex": False}
+    matcher = {"name": "alertname", "value": name, "isRegex": is_pattern}
     times = {"startsAt": moment(time.time()), "endsAt": moment(time.time() + 3600)}
     body = {"matchers": [matcher], **times, "createdBy": "me", "comment": "x"}
     return of.ask("POST", "/api/v2/silences", json.dumps(body).encode())[0]
@@ -194,6 +195,25 @@ def test_large(folder):
     of.kill()
 
 
+def test_dear(folder):
+    """Alerts that take long to be held against silences make nobody wait for many of them."""
+    of = member("b", folder, ["--time-limit", "60"])
+    for number in range(300):
+        post(of, f".*x{number}y.*", True)
+    body = message("dear", *(f"{number:03}" + "n" * 1000 for number in range(900)))
+    begun, waited = time.monotonic(), []
+    stream = asked(of, "/v1/decide?wait=false", body)
+    while not select.select([stream], [], [], 0)[0]:
+        start = time.monotonic()
+        compare("beside it", of.ask("GET", "/api/v2/silence/x")[0], 404)
+        waited.append(time.monotonic() - start)
+    whole = time.monotonic() - begun
+    compare("it is answered", decided(answered(stream)), (200, True, "First"))
+    waited.sort()
+    check("nobody waits for a tenth of it", len(waited) > 20 and 10 * waited[-3] < whole, (whole, waited[-5:]))
+    of.kill()
+
+
 def test_log(folder):
     """What is logged is on the disk before it is answered, where logs are kept."""
     of = member("b", folder, ["--log"])
@@ -210,7 +230,7 @@ def main():
     members.choose("turns", sys.argv[1:])
     with tempfile.TemporaryDirectory(prefix="am_turns_") as folder:
         with contextlib.suppress(KeyboardInterrupt):
-            try_each([test_turn, test_limit, test_gone, test_stop, test_faults, test_large, test_log], folder)
+            try_each([test_turn, test_limit, test_gone, test_stop, test_faults, test_large, test_dear, test_log], folder)
     finish("turns")
 
 

@@ -4,3 +4,4 @@ pub mod AskedMore
 pub mod Whole
 pub mod EntryRows
 pub mod Told
+pub mod Same

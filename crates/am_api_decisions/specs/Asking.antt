@@ -4,7 +4,7 @@ use Rattle.am_alert_hash.specs.Alerts.{alert_hash}
 use Rattle.am_decision_json.specs.declared.answer.Muted.{Muted}
 use Rattle.am_decision_json.specs.declared.message.Alert.{Alert}
 use Rattle.am_http.specs.Lines.{RefusalLine}
-use Rattle.am_instance.specs.InstanceStates.{InstanceState}
+use Rattle.am_instance.specs.InstanceStates.{InstanceState, entry_at, silence_at}
 use Rattle.am_instance.specs.OneStep.{IsStep}
 use Rattle.am_instance.specs.declared.error.StepError.{StepError}
 use Rattle.am_instance.specs.declared.event.Event.TheVariants as events
@@ -12,6 +12,7 @@ use Rattle.am_instance.specs.declared.reply.Outcome.{Outcome}
 use Rattle.am_instance.specs.declared.reply.Reply.{Reply}
 use Rattle.am_instance.specs.declared.reply.Reply.TheVariants as replies
 use Rattle.am_matcher.specs.declared.labels.Label.{Label}
+use Rattle.am_nflog.specs.LogKeys.{LogKey}
 use Rattle.am_api_silences.specs.Table.{memory_line}
 use Rattle.am_api_decisions.specs.Lines.{error_line}
 
@@ -19,6 +20,12 @@ use Rattle.am_api_decisions.specs.Lines.{error_line}
 pub record AskedAlert : Type 0 where
   pub alert : Alert
   pub ids : List (List ℕ)
+
+-- Of each id and of each key of the log both hold the same, and they are configured alike: nothing but the moment is another.
+pub record HoldsSame (old new : InstanceState) : Type 0 where
+  pub silences : (id : List ℕ) → silence_at new.silences id ≡ silence_at old.silences id
+  pub log : (key : LogKey) → entry_at new.log key ≡ entry_at old.log key
+  pub config : new.config ≡ old.config
 
 -- the reply tells these ids
 abbrev pub TellsIds : Reply → List (List ℕ) → Type 0

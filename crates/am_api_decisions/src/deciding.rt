@@ -2,7 +2,7 @@
 
 ghost use Rattle.std.specs.Prelude.{◌≡◌, ◌==◌, ℕ, List, [], ◌∷◌, OnOk, IfErr, length};
 ghost use Rattle.am_http.specs.Lines.{line_seen};
-ghost use Rattle.am_api_decisions.specs.Asking.{IsMutesStep, StopsAt, counted_with};
+ghost use Rattle.am_api_decisions.specs.Asking.{HoldsSame, IsMutesStep, StopsAt, counted_with};
 ghost use Rattle.am_api_decisions.specs.Deciding.{IsGoingOn, underway_of};
 ghost use Rattle.am_api_decisions.specs.Settling.{IsDecided};
 
@@ -93,7 +93,8 @@ impl Deciding {
         most: usize,
         now: Moment,
     ) -> Result<Deciding, Refusal>
-        ensures { IsGoingOn now most self instance.old result instance.new }
+        ensures asked { IsGoingOn now most self instance.old result instance.new }
+        ensures same { HoldsSame instance.old instance.new }
     {
         let Deciding {
             group,
@@ -119,7 +120,8 @@ impl Deciding {
     /// Whether to notify, in the bytes of a reply: the alerts that are left are asked, as by [`Deciding::go_on`], and then
     /// one step at `now` decides over those that no silence mutes. Where each is muted no step is made.
     pub fn decide(self, alloc: Global, instance: &mut Instance, now: Moment) -> ReplyBytes
-        ensures { IsDecided now self instance.old result instance.new }
+        ensures decided { IsDecided now self instance.old result instance.new }
+        ensures same { HoldsSame instance.old instance.new }
     {
         let count = self.left.len();
         match self.go_on(alloc, instance, count, now) {

@@ -3,7 +3,4 @@
 
 mod words;
 
-pub use words::{
-    DiffJob, FoldJob, Form, Job, Options, STANDARD_INPUT, ShowJob, SourceWord, StateName,
-    WordsError, job_of, words_of,
-};
+pub use words::{WordsError, job_of, words_of};

@@ -5,78 +5,16 @@ ghost use Rattle.std.specs.Prelude.{◌≡◌, ◌≢◌};
 mod diff;
 mod instance;
 
+use am_jobs::{FoldJob, Form, Job, ShowJob, StateName, VERSION, is_file};
 use am_member::number_within;
 use am_silence_json::moments::read_moment;
 use am_version_order::Moment;
 use clap::error::ErrorKind;
 use clap::{Arg, ArgAction, ArgMatches, Command};
-pub use diff::{DiffJob, STANDARD_INPUT, SourceWord};
-pub use instance::Options;
 use instance::flag;
 use std::alloc::{AllocError, Global};
 use std::rt::{Env, Files};
 use std::{env, io};
-
-/// What the words ask for.
-#[derive(Drop)]
-pub enum Job<'a> {
-    /// The schedule that stands on standard input is to be played, and drawn where a file is named.
-    Replay(Option<&'a str>),
-    /// Rows are to be folded.
-    Fold(FoldJob<'a>),
-    /// A snapshot is to be shown.
-    Show(ShowJob<'a>),
-    /// Sources are to be compared.
-    Diff(DiffJob<'a>),
-    /// A member is to be run.
-    Instance(Options<'a>),
-}
-
-/// Rows of versions that are to be folded.
-#[derive(Drop)]
-pub struct FoldJob<'a> {
-    /// The state that the rows are of.
-    pub state: StateName,
-    /// The files in which they stand; none where one stands on standard input.
-    pub files: Vec<&'a str>,
-    /// Each file stands for itself and the logs beside it.
-    pub has_logs: bool,
-    /// The moment of taking.
-    pub now: Moment,
-}
-
-/// A snapshot of which is to be shown what is live.
-#[derive(Clone, Copy)]
-pub struct ShowJob<'a> {
-    /// The state that the snapshot is of.
-    pub state: StateName,
-    /// The file in which it stands; without one, standard input.
-    pub file: Option<&'a str>,
-    /// The file stands for itself and the logs beside it.
-    pub has_logs: bool,
-    /// How it is shown.
-    pub form: Form,
-    /// The moment of the view; without it, the clock's.
-    pub now: Option<Moment>,
-}
-
-/// How something is printed.
-#[derive(Clone, Copy)]
-pub enum Form {
-    /// In lines of words.
-    Lines,
-    /// As one line of JSON.
-    Json,
-}
-
-/// A state that instances share.
-#[derive(Clone, Copy, PartialEq, Eq)]
-pub enum StateName {
-    /// The silences, `sil`.
-    Silences,
-    /// The notification log, `nfl`.
-    Log,
-}
 
 /// Why the words of the command line give no job.
 #[derive(Drop)]
@@ -303,11 +241,6 @@ fn log_mistake(flags: &ArgMatches<'_>, names_file: bool) -> Option<&'static str>
     (flags.get_flag(LOG) && !names_file).then_some(NO_FILE)
 }
 
-/// Whether a word names a file, and not standard input.
-fn is_file(word: &str) -> bool {
-    word != STANDARD_INPUT
-}
-
 /// The state that an option names.
 fn state_of(flags: &ArgMatches<'_>) -> StateName {
     match flags.get_str("state") {
@@ -351,9 +284,6 @@ fn mistake(command: Result<Command<'_>, AllocError>, text: &str) -> WordsError {
         Err(error) => WordsError::from(error),
     }
 }
-
-/// The version of the program.
-const VERSION: &str = "0.1.0";
 
 /// The names of the tasks.
 const REPLAY: &str = "replay";

@@ -1,23 +1,28 @@
 //! A member of a cluster that runs: what it answers, and what it does by itself.
 
 mod compaction;
+mod counting;
 mod deciding;
 mod handing;
 mod host;
 mod judging;
 mod keeping;
+mod options;
+mod process;
 mod room;
 mod serving;
 mod start;
 mod started;
+mod telling;
 mod times;
 
-use am_command_line::Options;
 use am_dialogue::{Duties, Keeping, Room, Share, Turns};
 use am_faults::Fault;
+use am_figures::{Figures, Step};
 use am_files::StateFile;
 use am_gossip::Frame;
 use am_instance::{Event, Instance, Outbox, Place, Unsent};
+use am_jobs::Options;
 use am_lines::{Lines, Told, Watch, signals};
 use am_member::{Effects, Fault as ConnectionFault, next_moment};
 use compaction::Compacting;
@@ -59,6 +64,8 @@ pub struct Member<'a, R> {
     compacting: Compacting,
     /// The requests that wait for this member's turn.
     turns: Turns,
+    /// What it counts.
+    figures: Figures,
     /// Something may have changed since the last save, or since one was begun.
     is_changed: bool,
     /// It is to stop.
@@ -151,6 +158,7 @@ impl<R: Host> Member<'_, R> {
         if unsent.memory > 0 || unsent.limit > 0 {
             self.keeping.lose();
         }
+        self.figures.unsent(unsent.memory, unsent.limit);
         self.tell_unsent(unsent);
         self.queue_frames(frames);
     }
@@ -174,8 +182,12 @@ impl<R: Host> Member<'_, R> {
     /// Saves the silences, and then the log, while everybody waits. Answers the first fault; each is told.
     fn save(&mut self) -> Option<Fault> {
         self.give_up_compaction();
+        self.count_save_begun(true);
         let silences = self.save_silences();
+        self.count_save(true, silences.is_none());
+        self.count_save_begun(false);
         let log = self.save_log();
+        self.count_save(false, log.is_none());
         self.is_changed = silences.is_some() || log.is_some();
         if !self.is_changed {
             self.keeping.is_saved();
@@ -213,6 +225,7 @@ impl<R: Host> Member<'_, R> {
     /// Drops what has expired, and saves both states.
     fn tick(&mut self) {
         if self.step(Event::Tick) {
+            self.figures.step(Step::Tick, 1);
             self.save_in_turn();
         }
     }
@@ -255,6 +268,19 @@ impl<R: Host> Member<'_, R> {
 
     /// Does what is due.
     fn do_duties(&mut self, now: Instant) {
+        self.do_timely(now);
+        if self.duties.is_clock_due(now) {
+            self.look_at_clock(now);
+        }
+        let members = self.instance.config().members();
+        self.lines.settle(self.rt, members, now);
+        if self.duties.is_signal_due(now) && signals::is_told_to_end(self.rt) {
+            self.stops = true;
+        }
+    }
+
+    /// Ticks, saves and pulls where that is due.
+    fn do_timely(&mut self, now: Instant) {
         if self.duties.is_tick_due(now) {
             self.tick();
         }
@@ -267,14 +293,6 @@ impl<R: Host> Member<'_, R> {
         if self.duties.is_first_pull_over(now) {
             self.tell(Fault::NoPull);
             self.duties.end_first_pull(now);
-        }
-        if self.duties.is_clock_due(now) {
-            self.look_at_clock(now);
-        }
-        let members = self.instance.config().members();
-        self.lines.settle(self.rt, members, now);
-        if self.duties.is_signal_due(now) && signals::is_told_to_end(self.rt) {
-            self.stops = true;
         }
     }
 }

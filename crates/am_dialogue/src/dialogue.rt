@@ -3,6 +3,7 @@
 ghost use Rattle.std.specs.Prelude.{◌≡◌, ◌≤◌, drop, length};
 ghost use Rattle.am_api_silences.specs.Replies.{bytes_of};
 
+use crate::counting::{Account, Census};
 use crate::turns::{Turn, bytes_of_request, is_dear_call};
 use am_api_decisions::{Deciding, LogWriting};
 use am_api_silences::{Begun, Making, Read, Refusal, ReplyBytes, turn_away};
@@ -11,7 +12,7 @@ use am_http::session::{Said, Session};
 use am_http::{Cause, Screened};
 use am_instance::names_both;
 use am_member::{Judging, is_dear};
-use std::alloc::Global;
+use std::alloc::{AllocError, Global};
 use std::mem;
 use std::time::Instant;
 
@@ -31,6 +32,8 @@ pub struct Dialogue {
     pub written: usize,
     /// A reply that waits for the next commit.
     held_back: Option<HeldBack>,
+    /// What is counted of it.
+    pub account: Account,
 }
 
 /// What is still to be done for a connection.
@@ -51,6 +54,8 @@ pub enum Work {
     Deciding(Deciding),
     /// The entries of the log are being written.
     Log(LogWriting),
+    /// The silences are being counted for the member's figures.
+    Counting(Census),
 }
 
 impl Work {
@@ -60,6 +65,7 @@ impl Work {
             Work::Request(said) | Work::Judging(said, _) => bytes_kept(said),
             Work::Turn(turn) | Work::Due(turn) => turn.bytes(),
             Work::Nothing | Work::Making(_) | Work::Deciding(_) | Work::Log(_) => 0,
+            Work::Counting(_) => 0,
         }
     }
 }
@@ -90,6 +96,7 @@ impl Dialogue {
             reply: ReplyBytes::Fixed(&[]),
             written: 0,
             held_back: None,
+            account: Account::new(),
         }
     }
 
@@ -145,6 +152,27 @@ impl Dialogue {
         } else {
             self.work = Work::Making(making);
         }
+    }
+
+    /// Has a whole reply go out, or that there was no memory for it.
+    pub fn tell(&mut self, alloc: Global, reply: Result<Vec<u8>, AllocError>) {
+        match reply {
+            Ok(bytes) => self.reply = ReplyBytes::Own(bytes),
+            Err(_) => self.refuse(alloc, &Cause::Memory.refusal()),
+        }
+    }
+
+    /// Whether nothing is left to be heard, done or written.
+    pub fn is_done(&self) -> bool {
+        self.session.is_over()
+            && matches!(self.work, Work::Nothing)
+            && self.held_back.is_none()
+            && self.written >= self.reply.as_slice().len()
+    }
+
+    /// The three digits of the status of the reply.
+    pub fn status(&self) -> &[u8] {
+        self.reply.as_slice().get(9..12).unwrap_or(b"")
     }
 
     /// Has the reply wait for the next commit, where there is a whole one. The request has changed something, or not.

@@ -2,6 +2,7 @@
 //! be done by itself, and when; what goes to each peer; and what is to be on the disk before it is answered.
 #![tactic(auto)]
 
+mod counting;
 mod dialogue;
 mod duties;
 mod keeping;
@@ -9,6 +10,7 @@ mod room;
 mod share;
 mod turns;
 
+pub use counting::{Account, Census, asked_of_itself, kind_of_frame, request_of};
 pub use dialogue::{Dialogue, Work, ends_pull, is_nothing, may_change};
 pub use duties::{Duties, Intervals};
 pub use keeping::{DISK, Keeping};

@@ -65,6 +65,11 @@ impl Turns {
         true
     }
 
+    /// How many wait.
+    pub fn count(&self) -> u64 {
+        u64::from(self.waiting)
+    }
+
     /// One waits no more.
     pub fn end(&mut self) {
         self.waiting = self.waiting.saturating_sub(1);

@@ -1,3 +1,4 @@
 pub mod Joining
 pub mod ReadBatches
+pub mod Taken
 pub mod Together

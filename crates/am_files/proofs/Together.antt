@@ -1,6 +1,6 @@
 -- What a file and two logs make of a map.
-use Rattle.std.proofs.Common.{◌≡◌, ℕ, List, ◌++◌, Option, Some, None, IfSome, Result}
-use Rattle.std.specs.Prelude.{Contains, IsPermutation}
+use Rattle.std.proofs.Common.{ℕ, List, ◌++◌, Option, Some, None, IfSome, Result}
+use Rattle.std.specs.Prelude.{IsPermutation}
 use Rattle.std.proofs.lemmas.List.Sorted.{Contains-permutation, IsPermutation-sym}
 use Rattle.std.specs.declared.cmp.Ordering.{Ordering}
 use Rattle.am_version_order.specs.Versions.{Version}

@@ -12,14 +12,17 @@
 //!    or M where an older one of its key is, behind that.
 //! 3. L goes only once G's name is on the disk, so no crash leaves F without L.
 //! 4. Where that is undone, L is back beside G and M, as in 2, or beside what M became, which is renamed onto L's name first.
+//!    It is whole then: what has lost its name is made shorter only once the disk has the directory without that name, and so is
+//!    F. Then nothing leads to it, whatever crash comes.
 //! 5. A save of all removes L, hands that to the disk, and then removes M: L never stands without M, whose ends it lacks.
 //! 6. Where L stands at the begin, nothing is renamed; G has all of L and M, and the rest is as above.
 //!
 //! It ends, with G removed, where the logs lack something: then a save of all is due.
 
 use crate::beside::{NEW, beside};
+use crate::spent::opened_to_go;
 use crate::state::StateFile;
-use am_member::{FileFault, directory_of, new_file, sync_directory};
+use am_member::{FileFault, new_file};
 use am_merge::{Held, Iter};
 use am_snapshot::{RowPiece, SnapshotError, row_piece};
 use am_version_order::Version;
@@ -41,6 +44,8 @@ pub struct Compaction<K> {
 /// What is done next.
 #[derive(Drop)]
 enum Stage<K> {
+    /// What lost its name the last time is given back.
+    GiveBack,
     /// The new file is made.
     Make,
     /// The versions from a key on are written into it, or all of them.
@@ -49,17 +54,19 @@ enum Stage<K> {
     HandOver(File),
     /// It takes the place of the other one.
     Rename,
-    /// The directory is handed to the disk.
-    Settle,
+    /// The directory is handed to the disk, without a name for the one that stood there.
+    Settle(Option<File>),
     /// The old log is removed.
     EndLog,
+    /// The directory is handed to the disk, without a name for the old log.
+    SettleEnd(Option<File>),
 }
 
 impl<K: Drop> Compaction<K> {
     /// Nothing is written yet. Before, [`StateFile::part_logs`] has begun a new log.
     pub fn new() -> Compaction<K> {
         Compaction {
-            stage: Stage::Make,
+            stage: Stage::GiveBack,
             written: 0,
         }
     }
@@ -158,6 +165,13 @@ fn go_on<K: Drop, R: Files<File = File> + AllocGlobal>(
     written: u64,
 ) -> Result<Option<Compaction<K>>, FileFault> {
     let next = match stage {
+        Stage::GiveBack => {
+            if file.give_back() {
+                Stage::GiveBack
+            } else {
+                Stage::Make
+            }
+        }
         Stage::Make => Stage::Write(made(rt, file.path())?, None),
         Stage::Write(new, from) => Stage::Write(new, from),
         Stage::HandOver(new) => {
@@ -165,16 +179,18 @@ fn go_on<K: Drop, R: Files<File = File> + AllocGlobal>(
             Stage::Rename
         }
         Stage::Rename => {
+            let replaced = opened_to_go(rt, file.path());
             renamed(rt, file.path())?;
             file.is_written(written);
-            Stage::Settle
+            Stage::Settle(replaced)
         }
-        Stage::Settle => {
-            sync_directory(rt, directory_of(file.path()))?;
+        Stage::Settle(replaced) => {
+            file.settle(rt, replaced)?;
             Stage::EndLog
         }
-        Stage::EndLog => {
-            file.end_old_log(rt)?;
+        Stage::EndLog => Stage::SettleEnd(file.end_old_log(rt)?),
+        Stage::SettleEnd(ended) => {
+            file.settle(rt, ended)?;
             return Ok(None);
         }
     };

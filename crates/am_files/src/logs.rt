@@ -6,13 +6,14 @@ ghost use Rattle.am_files.specs.Logs.{JoinsLog};
 
 use crate::beside::{LOG, OLD_LOG, beside};
 use crate::reading::join_batches;
+use crate::whole_file::WholeFile;
 use am_member::{FileFault, is_there, target_of};
 use am_merge::Held;
 use am_snapshot::{SnapshotError, row_length_within};
 use am_version_order::Version;
 use am_wire::Message;
 use std::alloc::Global;
-use std::fs::{self, File};
+use std::fs::File;
 use std::io::{BufReader, ErrorKind, Read};
 use std::rt::Files;
 
@@ -26,7 +27,7 @@ pub struct Logs {
 #[derive(Drop)]
 struct OpenedLog {
     path: String,
-    file: File,
+    file: WholeFile,
 }
 
 /// Why a log isn't read.
@@ -113,7 +114,8 @@ impl Logs {
     ///
     /// # Errors
     ///
-    /// The first [`LogFault`] that stands, [`SnapshotError::TooLarge`] where the state comes to over so many bytes.
+    /// The first [`LogFault`] that stands, [`SnapshotError::TooLarge`] where the state comes to over so many bytes, and
+    /// [`ErrorKind::UnexpectedEof`] where a log was removed and made shorter while it was read.
     pub fn join<V: Version + Message>(
         self,
         alloc: Global,
@@ -134,14 +136,14 @@ impl Logs {
 }
 
 /// Opens a log, where it stands there. It may be renamed or removed at any moment.
-fn open_log<R: Files<File = File>>(rt: &R, path: &str) -> Result<Option<File>, FileFault> {
+fn open_log<R: Files<File = File>>(rt: &R, path: &str) -> Result<Option<WholeFile>, FileFault> {
     if !is_there(rt, path)? {
         return Ok(None);
     }
-    match fs::open(rt, path) {
+    match WholeFile::open(rt, path) {
         Ok(file) => Ok(Some(file)),
-        Err(error) if error.kind() == ErrorKind::NotFound => Ok(None),
-        Err(error) => Err(FileFault::from(error)),
+        Err(FileFault::File(ErrorKind::NotFound)) => Ok(None),
+        Err(fault) => Err(fault),
     }
 }
 
@@ -166,7 +168,7 @@ fn join_within<V: Version + Message, R: Read>(
 fn join_file<V: Version + Message>(
     alloc: Global,
     held: &mut Held<V>,
-    file: File,
+    file: WholeFile,
     most: u32,
 ) -> Result<(), FileFault> {
     let mut reader = BufReader::new(alloc, file)?;

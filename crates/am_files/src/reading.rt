@@ -7,15 +7,15 @@ use crate::beside::beside;
 use am_journal::{Batches, LogError, settle};
 use am_member::{FileFault, is_there};
 use am_merge::Held;
-use am_snapshot::{SnapshotError, take_row};
+use am_snapshot::SnapshotError;
 use am_version_order::{Moment, Version};
-use am_wire::Message;
+use am_wire::{Message, Messages, RowFault};
 use std::alloc::Global;
 use std::fs::{self, File};
 use std::io::{BufReader, ErrorKind, Read};
 use std::rt::Files;
 
-/// A log may have no file; there is no other one that is trusted.
+/// The fault of a log to which nothing is added any more: it failed before, which was told then, or it is as long as one may be.
 pub const NO_LOG: FileFault = FileFault::File(ErrorKind::Other);
 
 /// What was read of a log.
@@ -60,6 +60,21 @@ pub fn fault_of(error: LogError) -> FileFault {
     }
 }
 
+/// Takes the versions of a batch into a state, each live or not.
+fn take_batch<V: Version + Message>(
+    alloc: Global,
+    held: &mut Held<V>,
+    batch: &[u8],
+) -> Result<(), RowFault>
+    ensures { OnOk result (JoinsRow V.seen V.reads held.old batch.now held.new) }
+{
+    held.has_values();
+    for message in Messages::<V>::new(alloc, batch) {
+        held.take(message?, Moment::LEAST)?;
+    }
+    Ok(())
+}
+
 /// Joins the versions of a batch into a state.
 fn join_batch<V: Version + Message>(
     alloc: Global,
@@ -68,15 +83,9 @@ fn join_batch<V: Version + Message>(
 ) -> Result<(), FileFault>
     ensures { OnOk result (JoinsRow V.seen V.reads held.old batch.now held.new) }
 {
-    held.has_values();
-    let mut row = batch;
-    let taken: Held<V> = match take_row(alloc, &mut row) {
-        Ok(taken) => taken,
-        Err(fault) => return Err(FileFault::Snapshot(SnapshotError::from(fault))),
-    };
-    match held.merge(&taken, Moment::LEAST) {
-        Ok(_) => Ok(()),
-        Err(_) => Err(FileFault::Snapshot(SnapshotError::Memory)),
+    match take_batch(alloc, held, batch) {
+        Ok(()) => Ok(()),
+        Err(fault) => Err(FileFault::Snapshot(SnapshotError::from(fault))),
     }
 }
 

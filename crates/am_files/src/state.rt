@@ -5,7 +5,9 @@ use crate::lock::lock_beside;
 use crate::log::StateLog;
 use crate::reading::FoundLogs;
 use crate::recovering::{Recovered, load_state};
-use am_member::{FileFault, directory_of, is_there, save_file, sync_directory, target_of};
+use crate::spent::{SpentFiles, opened_to_go};
+use am_disk::{SystemDisk, save_file};
+use am_member::{FileFault, directory_of, is_there, sync_directory, target_of};
 use am_merge::Held;
 use am_snapshot::{SnapshotError, row_length_within};
 use am_version_order::Version;
@@ -31,6 +33,8 @@ pub struct StateFile {
     torn: u64,
     /// How many bytes it has.
     size: u64,
+    /// The files that it replaced, and the old logs.
+    spent: SpentFiles,
 }
 
 /// A state as it is opened.
@@ -81,6 +85,7 @@ fn state_file<R: Files<File = File> + AllocGlobal>(
         owes_save: found.old.is_some() || (found.log.is_some() && !keeps_log),
         torn: found.torn(),
         size,
+        spent: SpentFiles::none(rt.alloc()),
     })
 }
 
@@ -122,7 +127,15 @@ impl StateFile {
         held: &Held<V>,
         most: u32,
     ) -> Result<u64, FileFault> {
-        let bytes = save_file(rt, self.path.as_str(), held, most)?;
+        // (it may be for want of room that all is saved)
+        self.spent.close();
+        let bytes = save_file(
+            &mut SystemDisk::new(rt),
+            rt.alloc(),
+            self.path.as_str(),
+            held,
+            most,
+        )?;
         self.size = bytes;
         self.end_logs(rt)?;
         self.owes_save = false;
@@ -178,11 +191,33 @@ impl StateFile {
         self.size = bytes;
     }
 
-    /// Ends the old log. All it had is in the file.
-    pub(crate) fn end_old_log<R: Files + AllocGlobal>(&mut self, rt: &R) -> Result<(), FileFault> {
-        remove(rt, self.path.as_str(), OLD_LOG)?;
+    /// Ends the old log, and answers it where it is open. All it had is in the file.
+    pub(crate) fn end_old_log<R: Files<File = File> + AllocGlobal>(
+        &mut self,
+        rt: &R,
+    ) -> Result<Option<File>, FileFault> {
+        let path = self.path.as_str();
+        let name = beside(rt.alloc(), path, OLD_LOG)?;
+        let ended = opened_to_go(rt, name.as_str());
+        remove(rt, path, OLD_LOG)?;
         self.owes_save = false;
+        Ok(ended)
+    }
+
+    /// Hands the directory to the disk. A file that has lost its name there may be given back from now on.
+    pub(crate) fn settle<R: Files>(
+        &mut self,
+        rt: &R,
+        spent: Option<File>,
+    ) -> Result<(), FileFault> {
+        sync_directory(rt, directory_of(self.path.as_str()))?;
+        self.spent.keep(spent);
         Ok(())
+    }
+
+    /// Gives back a piece of what has lost its name. Answers whether more is left.
+    pub(crate) fn give_back(&mut self) -> bool {
+        self.spent.give_back()
     }
 
     /// Removes what was written of the file anew.

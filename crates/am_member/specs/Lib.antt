@@ -7,7 +7,6 @@ pub mod Incoming
 pub mod Exchanging
 pub mod Lives
 pub mod Conversing
-pub mod Faults
 pub mod Moments
 pub mod Peers
 pub mod Queues

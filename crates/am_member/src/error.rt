@@ -1,41 +1,9 @@
-//! Why something outside the program did not do what it was to do.
+//! Why a server did not do what it was to do.
 
 ghost use Rattle.std.specs.Prelude.{◌≡◌};
 
-use am_snapshot::SnapshotError;
 use std::io::{self, ErrorKind};
 use thiserror::Error;
-
-/// Why a file was not read, or not written.
-#[derive(Clone, Copy, Debug, PartialEq, Eq, Error)]
-pub enum FileFault {
-    /// The system refused to open, sync or rename it.
-    #[error("the file is refused: {0}")]
-    File(ErrorKind),
-    /// What stands in it is at fault, or not all of it was read or written.
-    #[error("{0}")]
-    Snapshot(#[from] SnapshotError),
-    /// What stands in its place is no file.
-    #[error("no file stands there")]
-    NotAFile,
-    /// Another process has it.
-    #[error("another process has it")]
-    Locked,
-}
-
-impl From<io::Error> for FileFault {
-    ghost use Rattle.std.specs.IoError.{error_kind};
-    ghost use Rattle.am_member.specs.Faults.{file_fault_of};
-
-    ghost from_gives = { λ error e. e ≡ file_fault_of (error_kind error) };
-
-    fn from(error: io::Error) -> FileFault {
-        match error.kind() {
-            ErrorKind::OutOfMemory => FileFault::Snapshot(SnapshotError::Memory),
-            kind => FileFault::File(kind),
-        }
-    }
-}
 
 /// Why a server has not told what it was asked.
 #[derive(Clone, Copy, Debug, PartialEq, Eq, Error)]

@@ -1,5 +1,5 @@
 //! A member of a cluster on this machine: the moments of its events, what comes of what a connection said, one connection over
-//! any reader and writer, what a peer sends to another, the files of its state, and what a server of API v2 is asked.
+//! any reader and writer, what a peer sends to another, which file a path names, and what a server of API v2 is asked.
 #![tactic(auto)]
 
 mod answering;
@@ -10,7 +10,6 @@ mod error;
 mod exchanged;
 mod fault;
 mod fetching;
-mod files;
 mod judging;
 pub mod laws;
 mod paths;
@@ -25,16 +24,16 @@ mod timed;
 mod times;
 mod writing;
 
+pub use am_disk::{FileFault, directory_of, is_there, new_file, sync_directory};
 pub use answering::{exchange, is_dear};
 pub use clock::{is_behind, later_moment, next_moment};
 pub use conversing::{Conversed, converse};
-pub use error::{FileFault, ServerFault};
+pub use error::ServerFault;
 pub use exchanged::{Effects, Exchanged};
 pub use fault::{Fault, SendError};
 pub use fetching::{Server, fetch, server_of};
-pub use files::{is_there, load_file, new_file, save_file, sync_directory};
 pub use judging::{Judged, Judging};
-pub use paths::{are_one_file, directory_of, target_of};
+pub use paths::{are_one_file, target_of};
 pub use peer::{Peer, number_within, peer_of, port_of};
 pub use queue::{Parted, part_frames};
 pub use reply::body_of;

@@ -2,8 +2,7 @@
 
 ghost use Rattle.std.specs.Prelude.{◌≡◌, Ok, true};
 
-use crate::error::FileFault;
-use crate::files::is_there;
+use am_disk::{FileFault, directory_of, is_there};
 use am_snapshot::SnapshotError;
 use std::alloc::AllocError;
 use std::fs;
@@ -17,15 +16,6 @@ const MOST_LINKS: usize = 40;
 
 /// Memory ran out.
 const NO_MEMORY: FileFault = FileFault::Snapshot(SnapshotError::Memory);
-
-/// The directory in which a file stands.
-pub fn directory_of(path: &str) -> &str {
-    match path.rsplit_once('/') {
-        Some(("", _)) => "/",
-        Some((directory, _)) => directory,
-        None => ".",
-    }
-}
 
 /// The name of a file in its directory.
 fn name_of(path: &str) -> &str {

@@ -1,5 +1,6 @@
 //! Cases of what stands below an instance. The functions `answer` hand on to one another what is no verb of theirs.
 
+mod figures;
 mod frames;
 mod hashes;
 mod json;

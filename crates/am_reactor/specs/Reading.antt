@@ -1,7 +1,13 @@
--- What a read may say.
-use Rattle.std.specs.Prelude.{◌≡◌, ◌<◌, ◌≤◌, ℕ, List, length, take}
+-- What is read, and what is told of it.
+use Rattle.std.specs.Prelude.{◌≡◌, ◌<◌, ◌≤◌, ℕ, true, false, List, [], ◌∷◌, ◌++◌, length, take, Option}
+use Rattle.std.specs.List.{flat_map}
+use Rattle.std.specs.Io.KnownBytes.{Consumes, IsAtEnd}
+use Rattle.am_reactor.specs.declared.connection.Connection.{Connection}
 use Rattle.am_reactor.specs.declared.reading.Brought.{Brought}
 use Rattle.am_reactor.specs.declared.reading.Brought.TheVariants.{Bytes, End, Nothing, Interrupted, Failed}
+use Rattle.am_reactor.specs.Deeds.{Deed, Did, ending, feeds}
+use Rattle.am_reactor.specs.Deeds.Deed.{Fed, Ended}
+use Rattle.am_reactor.specs.Sending.{counted}
 
 -- how many bytes a read brought
 abbrev pub brought_by : Brought → ℕ
@@ -19,10 +25,33 @@ FitsPiece piece Nothing = Unit {0}
 FitsPiece piece Interrupted = Unit {0}
 FitsPiece piece (Failed kind) = Unit {0}
 
--- what a session is after a read: just the bytes that came were fed to it, and where nothing came it is as it was
-abbrev pub HearsOnce : {T : Type 0} → (T → List ℕ → T → Type 0) → List ℕ → T → T → Brought → Type 0
-HearsOnce fed piece old new (Bytes count) = fed old (take count piece) new
-HearsOnce fed piece old new End = Unit {0}
-HearsOnce fed piece old new Nothing = new ≡ old
-HearsOnce fed piece old new Interrupted = new ≡ old
-HearsOnce fed piece old new (Failed kind) = new ≡ old
+-- the end is met only where no more comes, if there is room in the piece
+abbrev pub EndsWith : Option (List ℕ) → List ℕ → Brought → Type 0
+EndsWith coming piece brought = brought ≡ End → 0 < length piece → IsAtEnd coming
+
+-- what is told of a read: just the bytes that came, or the end
+abbrev pub told_of : List ℕ → Brought → List Deed
+told_of piece (Bytes count) = Fed (take count piece) ∷ []
+told_of piece End = Ended ∷ []
+told_of piece Nothing = []
+told_of piece Interrupted = []
+told_of piece (Failed kind) = []
+
+-- all the bytes of pieces, one after the other
+abbrev pub joined : List (List ℕ) → List ℕ
+joined pieces = flat_map (λ piece. piece) pieces
+
+-- Of a connection is read: just the bytes that came are fed to its own session, in pieces one after the other, each once; and then,
+-- where the end is met, it is told. Nothing goes out, and the connection is the same otherwise. There is room for so many bytes
+-- of each piece.
+pub record Hears {S T C : Type 0} (does : S → T → Deed → S → T → Type 0) (coming gone : C → Option (List ℕ)) (room : ℕ)
+    (service : S) (connection : Connection T C) (service' : S) (connection' : Connection T C) : Type 0 where
+  pub pieces : List (List ℕ)
+  pub did : Did does service connection.session (feeds pieces ++ ending connection.ended connection'.ended) service' connection'.session
+  pub came : Consumes (coming connection.stream) (coming connection'.stream) (joined pieces)
+  pub read : connection'.read ≡ counted connection.read (length (joined pieces))
+  pub ended : connection.ended ≡ true → (pieces ≡ []) × (connection'.ended ≡ true)
+  pub at_end : 0 < room → connection.ended ≡ false → connection'.ended ≡ true → IsAtEnd (coming connection'.stream)
+  pub unwritten : gone connection'.stream ≡ gone connection.stream
+  pub written : connection'.written ≡ connection.written
+  pub phase : connection'.phase ≡ connection.phase

@@ -1,14 +1,16 @@
 //! What comes of a connection.
 
-ghost use Rattle.std.specs.Prelude.{◌≡◌, take};
+ghost use Rattle.std.specs.Prelude.{◌≡◌, length, take};
 ghost use Rattle.std.specs.Io.KnownBytes.{Consumes};
-ghost use Rattle.am_reactor.specs.Reading.{FitsPiece, HearsOnce, brought_by};
+ghost use Rattle.am_reactor.specs.Deeds.{Did};
+ghost use Rattle.am_reactor.specs.Reading.{EndsWith, FitsPiece, Hears, brought_by, told_of};
 ghost use Rattle.am_reactor.specs.Sending.{counted};
 
 use crate::connection::{Connection, Pace, count_on};
 use crate::fault::Failure;
 use crate::service::Service;
-use std::io::{ErrorKind, Read};
+use crate::stream::Stream;
+use std::io::ErrorKind;
 
 /// How many pieces of one connection are read in a turn.
 pub const PIECES: u32 = 16;
@@ -28,11 +30,13 @@ pub enum Brought {
 }
 
 /// Reads once.
-pub fn read_once<R: Read>(reader: &mut R, piece: &mut [u8]) -> Brought
+pub fn read_once<C: Stream>(stream: &mut C, piece: &mut [u8]) -> Brought
     ensures fits { FitsPiece piece.new result }
-    ensures given { Consumes (R.remaining reader.old) (R.remaining reader.new) (take (brought_by result) piece.new) }
+    ensures came { Consumes (C.coming stream.old) (C.coming stream.new) (take (brought_by result) piece.new) }
+    ensures ended { EndsWith (C.coming stream.new) piece.new result }
+    ensures gone { C.gone stream.new ≡ C.gone stream.old }
 {
-    match reader.read(piece) {
+    match stream.read(piece) {
         Ok(0) => Brought::End,
         Ok(count) => Brought::Bytes(count),
         Err(error) => match error.kind() {
@@ -44,18 +48,22 @@ pub fn read_once<R: Read>(reader: &mut R, piece: &mut [u8]) -> Brought
 }
 
 /// Reads once, and tells the service what came. Counts the bytes.
-fn hear_once<S: Service, R: Read>(
+fn hear_once<S: Service, C: Stream>(
     session: &mut S::Session,
     service: &mut S,
-    reader: &mut R,
+    stream: &mut C,
     piece: &mut [u8],
     read: &mut u64,
 ) -> Brought
-    ensures given { Consumes (R.remaining reader.old) (R.remaining reader.new) (take (brought_by result) piece.new) }
-    ensures fed { HearsOnce S.fed piece.new session.old session.new result }
+    requires { ¬ S.over session.old }
+    ensures came { Consumes (C.coming stream.old) (C.coming stream.new) (take (brought_by result) piece.new) }
+    ensures ended { EndsWith (C.coming stream.new) piece.new result }
+    ensures gone { C.gone stream.new ≡ C.gone stream.old }
+    ensures did { Did S.does service.old session.old (told_of piece.new result) service.new session.new }
     ensures count { read.new ≡ counted read.old (brought_by result) }
+    ensures fits { FitsPiece piece.new result }
 {
-    let brought = read_once(reader, piece);
+    let brought = read_once(stream, piece);
     match brought {
         Brought::Bytes(count) => {
             count_on(read, count);
@@ -73,22 +81,21 @@ fn hear_once<S: Service, R: Read>(
 /// # Errors
 ///
 /// A read that failed.
-pub fn hear<S: Service>(
-    connection: &mut Connection<S::Session>,
+pub fn hear<S: Service, C: Stream>(
+    connection: &mut Connection<S::Session, C>,
     service: &mut S,
     piece: &mut [u8],
 ) -> Result<Pace, Failure>
-    ensures { connection.new.phase ≡ connection.old.phase }
+    ensures heard { Hears S.does C.coming C.gone (length piece.old) service.old connection.old service.new connection.new }
 {
     for _ in 0..PIECES {
         if connection.ended || service.is_over(&connection.session) {
             return Ok(Pace::Idle);
         }
-        let mut stream = &connection.stream;
         let brought = hear_once(
             &mut connection.session,
             service,
-            &mut stream,
+            &mut connection.stream,
             piece,
             &mut connection.read,
         );

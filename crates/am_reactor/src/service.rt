@@ -1,6 +1,11 @@
 //! What a loop serves.
 
-ghost use Rattle.std.specs.Prelude.{◌≡◌, ℕ, ◌≤◌, List, [], length, drop};
+ghost use Rattle.std.specs.Prelude.{◌≡◌, ◌↔◌, ℕ, ◌<◌, ◌≤◌, Bool, List, [], Option, IsTrue, length, drop};
+ghost use Rattle.std.specs.Option.{option_map};
+ghost use Rattle.std.specs.declared.time.Instant.{Instant};
+ghost use Rattle.am_reactor.specs.declared.fault.LinkFault.{LinkFault};
+ghost use Rattle.am_reactor.specs.Deeds.{Deed};
+ghost use Rattle.am_reactor.specs.Deeds.Deed.{Fed, Ended, Sent, Resumed, Released, CameDue, Hurried, BrokenOff};
 ghost use Rattle.am_reactor.specs.Sending.{IsFirstPart};
 
 use crate::fault::{Broken, LinkFault};
@@ -32,31 +37,56 @@ pub trait Service {
     /// The bytes of a session that are still to be written.
     ghost pending: { Self.Session → List ℕ };
 
-    /// What a session may be once bytes came.
-    ghost fed: { Self.Session → List ℕ → Self.Session → Type 0 };
+    /// Nothing more is read for a session.
+    ghost over: { Self.Session → Type 0 };
+
+    /// What is said of whether something dear waits to be done for a session.
+    ghost waits: { Self.Session → Bool → Type 0 };
+
+    /// What is said of whether a reply of a session waits for the next commit.
+    ghost is_held_back: { Self.Session → Bool → Type 0 };
+
+    /// What is said of the moment for which a reply of a session waits.
+    ghost due: { Self.Session → Option Instant → Type 0 };
+
+    /// What the service is once what waited for a peer is lost.
+    ghost loses: { Self → ℕ → LinkFault → Self → Type 0 };
+
+    /// What the service is once it was asked for more for a peer, and gave these bytes or none.
+    ghost gives: { Self → ℕ → Option (List ℕ) → Self → Type 0 };
+
+    /// What a call for the session of one connection makes of the service and of the session.
+    ghost does: { Self → Self.Session → Deed → Self → Self.Session → Type 0 };
 
     /// A connection was accepted.
     fn begin(&mut self) -> Self::Session;
 
     /// Bytes came, at least one. It isn't called once the session is over.
     fn feed(&mut self, session: &mut Self::Session, piece: &[u8])
-        ensures { fed session.old piece.now session.new };
+        requires open { ¬ over session.old }
+        requires has_byte { 0 < length piece.now }
+        ensures { does self.old session.old (Fed piece.now) self.new session.new };
 
     /// The input ended. It is called once at most, and not once the session is over.
-    fn end(&mut self, session: &mut Self::Session);
+    fn end(&mut self, session: &mut Self::Session)
+        requires { ¬ over session.old }
+        ensures { does self.old session.old Ended self.new session.new };
 
     /// The connection failed, or its time is over. This is the last call for the session.
-    fn broken(&mut self, session: &mut Self::Session, broken: Broken);
+    fn broken(&mut self, session: &mut Self::Session, broken: Broken)
+        ensures { does self.old session.old (BrokenOff broken) self.new session.new };
 
     /// Whether something dear waits to be done for the session.
-    fn waits(&self, session: &Self::Session) -> bool;
+    fn waits(&self, session: &Self::Session) -> bool
+        ensures { waits session.now result };
 
     /// Whether what waits may be done now.
     fn may_resume(&self) -> bool;
 
     /// Does a stretch of what waits. It is called once in a turn of the loop, for the session that waits longest: that one stays
     /// first until it waits no more.
-    fn resume(&mut self, session: &mut Self::Session);
+    fn resume(&mut self, session: &mut Self::Session)
+        ensures { does self.old session.old Resumed self.new session.new };
 
     /// Whether something was done since the last commit of which the service has to make sure.
     fn has_uncommitted(&self) -> bool;
@@ -65,23 +95,28 @@ pub trait Service {
     fn commit(&mut self);
 
     /// Whether a reply of the session waits for the next commit.
-    fn is_held_back(&self, session: &Self::Session) -> bool;
+    fn is_held_back(&self, session: &Self::Session) -> bool
+        ensures { is_held_back session.now result };
 
     /// The commit is over for which a reply of the session waited: it goes out from now on.
-    fn release(&mut self, session: &mut Self::Session);
+    fn release(&mut self, session: &mut Self::Session)
+        ensures { does self.old session.old Released self.new session.new };
 
     /// The moment for which the reply of a session waits, where one does. Of two sessions that wait so, the one that began
     /// first is due first.
-    fn due(&self, session: &Self::Session) -> Option<Instant>;
+    fn due(&self, session: &Self::Session) -> Option<Instant>
+        ensures { due session.now result };
 
     /// The moment has come for which the reply of a session waited, or the loop stops: it waits for it no more. The time of the
     /// connection, which didn't count meanwhile, begins anew.
-    fn come_due(&mut self, session: &mut Self::Session);
+    fn come_due(&mut self, session: &mut Self::Session)
+        ensures { does self.old session.old CameDue self.new session.new };
 
     /// Does what waits at once, or gives it up: it may not be done now, and the time of the connection is over in a quarter of
     /// a second, or another connection is to get its place. The first is looked for in each turn, so a service in which
     /// something waits for long is to be woken often.
-    fn hurry(&mut self, session: &mut Self::Session);
+    fn hurry(&mut self, session: &mut Self::Session)
+        ensures { does self.old session.old Hurried self.new session.new };
 
     /// What is still to be written, or a first part of it that has a byte.
     fn output<'a>(&self, session: &'a Self::Session) -> &'a [u8]
@@ -91,10 +126,12 @@ pub trait Service {
     /// So many bytes of the output went out.
     fn sent(&mut self, session: &mut Self::Session, count: usize)
         requires within { count ≤ length (pending session.old) }
-        ensures rest { pending session.new ≡ drop count (pending session.old) };
+        ensures rest { pending session.new ≡ drop count (pending session.old) }
+        ensures did { does self.old session.old (Sent count) self.new session.new };
 
     /// Whether nothing more is read. Once nothing waits and all is written, the connection is let go.
-    fn is_over(&self, session: &Self::Session) -> bool;
+    fn is_over(&self, session: &Self::Session) -> bool
+        ensures { IsTrue result ↔ over session.now };
 
     /// How many bytes of what came the session keeps. It is asked after each turn of the connection.
     fn held(&self, session: &Self::Session) -> usize;
@@ -104,10 +141,12 @@ pub trait Service {
 
     /// What goes to a peer behind all that went out, over the link that is open to it; the link's time begins anew then. It is
     /// asked where all bytes of a link went out. Where there is nothing, the link is closed.
-    fn more(&mut self, peer: usize) -> Option<Vec<u8>>;
+    fn more(&mut self, peer: usize) -> Option<Vec<u8>>
+        ensures { gives self.old peer (option_map (λ bytes. bytes.items) result) self.new };
 
     /// What waited for a peer is lost. It is told once of a link.
-    fn lost(&mut self, peer: usize, fault: LinkFault);
+    fn lost(&mut self, peer: usize, fault: LinkFault)
+        ensures { loses self.old peer fault self.new };
 
     /// The timer: it is called in each turn, before the loop waits.
     fn wake(&mut self, now: Instant) -> Wake;

@@ -42,16 +42,20 @@ module _ {A B : Type 0} (R : A → B → Type 0) (start now : List A) (i : ℕ) 
     few = omega (arith, length-append sources (y ∷ []), before.few);
   }
 
-  -- the source at which it stops is the one of that number
-  pub stops_there : (S : A → A → Type 0) (number : ℕ) → number ≡ length sources → S (get_or now i old) new → (number < length start) × ((d : A) → S (get_or start number d) (get_or (set now i new) number d))
+  -- the source at which it stops is the one of that number: those before it are read, and those behind it are as they were
+  pub stops_there : (S : A → A → Type 0) (number : ℕ) → number ≡ length sources → S (get_or now i old) new
+      → (number < length start) × AllZip R (take number start) sources × ((d : A) → S (get_or start number d) (get_or (set now i new) number d))
+      × ((k : ℕ) (d : A) → number < k → get_or (set now i new) k d ≡ get_or start k d)
   stops_there S number is_number stops =
       let same : number ≡ i = is_number ∙ before.few in
       rw same (
         omega (arith, less, before.many),
+        before.front,
         λ d.
             let here : get_or (set now i new) i d ≡ new = rw get_or-set_same in
             let there = at_read now (λ x. S x new) i old less is (subst (λ x. S x new) (sym is) stops) d in
             subst (λ x. S (get_or start i d) x) (sym here) (subst (λ x. S x new) (before.rest i d (omega arith)) there),
+        λ k d later. more_rest k d (omega arith),
       )
 
 -- all are read at the end

@@ -33,7 +33,7 @@ pub struct Input<'n, R: Drop> {
 /// Why sources were not compared; the first fault that stands.
 #[derive(Clone, Copy, Debug, PartialEq, Eq, Error)]
 pub enum DiffError {
-    /// In the row of a source, by its number from 0 on.
+    /// In the row of the first source that is at fault, by its number from 0 on.
     #[error("in source {number}: {fault}")]
     Source { number: usize, fault: SnapshotError },
     #[error("a write failed after {written} bytes")]
@@ -88,7 +88,7 @@ pub fn read_sources<'n, V: Version + Message, R: Read + Drop>(
 ) -> Result<Vec<Replica<'n, V>>, DiffError>
     ensures read { IfOk result (λ replicas.
         AllZip (IsRead V.seen V.Key.cmp V.reads R.remaining) inputs.old replicas.items) }
-    ensures stopped { IfErr result (StopsReading V.reads R.remaining inputs.old inputs.new) }
+    ensures stopped { IfErr result (StopsReading V.seen V.Key.cmp V.reads R.remaining inputs.old inputs.new) }
 {
     let mut replicas = Vec::with_capacity(alloc, inputs.len())?;
     for input in inputs.iter_mut() {

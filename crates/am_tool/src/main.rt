@@ -1,127 +1,39 @@
-//! The program: plays a schedule, folds a row of versions to the ones that count, shows a snapshot, tells how replicas
-//! differ, runs a member.
+//! The program: plays a schedule, does the commands over snapshots and rows, runs a member.
 #![tactic(auto)]
 
-ghost use Rattle.std.specs.Prelude.{ℕ, List, IfSome, OnOk};
-ghost use Rattle.std.specs.Io.KnownBytes.{Appends};
-ghost use Rattle.am_replay.specs.Replays.{IsReplay};
-ghost use Rattle.am_snapshot.specs.Folds.{IsFold};
-
-mod diff;
-mod fold;
-mod moment;
-mod picture;
-mod progress;
 mod refusal;
-mod schedule_fault;
-mod show;
-mod source;
 
-use am_command_line::{FoldJob, Job, StateName, job_of, words_of};
-use am_faults::{Fault, report, status};
-use am_nflog::MeshEntry;
-use am_replay::{Progress, run_shown};
-use am_silence::MeshSilence;
-use am_snapshot::{SnapshotError, fold_held};
-use am_version_order::{Moment, Version};
-use am_wire::Message;
-use progress::Display;
-use schedule_fault::ScheduleFault;
-use std::alloc::Global;
-use std::io::{BufReader, Read, Write};
-use std::mem;
+use am_command_line::{job_of, words_of};
+use am_commands::{Streams, run_diff, run_fold, run_show};
+use am_jobs::Job;
+use am_player::run_replay;
+use std::io::IsTerminal;
 use std::process::ExitCode;
 
 /// Does what the words ask for, and answers the exit status of the program.
 fn run<'a>(rt: &'a HostRuntime, job: Job<'a>) -> u8 {
     match job {
-        Job::Replay(None) => status_of_schedule(rt, replay(rt)),
-        Job::Replay(Some(file)) => status_of_schedule(rt, picture::run(rt, file)),
-        Job::Fold(job) => run_fold(rt, &job),
-        Job::Show(job) => show::run(rt, &job),
-        Job::Diff(job) => diff::run(rt, &job),
+        Job::Replay(file) => replay(rt, file),
+        Job::Fold(job) => run_fold(rt, streams_of(rt), &job),
+        Job::Show(job) => run_show(rt, streams_of(rt), &job),
+        Job::Diff(job) => run_diff(rt, streams_of(rt), &job),
         Job::Instance(options) => am_daemon::run(rt, &options),
     }
 }
 
-/// Folds what a job names, and answers the exit status of the program.
-fn run_fold(rt: &HostRuntime, job: &FoldJob<'_>) -> u8 {
-    if job.files.is_empty() {
-        status_of(rt, fold_input(rt, job))
-    } else {
-        fold::run(rt, job)
+/// The standard streams of the process.
+fn streams_of(rt: &HostRuntime) -> Streams {
+    Streams {
+        input: rt.stdin(),
+        output: rt.stdout(),
     }
 }
 
-/// The exit status where a job is done, or has a fault, which is printed.
-fn status_of(rt: &HostRuntime, done: Result<(), Fault>) -> u8 {
-    match done {
-        Ok(()) => status::DONE,
-        Err(fault) => report(rt, fault),
-    }
-}
-
-/// The exit status where a schedule is played, or has a fault, which is printed.
-fn status_of_schedule(rt: &HostRuntime, played: Result<(), ScheduleFault>) -> u8 {
-    match played {
-        Ok(()) => status::DONE,
-        Err(fault) => schedule_fault::report(rt, fault),
-    }
-}
-
-/// Plays the schedule that stands on standard input.
-fn replay(rt: &HostRuntime) -> Result<(), ScheduleFault> {
-    let mut input = rt.stdin();
-    let mut output = rt.stdout();
-    let mut display = Display::new(rt);
-    let played = play(rt.alloc(), &mut input, &mut output, &mut display);
-    display.clear();
-    played
-}
-
-/// Plays the schedule that stands on the input.
-fn play<R: Read, W: Write, P: Progress>(
-    alloc: Global,
-    input: &mut R,
-    output: &mut W,
-    progress: &mut P,
-) -> Result<(), ScheduleFault>
-    ensures played { OnOk result (IfSome (R.remaining input.old) (λ bytes.
-        (text : List ℕ) × IsReplay bytes text × Appends (W.contents output.old) (W.contents output.new) text)) }
-{
-    run_shown(alloc, input, output, progress)?;
-    Ok(())
-}
-
-/// Folds the row that stands on standard input.
-fn fold_input(rt: &HostRuntime, job: &FoldJob<'_>) -> Result<(), Fault> {
-    let alloc = rt.alloc();
-    let Ok(mut input) = BufReader::new(alloc, rt.stdin()) else {
-        return Err(Fault::from(SnapshotError::Memory));
-    };
-    let mut output = rt.stdout();
-    let now = job.now;
-    match job.state {
-        StateName::Silences => fold_row::<MeshSilence, _, _>(alloc, &mut input, &mut output, now),
-        StateName::Log => fold_row::<MeshEntry, _, _>(alloc, &mut input, &mut output, now),
-    }
-}
-
-/// Writes the fold of the row that stands on the input.
-///
-/// What was read is forgotten: the process ends then, and its memory with it.
-fn fold_row<V: Version + Message, R: Read, W: Write>(
-    alloc: Global,
-    input: &mut R,
-    output: &mut W,
-    now: Moment,
-) -> Result<(), Fault>
-    ensures folded { OnOk result (IfSome (R.remaining input.old) (λ bytes.
-        (row : List ℕ) × IsFold V.seen V.Key.cmp V.reads bytes row × Appends (W.contents output.old) (W.contents output.new) row)) }
-{
-    let folded = fold_held::<V, _, _>(alloc, input, output, now)?;
-    mem::forget(folded);
-    Ok(())
+/// Plays the schedule that stands on standard input, which is drawn where a file is named, and answers the exit status of the
+/// program.
+fn replay(rt: &HostRuntime, file: Option<&str>) -> u8 {
+    let is_terminal = rt.stderr().is_terminal();
+    run_replay(rt, &mut rt.stdin(), &mut rt.stdout(), file, is_terminal)
 }
 
 fn main(rt: HostRuntime) -> ExitCode {

@@ -2,10 +2,11 @@
 
 use super::instance::{flag, option, time_limit};
 use super::{
-    Form, JSON, LOG, LOG_HELP, StateName, WordsError, form_of, is_file, json_flag, log_mistake,
-    mistake, now_flag, now_of, state_flag, state_of,
+    JSON, LOG, LOG_HELP, WordsError, form_of, json_flag, log_mistake, mistake, now_flag, now_of,
+    state_flag, state_of,
 };
-use am_member::{Server, port_of, server_of};
+use am_jobs::{DiffJob, STANDARD_INPUT, SourceWord, StateName, are_live};
+use am_member::port_of;
 use am_told::Compared;
 use am_version_order::Moment;
 use clap::{Arg, ArgAction, ArgMatches, Command};
@@ -15,79 +16,8 @@ use std::time::Duration;
 /// The name of the command.
 pub const NAME: &str = "diff";
 
-/// The file that is standard input.
-pub const STANDARD_INPUT: &str = "-";
-
-/// What a source begins with that is a server.
-const SCHEME: &str = "http://";
-
 /// What one begins with that isn't asked.
 const OTHER_SCHEME: &str = "https://";
-
-/// A source: its name, and its file, or the address of a server behind `http://`.
-#[derive(Clone, Copy, Debug)]
-pub struct SourceWord<'a> {
-    /// What the source is called.
-    pub name: &'a str,
-    /// The path of its file, `-`, or `http://HOST:PORT`.
-    pub file: &'a str,
-}
-
-impl<'a> SourceWord<'a> {
-    /// What stands behind `http://`, where the source is a server.
-    fn place(&self) -> Option<&'a str> {
-        self.file.strip_prefix(SCHEME)
-    }
-
-    /// The server that the source is, if it is one.
-    pub fn server(&self) -> Option<Server<'a>> {
-        server_of(self.place()?)
-    }
-
-    /// Whether the source is a file.
-    fn is_file(&self) -> bool {
-        self.place().is_none() && is_file(self.file)
-    }
-
-    /// What is said of a source that was meant for a server, and isn't written so.
-    fn misspelling(&self) -> Option<&'static str> {
-        if self.file.starts_with(OTHER_SCHEME) {
-            return Some(NO_HTTPS);
-        }
-        if is_address(self.file) {
-            return Some(NO_SCHEME);
-        }
-        None
-    }
-}
-
-/// Which sources are to be compared.
-#[derive(Drop)]
-pub struct DiffJob<'a> {
-    /// The state that the sources are of.
-    pub state: StateName,
-    /// What of them is compared.
-    pub compared: Compared,
-    /// How the differences are printed.
-    pub form: Form,
-    /// Below the line of a version stands more of it.
-    pub is_long: bool,
-    /// The moment; without it, the clock's.
-    pub now: Option<Moment>,
-    /// What is compared: 2 to 16 sources, whose names differ.
-    pub sources: Vec<SourceWord<'a>>,
-    /// For how long a connection to a server may last.
-    pub time_limit: Duration,
-    /// Each file stands for itself and the logs beside it.
-    pub has_logs: bool,
-}
-
-impl DiffJob<'_> {
-    /// Whether a source is a server.
-    pub fn is_live(&self) -> bool {
-        are_live(&self.sources)
-    }
-}
 
 /// The command with its options, under a name.
 pub fn command<'a>(alloc: Global, name: &'a str) -> Result<Command<'a>, AllocError> {
@@ -147,11 +77,6 @@ fn numbers_of(
         Some(text) => Err(text),
         None => Ok((now, time_limit)),
     }
-}
-
-/// Whether one of the sources is a server.
-fn are_live(sources: &[SourceWord<'_>]) -> bool {
-    sources.iter().any(|source| source.place().is_some())
 }
 
 /// What is said where a server can't be compared so, or has no address.
@@ -220,9 +145,20 @@ fn mistake_of(sources: &[SourceWord<'_>]) -> Option<&'static str> {
 /// What is said of the first source that was meant for a server, and isn't written so.
 fn first_misspelling(sources: &[SourceWord<'_>]) -> Option<&'static str> {
     for source in sources {
-        if let Some(text) = source.misspelling() {
+        if let Some(text) = misspelling_of(source) {
             return Some(text);
         }
+    }
+    None
+}
+
+/// What is said of a source that was meant for a server, and isn't written so.
+fn misspelling_of(source: &SourceWord<'_>) -> Option<&'static str> {
+    if source.file.starts_with(OTHER_SCHEME) {
+        return Some(NO_HTTPS);
+    }
+    if is_address(source.file) {
+        return Some(NO_SCHEME);
     }
     None
 }

@@ -84,6 +84,11 @@ impl Compacting {
         }
     }
 
+    /// This is written anew from now on.
+    fn go_on(&mut self, work: Work) {
+        self.work = work;
+    }
+
     /// How long it is until something is to be done.
     fn left(&self, now: Instant) -> Option<Duration> {
         match self.work {
@@ -109,12 +114,12 @@ impl<R: Host> Member<'_, R> {
 
     /// No file is written anew any more, since both are saved.
     pub(super) fn give_up_compaction(&mut self) {
-        let given_up = mem::replace(&mut self.compacting, Compacting::new());
-        match given_up.work {
+        match self.compacting.work {
             Work::Nothing => {}
             Work::Silences(_) => self.silences.drop_new(self.rt),
             Work::Log(_) => self.log.drop_new(self.rt),
         }
+        self.compacting = Compacting::new();
     }
 
     /// Does a stage of what is written anew, if the logs lack nothing, and answers how long it is until the next one.
@@ -141,6 +146,7 @@ impl<R: Host> Member<'_, R> {
     }
 
     fn begin_silences(&mut self, now: Instant) {
+        self.count_save_begun(true);
         let most = self.options.most_bytes;
         match self
             .silences
@@ -148,16 +154,17 @@ impl<R: Host> Member<'_, R> {
         {
             Ok(bytes) => {
                 self.room.is_counted(bytes);
-                self.compacting.work = Work::Silences(Compaction::new());
+                self.compacting.go_on(Work::Silences(Compaction::new()));
             }
             Err(fault) => self.fail_silences(fault, now),
         }
     }
 
     fn begin_log(&mut self, now: Instant) {
+        self.count_save_begun(false);
         let most = self.options.most_bytes;
         match self.log.part_logs(self.rt, self.instance.log(), most) {
-            Ok(_) => self.compacting.work = Work::Log(Compaction::new()),
+            Ok(_) => self.compacting.go_on(Work::Log(Compaction::new())),
             Err(fault) => self.fail_log(fault, now),
         }
     }
@@ -166,8 +173,8 @@ impl<R: Host> Member<'_, R> {
         let most = self.options.most_bytes;
         let held = self.instance.silences();
         match compact(self.rt, &mut self.silences, left, held, most) {
-            Ok(Some(left)) => self.compacting.work = Work::Silences(left),
-            Ok(None) => {}
+            Ok(Some(left)) => self.compacting.go_on(Work::Silences(left)),
+            Ok(None) => self.count_save(true, true),
             Err(fault) => self.fail_silences(fault, now),
         }
     }
@@ -176,8 +183,8 @@ impl<R: Host> Member<'_, R> {
         let most = self.options.most_bytes;
         let held = self.instance.log();
         match compact(self.rt, &mut self.log, left, held, most) {
-            Ok(Some(left)) => self.compacting.work = Work::Log(left),
-            Ok(None) => {}
+            Ok(Some(left)) => self.compacting.go_on(Work::Log(left)),
+            Ok(None) => self.count_save(false, true),
             Err(fault) => self.fail_log(fault, now),
         }
     }
@@ -185,6 +192,7 @@ impl<R: Host> Member<'_, R> {
     /// Tells why the silences aren't written anew.
     fn fail_silences(&mut self, fault: FileFault, now: Instant) {
         self.compacting.silences.fails(now);
+        self.count_save(true, false);
         let is_trusted = self.silences.is_trusted();
         self.fail(Fault::Silences(fault), is_trusted);
     }
@@ -192,6 +200,7 @@ impl<R: Host> Member<'_, R> {
     /// Tells why the log isn't written anew.
     fn fail_log(&mut self, fault: FileFault, now: Instant) {
         self.compacting.log.fails(now);
+        self.count_save(false, false);
         let is_trusted = self.log.is_trusted();
         self.fail(Fault::Log(fault), is_trusted);
     }

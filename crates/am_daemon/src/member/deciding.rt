@@ -2,31 +2,29 @@
 
 use super::Member;
 use super::host::Host;
+use super::serving::put_off;
+use super::telling::time_between;
 use am_api_decisions::{Asked, Deciding, Notice, Question, asked_of, begin_log, log_notice};
 use am_api_silences::{Begun, Making, Read, Refusal, Request};
 use am_dialogue::{Dialogue, Turn, Work};
+use am_figures::Step;
 use am_http::session::Said;
 use am_instance::Outbox;
 use am_member::next_moment;
 use am_version_order::Moment;
 use std::time::{Duration, Instant};
 
-/// About how many times an alert is held against a silence in a turn of the loop.
-const STRETCH: usize = 65_536;
+/// About how many times an alert is held against a silence between two looks at the clock.
+const STRETCH: usize = 1_024;
+
+/// For how many microseconds alerts are held against silences in a turn of the loop: about as long as a stretch of a list
+/// takes.
+const ENOUGH: u64 = 1_000;
 
 /// An alert costs as much as holding it against so many silences, beside those that there are.
 const BESIDE: usize = 64;
 
-/// How long it is from one moment to a later one.
-fn time_between(from: Moment, to: Moment) -> Duration {
-    let (first, before) = from.parts();
-    let (last, behind) = to.parts();
-    Duration::new(last.saturating_sub(first).max(0) as u64, behind).saturating_sub(Duration::new(
-        0, before,
-    ))
-}
-
-/// How many alerts are held against so many silences in a turn of the loop.
+/// How many alerts are held against so many silences between two looks at the clock.
 fn stretch_over(silences: usize) -> usize {
     (STRETCH / silences.max(BESIDE)).max(1)
 }
@@ -72,7 +70,7 @@ impl<R: Host> Member<'_, R> {
     /// Has a request wait for its turn, where another one may.
     fn wait_for_turn(&mut self, dialogue: &mut Dialogue, turn: Turn) {
         if self.turns.begin() {
-            dialogue.work = Work::Turn(turn);
+            put_off(dialogue, Work::Turn(turn));
         } else {
             dialogue.refuse(self.rt.alloc(), &Refusal::new(503, "too many wait"));
         }
@@ -83,10 +81,9 @@ impl<R: Host> Member<'_, R> {
     pub(super) fn take_turn(&mut self, dialogue: &mut Dialogue, turn: Turn) {
         self.turns.end();
         if self.stops {
-            return dialogue.refuse(self.rt.alloc(), &Refusal::new(503, "member stops"));
-        }
-        if turn.is_dear() {
-            dialogue.work = Work::Due(turn);
+            dialogue.refuse(self.rt.alloc(), &Refusal::new(503, "member stops"));
+        } else if turn.is_dear() {
+            put_off(dialogue, Work::Due(turn));
         } else {
             self.answer_turn(dialogue, &turn);
         }
@@ -104,19 +101,40 @@ impl<R: Host> Member<'_, R> {
 
     /// Begins to answer a question.
     fn begin_deciding(&mut self, dialogue: &mut Dialogue, question: Question) {
+        let alerts = question.message.alerts.len() as u64;
+        self.figures.step(Step::Mutes, alerts);
         let deciding = Deciding::new(self.rt.alloc(), question);
         self.go_on_deciding(dialogue, deciding);
     }
 
-    /// Holds a stretch more of the alerts against the silences. Where none is left, it is decided.
+    /// Holds more of the alerts against the silences, for as long as a turn of the loop may take. Where none is left, it is
+    /// decided.
     pub(super) fn go_on_deciding(&mut self, dialogue: &mut Dialogue, deciding: Deciding) {
         let alloc = self.rt.alloc();
-        let now = next_moment(self.rt, self.instance.last());
+        let begun = Instant::now(self.rt).ok();
         let most = stretch_over(self.instance.silences().len());
-        match deciding.go_on(alloc, &mut self.instance, most, now) {
-            Ok(deciding) if deciding.is_asked() => self.decide(dialogue, deciding, now),
-            Ok(deciding) => dialogue.work = Work::Deciding(deciding),
-            Err(refusal) => dialogue.refuse(alloc, &refusal),
+        let mut left = deciding;
+        for _ in 0..u64::MAX {
+            let now = next_moment(self.rt, self.instance.last());
+            match left.go_on(alloc, &mut self.instance, most, now) {
+                Ok(deciding) if deciding.is_asked() => return self.decide(dialogue, deciding, now),
+                Ok(deciding) => left = deciding,
+                Err(refusal) => return dialogue.refuse(alloc, &refusal),
+            }
+            if self.is_enough(begun) {
+                break;
+            }
+        }
+        put_off(dialogue, Work::Deciding(left));
+    }
+
+    /// Whether alerts were held against silences for long enough, in a turn that began then.
+    fn is_enough(&self, begun: Option<Instant>) -> bool {
+        match (begun, Instant::now(self.rt)) {
+            (Some(begun), Ok(now)) => {
+                now.saturating_duration_since(begun) >= Duration::from_micros(ENOUGH)
+            }
+            _ => true,
         }
     }
 
@@ -124,6 +142,7 @@ impl<R: Host> Member<'_, R> {
     fn decide(&mut self, dialogue: &mut Dialogue, deciding: Deciding, now: Moment) {
         let alloc = self.rt.alloc();
         let reply = deciding.decide(alloc, &mut self.instance, now);
+        self.count_decision(reply.as_slice());
         self.reply_to_call(dialogue, Making::Whole(reply), Outbox::new(alloc));
     }
 
@@ -140,7 +159,7 @@ impl<R: Host> Member<'_, R> {
         let alloc = self.rt.alloc();
         let now = next_moment(self.rt, self.instance.last());
         match begin_log(alloc, &self.instance, now) {
-            Ok(writing) => dialogue.work = Work::Log(writing),
+            Ok(writing) => put_off(dialogue, Work::Log(writing)),
             Err(refusal) => dialogue.refuse(alloc, &refusal),
         }
     }

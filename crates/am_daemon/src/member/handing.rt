@@ -37,16 +37,24 @@ impl<R: Host> Member<'_, R> {
     /// The next part for a peer, as it goes out.
     pub fn next_part(&mut self, peer: usize) -> Option<Vec<u8>> {
         let left = self.shares.get_mut(peer)?.take_left()?;
-        let Ok(HandedPart { state, next }) = self.instance.hand_out(left, MOST_OF_PART) else {
-            self.hand_nothing(peer);
-            self.tell_of(Some(peer as Place), Fault::UnsentMemory(1));
-            return None;
+        let text = match self.instance.hand_out(left, MOST_OF_PART) {
+            Ok(part) => self.text_of_part(peer, part),
+            Err(_) => {
+                self.tell_of(Some(peer as Place), Fault::UnsentMemory(1));
+                None
+            }
         };
-        let frame = self.shares.get_mut(peer)?.frame_of(state, next);
-        let text = self.text_of(peer as Place, &[frame]);
         if text.is_none() {
             self.hand_nothing(peer);
         }
         text
+    }
+
+    /// The text of a part for a peer. Where there is none, it is told unsent.
+    fn text_of_part(&mut self, peer: usize, part: HandedPart) -> Option<Vec<u8>> {
+        let share = self.shares.get_mut(peer)?;
+        let HandedPart { state, next } = part;
+        let frame = share.frame_of(state, next);
+        self.text_of(peer as Place, &[frame])
     }
 }

@@ -2,7 +2,8 @@
 
 use super::Member;
 use super::host::Host;
-use am_api_silences::Read;
+use super::serving::put_off;
+use am_api_silences::{Read, Refusal};
 use am_dialogue::{Dialogue, Work, is_call};
 use am_http::Cause;
 use am_http::session::Said;
@@ -17,18 +18,35 @@ fn judging_of(alloc: Global, said: &Said) -> Result<Option<Judging>, AllocError>
     }
 }
 
+/// Compiles the next pattern of a request, and answers whether none is left.
+///
+/// # Errors
+///
+/// Why the request is refused.
+fn is_judged(judging: &mut Judging) -> Result<bool, Refusal> {
+    match judging.go_on() {
+        Ok(Judged::More) => Ok(false),
+        Ok(Judged::Done) => Ok(true),
+        Ok(Judged::TooMuch) => Err(judging.refusal()),
+        Err(_) => Err(Cause::Memory.refusal()),
+    }
+}
+
 impl<R: Host> Member<'_, R> {
     /// Answers what was said, or keeps it until its patterns are compiled.
     pub(super) fn judge(&mut self, dialogue: &mut Dialogue, said: Said) {
         if is_call(&said) {
-            return self.answer_call(dialogue, said);
+            self.answer_call(dialogue, said);
+        } else if !self.refuses(dialogue, &said) {
+            self.begin_judging(dialogue, said);
         }
-        if self.refuses(dialogue, &said) {
-            return;
-        }
+    }
+
+    /// Answers what was said that isn't refused, or keeps it until its patterns are compiled.
+    fn begin_judging(&mut self, dialogue: &mut Dialogue, said: Said) {
         let alloc = self.rt.alloc();
         match judging_of(alloc, &said) {
-            Ok(Some(judging)) => dialogue.work = Work::Judging(said, judging),
+            Ok(Some(judging)) => put_off(dialogue, Work::Judging(said, judging)),
             Ok(None) => self.answer(dialogue, said),
             Err(_) => dialogue.refuse(alloc, &Cause::Memory.refusal()),
         }
@@ -36,13 +54,11 @@ impl<R: Host> Member<'_, R> {
 
     /// Compiles the next pattern of a request. Where none is left it is answered.
     pub(super) fn go_on_judging(&mut self, dialogue: &mut Dialogue, said: Said, judging: Judging) {
-        let alloc = self.rt.alloc();
         let mut judging = judging;
-        match judging.go_on() {
-            Ok(Judged::More) => dialogue.work = Work::Judging(said, judging),
-            Ok(Judged::Done) => self.answer_by(dialogue, said, judging),
-            Ok(Judged::TooMuch) => dialogue.refuse(alloc, &judging.refusal()),
-            Err(_) => dialogue.refuse(alloc, &Cause::Memory.refusal()),
+        match is_judged(&mut judging) {
+            Ok(true) => self.answer_by(dialogue, said, judging),
+            Ok(false) => put_off(dialogue, Work::Judging(said, judging)),
+            Err(refusal) => dialogue.refuse(self.rt.alloc(), &refusal),
         }
     }
 

@@ -1,13 +1,16 @@
 //! What a member answers to those who connect to it, and what goes to its peers.
 
-ghost use Rattle.std.specs.Prelude.{drop, ⊤};
+ghost use Rattle.std.specs.Prelude.{◌≡◌, drop, ⊤};
 ghost use Rattle.am_api_silences.specs.Replies.{bytes_of};
+ghost use Rattle.am_http.specs.Sessions.{name_of, over as ended_under};
 
 use super::Member;
 use super::host::Host;
-use am_dialogue::{Dialogue, Work, bytes_said, ends_pull, is_nothing, may_change};
+use am_dialogue::{Dialogue, Work, asked_of_itself, bytes_said, ends_pull, is_nothing, may_change};
 use am_faults::Fault;
+use am_figures::Request;
 use am_gossip::Frame;
+use am_http::Refusal;
 use am_http::session::Said;
 use am_instance::Place;
 use am_member::{
@@ -43,12 +46,40 @@ fn fault_of(broken: Broken, is_over: bool) -> Fault {
     }
 }
 
+/// Puts off what is still to be done for a connection.
+pub fn put_off(dialogue: &mut Dialogue, work: Work) {
+    dialogue.work = work;
+}
+
+/// What the frames of a peer asked for beside what they bring.
+#[derive(Clone, Copy)]
+struct Asked {
+    /// A Pull was answered.
+    pulled: bool,
+    /// All that is held here, by one who has sent all it has.
+    asks: bool,
+    /// A Tick.
+    ticks: bool,
+}
+
 impl<R: Host> Member<'_, R> {
     /// Answers what was said, or keeps it until it may be answered.
     fn hear(&mut self, dialogue: &mut Dialogue, said: Said) {
+        self.count_said(dialogue, &said);
+        if let Some(resource) = asked_of_itself(&said) {
+            return self.tell_itself(dialogue, said, resource);
+        }
         if let Some(said) = dialogue.hold(said, self.duties.waits_for_pull()) {
             self.judge(dialogue, said);
         }
+    }
+
+    /// Refuses to hear a request that names a host or a site which isn't this member's.
+    fn turn_away(&mut self, dialogue: &mut Dialogue, refusal: &Refusal) {
+        dialogue
+            .account
+            .ask(Request::Other, Instant::now(self.rt).ok());
+        dialogue.refuse(self.rt.alloc(), refusal);
     }
 
     /// Answers what was said.
@@ -59,23 +90,75 @@ impl<R: Host> Member<'_, R> {
         if self.refuses_disk(dialogue) {
             return;
         }
+        self.take_in(dialogue, said);
+    }
+
+    /// Makes the steps of what was said, and what follows them.
+    fn take_in(&mut self, dialogue: &mut Dialogue, said: Said) {
         self.room.add(bytes_said(&said));
-        let pulled = ends_pull(&said);
         self.is_changed |= may_change(&said);
+        let pulled = ends_pull(&said);
         let Spared { said, asks, ticks } = spare(said);
         let exchanged = self.make_steps(dialogue, said);
-        if exchanged.fault.is_none() {
-            self.end_first_pull_after(dialogue.session.name(), pulled, asks);
+        let asked = Asked {
+            pulled,
+            asks,
+            ticks,
+        };
+        self.heed(dialogue.session.name(), asked, exchanged.fault);
+        self.reply(dialogue, exchanged);
+    }
+
+    /// Does what the frames of a peer asked for, as far as their steps were made.
+    fn heed(&mut self, name: Option<&str>, asked: Asked, fault: Option<ConnectionFault>) {
+        let Asked {
+            pulled,
+            asks,
+            ticks,
+        } = asked;
+        if fault.is_none() {
+            self.end_first_pull_after(name, pulled, asks);
         }
-        if exchanged.fault != Some(ConnectionFault::UnknownName) {
-            self.owe(dialogue.session.name(), asks, ticks);
+        if fault != Some(ConnectionFault::UnknownName) {
+            self.owe(name, asks, ticks);
         }
+    }
+
+    /// Has go out what comes of steps: behind the next commit, where something came since the last one.
+    fn reply(&mut self, dialogue: &mut Dialogue, exchanged: Exchanged) {
+        let Exchanged {
+            reply,
+            effects,
+            fault,
+        } = exchanged;
         let news = self.keeping.news();
         let peer = self.place_of(dialogue.session.name());
-        self.follow(peer, exchanged.effects, exchanged.fault);
-        dialogue.reply_with(self.rt.alloc(), exchanged.reply);
+        self.follow(peer, effects, fault);
+        dialogue.reply_with(self.rt.alloc(), reply);
         if self.keeping.has_news() {
             dialogue.hold_back(self.keeping.news() != news);
+        }
+    }
+
+    /// Goes on with what is still to be done for a connection.
+    fn go_on(&mut self, dialogue: &mut Dialogue, work: Work) {
+        match work {
+            Work::Request(said) => self.answer_late(dialogue, said),
+            Work::Judging(said, judging) => self.go_on_judging(dialogue, said, judging),
+            Work::Due(turn) => self.answer_turn(dialogue, &turn),
+            Work::Deciding(deciding) => self.go_on_deciding(dialogue, deciding),
+            other => self.go_on_writing(dialogue, other),
+        }
+    }
+
+    /// Writes a stretch more of what is being written. What waits for its turn goes on waiting.
+    fn go_on_writing(&mut self, dialogue: &mut Dialogue, work: Work) {
+        let alloc = self.rt.alloc();
+        match work {
+            Work::Making(making) => dialogue.go_on(alloc, making),
+            Work::Log(writing) => dialogue.go_on_log(alloc, writing),
+            Work::Counting(census) => self.go_on_counting(dialogue, census),
+            other => put_off(dialogue, other),
         }
     }
 
@@ -157,8 +240,12 @@ impl<R: Host> Member<'_, R> {
     /// The text of frames for a peer. Where there is none, they are told unsent.
     pub fn text_of(&mut self, peer: Place, frames: &[Frame]) -> Option<Vec<u8>> {
         match frames_text(self.rt.alloc(), frames) {
-            Ok(bytes) => Some(bytes),
+            Ok(bytes) => {
+                self.count_handed(peer, frames);
+                Some(bytes)
+            }
             Err(_) => {
+                self.figures.unsent(frames.len(), 0);
                 self.tell_of(Some(peer), Fault::UnsentMemory(frames.len()));
                 None
             }
@@ -187,30 +274,46 @@ impl<R: Host> Service for Member<'_, R> {
 
     ghost pending = { λ dialogue. drop dialogue.written (bytes_of dialogue.reply) };
 
+    ghost over = { λ dialogue. dialogue.session ≡ ended_under (name_of dialogue.session) };
+
+    ghost waits = { λ _ _. ⊤ };
+
+    ghost is_held_back = { λ _ _. ⊤ };
+
+    ghost due = { λ _ _. ⊤ };
+
     // What a session says of a piece, its own `feed` tells.
-    ghost fed = { λ _ _ _. ⊤ };
+    ghost does = { λ _ _ _ _ _. ⊤ };
+
+    ghost loses = { λ _ _ _ _. ⊤ };
+
+    ghost gives = { λ _ _ _ _. ⊤ };
 
     fn begin(&mut self) -> Dialogue {
+        self.figures.begin();
         Dialogue::new(self.rt.alloc())
     }
 
     fn feed(&mut self, session: &mut Dialogue, piece: &[u8]) {
         if let Some(refusal) = session.screen(piece, self.options.hosts.as_slice()) {
-            return session.refuse(self.rt.alloc(), &refusal);
+            return self.turn_away(session, &refusal);
         }
         let said = session.session.feed(piece);
         self.hear(session, said);
+        self.count_done(session);
     }
 
     fn end(&mut self, session: &mut Dialogue) {
         let said = session.session.end();
         self.hear(session, said);
+        self.count_done(session);
     }
 
     fn broken(&mut self, session: &mut Dialogue, broken: Broken) {
         if session.due().is_some() {
             self.turns.end();
         }
+        self.count_broken(session, broken.why);
         let peer = self.place_of(session.session.name());
         self.tell_of(peer, fault_of(broken, session.session.is_over()));
     }
@@ -224,17 +327,8 @@ impl<R: Host> Service for Member<'_, R> {
     }
 
     fn resume(&mut self, session: &mut Dialogue) {
-        let alloc = self.rt.alloc();
-        match mem::replace(&mut session.work, Work::Nothing) {
-            Work::Nothing => {}
-            Work::Request(said) => self.answer_late(session, said),
-            Work::Judging(said, judging) => self.go_on_judging(session, said, judging),
-            Work::Making(making) => session.go_on(alloc, making),
-            Work::Turn(turn) => session.work = Work::Turn(turn),
-            Work::Due(turn) => self.answer_turn(session, &turn),
-            Work::Deciding(deciding) => self.go_on_deciding(session, deciding),
-            Work::Log(writing) => session.go_on_log(alloc, writing),
-        }
+        let work = mem::replace(&mut session.work, Work::Nothing);
+        self.go_on(session, work);
     }
 
     fn has_uncommitted(&self) -> bool {
@@ -260,7 +354,7 @@ impl<R: Host> Service for Member<'_, R> {
     fn come_due(&mut self, session: &mut Dialogue) {
         match mem::replace(&mut session.work, Work::Nothing) {
             Work::Turn(turn) => self.take_turn(session, turn),
-            other => session.work = other,
+            other => put_off(session, other),
         }
     }
 
@@ -275,6 +369,7 @@ impl<R: Host> Service for Member<'_, R> {
 
     fn sent(&mut self, session: &mut Dialogue, count: usize) {
         session.sent(count);
+        self.count_done(session);
     }
 
     fn is_over(&self, session: &Dialogue) -> bool {
@@ -296,11 +391,13 @@ impl<R: Host> Service for Member<'_, R> {
     }
 
     fn more(&mut self, peer: usize) -> Option<Vec<u8>> {
+        self.figures.heard.all_out(peer);
         self.next_part(peer)
     }
 
     fn lost(&mut self, peer: usize, fault: LinkFault) {
         self.hand_nothing(peer);
+        self.count_lost(peer, fault);
         let port = self.ports.get(peer).copied().unwrap_or(0);
         self.tell_of(Some(peer as Place), Fault::Lost(fault, port));
     }
@@ -323,6 +420,7 @@ impl<R: Host> Service for Member<'_, R> {
     }
 
     fn accept_failed(&mut self, kind: ErrorKind) {
+        self.figures.miss();
         self.tell(Fault::Accept(kind));
     }
 }

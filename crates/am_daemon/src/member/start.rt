@@ -1,22 +1,27 @@
 //! The start of a member.
 
 use super::compaction::Compacting;
+use super::counting::since_1970;
 use super::host::Host;
 use super::started::Started;
 use super::{Member, times};
-use am_command_line::Options;
 use am_dialogue::{DISK, Duties, Intervals, Keeping, Room, Share, Turns};
 use am_faults::{Fault, report, status};
-use am_files::{StateFile, open_state};
+use am_figures::Figures;
+use am_files::{OpenedState, StateFile, open_state};
 use am_instance::{Config, ConfigError, Instance, Place};
+use am_jobs::Options;
 use am_lines::{Lines, Watch, signals};
 use am_member::{Peer, greeting, next_moment};
+use am_nflog::MeshEntry;
 use am_reactor::{Limits, listen};
+use am_silence::MeshSilence;
 use am_version_order::Moment;
 use am_wire::Text;
 use rand::make_rng;
 use rand::rngs::StdRng;
 use std::alloc::{AllocError, Global};
+use std::io::ErrorKind;
 use std::net::TcpListener;
 use std::random::RandomSource;
 use std::time::Instant;
@@ -41,16 +46,21 @@ pub fn run<'a, R: Host>(rt: &'a R, options: &'a Options<'a>) -> u8 {
 ///
 /// The first [`Fault`] of the start, in the order of names, silences, log, listener.
 fn run_on<'a, R: Host>(rt: &'a R, options: &'a Options<'a>) -> Result<Option<Fault>, Fault> {
-    let mut member = member(rt, options)?;
-    let listener = match listen(rt, options.port) {
-        Ok(listener) => listener,
-        Err(error) => return Err(Fault::Listen(error.kind(), options.port)),
-    };
+    let member = member(rt, options)?;
+    match listen(rt, options.port) {
+        Ok(listener) => Ok(run_member(member, listener)),
+        Err(error) => Err(Fault::Listen(error.kind(), options.port)),
+    }
+}
+
+/// Runs a member that listens. Answers with which fault it ended, which is told.
+fn run_member<R: Host>(member: Member<'_, R>, listener: TcpListener) -> Option<Fault> {
+    let mut member = member;
     tell_start(&mut member);
     tell_torn(&mut member);
     member.save_owed();
     let failed = serve(&mut member, listener);
-    Ok(member.end(failed))
+    member.end(failed)
 }
 
 /// Prints that a member listens, and the times that it keeps, where that finds room.
@@ -79,63 +89,121 @@ fn tell_torn<R: Host>(member: &mut Member<'_, R>) {
     }
 }
 
+/// Why nobody is served, or no more.
+#[derive(Clone, Copy)]
+enum Unserved {
+    Memory,
+    Listener(ErrorKind),
+}
+
 /// Serves whoever connects, until the member is told to end or has taken its connections. Answers why it doesn't, or no more,
 /// which is told.
 fn serve<R: Host>(member: &mut Member<'_, R>, listener: TcpListener) -> Option<Fault> {
-    let rt = member.rt;
-    let options = member.options;
-    let Ok(greeting) = greeting(rt.alloc(), options.name) else {
-        member.tell(Fault::Config(ConfigError::Memory));
-        return Some(Fault::Config(ConfigError::Memory));
-    };
-    let Ok(ports) = member.ports.clone() else {
-        member.tell(Fault::Config(ConfigError::Memory));
-        return Some(Fault::Config(ConfigError::Memory));
-    };
-    let limits = Limits {
-        at_once: options.at_once,
-        connections: options.connections,
-        time: options.time_limit,
-        link_bytes: MOST_WAITING,
-        held_bytes: options.most_unfinished,
-        watch_input: options.stop_at_input_end,
-    };
-    let alloc = rt.alloc();
-    match am_reactor::run(alloc, rt, listener, &ports, &greeting, member, limits) {
+    match serve_peers(member, listener) {
         Ok(()) => None,
-        Err(error) => {
-            let kind = error.kind();
+        Err(Unserved::Memory) => {
+            member.tell(Fault::Config(ConfigError::Memory));
+            Some(Fault::Config(ConfigError::Memory))
+        }
+        Err(Unserved::Listener(kind)) => {
             member.tell(Fault::Accept(kind));
             Some(Fault::Accept(kind))
         }
     }
 }
 
+/// Serves whoever connects, and the peers.
+fn serve_peers<R: Host>(member: &mut Member<'_, R>, listener: TcpListener) -> Result<(), Unserved> {
+    let rt = member.rt;
+    let Ok(greeting) = greeting(rt.alloc(), member.options.name) else {
+        return Err(Unserved::Memory);
+    };
+    let Ok(ports) = member.ports.clone() else {
+        return Err(Unserved::Memory);
+    };
+    let limits = limits(member.options);
+    match am_reactor::run(rt.alloc(), rt, listener, &ports, &greeting, member, limits) {
+        Ok(()) => Ok(()),
+        Err(error) => Err(Unserved::Listener(error.kind())),
+    }
+}
+
+/// What connections may take.
+fn limits(options: &Options<'_>) -> Limits {
+    Limits {
+        at_once: options.at_once,
+        connections: options.connections,
+        time: options.time_limit,
+        link_bytes: MOST_WAITING,
+        held_bytes: options.most_unfinished,
+        watch_input: options.stop_at_input_end,
+    }
+}
+
+/// What is kept of each member, by place.
+#[derive(Drop)]
+struct Places {
+    ports: Vec<u16>,
+    awaited: Vec<Place>,
+    shares: Vec<Share>,
+    figures: Figures,
+}
+
+/// What a member holds, and the files that hold it.
+#[derive(Drop)]
+struct Loaded {
+    instance: Instance,
+    silences: StateFile,
+    log: StateFile,
+}
+
+/// What a member draws bits from, prints by and goes by.
+#[derive(Drop)]
+struct Means {
+    random: StdRng,
+    lines: Lines,
+    duties: Duties,
+}
+
 /// The member before it listens.
 fn member<'a, R: Host>(rt: &'a R, options: &'a Options<'a>) -> Result<Member<'a, R>, Fault> {
     let config = config(rt.alloc(), options)?;
-    let Ok(ports) = ports(rt.alloc(), &config, &options.peers) else {
+    let Ok(places) = places_of(rt, &config, options) else {
         return Err(Fault::Config(ConfigError::Memory));
     };
-    let Ok(awaited) = peer_places(rt.alloc(), &ports) else {
-        return Err(Fault::Config(ConfigError::Memory));
-    };
-    let Ok(shares) = shares(rt.alloc(), ports.len()) else {
-        return Err(Fault::Config(ConfigError::Memory));
-    };
-    let (instance, silences, log) = instance(rt, config, options)?;
+    let loaded = load(rt, config, options)?;
+    let means = means_of(rt, options)?;
+    Ok(member_of(rt, options, places, loaded, means))
+}
+
+/// The member that has all this.
+fn member_of<'a, R: Host>(
+    rt: &'a R,
+    options: &'a Options<'a>,
+    places: Places,
+    loaded: Loaded,
+    means: Means,
+) -> Member<'a, R> {
+    let Places {
+        ports,
+        awaited,
+        shares,
+        figures,
+    } = places;
+    let Loaded {
+        instance,
+        silences,
+        log,
+    } = loaded;
+    let Means {
+        random,
+        lines,
+        duties,
+    } = means;
     let room = Room::of(instance.silences(), options.most_bytes);
     let keeping = Keeping::new(instance.config().place_named(DISK));
-    let owes_save = silences.owes_save() || log.owes_save();
-    let random = random(rt)?;
-    let Ok(lines) = Lines::new(rt.alloc(), rt, options.lines) else {
-        return Err(Fault::Config(ConfigError::Memory));
-    };
-    let duties = match Instant::now(rt) {
-        Ok(now) => Duties::new(&intervals(options), signals::are_blocked(rt), now),
-        Err(error) => return Err(Fault::Clock(error.kind())),
-    };
-    Ok(Member {
+    let is_changed = silences.owes_save() || log.owes_save();
+    Member {
         rt,
         options,
         instance,
@@ -145,6 +213,7 @@ fn member<'a, R: Host>(rt: &'a R, options: &'a Options<'a>) -> Result<Member<'a,
         keeping,
         compacting: Compacting::new(),
         turns: Turns::new(options.waiting.min(options.at_once / 2)),
+        figures,
         ports,
         random,
         queue: Vec::new(rt.alloc()),
@@ -153,10 +222,45 @@ fn member<'a, R: Host>(rt: &'a R, options: &'a Options<'a>) -> Result<Member<'a,
         watch: Watch::new(),
         shares,
         awaited,
-        is_changed: owes_save,
+        is_changed,
         stops: false,
         turns_away: false,
+    }
+}
+
+/// What is kept of each member before any is heard.
+fn places_of<R: Host>(
+    rt: &R,
+    config: &Config,
+    options: &Options<'_>,
+) -> Result<Places, AllocError> {
+    let alloc = rt.alloc();
+    let ports = ports(alloc, config, &options.peers)?;
+    let awaited = peer_places(alloc, &ports)?;
+    let shares = shares(alloc, ports.len())?;
+    let figures = Figures::new(alloc, ports.len(), since_1970(rt))?;
+    Ok(Places {
+        ports,
+        awaited,
+        shares,
+        figures,
     })
+}
+
+/// What a member draws bits from, prints by and goes by.
+fn means_of<R: Host>(rt: &R, options: &Options<'_>) -> Result<Means, Fault> {
+    let random = random(rt)?;
+    let Ok(lines) = Lines::new(rt.alloc(), rt, options.lines) else {
+        return Err(Fault::Config(ConfigError::Memory));
+    };
+    match Instant::now(rt) {
+        Ok(now) => Ok(Means {
+            random,
+            lines,
+            duties: Duties::new(&intervals(options), signals::are_blocked(rt), now),
+        }),
+        Err(error) => Err(Fault::Clock(error.kind())),
+    }
 }
 
 /// How often it does what it does by itself.
@@ -181,6 +285,7 @@ fn random<R: RandomSource>(rt: &R) -> Result<StdRng, Fault> {
         Err(error) => Err(Fault::Random(error.kind())),
     }
 }
+
 /// The names of the members, and how long things are kept.
 fn config(alloc: Global, options: &Options<'_>) -> Result<Config, Fault> {
     let Ok(name) = Text::copied(alloc, options.name) else {
@@ -235,11 +340,7 @@ fn peer_places(alloc: Global, ports: &[u16]) -> Result<Vec<Place>, AllocError> {
 }
 
 /// The instance that holds what its files hold, and the files of the silences and of the log.
-fn instance<R: Host>(
-    rt: &R,
-    config: Config,
-    options: &Options<'_>,
-) -> Result<(Instance, StateFile, StateFile), Fault> {
+fn load<R: Host>(rt: &R, config: Config, options: &Options<'_>) -> Result<Loaded, Fault> {
     let most = options.most_bytes;
     let silences = match open_state(rt, options.silences, most, options.keeps_log) {
         Ok(opened) => opened,
@@ -250,6 +351,24 @@ fn instance<R: Host>(
         Err(fault) => return Err(Fault::Log(fault)),
     };
     let now = next_moment(rt, Moment::LEAST);
-    let instance = Instance::start(config, silences.held, log.held, now);
-    Ok((instance, silences.file, log.file))
+    Ok(loaded_of(config, silences, log, now))
+}
+
+/// An instance that starts with what was opened, and its files.
+fn loaded_of(
+    config: Config,
+    silences: OpenedState<MeshSilence>,
+    log: OpenedState<MeshEntry>,
+    now: Moment,
+) -> Loaded {
+    let OpenedState { file, held } = silences;
+    let OpenedState {
+        file: log_file,
+        held: entries,
+    } = log;
+    Loaded {
+        instance: Instance::start(config, held, entries, now),
+        silences: file,
+        log: log_file,
+    }
 }

@@ -1,6 +1,6 @@
 //! What is printed of the times that a member keeps.
 
-use am_command_line::Options;
+use am_jobs::Options;
 use am_member::{Times, times_of};
 
 /// The times that a member keeps by its options, where it pulls by itself.

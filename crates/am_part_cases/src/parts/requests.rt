@@ -1,7 +1,7 @@
 //! Requests, calls, the table of statuses and replies; texts, numbers and lists as words; schedules as they are read.
 
 use crate::common::{Case, Fault, cut, first};
-use crate::parts::messages;
+use crate::parts::figures;
 use am_http::{Cause, Read, Resource, call_of, filter_texts, out_of_memory, read_request, reply};
 use am_nflog::HashIter;
 use am_schedule::{FaultKind, parse};
@@ -33,7 +33,7 @@ pub fn answer(case: &Case, verb: &str, rest: &str) {
             say!(case; Numbers(HashIter::of(&numbers)));
         }
         "texts" => texts(case, rest),
-        _ => messages::answer(case, verb, rest),
+        _ => figures::answer(case, verb, rest),
     }
 }
 

@@ -51,7 +51,7 @@ module _ {K X : Type 0} (seen : X → Version K) (cmp : K → K → Ordering) (k
     -- went out, and not all.
     abbrev pub StopsDiff : List (Input R) → List (Input R) → {W : Type 0} → (W → Option (List ℕ)) → W → W → DiffError → Type 0
     StopsDiff inputs left contents old new (errors.Source number fault) =
-        (new ≡ old) × StopsReading reads remaining inputs left (errors.Source number fault)
+        (new ≡ old) × StopsReading seen cmp reads remaining inputs left (errors.Source number fault)
     StopsDiff inputs left contents old new (errors.Write k) =
         (sources : List (Source X)) × AllZip (IsRead seen cmp reads remaining) inputs sources × StopsLine sources contents old new (Write k)
     StopsDiff inputs left contents old new errors.Memory = new ≡ old

@@ -5,6 +5,7 @@ use Rattle.std.proofs.lemmas.Result.{err_from_is_err_and}
 use Rattle.am_api_decisions.specs.Asking.{AskedAlert}
 use Rattle.am_api_decisions.specs.Deciding.{Underway}
 use Rattle.am_api_decisions.proofs.AskedMore.{next_asked, none_asked}
+use Rattle.am_api_decisions.proofs.Same.{asked_same, same_on, stop_same}
 use Rattle.am_api_decisions.proofs.Whole.{gone_on, stopped_at}
 use Rattle.am_api_decisions.proofs.deciding.Deciding.go_on.Goals as goal
 use Rattle.am_api_decisions.proofs.deciding.Deciding.go_on.Goals.{else-loop-count-test, then-loop-count-test+in-None}
@@ -24,8 +25,8 @@ loop-count-preserved c =
       omega (arith, first.1, ap length first.0, before.3),
     )
 
-pub returns : goal.returns
-returns c =
+pub returns-clause-asked : goal.returns-clause-asked
+returns-clause-asked c =
     let before = c.loop-count.invariant in
     let given : Underway = record { group = c.self.inside.group; left = into_iter_items c.self.inside.left; counted = c.self.inside.tally } in
     let after : Underway = record { group = c.self.inside.group; left = into_iter_items c.loop-count-test.left; counted = c.loop-count.tally } in
@@ -42,8 +43,8 @@ returns c =
           before.2 c.loop-count.auto._count-end (inr none) refl
     ]
 
-pub returns-in_err-ask_one-in-Some : goal.returns-in_err-ask_one-in-Some
-returns-in_err-ask_one-in-Some c =
+pub returns-in_err-ask_one-in-Some-clause-asked : goal.returns-in_err-ask_one-in-Some-clause-asked
+returns-in_err-ask_one-in-Some-clause-asked c =
     let before = c.loop-count.invariant in
     let first = c.in-Some.ensures.cases in
     let given : Underway = record { group = c.self.inside.group; left = into_iter_items c.self.inside.left; counted = c.self.inside.tally } in
@@ -51,3 +52,14 @@ returns-in_err-ask_one-in-Some c =
     rw (p.1, p.2) (
     stopped_at c.args.now given c.args.self c.args.instance.now c.loop-count.instance c.ask_one.new.instance before.0 c.in-Some.alert _ _ _ _ c.self.view_is before.1
     first.0 c.in_err-ask_one-in-Some.ensures.stopped)
+
+pub returns-clause-same : goal.returns-clause-same
+returns-clause-same c =
+    let before = c.loop-count.invariant in
+    asked_same c.args.now before.0 c.args.instance.now c.loop-count.instance before.1.steps
+
+pub returns-in_err-ask_one-in-Some-clause-same : goal.returns-in_err-ask_one-in-Some-clause-same
+returns-in_err-ask_one-in-Some-clause-same c =
+    let before = c.loop-count.invariant in
+    same_on c.args.instance.now c.loop-count.instance c.ask_one.new.instance (asked_same c.args.now before.0 c.args.instance.now c.loop-count.instance before.1.steps)
+    (stop_same c.args.now _ c.loop-count.instance c.ask_one.new.instance _ c.in_err-ask_one-in-Some.ensures.stopped)

@@ -1,0 +1,47 @@
+-- What a member says of itself: `alertmanagerStatus` of API v2, as data of JSON (RFC 8259) with the keys of each object in byte order.
+use Rattle.std.specs.Prelude.{ℕ, Bool, true, false, List, [], map, codes}
+use Rattle.serde_json.specs.Data.{Data, string, array, object, member, no_members}
+use Rattle.serde_json.specs.View.{items_of}
+use Rattle.am_api_status.specs.declared.status.Peer.{Peer}
+use Rattle.am_api_status.specs.declared.status.Standing.{Standing}
+
+-- a member of the cluster: peerStatus
+abbrev pub peer_data : Peer → Data
+peer_data peer = object (member (codes "address") (string peer.address) (member (codes "name") (string peer.name) no_members))
+
+-- a member that answers requests is ready, and one that waits for its first pull, or stops, settles
+abbrev pub status_word : Bool → List ℕ
+status_word true = codes "ready"
+status_word false = codes "settling"
+
+-- the cluster: clusterStatus
+abbrev pub cluster_data : Standing → Data
+cluster_data s =
+    object (
+    member (codes "name") (string s.name) (
+    member (codes "peers") (array (items_of (map peer_data s.peers.items))) (
+    member (codes "status") (string (status_word s.is_ready)) no_members)))
+
+-- the options of the start: alertmanagerConfig
+abbrev pub config_data : List ℕ → Data
+config_data options = object (member (codes "original") (string options) no_members)
+
+-- of what the program was built: versionInfo, where nothing but the version is known
+abbrev pub versions_data : List ℕ → Data
+versions_data version =
+    object (
+    member (codes "branch") (string []) (
+    member (codes "buildDate") (string []) (
+    member (codes "buildUser") (string []) (
+    member (codes "goVersion") (string []) (
+    member (codes "revision") (string []) (
+    member (codes "version") (string version) no_members))))))
+
+-- all of it, with the text of the moment of the start
+unfoldable pub standing_data : Standing → List ℕ → Data
+standing_data s start =
+    object (
+    member (codes "cluster") (cluster_data s) (
+    member (codes "config") (config_data s.options) (
+    member (codes "uptime") (string start) (
+    member (codes "versionInfo") (versions_data s.version.now) no_members))))

@@ -1,0 +1,92 @@
+//! The calls by which a member is asked about itself.
+
+ghost use Rattle.std.specs.Prelude.{◌≡◌, codes};
+ghost use Rattle.std.specs.List.{before_first, after_first};
+ghost use Rattle.am_http.specs.Paths.{path_of};
+ghost use Rattle.am_http.specs.Lines.{line_seen};
+ghost use Rattle.am_api_status.specs.Calls.{IsCallOn, IsNamed, not_allowed_line};
+
+use am_http::Refusal;
+
+/// What a path of these calls names.
+#[derive(Clone, Copy, Debug, PartialEq, Eq)]
+pub enum Resource {
+    /// `/`: the page for people.
+    Page,
+    /// `/-/healthy`: the member runs.
+    Healthy,
+    /// `/-/ready`: it answers requests.
+    Ready,
+    /// `/api/v2/status`: who it is, and how it was started.
+    Status,
+    /// `/api/v2/receivers`: a list of none.
+    Receivers,
+    /// `/metrics`: its figures.
+    Metrics,
+}
+
+/// A call that asks for what a path names.
+#[derive(Clone, Copy, Debug, PartialEq, Eq)]
+pub struct Call {
+    pub resource: Resource,
+    /// The reply has its head alone, as HEAD wants it.
+    pub is_bare: bool,
+}
+
+/// The path of a target, cut at the first `?`.
+fn path_of(target: &str) -> &str
+    ensures { result.now ≡ path_of target.now }
+{
+    match target.split_once('?') {
+        Some((path, _)) => path,
+        None => target,
+    }
+}
+
+/// What the path of a target names, if it is one of these. All other paths are for the silences and for decisions.
+pub fn resource_of(target: &str) -> Option<Resource>
+    ensures { IsNamed (path_of target.now) result }
+{
+    match path_of(target) {
+        "/" => Some(Resource::Page),
+        "/-/healthy" => Some(Resource::Healthy),
+        "/-/ready" => Some(Resource::Ready),
+        "/api/v2/status" => Some(Resource::Status),
+        "/api/v2/receivers" => Some(Resource::Receivers),
+        "/metrics" => Some(Resource::Metrics),
+        _ => None,
+    }
+}
+
+/// The line of the table where another method is asked for.
+const fn not_allowed() -> Refusal
+    ensures { line_seen result ≡ not_allowed_line }
+{
+    Refusal {
+        status: 405,
+        text: "method not allowed",
+        allow: Some("GET, HEAD"),
+        is_bare: false,
+    }
+}
+
+/// The call that a request with this method asks for, whose path names that.
+///
+/// # Errors
+///
+/// The line `method not allowed`, where the method is neither GET nor HEAD.
+pub fn call_of(resource: Resource, method: &str) -> Result<Call, Refusal>
+    ensures { IsCallOn resource method.now result }
+{
+    match method {
+        "GET" => Ok(Call {
+            resource,
+            is_bare: false,
+        }),
+        "HEAD" => Ok(Call {
+            resource,
+            is_bare: true,
+        }),
+        _ => Err(not_allowed()),
+    }
+}

@@ -1,0 +1,166 @@
+//! What a member says of itself in JSON.
+
+ghost use Rattle.std.specs.Prelude.{◌≡◌, ℕ, List, [], ◌∷◌, OnOk, IfOk, codes, map};
+ghost use Rattle.json.specs.Token.{key};
+ghost use Rattle.serde_json.specs.Data.{array};
+ghost use Rattle.serde_json.specs.View.{items_of};
+ghost use Rattle.serde_json.specs.Written.{compact_text};
+ghost use Rattle.am_silence_json.specs.Tokens.{Adds, data_tokens, row_tokens};
+ghost use Rattle.am_silence_json.specs.Written.{WritesMoment};
+ghost use Rattle.am_api_status.specs.Replies.{told_bytes};
+ghost use Rattle.am_api_status.specs.Standings.{cluster_data, config_data, peer_data, standing_data, status_word, versions_data};
+ghost use Rattle.am_api_status.specs.declared.replies.Format.TheVariants as formats;
+
+use crate::replies::{Format, tell};
+use am_silence_json::moments::write_moment;
+use am_silence_json::tokens::{add, add_text};
+use am_version_order::Moment;
+use am_wire::Text;
+use json::{Token, Writer};
+use std::alloc::{AllocError, Global};
+
+/// A member of a cluster, as it is shown.
+#[derive(Drop)]
+pub struct Peer {
+    pub name: Text,
+    /// Where it listens.
+    pub address: Text,
+}
+
+/// What a member says of itself.
+#[derive(Drop)]
+pub struct Standing {
+    /// Its name among the members.
+    pub name: Text,
+    /// It answers requests.
+    pub is_ready: bool,
+    /// All members, itself too.
+    pub peers: Vec<Peer>,
+    /// The options that it was started with.
+    pub options: Text,
+    /// When it was started.
+    pub start: Moment,
+    /// The version of the program.
+    pub version: &'static str,
+}
+
+/// Adds a member of the cluster.
+fn add_peer(out: &mut Writer, peer: &Peer) -> Result<(), AllocError>
+    ensures { OnOk result (Adds out.old out.new (data_tokens (peer_data peer.now))) }
+{
+    add(out, Token::BeginObject)?;
+    add_text(out, "address", peer.address.as_str())?;
+    add_text(out, "name", peer.name.as_str())?;
+    add(out, Token::EndObject)?;
+    Ok(())
+}
+
+/// Adds members of the cluster, without brackets.
+fn add_each_peer(out: &mut Writer, peers: &[Peer]) -> Result<(), AllocError>
+    ensures { OnOk result (Adds out.old out.new (row_tokens (map peer_data peers.now))) }
+{
+    for peer in peers {
+        add_peer(out, peer)?;
+    }
+    Ok(())
+}
+
+/// Adds the list of the members of the cluster.
+fn add_peers(out: &mut Writer, peers: &[Peer]) -> Result<(), AllocError>
+    ensures { OnOk result (Adds out.old out.new
+        (key (codes "peers") ∷ data_tokens (array (items_of (map peer_data peers.now))))) }
+{
+    add(out, Token::Key("peers"))?;
+    add(out, Token::BeginArray)?;
+    add_each_peer(out, peers)?;
+    add(out, Token::EndArray)?;
+    Ok(())
+}
+
+/// The word for whether the member answers requests.
+const fn status_word(is_ready: bool) -> &'static str
+    ensures { result.now ≡ status_word is_ready }
+{
+    if is_ready { "ready" } else { "settling" }
+}
+
+/// Adds what is said of the cluster.
+fn add_cluster(out: &mut Writer, standing: &Standing) -> Result<(), AllocError>
+    ensures { OnOk result (Adds out.old out.new (key (codes "cluster") ∷ data_tokens (cluster_data standing.now))) }
+{
+    add(out, Token::Key("cluster"))?;
+    add(out, Token::BeginObject)?;
+    add_text(out, "name", standing.name.as_str())?;
+    add_peers(out, standing.peers.as_slice())?;
+    add_text(out, "status", status_word(standing.is_ready))?;
+    add(out, Token::EndObject)?;
+    Ok(())
+}
+
+/// Adds the options.
+fn add_config(out: &mut Writer, options: &str) -> Result<(), AllocError>
+    ensures { OnOk result (Adds out.old out.new (key (codes "config") ∷ data_tokens (config_data options.now))) }
+{
+    add(out, Token::Key("config"))?;
+    add(out, Token::BeginObject)?;
+    add_text(out, "original", options)?;
+    add(out, Token::EndObject)?;
+    Ok(())
+}
+
+/// Adds of what the program was built.
+fn add_versions(out: &mut Writer, version: &str) -> Result<(), AllocError>
+    ensures { OnOk result (Adds out.old out.new (key (codes "versionInfo") ∷ data_tokens (versions_data version.now))) }
+{
+    add(out, Token::Key("versionInfo"))?;
+    add(out, Token::BeginObject)?;
+    add_text(out, "branch", "")?;
+    add_text(out, "buildDate", "")?;
+    add_text(out, "buildUser", "")?;
+    add_text(out, "goVersion", "")?;
+    add_text(out, "revision", "")?;
+    add_text(out, "version", version)?;
+    add(out, Token::EndObject)?;
+    Ok(())
+}
+
+/// Adds what a member says of itself, where this is the text of its start.
+fn add_standing(out: &mut Writer, standing: &Standing, start: &str) -> Result<(), AllocError>
+    ensures { OnOk result (Adds out.old out.new (data_tokens (standing_data standing.now start.now))) }
+{
+    add(out, Token::BeginObject)?;
+    add_cluster(out, standing)?;
+    add_config(out, standing.options.as_str())?;
+    add_text(out, "uptime", start)?;
+    add_versions(out, standing.version)?;
+    add(out, Token::EndObject)?;
+    Ok(())
+}
+
+/// What a member says of itself, in JSON, where this is the text of its start.
+fn write_standing(alloc: Global, standing: &Standing, start: &str) -> Result<Vec<u8>, AllocError>
+    ensures { IfOk result (λ body. body.items ≡ compact_text (standing_data standing.now start.now)) }
+{
+    let mut writer = Writer::new(Vec::new(alloc));
+    add_standing(&mut writer, standing, start)?;
+    Ok(writer.into_inner())
+}
+
+/// The reply that tells what a member says of itself.
+///
+/// # Errors
+///
+/// [`AllocError`] where memory ran out.
+pub fn status_reply(
+    alloc: Global,
+    standing: &Standing,
+    is_bare: bool,
+) -> Result<Vec<u8>, AllocError>
+    ensures { IfOk result (λ bytes. (start : List ℕ) × WritesMoment standing.now.start start
+        × (bytes.items ≡ told_bytes formats.Json is_bare (compact_text (standing_data standing.now start)))) }
+{
+    let start = write_moment(standing.start);
+    let body = write_standing(alloc, standing, start.as_str())?;
+    let bytes = tell(alloc, Format::Json, &body, is_bare)?;
+    Ok(bytes)
+}

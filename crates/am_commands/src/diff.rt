@@ -1,0 +1,246 @@
+//! How replicas differ.
+
+use crate::host::{Host, Streams};
+use crate::live::ask_all;
+use crate::moment::{moment_of, warn};
+use crate::source::{Keys, NO_MEMORY, Origin, ReadFault, Source, open_row, report_read};
+use am_faults::{Fault, SourceFault, report, status};
+use am_jobs::{DiffJob, Form, SourceWord, StateName};
+use am_merge::Held;
+use am_nflog::MeshEntry;
+use am_silence::MeshSilence;
+use am_snapshot::SnapshotError;
+use am_told::{
+    DiffError, DiffOutcome, InJson, Input, Manner, Replica, Told, diff_json, diff_rows,
+    has_later_source, write_differences, write_differences_json,
+};
+use am_version_order::{Moment, Version};
+use am_wire::Message;
+use std::alloc::Global;
+use std::io::{BufReader, Read, Stdin, Write};
+use std::mem;
+
+/// A source that is opened.
+type Opened<'a> = Input<'a, BufReader<Origin>>;
+
+/// Compares the sources of a job, and answers the exit status of the program.
+pub fn run_diff<'a, R: Host>(rt: &R, streams: Streams, job: &DiffJob<'a>) -> u8 {
+    let now = match moment_of(rt, job.now) {
+        Ok(now) => now,
+        Err(fault) => return report(rt, fault),
+    };
+    match compare(rt, streams, job, now) {
+        Ok(outcome) => tell(rt, job, outcome),
+        Err(fault) => report_read(rt, &fault),
+    }
+}
+
+/// Warns of an early moment, and answers the exit status of the program.
+fn tell<R: Host>(rt: &R, job: &DiffJob<'_>, outcome: DiffOutcome) -> u8 {
+    if outcome.has_later {
+        warn(rt, job.now);
+    }
+    if outcome.found {
+        status::DIFFERENT
+    } else {
+        status::DONE
+    }
+}
+
+/// Writes all differences to standard output.
+fn compare<'a, R: Host>(
+    rt: &R,
+    streams: Streams,
+    job: &DiffJob<'a>,
+    now: Moment,
+) -> Result<DiffOutcome, ReadFault<'a>> {
+    if job.is_live() {
+        return compare_live(rt, streams, job, now);
+    }
+    if !job.has_logs {
+        return compare_opened(rt, streams, job, now);
+    }
+    match job.state {
+        StateName::Silences => compare_logged::<R, MeshSilence>(rt, streams, job, now),
+        StateName::Log => compare_logged::<R, MeshEntry>(rt, streams, job, now),
+    }
+}
+
+/// Writes all differences of what sources show, of which one at least is a server, to standard output.
+fn compare_live<'a, R: Host>(
+    rt: &R,
+    streams: Streams,
+    job: &DiffJob<'a>,
+    now: Moment,
+) -> Result<DiffOutcome, ReadFault<'a>> {
+    let Streams { input, mut output } = streams;
+    let replicas = match ask_all(rt, input, job) {
+        Ok(replicas) => replicas,
+        Err(fault) => return Err(fault),
+    };
+    Ok(compare_held(rt.alloc(), job, now, &replicas, &mut output)?)
+}
+
+/// Writes all differences of rows to standard output.
+fn compare_opened<'a, R: Host>(
+    rt: &R,
+    streams: Streams,
+    job: &DiffJob<'a>,
+    now: Moment,
+) -> Result<DiffOutcome, ReadFault<'a>> {
+    let Streams { input, mut output } = streams;
+    let mut inputs = match open_all(rt, input, &job.sources) {
+        Ok(inputs) => inputs,
+        Err(fault) => return Err(fault),
+    };
+    match compare_rows(rt.alloc(), job, now, &mut inputs, &mut output) {
+        Ok(outcome) => Ok(outcome),
+        Err(error) => Err(named(job, error)),
+    }
+}
+
+/// Why sources of rows were not compared.
+fn named<'a>(job: &DiffJob<'a>, error: DiffError) -> ReadFault<'a> {
+    match error {
+        DiffError::Source { number, fault } => ReadFault::Source(SourceFault {
+            name: job.sources.get(number).map(|source| source.name),
+            fault: Fault::Snapshot(fault),
+        }),
+        DiffError::Write { written } => ReadFault::from(SnapshotError::Write { written }),
+        DiffError::Memory => ReadFault::from(SnapshotError::Memory),
+    }
+}
+
+/// Opens all sources.
+fn open_all<'a, R: Host>(
+    rt: &R,
+    input: Stdin,
+    sources: &[SourceWord<'a>],
+) -> Result<Vec<Opened<'a>>, ReadFault<'a>> {
+    let mut inputs = Vec::new(rt.alloc());
+    for source in sources {
+        let name = source.name;
+        let reader = match open_row(rt, input, source.file) {
+            Ok(reader) => reader,
+            Err(fault) => return Err(ReadFault::of(name, Fault::File(fault))),
+        };
+        if inputs.push(Input { name, reader }).is_err() {
+            return Err(ReadFault::of(name, NO_MEMORY));
+        }
+    }
+    Ok(inputs)
+}
+
+/// Writes all differences of files, each joined with the logs beside it, to standard output. What was read is forgotten: the
+/// process ends then, and its memory with it.
+fn compare_logged<'a, R: Host, V: Told + InJson + Message>(
+    rt: &R,
+    streams: Streams,
+    job: &DiffJob<'a>,
+    now: Moment,
+) -> Result<DiffOutcome, ReadFault<'a>> {
+    let Streams { input, mut output } = streams;
+    let opened = match open_logged(rt, input, &job.sources) {
+        Ok(opened) => opened,
+        Err(fault) => return Err(fault),
+    };
+    let replicas: Vec<Replica<'a, V>> = match read_logged(rt.alloc(), opened) {
+        Ok(replicas) => replicas,
+        Err(fault) => return Err(fault),
+    };
+    let outcome = compare_held(rt.alloc(), job, now, &replicas, &mut output);
+    mem::forget(replicas);
+    Ok(outcome?)
+}
+
+/// Opens all sources, each with the logs beside it.
+fn open_logged<'a, R: Host>(
+    rt: &R,
+    input: Stdin,
+    sources: &[SourceWord<'a>],
+) -> Result<Vec<Source<'a>>, ReadFault<'a>> {
+    let mut opened = Vec::new(rt.alloc());
+    for source in sources {
+        let name = source.name;
+        let source = match Source::open(rt, input, name, source.file, true) {
+            Ok(source) => source,
+            Err(fault) => return Err(fault),
+        };
+        if opened.push(source).is_err() {
+            return Err(ReadFault::of(name, NO_MEMORY));
+        }
+    }
+    Ok(opened)
+}
+
+/// Reads all sources, each to its end before the next.
+fn read_logged<'a, V: Version + Message>(
+    alloc: Global,
+    opened: Vec<Source<'a>>,
+) -> Result<Vec<Replica<'a, V>>, ReadFault<'a>> {
+    let mut replicas = Vec::new(alloc);
+    for source in opened {
+        let name = source.name();
+        let held: Held<V> = match source.read(alloc, Keys::Repeated) {
+            Ok(held) => held,
+            Err(fault) => return Err(fault),
+        };
+        if replicas.push(Replica::new(name, held)).is_err() {
+            return Err(ReadFault::of(name, NO_MEMORY));
+        }
+    }
+    Ok(replicas)
+}
+
+/// How the lines of a job are told.
+fn manner_of(job: &DiffJob<'_>, now: Moment) -> Manner {
+    Manner {
+        moment: now,
+        has_expiries: !job.is_live(),
+        is_long: job.is_long,
+    }
+}
+
+/// Writes all differences of what sources hold.
+fn compare_held<V: Told + InJson, W: Write>(
+    alloc: Global,
+    job: &DiffJob<'_>,
+    now: Moment,
+    replicas: &[Replica<'_, V>],
+    output: &mut W,
+) -> Result<DiffOutcome, SnapshotError> {
+    let has_later = has_later_source(replicas, now);
+    let found = match job.form {
+        Form::Lines => {
+            let manner = manner_of(job, now);
+            write_differences(alloc, replicas, job.compared, &manner, output)?
+        }
+        Form::Json => write_differences_json(alloc, replicas, job.compared, now, output)?,
+    };
+    Ok(DiffOutcome { found, has_later })
+}
+
+/// Writes all differences of rows.
+fn compare_rows<I: Read + Drop, W: Write>(
+    alloc: Global,
+    job: &DiffJob<'_>,
+    now: Moment,
+    inputs: &mut [Input<'_, I>],
+    output: &mut W,
+) -> Result<DiffOutcome, DiffError> {
+    let manner = manner_of(job, now);
+    match (job.form, job.state) {
+        (Form::Lines, StateName::Silences) => {
+            diff_rows::<MeshSilence, _, _>(alloc, inputs, job.compared, &manner, output)
+        }
+        (Form::Lines, StateName::Log) => {
+            diff_rows::<MeshEntry, _, _>(alloc, inputs, job.compared, &manner, output)
+        }
+        (Form::Json, StateName::Silences) => {
+            diff_json::<MeshSilence, _, _>(alloc, inputs, job.compared, now, output)
+        }
+        (Form::Json, StateName::Log) => {
+            diff_json::<MeshEntry, _, _>(alloc, inputs, job.compared, now, output)
+        }
+    }
+}

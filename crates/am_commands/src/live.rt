@@ -1,0 +1,102 @@
+//! What sources show, be they servers or files.
+
+use crate::host::Host;
+use crate::source::{Keys, NO_MEMORY, ReadFault, Source, open_row};
+use am_faults::Fault;
+use am_jobs::{DiffJob, SourceWord};
+use am_member::{Server, body_of, fetch, held_of, shown_of_row};
+use am_merge::Held;
+use am_silence::MeshSilence;
+use am_silence_json::read_silences;
+use am_snapshot::{SnapshotError, row_bytes, row_length};
+use am_told::Replica;
+use std::alloc::Global;
+use std::io::Stdin;
+use std::time::Duration;
+
+/// What all sources show, each opened or asked, and read to its end, before the next.
+pub fn ask_all<'a, R: Host>(
+    rt: &R,
+    input: Stdin,
+    job: &DiffJob<'a>,
+) -> Result<Vec<Replica<'a, MeshSilence>>, ReadFault<'a>> {
+    let mut replicas = Vec::new(rt.alloc());
+    for source in &job.sources {
+        let name = source.name;
+        let held = match shown_by(rt, input, job, source) {
+            Ok(held) => held,
+            Err(fault) => return Err(fault),
+        };
+        if replicas.push(Replica::new(name, held)).is_err() {
+            return Err(ReadFault::of(name, NO_MEMORY));
+        }
+    }
+    Ok(replicas)
+}
+
+/// What a source shows.
+fn shown_by<'a, R: Host>(
+    rt: &R,
+    input: Stdin,
+    job: &DiffJob<'a>,
+    source: &SourceWord<'a>,
+) -> Result<Held<MeshSilence>, ReadFault<'a>> {
+    let shown = match source.server() {
+        Some(server) => shown_by_server(rt, &server, job.time_limit),
+        None if job.has_logs => return shown_by_logged(rt, input, source),
+        None => shown_by_file(rt, input, source.file),
+    };
+    match shown {
+        Ok(held) => Ok(held),
+        Err(fault) => Err(ReadFault::of(source.name, fault)),
+    }
+}
+
+/// What a file shows.
+fn shown_by_file<R: Host>(rt: &R, input: Stdin, file: &str) -> Result<Held<MeshSilence>, Fault> {
+    let mut reader = open_row(rt, input, file)?;
+    Ok(shown_of_row(rt.alloc(), &mut reader)?)
+}
+
+/// What a file shows that is joined with the logs beside it.
+fn shown_by_logged<'a, R: Host>(
+    rt: &R,
+    input: Stdin,
+    source: &SourceWord<'a>,
+) -> Result<Held<MeshSilence>, ReadFault<'a>> {
+    let name = source.name;
+    let alloc = rt.alloc();
+    let source = match Source::open(rt, input, name, source.file, true) {
+        Ok(source) => source,
+        Err(fault) => return Err(fault),
+    };
+    let held: Held<MeshSilence> = source.read(alloc, Keys::Repeated)?;
+    match shown_of(alloc, &held) {
+        Ok(shown) => Ok(shown),
+        Err(error) => Err(ReadFault::of(name, Fault::Snapshot(error))),
+    }
+}
+
+/// What a state shows, by its row.
+fn shown_of(alloc: Global, held: &Held<MeshSilence>) -> Result<Held<MeshSilence>, SnapshotError> {
+    let Some(length) = row_length(held) else {
+        return Err(SnapshotError::TooLarge);
+    };
+    let row = row_bytes(alloc, held, length)?;
+    shown_of_row(alloc, &mut row.as_slice())
+}
+
+/// What a server shows.
+fn shown_by_server<R: Host>(
+    rt: &R,
+    server: &Server<'_>,
+    time_limit: Duration,
+) -> Result<Held<MeshSilence>, Fault> {
+    let alloc = rt.alloc();
+    let reply = fetch(alloc, rt, server, time_limit)?;
+    let list = read_silences(alloc, body_of(&reply)?)?;
+    match held_of(alloc, list) {
+        Ok(held) => Ok(held),
+        Err(_) => Err(Fault::Snapshot(SnapshotError::Memory)),
+    }
+}

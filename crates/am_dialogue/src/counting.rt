@@ -1,0 +1,220 @@
+//! What is counted of connections: what was asked and since when, and the silences by their states.
+
+ghost use Rattle.std.specs.Prelude.{◌<◌};
+
+use am_api_decisions as decisions;
+use am_api_silences::Read;
+use am_api_status::{Resource, resource_of};
+use am_figures::{Kind, Request};
+use am_gossip::Frame;
+use am_http as silences;
+use am_http::session::Said;
+use am_merge::Held;
+use am_silence::{MeshSilence, State};
+use am_version_order::{Moment, Version};
+use am_wire::Text;
+use std::alloc::{AllocError, Global};
+use std::time::{Duration, Instant};
+
+/// How many silences are counted in a turn of the loop.
+const STRETCH: usize = 8_192;
+
+/// What was asked of the member itself, where that is what was said.
+pub fn asked_of_itself(said: &Said) -> Option<Resource> {
+    match &said.request {
+        Some(Read::Whole(request)) => resource_of(&request.target),
+        _ => None,
+    }
+}
+
+/// What a resource of the member itself is counted as.
+fn kind_of_resource(resource: Resource) -> Request {
+    match resource {
+        Resource::Page => Request::Page,
+        Resource::Healthy => Request::Healthy,
+        Resource::Ready => Request::Ready,
+        Resource::Status => Request::Status,
+        Resource::Receivers => Request::Receivers,
+        Resource::Metrics => Request::Metrics,
+    }
+}
+
+/// What a call on decisions is counted as.
+fn kind_of_decision(method: &str, target: &str) -> Request {
+    match decisions::call_of(method, target) {
+        Ok(decisions::Call::Decide { .. }) => Request::Decide,
+        Ok(decisions::Call::Notified) => Request::Notified,
+        Ok(decisions::Call::Log) => Request::Log,
+        Err(_) => Request::Other,
+    }
+}
+
+/// What a call on silences is counted as.
+fn kind_of_call(method: &str, target: &str) -> Request {
+    match silences::call_of(method, target) {
+        Ok(silences::Call::List { .. }) => Request::List,
+        Ok(silences::Call::Get { .. }) => Request::Get,
+        Ok(silences::Call::Post) => Request::Post,
+        Ok(silences::Call::Delete { .. }) => Request::Delete,
+        Err(_) => Request::Other,
+    }
+}
+
+/// What a whole request is counted as.
+fn kind_of(request: &silences::Request) -> Request {
+    if let Some(resource) = resource_of(&request.target) {
+        kind_of_resource(resource)
+    } else if decisions::is_for_decisions(request) {
+        kind_of_decision(&request.method, &request.target)
+    } else {
+        kind_of_call(&request.method, &request.target)
+    }
+}
+
+/// What was asked, where that was said.
+pub fn request_of(said: &Said) -> Option<Request> {
+    match &said.request {
+        Some(Read::Whole(request)) => Some(kind_of(request)),
+        Some(_) => Some(Request::Other),
+        None => None,
+    }
+}
+
+/// What a frame is counted as.
+pub fn kind_of_frame(frame: &Frame) -> Kind {
+    match frame {
+        Frame::Delta(_) => Kind::Update,
+        Frame::Push(_) | Frame::Pull(_) => Kind::FullState,
+        Frame::Tick => Kind::Tick,
+    }
+}
+
+/// What is counted of a connection: what was asked, and since when; and whether its end is counted.
+#[derive(Clone, Copy)]
+pub struct Account {
+    asked: Option<(Request, Option<Instant>)>,
+    is_closed: bool,
+}
+
+impl Account {
+    /// Nothing was asked.
+    pub fn new() -> Account {
+        Account {
+            asked: None,
+            is_closed: false,
+        }
+    }
+
+    /// A request came whole, or is refused.
+    pub fn ask(&mut self, request: Request, now: Option<Instant>) {
+        if self.asked.is_none() {
+            self.asked = Some((request, now));
+        }
+    }
+
+    /// The connection ends; answers whether that isn't counted yet.
+    pub fn close(&mut self) -> bool {
+        let is_open = !self.is_closed;
+        self.is_closed = true;
+        is_open
+    }
+
+    /// What was asked, and how long ago.
+    pub fn answered(&self, now: Option<Instant>) -> Option<(Request, Duration)> {
+        let (request, since) = self.asked?;
+        let time = match (since, now) {
+            (Some(since), Some(now)) => now.saturating_duration_since(since),
+            _ => Duration::ZERO,
+        };
+        Some((request, time))
+    }
+}
+
+/// Silences that are being counted by their states, in the order of their keys.
+#[derive(Drop)]
+pub struct Census {
+    /// The reply has its head alone.
+    pub is_bare: bool,
+    /// How many are pending, active and expired so far.
+    pub counts: [u64; 3],
+    /// From which key on they are left, where some are counted.
+    next: Option<Text>,
+    is_done: bool,
+}
+
+/// The place of a state among them.
+fn place_of(state: State) -> usize
+    ensures { result < 3 }
+{
+    match state {
+        State::Pending => 0,
+        State::Active => 1,
+        State::Expired => 2,
+    }
+}
+
+impl Census {
+    /// None is counted.
+    pub fn new(is_bare: bool) -> Census {
+        Census {
+            is_bare,
+            counts: [0; 3],
+            next: None,
+            is_done: false,
+        }
+    }
+
+    /// Whether all are counted.
+    pub fn is_done(&self) -> bool {
+        self.is_done
+    }
+
+    /// Counts a stretch more of them, as they are at `now`.
+    ///
+    /// # Errors
+    ///
+    /// [`AllocError`] where memory ran out.
+    pub fn go_on(
+        self,
+        alloc: Global,
+        silences: &Held<MeshSilence>,
+        now: Moment,
+    ) -> Result<Census, AllocError> {
+        let left = match &self.next {
+            Some(key) => silences.iter_from(key),
+            None => silences.iter(),
+        };
+        let mut counts = self.counts;
+        let mut count: usize = 0;
+        for silence in left {
+            if count >= STRETCH {
+                return self.until(alloc, counts, silence);
+            }
+            let place = place_of(silence.state_at(now));
+            counts[place] = counts[place].saturating_add(1);
+            count = count.saturating_add(1);
+        }
+        Ok(Census {
+            is_bare: self.is_bare,
+            counts,
+            next: None,
+            is_done: true,
+        })
+    }
+
+    /// With these counts, up to a silence.
+    fn until(
+        self,
+        alloc: Global,
+        counts: [u64; 3],
+        silence: &MeshSilence,
+    ) -> Result<Census, AllocError> {
+        let next = silence.try_key(alloc)?;
+        Ok(Census {
+            is_bare: self.is_bare,
+            counts,
+            next: Some(next),
+            is_done: false,
+        })
+    }
+}

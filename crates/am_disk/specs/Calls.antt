@@ -1,0 +1,45 @@
+-- The calls that a save makes of a file system. Paths and what is written are bytes.
+use Rattle.std.specs.Prelude.{ℕ, zero, suc, ◌==◌, Bool, List, [], ◌∷◌, ◌++◌, Option, Some, slice_index}
+use Rattle.std.specs.List.{flat_map}
+
+pub data Call : Type 0 where
+  -- what stands at a path is removed
+  Remove : (path : List ℕ) → Call
+  -- a new file is made at a path where nothing stands
+  Make : (path : List ℕ) → Call
+  -- the new file gets the permissions of what stands at a path, if anything does
+  Permit : (path : List ℕ) → Call
+  -- bytes go into the new file
+  Write : (bytes : List ℕ) → Call
+  -- the new file, into which all these bytes went, is handed to the disk
+  Sync : (bytes : Option (List ℕ)) → Call
+  -- what stands at a path takes the place of what stands at another one
+  Rename : (from to : List ℕ) → Call
+  -- the names in a directory are handed to the disk
+  SyncDirectory : (path : List ℕ) → Call
+
+-- a call, and whether it was done
+abbrev pub Event : Type 0
+Event = Call × Bool
+
+-- the bytes of a call that writes
+abbrev pub bytes_of : Event → List ℕ
+bytes_of (Write bytes, _) = bytes
+bytes_of _ = []
+
+-- the bytes that went into a file
+abbrev pub written_in : List Event → List ℕ
+written_in events = flat_map bytes_of events
+
+-- a call by its number, its texts, and what went into a new file
+abbrev pub call_of : ℕ → List ℕ → List ℕ → List ℕ → Call
+call_of zero first second written = Remove first
+call_of (suc zero) first second written = Make first
+call_of (suc (suc zero)) first second written = Permit first
+call_of (suc (suc (suc zero))) first second written = Write first
+call_of (suc (suc (suc (suc zero)))) first second written = Sync (Some written)
+call_of (suc (suc (suc (suc (suc zero))))) first second written = Rename first second
+call_of (suc (suc (suc (suc (suc (suc _)))))) first second written = SyncDirectory first
+
+abbrev pub event_of : List ℕ → List ℕ → List ℕ → List Event → Event
+event_of numbers first second file = (call_of (slice_index numbers 0) first second (written_in file), slice_index numbers 1 == 1)

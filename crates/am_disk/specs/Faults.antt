@@ -1,0 +1,12 @@
+-- What the system said, as a fault of a file.
+use Rattle.std.specs.Prelude.{◌≡◌}
+use Rattle.std.specs.declared.io.ErrorKind.{ErrorKind}
+use Rattle.std.specs.declared.io.ErrorKind.TheVariants.{OutOfMemory}
+use Rattle.am_snapshot.specs.declared.error.SnapshotError.TheVariants.{Memory}
+use Rattle.am_disk.specs.declared.error.FileFault.{FileFault}
+use Rattle.am_disk.specs.declared.error.FileFault.TheVariants.{File, Snapshot}
+
+-- want of memory is one of the snapshot, and anything else the kind of the system's error
+abbrev pub file_fault_of : ErrorKind → FileFault
+file_fault_of OutOfMemory = Snapshot Memory
+file_fault_of kind = File kind

@@ -1,0 +1,20 @@
+-- What the system says of a path.
+use Rattle.std.specs.Prelude.{◌≡◌, Bool, true, false, Result, Ok, Err}
+use Rattle.std.specs.IoError.{error_kind}
+use Rattle.std.specs.declared.io.Error.{Error}
+use Rattle.std.specs.declared.io.ErrorKind.{ErrorKind}
+use Rattle.std.specs.declared.io.ErrorKind.TheVariants.{NotFound}
+use Rattle.am_disk.specs.Faults.{file_fault_of}
+use Rattle.am_disk.specs.declared.error.FileFault.{FileFault}
+use Rattle.am_disk.specs.declared.error.FileFault.TheVariants.{NotAFile}
+
+-- nothing stands there, or the system doesn't say what
+abbrev pub is_missing : ErrorKind → Result Bool FileFault
+is_missing NotFound = Ok false
+is_missing kind = Err (file_fault_of kind)
+
+-- whether a file stands there; what is no file is a fault, and so is any error but that nothing stands there
+abbrev pub is_found : Result Bool Error → Result Bool FileFault
+is_found (Ok true) = Ok true
+is_found (Ok false) = Err NotAFile
+is_found (Err error) = is_missing (error_kind error)

@@ -1,0 +1,48 @@
+//! Why a file was not read or not written.
+
+ghost use Rattle.std.specs.Prelude.{◌≡◌};
+
+use am_snapshot::SnapshotError;
+use std::io::{self, ErrorKind};
+use thiserror::Error;
+
+/// Why a file was not read, or not written.
+#[derive(Clone, Copy, Debug, PartialEq, Eq, Error)]
+pub enum FileFault {
+    /// The system refused to open, sync or rename it.
+    #[error("the file is refused: {0}")]
+    File(ErrorKind),
+    /// What stands in it is at fault, or not all of it was read or written.
+    #[error("{0}")]
+    Snapshot(SnapshotError),
+    /// What stands in its place is no file.
+    #[error("no file stands there")]
+    NotAFile,
+    /// Another process has it.
+    #[error("another process has it")]
+    Locked,
+}
+
+impl From<SnapshotError> for FileFault {
+    ghost use Rattle.am_disk.specs.declared.error.FileFault.TheVariants.{Snapshot};
+
+    ghost from_gives = { λ error e. e ≡ Snapshot error };
+
+    fn from(error: SnapshotError) -> FileFault {
+        FileFault::Snapshot(error)
+    }
+}
+
+impl From<io::Error> for FileFault {
+    ghost use Rattle.std.specs.IoError.{error_kind};
+    ghost use Rattle.am_disk.specs.Faults.{file_fault_of};
+
+    ghost from_gives = { λ error e. e ≡ file_fault_of (error_kind error) };
+
+    fn from(error: io::Error) -> FileFault {
+        match error.kind() {
+            ErrorKind::OutOfMemory => FileFault::Snapshot(SnapshotError::Memory),
+            kind => FileFault::File(kind),
+        }
+    }
+}

@@ -1,0 +1,16 @@
+//! A state in a file: the calls that a save makes of a file system, in their order, whatever each is answered; what stands at a
+//! path, and why a file was not read or not written.
+#![tactic(auto)]
+
+mod disk;
+mod error;
+mod opening;
+mod record;
+mod saving;
+mod system;
+
+pub use disk::Disk;
+pub use error::FileFault;
+pub use opening::is_there;
+pub use saving::{directory_of, save_file};
+pub use system::{SystemDisk, SystemFile, new_file, sync_directory};

@@ -1,0 +1,37 @@
+//! A list of calls that only clauses read. It takes no memory.
+
+ghost use Rattle.std.specs.Prelude.{◌≡◌, List, [], ◌∷◌, ◌++◌};
+ghost use Rattle.std.specs.Borrow.{ftrue};
+ghost use Rattle.am_disk.specs.Calls.{Event, event_of};
+
+use std::marker::Model;
+
+#[derive(Drop)]
+pub struct Record {
+    pub ghost events: { List Event },
+}
+
+impl Model for Record {
+    ghost also_owns = { λ _. ftrue };
+}
+
+impl Record {
+    pub(crate) fn new() -> Record
+        ensures { result.events ≡ [] }
+    {
+        Record {}
+    }
+
+    /// The same calls and one more: which it is, whether it was done, by 1, up to two texts, and the record of a new file.
+    pub(crate) fn with(
+        _before: &Record,
+        _numbers: &[u64],
+        _first: &[u8],
+        _second: &[u8],
+        _file: &Record,
+    ) -> Record
+        ensures { result.events ≡ _before.now.events ++ event_of _numbers.now _first.now _second.now _file.now.events ∷ [] }
+    {
+        Record {}
+    }
+}

@@ -1,0 +1,81 @@
+//! Saving a state in a file.
+
+ghost use Rattle.std.specs.Prelude.{◌≡◌, ◌++◌, [], Some, length, IfOk, IfErr, OnOk};
+ghost use Rattle.am_snapshot.specs.Texts.{row_text};
+ghost use Rattle.am_snapshot.specs.Saving.{FitsRow, IsSavableWithin};
+ghost use Rattle.am_disk.specs.Saves.{IsDirectoryOf, IsLeft, IsSaved, IsStopped, beside, replacing};
+
+use crate::disk::Disk;
+use crate::error::FileFault;
+use am_merge::Held;
+use am_snapshot::{SnapshotError, save_within};
+use am_version_order::Version;
+use std::alloc::Global;
+
+/// The directory in which a file stands.
+pub fn directory_of(path: &str) -> &str
+    ensures { IsDirectoryOf path.now result.now }
+{
+    match path.rsplit_once('/') {
+        Some(("", _)) => "/",
+        Some((directory, _)) => directory,
+        None => ".",
+    }
+}
+
+/// Writes a new file that stands beside another one, hands it to the disk, and puts it in the other's place.
+fn replace<V: Version, D: Disk>(
+    disk: &mut D,
+    alloc: Global,
+    mut file: D::File,
+    new: &str,
+    path: &str,
+    held: &Held<V>,
+    most: u32,
+) -> Result<u64, FileFault>
+    requires new { new.now ≡ beside path.now }
+    requires empty { D.File.contents file ≡ Some [] }
+    ensures replaced { OnOk result (D.calls disk.new ≡ D.calls disk.old ++ replacing path.now (row_text V.seen held.now)) }
+    ensures savable { OnOk result (IsSavableWithin V.seen V.Key.cmp V.is_value most held.now) }
+    ensures count { IfOk result (λ written. written ≡ length (row_text V.seen held.now)) }
+    ensures left { IfErr result (IsLeft (FitsRow V.seen most held.now) path.now (row_text V.seen held.now) (D.calls disk.old) (D.calls disk.new)) }
+{
+    disk.permit(&file, path)?;
+    let written = save_within(alloc, held, &mut file, most)?;
+    disk.sync(file)?;
+    disk.rename(new, path)?;
+    Ok(written)
+}
+
+/// Saves a state in a file: it is written beside the file that stands, and takes its place once it is whole and on the disk;
+/// and then the directory is handed to the disk. Answers how many bytes it has, which are at most so many.
+///
+/// # Errors
+///
+/// Why it isn't saved, as a [`FileFault`]. The file that stood there stands as it was then, or the new one does where the
+/// directory alone was not handed to the disk.
+pub fn save_file<V: Version, D: Disk>(
+    disk: &mut D,
+    alloc: Global,
+    path: &str,
+    held: &Held<V>,
+    most: u32,
+) -> Result<u64, FileFault>
+    ensures saved { OnOk result (IsSaved path.now (row_text V.seen held.now) (D.calls disk.old) (D.calls disk.new)) }
+    ensures savable { OnOk result (IsSavableWithin V.seen V.Key.cmp V.is_value most held.now) }
+    ensures count { IfOk result (λ written. written ≡ length (row_text V.seen held.now)) }
+    ensures stopped { IfErr result (IsStopped (FitsRow V.seen most held.now) path.now (row_text V.seen held.now) (D.calls disk.old) (D.calls disk.new)) }
+{
+    let Ok(new) = format!(in alloc; "{path}.new") else {
+        return Err(FileFault::Snapshot(SnapshotError::Memory));
+    };
+    let _ = disk.remove(&new);
+    let file = disk.make(&new)?;
+    let replaced = replace(disk, alloc, file, &new, path, held, most);
+    if replaced.is_err() {
+        let _ = disk.remove(&new);
+        return replaced;
+    }
+    disk.sync_directory(directory_of(path))?;
+    replaced
+}

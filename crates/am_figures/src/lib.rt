@@ -1,0 +1,19 @@
+//! What a member counts while it runs, and how that is told.
+#![tactic(auto)]
+
+mod counters;
+mod figures;
+mod peers;
+mod saves;
+mod sheet;
+mod telling;
+mod times;
+mod words;
+
+pub use counters::Counters;
+pub use figures::Figures;
+pub use peers::{Heard, PeerName};
+pub use saves::Save;
+pub use sheet::Shown;
+pub use telling::families;
+pub use words::{Cause, Failing, Kind, MUTED, Request, Step, decision_word};

@@ -1,0 +1,45 @@
+//! The sources of a comparison.
+
+use am_member::{Server, server_of};
+
+/// The file that is standard input.
+pub const STANDARD_INPUT: &str = "-";
+
+/// What a source begins with that is a server.
+const SCHEME: &str = "http://";
+
+/// A source: its name, and its file, or the address of a server behind `http://`.
+#[derive(Clone, Copy)]
+pub struct SourceWord<'a> {
+    /// What the source is called.
+    pub name: &'a str,
+    /// The path of its file, `-`, or `http://HOST:PORT`.
+    pub file: &'a str,
+}
+
+impl<'a> SourceWord<'a> {
+    /// What stands behind `http://`, where the source is a server.
+    pub fn place(&self) -> Option<&'a str> {
+        self.file.strip_prefix(SCHEME)
+    }
+
+    /// The server that the source is, if it is one.
+    pub fn server(&self) -> Option<Server<'a>> {
+        server_of(self.place()?)
+    }
+
+    /// Whether the source is a file.
+    pub fn is_file(&self) -> bool {
+        self.place().is_none() && is_file(self.file)
+    }
+}
+
+/// Whether one of the sources is a server.
+pub fn are_live(sources: &[SourceWord<'_>]) -> bool {
+    sources.iter().any(|source| source.place().is_some())
+}
+
+/// Whether a word names a file, and not standard input.
+pub fn is_file(word: &str) -> bool {
+    word != STANDARD_INPUT
+}

@@ -1,0 +1,10 @@
+-- The names of kinds.
+use Rattle.std.specs.Prelude.{ℕ, List, codes}
+use Rattle.am_metrics.specs.declared.family.Kind.{Kind}
+use Rattle.am_metrics.specs.declared.family.Kind.TheVariants.{Counter, Gauge, Histogram}
+
+-- the word of a line TYPE
+abbrev pub kind_text : Kind → List ℕ
+kind_text Counter = codes "counter"
+kind_text Gauge = codes "gauge"
+kind_text Histogram = codes "histogram"

@@ -1,0 +1,95 @@
+//! What a member says of itself: which calls there are, and the text of figures.
+
+use crate::common::{Case, cut, first};
+use crate::parts::messages;
+use am_api_status::{call_of, resource_of};
+use am_metrics::{Family, Kind, Label, Number, Sample, write_families};
+
+/// The names of labels, in their order.
+const LABELS: [&str; 3] = ["a", "b", "c"];
+
+/// Cases of calls on the member itself, and of figures.
+pub fn answer(case: &Case, verb: &str, rest: &str) {
+    match verb {
+        "itself" => itself(case, first(rest).0, first(rest).1),
+        "figure" => figure(case, rest),
+        _ => messages::answer(case, verb, rest),
+    }
+}
+
+/// `itself METHOD TARGET`: what a target names, and whether the reply to the method has its head alone.
+fn itself(case: &Case, method: &str, target: &str) {
+    let Some(resource) = resource_of(target) else {
+        return say!(case; "none of these");
+    };
+    match call_of(resource, method) {
+        Ok(call) => say!(case; ?call.resource, ", bare: ", call.is_bare),
+        Err(line) => say!(case; line.status, " ", line.text, ", allow ", line.allow.unwrap_or("-")),
+    }
+}
+
+/// The kind that a word names.
+fn kind_of(word: &str) -> Option<Kind> {
+    match word {
+        "counter" => Some(Kind::Counter),
+        "gauge" => Some(Kind::Gauge),
+        "histogram" => Some(Kind::Histogram),
+        _ => None,
+    }
+}
+
+/// The number that a word spells: whole, or with a point and how many billionths.
+fn number_of(word: &str) -> Option<Number> {
+    let Some((whole, nanos)) = word.split_once('.') else {
+        return Some(Number::Whole(word.parse::<u64>().ok()?));
+    };
+    Some(Number::Nanos {
+        whole: whole.parse::<u64>().ok()?,
+        nanos: nanos.parse::<u32>().ok()?,
+    })
+}
+
+/// The labels with these values.
+fn labels_of(case: &Case, values: &str) -> Vec<Label> {
+    let mut labels = Vec::new(case.alloc);
+    for (name, value) in LABELS.iter().zip(values.split_terminator('|')) {
+        let bytes = case.unescaped(value);
+        let value = case.text(str::from_utf8(bytes.as_slice()).unwrap_or(""));
+        case.push(&mut labels, Label { name: *name, value });
+    }
+    labels
+}
+
+/// The figure of these words.
+fn sample_of(case: &Case, number: &str, values: &str) -> Sample {
+    Sample {
+        suffix: "",
+        labels: labels_of(case, values),
+        number: case.or(number_of(number), Number::Whole(0)),
+    }
+}
+
+/// `figure KIND NUMBER: VALUE|VALUE..`, in brackets: the text of a family `up` with one figure, whose labels have these values.
+fn figure(case: &Case, rest: &str) {
+    let (kind, rest) = first(rest);
+    let (number, values) = cut(rest, ":");
+    let mut samples = Vec::new(case.alloc);
+    case.push(&mut samples, sample_of(case, number, values.trim_start()));
+    let mut families = Vec::new(case.alloc);
+    let kind = case.or(kind_of(kind), Kind::Gauge);
+    case.push(&mut families, family_of(kind, samples));
+    given!(text = case.made(write_families(case.alloc, &families)));
+    case.put("[");
+    case.print_text(text.as_slice());
+    case.put("]\n");
+}
+
+/// The family of these figures.
+fn family_of(kind: Kind, samples: Vec<Sample>) -> Family {
+    Family {
+        name: "up",
+        help: "A \\ and a \n.",
+        kind,
+        samples,
+    }
+}

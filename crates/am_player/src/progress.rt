@@ -1,0 +1,74 @@
+//! How far the playing of a schedule is, on a terminal.
+
+use crate::host::Host;
+use am_replay::Progress;
+use std::time::{Duration, Instant};
+
+/// For how many milliseconds nothing is shown.
+const FIRST: u64 = 1_000;
+
+/// After how many more it is shown anew.
+const NEXT: u64 = 200;
+
+/// Shows on standard error how far the playing is, where that is a terminal and the playing takes over a second.
+#[derive(Drop)]
+pub struct Display<'a, H> {
+    rt: &'a H,
+    /// When it is to be shown next, if ever.
+    due: Option<Instant>,
+    is_shown: bool,
+}
+
+/// So many milliseconds from now, if the clock can be read.
+fn moment_after<H: Host>(rt: &H, millis: u64) -> Option<Instant> {
+    match Instant::now(rt) {
+        Ok(now) => now.checked_add(Duration::from_millis(millis)),
+        Err(_) => None,
+    }
+}
+
+impl<'a, H: Host> Display<'a, H> {
+    pub fn new(rt: &'a H, is_terminal: bool) -> Display<'a, H> {
+        let due = if is_terminal {
+            moment_after(rt, FIRST)
+        } else {
+            None
+        };
+        Display {
+            rt,
+            due,
+            is_shown: false,
+        }
+    }
+
+    /// Takes away what is shown.
+    pub fn clear(&mut self) {
+        if self.is_shown {
+            let _ = eprint!(self.rt; "\r\x1b[K");
+        }
+        self.is_shown = false;
+    }
+
+    /// Whether it is to be shown now.
+    fn is_due(&self) -> bool {
+        match (self.due, Instant::now(self.rt)) {
+            (Some(due), Ok(now)) => now >= due,
+            _ => false,
+        }
+    }
+}
+
+impl<H: Host> Progress for Display<'_, H> {
+    fn played(&mut self, lines: usize, all: usize) {
+        if self.due.is_none() {
+            return;
+        }
+        if lines == all {
+            self.clear();
+        } else if self.is_due() {
+            let _ = eprint!(self.rt; "\ram_tool: {lines} of {all} lines played");
+            self.is_shown = true;
+            self.due = moment_after(self.rt, NEXT);
+        }
+    }
+}

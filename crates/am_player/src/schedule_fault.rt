@@ -1,0 +1,136 @@
+//! What is printed where a schedule isn't played or drawn.
+
+ghost use Rattle.std.specs.Prelude.{◌≤◌};
+
+use am_faults::{Fault, status};
+use am_member::FileFault;
+use am_picture::PictureError;
+use am_replay::ReplayError;
+use am_schedule::{FaultKind, ScheduleError};
+use am_snapshot::SnapshotError;
+use std::fmt::{self, Formatter};
+use thiserror::Error;
+
+/// Why a schedule was not played or drawn.
+#[derive(Clone, Copy, Debug, Error)]
+pub enum ScheduleFault {
+    /// In the schedule, or in what was written of it.
+    #[error(fmt = write_replay_error)]
+    Replay(#[from] ReplayError),
+    /// In a schedule that is drawn.
+    #[error(fmt = write_picture_error)]
+    Drawing(#[from] PictureError),
+    /// In the file of its picture.
+    #[error(fmt = write_file_fault)]
+    Picture(FileFault),
+}
+
+/// Prints a fault on standard error. Gives the exit status of the program.
+pub fn report<R: Eprint>(rt: &R, fault: ScheduleFault) -> u8
+    ensures { (1 ≤ result) × (result ≤ 4) }
+{
+    let meaning = fault.meaning();
+    let _ = eprintln!(rt; "am_tool: {fault}: {meaning}");
+    fault.status()
+}
+
+impl ScheduleFault {
+    /// What it means, as a sentence.
+    fn meaning(&self) -> &'static str {
+        match *self {
+            ScheduleFault::Replay(error) => meaning_of_replay(error),
+            ScheduleFault::Drawing(error) => meaning_of_drawing(error),
+            ScheduleFault::Picture(fault) => Fault::File(fault).meaning(),
+        }
+    }
+
+    /// The exit status of the program.
+    fn status(self) -> u8
+        ensures { (1 ≤ result) × (result ≤ 4) }
+    {
+        match self {
+            ScheduleFault::Replay(error) => status_of_replay(error),
+            ScheduleFault::Drawing(PictureError::Memory) => status::MEMORY,
+            ScheduleFault::Drawing(_) => status::REFUSED,
+            ScheduleFault::Picture(fault) => Fault::File(fault).status(),
+        }
+    }
+}
+
+/// The exit status where a schedule isn't played.
+fn status_of_replay(error: ReplayError) -> u8
+    ensures { (1 ≤ result) × (result ≤ 4) }
+{
+    match error {
+        ReplayError::Schedule(_) | ReplayError::TooLarge => status::REFUSED,
+        ReplayError::Read { .. } | ReplayError::Write { .. } => status::OUTSIDE,
+        ReplayError::Memory { .. } => status::MEMORY,
+    }
+}
+
+fn write_replay_error<W: fmt::Write>(error: &ReplayError, f: &mut Formatter<W>) -> fmt::Result {
+    match *error {
+        ReplayError::Read { at } => write!(f, "Read {at}"),
+        ReplayError::Schedule(error) => write_schedule_error(error, f),
+        ReplayError::TooLarge => f.write_str("TooLarge"),
+        ReplayError::Memory { line } => write!(f, "Memory {line}"),
+        ReplayError::Write { written } => write!(f, "Write {written}"),
+    }
+}
+
+fn write_picture_error<W: fmt::Write>(error: &PictureError, f: &mut Formatter<W>) -> fmt::Result {
+    match *error {
+        PictureError::Schedule(error) => write_schedule_error(error, f),
+        PictureError::TooManySteps { steps } => write!(f, "TooManySteps {steps}"),
+        // at no line
+        PictureError::Memory => f.write_str("Memory 0"),
+    }
+}
+
+fn write_schedule_error<W: fmt::Write>(error: ScheduleError, f: &mut Formatter<W>) -> fmt::Result {
+    write!(f, "Schedule {:?} {}", error.kind, error.line)
+}
+
+fn write_file_fault<W: fmt::Write>(fault: &FileFault, f: &mut Formatter<W>) -> fmt::Result {
+    write!(f, "Picture {}", Fault::File(*fault))
+}
+
+/// What is wrong where it might be with a row as well.
+fn meaning_of_row(error: SnapshotError) -> &'static str {
+    Fault::Snapshot(error).meaning()
+}
+
+/// What is wrong with a schedule.
+fn meaning_of_replay(error: ReplayError) -> &'static str {
+    match error {
+        ReplayError::Read { at } => meaning_of_row(SnapshotError::Read { at }),
+        ReplayError::Schedule(error) => meaning_of_line(error.kind),
+        ReplayError::TooLarge => "the schedule has over 16,777,216 bytes",
+        ReplayError::Memory { .. } => "memory ran out at this line, or at none where it is 0",
+        ReplayError::Write { written } => meaning_of_row(SnapshotError::Write { written }),
+    }
+}
+
+/// Why a schedule isn't drawn.
+fn meaning_of_drawing(error: PictureError) -> &'static str {
+    match error {
+        PictureError::Schedule(error) => meaning_of_line(error.kind),
+        PictureError::TooManySteps { .. } =>
+            "a picture has at most 2,000 steps; without one so many are played",
+        PictureError::Memory => meaning_of_row(SnapshotError::Memory),
+    }
+}
+
+/// What is wrong with a line of a schedule.
+fn meaning_of_line(kind: FaultKind) -> &'static str {
+    match kind {
+        FaultKind::NotUtf8 => "the line is not UTF-8",
+        FaultKind::Cluster => "the cluster's line is missing, wrong, or a second one",
+        FaultKind::Words => "the line's verb is unknown, or has another number of words",
+        FaultKind::Number =>
+            "a word of the line is not the number, list, yes or no that its place asks for",
+        FaultKind::Name =>
+            "a name or label of the line is unknown or repeated, or a word is too long",
+        FaultKind::Memory => meaning_of_row(SnapshotError::Memory),
+    }
+}

@@ -1,0 +1,22 @@
+use Rattle.std.proofs.Common.{refl, inl, inr}
+use Rattle.am_reactor.proofs.links.push_on.Goals as goal
+
+pub returns-in-Ok-Going-Idle-clause-pushed : goal.returns-in-Ok-Going-Idle-clause-pushed
+returns-in-Ok-Going-Idle-clause-pushed g c = λ _. record { mid = c.advance.new.self; went = c.advance.ensures.out; next = inl (refl, refl) }
+
+pub returns-in-Ok-Going-Busy-clause-pushed : goal.returns-in-Ok-Going-Busy-clause-pushed
+returns-in-Ok-Going-Busy-clause-pushed g c = λ _. record { mid = c.advance.new.self; went = c.advance.ensures.out; next = inl (refl, refl) }
+
+pub returns-in-Ok-Done-clause-pushed : goal.returns-in-Ok-Done-clause-pushed
+returns-in-Ok-Done-clause-pushed g c = λ _. record {
+  mid = c.advance.new.self;
+  went = c.advance.ensures.out;
+  next = inr (inl (c.advance.ensures.done (cc), c.ask_more.ensures.asked));
+}
+
+pub returns-in-Err-clause-pushed : goal.returns-in-Err-clause-pushed
+returns-in-Err-clause-pushed g c = λ _. record {
+  mid = c.advance.new.self;
+  went = c.advance.ensures.out;
+  next = inr (inr (c.close.ensures.closed, (_, c.lost.ensures)));
+}

@@ -1,0 +1,37 @@
+-- What a service is called for, one connection at a time.
+use Rattle.std.specs.Prelude.{◌≡◌, ℕ, Bool, true, false, List, [], ◌∷◌}
+use Rattle.am_reactor.specs.declared.fault.Broken.{Broken}
+
+-- A call for the session of one connection: these bytes came, or its input ended; so many of its bytes went out; a stretch of
+-- what waits is done; its commit is over, or its moment has come; what waits is done at once or given up; it is broken off.
+pub data Deed : Type 0 where
+  Fed : List ℕ → Deed
+  Ended : Deed
+  Sent : ℕ → Deed
+  Resumed : Deed
+  Released : Deed
+  CameDue : Deed
+  Hurried : Deed
+  BrokenOff : Broken → Deed
+
+-- the calls that tell of pieces that came
+abbrev pub feeds : List (List ℕ) → List Deed
+feeds [] = []
+feeds (piece ∷ pieces) = Fed piece ∷ feeds pieces
+
+-- the call that tells of the end, where it was met
+abbrev pub ending : Bool → Bool → List Deed
+ending false true = Ended ∷ []
+ending was is = []
+
+-- the calls that tell of what went out
+abbrev pub sends : List ℕ → List Deed
+sends [] = []
+sends (count ∷ counts) = Sent count ∷ sends counts
+
+module _ {S T : Type 0} (does : S → T → Deed → S → T → Type 0) where
+  -- what calls, one after the other, make of a service and of a session
+  abbrev pub Did : S → T → List Deed → S → T → Type 0
+  Did service session [] service' session' = (service' ≡ service) × (session' ≡ session)
+  Did service session (deed ∷ deeds) service' session' =
+      (next : S) × (then : T) × does service session deed next then × Did next then deeds service' session'

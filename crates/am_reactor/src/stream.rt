@@ -1,0 +1,54 @@
+//! What a connection goes over.
+
+ghost use Rattle.std.specs.Prelude.{◌≡◌, ℕ, List, Option, None};
+ghost use Rattle.std.specs.Io.{ReadsAtMost, WritesAtMost};
+ghost use Rattle.std.specs.Io.KnownBytes.{ReadConsumes, WriteAppends};
+
+use mio::net::TcpStream;
+use std::io::{self, Read, Write};
+use std::net::Shutdown;
+
+/// What bytes come over and go over. A read changes nothing of what went out, and a write nothing of what comes.
+pub trait Stream {
+    /// The bytes that still come, where they are known.
+    ghost coming: { Self → Option (List ℕ) };
+
+    /// The bytes that went out, where they are known.
+    ghost gone: { Self → Option (List ℕ) };
+
+    /// As [`Read::read`].
+    fn read(&mut self, piece: &mut [u8]) -> io::Result<usize>
+        ensures bound { ReadsAtMost result piece.new }
+        ensures came { ReadConsumes (coming self.old) (coming self.new) result piece.new }
+        ensures kept { gone self.new ≡ gone self.old };
+
+    /// As [`Write::write`].
+    fn write(&mut self, bytes: &[u8]) -> io::Result<usize>
+        ensures bound { WritesAtMost result bytes.now }
+        ensures went { WriteAppends (gone self.old) (gone self.new) result bytes.now }
+        ensures kept { coming self.new ≡ coming self.old };
+
+    /// Says that nothing more is written. Answers whether that could be said.
+    fn finish(&mut self) -> bool
+        ensures coming { coming self.new ≡ coming self.old }
+        ensures gone { gone self.new ≡ gone self.old };
+}
+
+impl Stream for TcpStream {
+    // What the other end sends and takes, no contract knows.
+    ghost coming = { λ _. None };
+
+    ghost gone = { λ _. None };
+
+    fn read(&mut self, piece: &mut [u8]) -> io::Result<usize> {
+        Read::read(self, piece)
+    }
+
+    fn write(&mut self, bytes: &[u8]) -> io::Result<usize> {
+        Write::write(self, bytes)
+    }
+
+    fn finish(&mut self) -> bool {
+        self.shutdown(Shutdown::Write).is_ok()
+    }
+}

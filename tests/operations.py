@@ -1,0 +1,505 @@
+#!/usr/bin/env python3
+"""Asks members of the built am_tool what tools and people ask of a server, and tries what is installed beside it.
+
+    tests/operations.py [PROGRAM]
+
+PROGRAM is crates/am_tool/out/am_tool if it isn't given. Health, readiness, status, receivers, the page and the figures: bytes,
+heads, HEAD, other methods, foreign hosts; readiness while a first pull is waited for; figures that have to move. The text of
+the figures is read by a reader that was written from the format's rules, and by promtool where that is there. Alerting rules,
+the units, the completions and `am_tool install` are tried too. What is wanted is written by hand, from docs/FORMATS.md and
+docs/OPERATING.md. What can't be tried here for want of a tool is told in a line.
+"""
+
+import datetime
+import json
+import os
+import re
+import shutil
+import signal
+import subprocess
+import sys
+import tempfile
+import time
+
+import members
+import page_source
+import versions
+from members import TOP, Member, eventually, free_ports, outcome, run
+from tally import check, compare, finish, try_each
+from wire import EMPTY_PUSH, delimited, delta, greeting
+
+# Words in front of a member's that have it see SIGTERM.
+BLOCKED = ["env", "--block-signal=TERM", "--block-signal=INT"]
+
+PATHS = ["/", "/-/healthy", "/-/ready", "/api/v2/status", "/api/v2/receivers", "/metrics"]
+
+FIELDS = {
+    "/-/healthy": "content-type: text/plain; charset=utf-8\r\n",
+    "/-/ready": "content-type: text/plain; charset=utf-8\r\n",
+    "/api/v2/status": "content-type: application/json\r\n",
+    "/api/v2/receivers": "content-type: application/json\r\n",
+    "/metrics": "content-type: text/plain; version=0.0.4; charset=utf-8\r\n",
+}
+
+skipped = []
+
+
+def skip(what, tool):
+    skipped.append(f"{what}: {tool} is not there")
+
+
+def raw(member, method, path, *fields):
+    """The head and the body of a reply, as they came."""
+    lines = "".join(f"{it}\r\n" for it in (f"{method} {path} HTTP/1.1", "host: localhost", *fields, ""))
+    head, end, body = member.send(lines.encode(), close=False).partition(b"\r\n\r\n")
+    return (head + end).decode(), body
+
+
+def head_of(path, length):
+    fields = page_source.fields(page_source.HTML.read_text()) if path == "/" else FIELDS[path]
+    return f"HTTP/1.1 200 OK\r\n{fields}content-length: {length}\r\nconnection: close\r\n\r\n"
+
+
+def refused(status, text, *fields):
+    body = json.dumps(text).encode()
+    lines = [f"HTTP/1.1 {status}", "content-type: application/json", f"content-length: {len(body)}", *fields, "connection: close"]
+    return "".join(f"{it}\r\n" for it in (*lines, "")), body
+
+
+# ---- the text format 0.0.4: lines of `# HELP NAME TEXT`, `# TYPE NAME KIND` and `NAME{LABEL="VALUE",..} NUMBER`
+
+NAME = r"[a-zA-Z_:][a-zA-Z0-9_:]*"
+LABEL = r'([a-zA-Z_][a-zA-Z0-9_]*)="((?:[^"\\\n]|\\\\|\\"|\\n)*)"'
+LABELS = rf"\{{{LABEL}(?:,{LABEL})*\}}"
+SAMPLE = re.compile(rf"({NAME})((?:\{{[^\n]*\}})?) ([0-9]+(?:\.[0-9]+)?)")
+HELP = re.compile(rf"# HELP ({NAME}) ((?:[^\\\n]|\\\\|\\n)+)")
+TYPE = re.compile(rf"# TYPE ({NAME}) (counter|gauge|histogram)")
+
+
+class Figures:
+    """A text of figures, read strictly: each family once, its two lines first, each figure once, and histograms whole."""
+
+    def __init__(self, text):
+        self.kinds, self.helps, self.samples, self.families = {}, {}, {}, {}
+        family = None
+        assert text.endswith("\n"), "the last line has no end"
+        for line in text[:-1].split("\n"):
+            if found := HELP.fullmatch(line):
+                family = found[1]
+                assert family not in self.helps, f"{family} comes twice"
+                self.helps[family] = found[2]
+            elif found := TYPE.fullmatch(line):
+                assert found[1] == family and family not in self.kinds, line
+                self.kinds[family] = found[2]
+            else:
+                self.take(family, line)
+        for name, kind in self.kinds.items():
+            if kind == "histogram":
+                self.look_at_histogram(name)
+
+    def take(self, family, line):
+        found = SAMPLE.fullmatch(line)
+        assert found, f"no line of the format: {line}"
+        name, braces, number = found.groups()
+        suffixes = ["_bucket", "_sum", "_count"] if self.kinds[family] == "histogram" else [""]
+        assert name in [family + it for it in suffixes], f"{line} below {family}"
+        assert not braces or re.fullmatch(LABELS, braces), line
+        labels = tuple(re.findall(LABEL, braces))
+        assert len(dict(labels)) == len(labels), f"a label comes twice: {line}"
+        key = (name, frozenset(labels))
+        assert key not in self.samples, f"twice: {line}"
+        self.samples[key] = float(number)
+        self.families.setdefault(family, []).append(key)
+
+    def look_at_histogram(self, name):
+        """Buckets grow with their bounds, and the last one, without a bound, is the count."""
+        rows = {}
+        for key in self.families[name]:
+            labels = dict(key[1])
+            if key[0] == f"{name}_bucket":
+                rows.setdefault(frozenset(set(labels.items()) - {("le", labels["le"])}), []).append((labels["le"], self.samples[key]))
+        for labels, row in rows.items():
+            bounds = [float(it) for it, _ in row]
+            counts = [it for _, it in row]
+            assert bounds == sorted(set(bounds)) and row[-1][0] == "+Inf", row
+            assert counts == sorted(counts) and counts[-1] == self.samples[f"{name}_count", labels], row
+            assert (f"{name}_sum", labels) in self.samples, labels
+
+    def get(self, name, **labels):
+        return self.samples.get((name, frozenset(labels.items())))
+
+
+def figures(member):
+    head, body = raw(member, "GET", "/metrics")
+    assert head.startswith("HTTP/1.1 200 "), head
+    return Figures(body.decode())
+
+
+def documented():
+    """The families that docs/FORMATS.md names."""
+    text = open(f"{TOP}/docs/FORMATS.md").read()
+    table = text.partition("| Family |")[2].partition("\n\n")[0]
+    return sorted(re.findall(r"^\| `([a-z_]+)[`{]", table, re.M))
+
+
+def moment(seconds):
+    return time.strftime("%Y-%m-%dT%H:%M:%SZ", time.gmtime(seconds))
+
+
+def silence(value, hours=1):
+    now = time.time()
+    matcher = {"name": "job", "value": value, "isRegex": False, "isEqual": True}
+    return json.dumps({
+        "matchers": [matcher], "startsAt": moment(now), "endsAt": moment(now + 3600 * hours), "createdBy": "me", "comment": value,
+    }).encode()  # fmt: skip
+
+
+def post(member, body):
+    return member.ask("POST", "/api/v2/silences", body)[0]
+
+
+# ---- the calls
+
+
+def test_calls(folder):
+    """The bytes of each call, its head alone for HEAD, and 405 for others."""
+    port, peer = free_ports(2)
+    member = Member("a", port, [("b", peer)], folder)
+    check("it starts", member.start())
+    bodies = {"/-/healthy": b"OK", "/-/ready": b"OK", "/api/v2/receivers": b"[]", "/": page_source.HTML.read_bytes()}
+    for path in PATHS:
+        head, body = raw(member, "GET", path)
+        compare(f"the head of {path}", head, head_of(path, len(body)))
+        if path in bodies:
+            compare(f"the body of {path}", body, bodies[path])
+        if path != "/metrics":
+            compare(f"HEAD {path}", raw(member, "HEAD", path), (head, b""))
+        compare(f"{path}?a=b", raw(member, "GET", f"{path}?a=b")[0].split("\r\n")[0], "HTTP/1.1 200 OK")
+        for method in ("POST", "PUT", "DELETE", "OPTIONS", "get", "X"):
+            wanted = refused("405 Method Not Allowed", "method not allowed", "allow: GET, HEAD")
+            compare(f"{method} {path}", raw(member, method, path), wanted)
+        wanted = refused("403 Forbidden", "foreign origin")
+        compare(f"{path} of a foreign page", raw(member, "GET", path, "origin: http://example.org"), wanted)
+    head, body = raw(member, "HEAD", "/metrics")
+    compare("HEAD /metrics", (head.split("\r\n")[:2], body), (["HTTP/1.1 200 OK", FIELDS["/metrics"].strip()], b""))
+    for path in ("//", "/-/healthy/", "/-/", "/metric", "/metrics/", "/api/v2/statuses", "/api/v2/receivers/", "/index.html"):
+        compare(path, raw(member, "GET", path), refused("404 Not Found", "no such path"))
+    for path in [*PATHS, "/api/v2/silences", "/v1/log", "/none"]:
+        head, _ = raw(member, "GET", path, "origin: http://localhost:3000")
+        check(f"{path} has no field of CORS", "access-control" not in head.lower(), head)
+    member.kill()
+
+
+def test_page():
+    """The constant of the page is the file."""
+    check("page.rt has what page.html has: tests/page_source.py --write", page_source.is_same())
+
+
+def test_status(folder):
+    """The status, key by key."""
+    port, peer, other = free_ports(3)
+    begun = time.time()
+    options = ["--host", "am.example", "--tick-every", "60", "--log", "--retention", "3600"]
+    member = Member("a", port, [("b", peer), ('c"\\', other)], folder, options)
+    member.start()
+    _, body = raw(member, "GET", "/api/v2/status")
+    found = json.loads(body)
+    start = datetime.datetime.strptime(found["uptime"], "%Y-%m-%dT%H:%M:%S.%fZ").replace(tzinfo=datetime.timezone.utc)
+    check("uptime is the moment of the start", begun - 1 < start.timestamp() < time.time() + 1, found["uptime"])
+    version = run(["--version"])[1].decode().split()[-1]
+    peers = [("a", port), ("b", peer), ('c"\\', other)]
+    wanted = {
+        "cluster": {
+            "name": "a", "status": "ready",
+            "peers": [{"address": f"127.0.0.1:{at}", "name": name} for name, at in peers],
+        },
+        "config": {"original": found["config"]["original"]},
+        "uptime": found["uptime"],
+        "versionInfo": {
+            "branch": "", "buildDate": "", "buildUser": "", "goVersion": "", "revision": "", "version": version,
+        },
+    }  # fmt: skip
+    compare("the status", found, wanted)
+    compare("it is compact, with the keys in order", body, json.dumps(wanted, separators=(",", ":"), sort_keys=True).encode())
+    lines = found["config"]["original"].split("\n")
+    compare("the options", lines, [
+        "--name a", f"--listen {port}", f"--peer b={peer}", f'--peer c"\\={other}', "--host am.example",
+        f"--sil {member.sil}", f"--nfl {member.nfl}", "--retention 3600", "--peer-timeout 15", "--time-limit 5",
+        "--at-once 256", "--waiting 128", "--most-unfinished 134217728", "--most-bytes 1073741824", "--lines-a-second 10",
+        "--tick-every 60", "--log", "--pull-first-limit 30", "",
+    ])  # fmt: skip
+    if shutil.which("amtool"):
+        url = f"--alertmanager.url=http://127.0.0.1:{port}"
+        _, output, _ = outcome(["amtool", "-o", "extended", url, "cluster", "show"])
+        check("amtool cluster show", b"Cluster Status:  ready" in output and f"127.0.0.1:{peer}".encode() in output, output)
+        _, output, _ = outcome(["amtool", url, "config", "show"])
+        check("amtool config show", f"--listen {port}".encode() in output, output)
+    else:
+        skip("cluster show, config show", "amtool")
+    member.kill()
+
+
+def test_first_pull(folder):
+    """What a member says while it waits for its first pull, and when a peer has answered."""
+    ports = dict(zip("ab", free_ports(2)))
+    member = Member("a", ports["a"], [("b", ports["b"])], folder, ["--pull-first", "--pull-first-limit", "60"])
+    with open(member.sil, "wb") as file:
+        file.write(b"".join(delimited(versions.silence(f"{at:05} job=x 10..5000000000 updated 10 expires 6000000000")) for at in range(9000)))
+    member.start()
+    compare("it isn't ready", raw(member, "GET", "/-/ready"), refused("503 Service Unavailable", "not ready"))
+    head, body = refused("503 Service Unavailable", "not ready")
+    compare("nor is it for HEAD", raw(member, "HEAD", "/-/ready"), (head, b""))
+    compare("it is healthy", raw(member, "GET", "/-/healthy")[1], b"OK")
+    compare("it has a page", raw(member, "GET", "/")[0].split("\r\n")[0], "HTTP/1.1 200 OK")
+    compare("it settles", json.loads(raw(member, "GET", "/api/v2/status")[1])["cluster"]["status"], "settling")
+    found = figures(member)
+    compare("maityrunga_ready", found.get("maityrunga_ready"), 0)
+    compare("silences are counted while it waits", found.get("alertmanager_silences", state="active"), 9000)
+    ready = subprocess.Popen([f"{TOP}/install/am_member_ready", str(ports["a"])], stderr=subprocess.DEVNULL)
+    time.sleep(0.3)
+    compare("am_member_ready waits", ready.poll(), None)
+    other = Member("b", ports["b"], [("a", ports["a"])], folder)
+    other.start()
+    compare("am_member_ready is done", ready.wait(members.PATIENCE), 0)
+    compare("it is ready", raw(member, "GET", "/-/ready")[1], b"OK")
+    compare("maityrunga_ready then", figures(member).get("maityrunga_ready"), 1)
+    other.kill()
+    member.kill()
+    compare("am_member_ready gives up", outcome([f"{TOP}/install/am_member_ready", str(ports["a"]), "1"])[0], 1)
+    compare("am_member_ready without words", outcome([f"{TOP}/install/am_member_ready"])[0], 2)
+
+
+def test_stop(folder):
+    """Once it is told to stop nobody is told that it is ready."""
+    (port,) = free_ports(1)
+    member = Member("a", port, [], folder)
+    member.command = lambda: [*BLOCKED, members.program, *member.words]
+    member.start()
+    compare("it is ready", raw(member, "GET", "/-/ready")[1], b"OK")
+    member.process.send_signal(signal.SIGTERM)
+    compare("it ends", member.end(), 0)
+    compare("am_member_ready sees that", outcome([f"{TOP}/install/am_member_ready", str(port), "1"])[0], 1)
+
+
+# ---- figures
+
+
+def test_text(folder):
+    """The text of the figures, by the format's rules, and its families as the document has them."""
+    ports = free_ports(2)
+    name = 'b"\\x'
+    member = Member("a", ports[0], [(name, ports[1])], folder)
+    member.start()
+    _, body = raw(member, "GET", "/metrics")
+    found = Figures(body.decode())
+    compare("the families", sorted(found.kinds), documented())
+    check("the name of a peer is escaped", b'{peer="b\\"\\\\x"} ' in body)
+    compare("members", found.get("alertmanager_cluster_members"), 2)
+    version = run(["--version"])[1].decode().split()[-1]
+    compare("the version", found.get("alertmanager_build_info", version=version), 1)
+    start = found.get("process_start_time_seconds")
+    check("the start", abs(start - time.time()) < members.PATIENCE, start)
+    for name in ("process_resident_memory_bytes", "process_open_fds"):
+        check(name, found.get(name) > 1, found.get(name))
+    check("bounded", len(body) < 100_000, len(body))
+    if shutil.which("promtool"):
+        ran = subprocess.run(["promtool", "check", "metrics"], input=body, capture_output=True)
+        compare("promtool check metrics", (ran.returncode, ran.stdout, ran.stderr), (0, b"", b""))
+    else:
+        skip("check metrics", "promtool")
+    member.kill()
+
+
+def test_counts(folder):
+    """Figures that have to move, and none that an asker makes."""
+    ports = dict(zip("ab", free_ports(2)))
+    member = Member("a", ports["a"], [("b", ports["b"])], folder, ["--tick-every", "1"])
+    member.start()
+    before = figures(member)
+    compare("three posts", [post(member, silence(f"v{at}")) for at in range(3)], [200] * 3)
+    compare("a bad post", post(member, b"{"), 400)
+    member.ask("GET", "/api/v2/silences")
+    for path in ("/none", "/other?x=1", "/api/v2/silence/x/y"):
+        member.ask("GET", path)
+    member.send(b"no request\r\n\r\n")
+    raw(member, "GET", "/api/v2/silences", "origin: http://example.org")
+    message = {
+        "version": "4", "groupKey": "g", "receiver": "r", "status": "firing",
+        "alerts": [{"status": "firing", "labels": {"job": "none", "reason": "Repeat"}}],
+    }  # fmt: skip
+    body = json.dumps(message).encode()
+    compare("a decision", member.ask("POST", "/v1/decide?wait=false", body)[0], 200)
+    muted = json.dumps({**message, "alerts": [{"status": "firing", "labels": {"job": "v1", "reason": "First"}}]}).encode()
+    compare("a decision on what is muted", member.ask("POST", "/v1/decide?wait=false", muted)[0], 200)
+    found = eventually(lambda: (it := figures(member)).get("maityrunga_frames_lost_total", peer="b", cause="connect") and it)
+
+    def grown(name, **labels):
+        return found.get(name, **labels) - before.get(name, **labels)
+
+    requests = "maityrunga_http_requests_total"
+    for call, status, wanted in [
+        ("post", "200", 3), ("post", "400", 1), ("list", "200", 1), ("other", "404", 3), ("other", "400", 1), ("other", "403", 1),
+        ("decide", "200", 2), ("post", "500", 0),
+    ]:  # fmt: skip
+        compare(f"{call} {status}", grown(requests, call=call, status=status), wanted)
+    compare("times of posts", grown("maityrunga_http_request_duration_seconds_count", call="post"), 4)
+    check("they took time", grown("maityrunga_http_request_duration_seconds_sum", call="post") > 0)
+    compare("active ones", grown("alertmanager_silences", state="active"), 3)
+    for event, wanted in [("post", 3), ("list", 1), ("mutes", 2), ("decide", 1)]:
+        compare(f"steps: {event}", grown("maityrunga_steps_total", event=event), wanted)
+    for reason, wanted in [("First", 1), ("Muted", 1), ("Repeat", 0)]:
+        compare(f"decisions: {reason}", grown("maityrunga_decisions_total", reason=reason), wanted)
+    check("frames sent", grown("maityrunga_frames_sent_total", peer="b") >= 3)
+    check("frames lost", grown("maityrunga_frames_lost_total", peer="b", cause="connect") >= 3)
+    check("messages", grown("alertmanager_cluster_messages_sent_total", msg_type="update") >= 3)
+    compare("labels", found.samples.keys() - before.samples.keys(), set())
+    check("connections", found.get("maityrunga_connections") <= 2, found.get("maityrunga_connections"))
+    check("connections accepted", grown("maityrunga_connections_accepted_total") >= 12)
+    compare("nothing was heard of b", found.get("maityrunga_peer_last_heard_timestamp_seconds", peer="b"), 0)
+    version = versions.silence("z job=z 10..5000000000 updated 10 expires 6000000000")
+    member.send(greeting("b") + delta("sil", version) + EMPTY_PUSH)
+    found = eventually(lambda: (it := figures(member)).get("maityrunga_frames_taken_total", peer="b") == 2 and it)
+    heard = found.get("maityrunga_peer_last_heard_timestamp_seconds", peer="b")
+    check("b was heard now", abs(heard - time.time()) < members.PATIENCE, heard)
+    for kind in ("update", "full_state"):
+        compare(f"a frame: {kind}", found.get("alertmanager_cluster_messages_received_total", msg_type=kind), 1)
+    for event in ("delta", "state"):
+        compare(f"steps: {event}", found.get("maityrunga_steps_total", event=event), 1)
+    member.kill()
+
+
+def test_saves(folder):
+    """Saves that are done, and saves that fail."""
+    (port,) = free_ports(1)
+    os.mkdir(f"{folder}/there")
+    member = Member("a", port, [], f"{folder}/there", ["--save-every", "1", "--tick-every", "1"])
+    member.start()
+    post(member, silence("x"))
+    found = eventually(lambda: (it := figures(member)).get("maityrunga_saves_total", state="sil") and it)
+    done = found.get("maityrunga_last_save_timestamp_seconds", state="sil")
+    check("a save is done", abs(done - time.time()) < members.PATIENCE, done)
+    check("it took a while", 0 < found.get("maityrunga_last_save_duration_seconds", state="sil") < members.PATIENCE)
+    check("ticks", found.get("maityrunga_steps_total", event="tick") > 0)
+    compare("no save failed", found.get("maityrunga_saves_failed_total", state="sil"), 0)
+    os.rename(f"{folder}/there", f"{folder}/gone")
+    post(member, silence("y"))
+    failed = eventually(lambda: figures(member).get("maityrunga_saves_failed_total", state="sil"))
+    check("a save fails", failed > 0, failed)
+    member.kill()
+
+
+def test_log(folder):
+    """Saves of a member with a log are stages of its loop, and are counted once done."""
+    (port,) = free_ports(1)
+    member = Member("a", port, [], folder, ["--log", "--save-every", "1"])
+    member.start()
+    post(member, silence("x"))
+    both = lambda it: all(it.get("maityrunga_saves_total", state=state) for state in ("sil", "nfl"))
+    check("both are saved", eventually(lambda: both(figures(member))))
+    member.kill()
+
+
+def test_many(folder):
+    """Silences are counted by their states, a stretch at a time."""
+    (port,) = free_ports(1)
+    member = Member("a", port, [], folder)
+    spans = [("10..5000000000", 20_000), ("4000000000..5000000000", 300), ("10..20", 40)]
+    rows, at = [], 0
+    for span, count in spans:
+        for _ in range(count):
+            rows.append(delimited(versions.silence(f"{at:06} job=x {span} updated 10 expires 6000000000")))
+            at += 1
+    with open(member.sil, "wb") as file:
+        file.write(b"".join(rows))
+    member.start()
+    found = figures(member)
+    counts = [found.get("alertmanager_silences", state=state) for state in ("active", "pending", "expired")]
+    compare("silences", counts, [20_000, 300, 40])
+    member.kill()
+
+
+# ---- what is installed
+
+
+def test_rules(_folder):
+    if not shutil.which("promtool"):
+        skip("alerting rules", "promtool")
+        return
+    place = f"{TOP}/install"
+    status, output, _ = outcome(["promtool", "check", "rules", "alerts.yml"], cwd=place)
+    check("promtool check rules", status == 0 and b"SUCCESS" in output, output)
+    status, output, _ = outcome(["promtool", "test", "rules", "alerts_test.yml"], cwd=place)
+    check("promtool test rules", status == 0, output)
+    names = set(re.findall(r"\b(maityrunga_[a-z_]+|process_[a-z_]+)\b", open(f"{place}/alerts.yml").read()))
+    compare("the rules name families that there are", sorted(names - set(documented())), [])
+
+
+def test_unit(_folder):
+    """The unit that stands in docs/OPERATING.md is the one that is installed."""
+    unit = open(f"{TOP}/install/am-member@.service").read()
+    indented = "".join(f"    {it}\n" if it else "\n" for it in unit.rstrip("\n").split("\n"))
+    check("docs/OPERATING.md has the unit", indented in open(f"{TOP}/docs/OPERATING.md").read())
+    upgrade = open(f"{TOP}/install/am-members-upgrade.service").read()
+    indented = "".join(f"    {it}\n" if it else "\n" for it in upgrade.rstrip("\n").split("\n"))
+    check("and the one of an upgrade", indented in open(f"{TOP}/docs/OPERATING.md").read())
+    if not shutil.which("systemd-analyze"):
+        skip("the unit's exposure", "systemd-analyze")
+        return
+    words = ["systemd-analyze", "security", "--offline=true", "--threshold=30", f"{TOP}/install/am-member@.service"]
+    status, output, error = outcome(words)
+    found = re.search(rb"Overall exposure level for .*: ([0-9.]+)", output)
+    check("its exposure is at most 3", found and float(found[1]) <= 3 and status == 0, error)
+
+
+def test_install(folder):
+    """What `./am_tool install` copies, and the words that it refuses."""
+    tool = f"{TOP}/am_tool"
+    compare("install without words", outcome([tool, "install"])[0], 2)
+    compare("install to no whole path", outcome([tool, "install", "--prefix", "x"])[0], 2)
+    if outcome([tool, "install", "--prefix", folder])[0] == 3:
+        skip("am_tool install", "a program that is newer than its sources")
+        return
+    files = sorted(f"{at}/{it}"[len(folder) + 1 :] for at, _, found in os.walk(folder) for it in found)
+    compare("what is installed", files, [
+        "bin/am_member_ready", "bin/am_tool", "lib/systemd/system/am-member@.service", "share/am_tool/alerts.yml",
+        "share/am_tool/am-members-upgrade.service", "share/bash-completion/completions/am_tool", "share/man/man1/am_tool.1",
+    ])  # fmt: skip
+    unit = open(f"{folder}/lib/systemd/system/am-member@.service").read()
+    wanted = open(f"{TOP}/install/am-member@.service").read().replace("/usr/local/", f"{folder}/")
+    compare("the unit has the paths of the prefix", unit, wanted)
+    compare("the program runs", outcome([f"{folder}/bin/am_tool", "--version"])[:2], run(["--version"])[:2])
+
+
+def completed(*words):
+    """What bash offers for the last of the words."""
+    script = (
+        f'source "{TOP}/install/am_tool.bash"; COMP_WORDS=("$@"); COMP_CWORD=$(($# - 1)); _am_tool; printf "%s\\n" "${{COMPREPLY[@]}}"'
+    )
+    return outcome(["bash", "-c", script, "bash", members.program, *words])[1].decode().split()
+
+
+def test_completions(_folder):
+    compare("commands", completed(""), ["replay", "fold", "show", "diff", "instance", "help"])
+    compare("a command", completed("ins"), ["instance"])
+    compare("options of show", completed("show", "--"), ["--state", "--now", "--json", "--log", "--help"])
+    for command in ("replay", "fold", "show", "diff", "instance"):
+        text = run([command, "--help"])[1].decode()
+        wanted = re.findall(r"^ +(?:-\w, )?(--[a-z-]+)", text, re.M)
+        compare(f"options of {command}", completed(command, "--"), wanted)
+    compare("an option", completed("instance", "--pull-f"), ["--pull-first", "--pull-first-limit"])
+
+
+TESTS = [
+    test_calls, test_status, test_first_pull, test_stop, test_text, test_counts, test_saves, test_log, test_many, test_rules,
+    test_unit, test_install, test_completions,
+]  # fmt: skip
+
+
+if __name__ == "__main__":
+    members.choose("operations", sys.argv[1:])
+    test_page()
+    with tempfile.TemporaryDirectory() as folder:
+        try_each(TESTS, folder)
+    for line in skipped:
+        print(f"operations: skipped {line}")
+    finish("operations")
