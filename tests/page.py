@@ -305,8 +305,8 @@ def ends(page, b, first):
 
 def makes_again(page, b, first):
     page.click("link", "Make it again")
-    compare("two matchers stand there", len(page.evaluate("[...document.querySelectorAll('#matchers > *')].map(() => 1)")), 2)
-    compare("the author is remembered", page.evaluate("document.querySelector('#author').value"), "ann")
+    check("two matchers stand there", page.wait("document.querySelectorAll('#matchers > *').length === 2"))
+    check("the author is remembered", page.wait("document.querySelector('#author').value === 'ann'"))
     page.click("button", "Remove matcher 2")
     page.fill("textbox", "Lasts", "1d 12h")
     page.click("button", "Make the silence")
