@@ -25,7 +25,7 @@ SVG = "{http://www.w3.org/2000/svg}"
 
 # How many steps a picture has at most, and how many characters of a name it shows.
 MOST = 2_000
-NAME = 17
+NAME = 8
 
 # Names and words that XML doesn't take as they are: the last has characters that XML hasn't, and one that ends lines.
 ODD = ["a<b>&c", "\"d'", "</svg>", "]]>\t\x01\r\ufffe"]
@@ -96,7 +96,7 @@ def test_counts(folder):
 def count_through(path, schedule, output, tree):
     steps = steps_of(schedule)
     marks = of_class(tree, "g", "mark")
-    told = [mark.find(f"{SVG}title").text.split("\nrefused: ")[0] for mark in marks]
+    told = [re.split("\n(?:refused|once more): ", mark.find(f"{SVG}title").text)[0] for mark in marks]
     compare(f"{path}: the marks", told, [f"line {number}: {line}" for number, line in steps])
     compare(f"{path}: refusals", len(of_class(tree, "g", "no")), len(re.findall(r"(?m)(^| )refused \w+$", output)))
     gone = len(re.findall("(?m)^refused NoFrame$", output))
@@ -141,10 +141,65 @@ def test_gaps(folder):
     schedule = b"cluster 1 1 a b\nstop a\nat 5 a start\nstop a\nstop a\nat 4 a start\nat 6 b start\n"
     _, picture = drawn(schedule, folder)
     tree = ElementTree.fromstring(picture)
-    lanes = [(it.get("y1"), it.get("class")) for it in of_class(tree, "line", "lane")]
-    heights = sorted({height for height, _ in lanes}, key=int)
-    compare("times in which members ran", [height for height, _ in lanes], [heights[0]] * 2 + [heights[1]])
+    lanes = [it.get("x1") for it in of_class(tree, "line", "lane")]
+    places = sorted(set(lanes), key=int)
+    compare("times in which members ran", lanes, [places[0]] * 2 + [places[1]])
     compare("who is stopped at the end", [it.text for it in tree.iter(f"{SVG}text") if it.text == "stopped"], ["stopped"])
+
+
+# Steps on groups, by a, b and c, and for each the line that it repeats, counted from 1 behind the cluster's.
+ONCE_MORE = [
+    ("at 10 a decide g r 1,2 - 100 yes", None),
+    # nobody sent it yet, and b doesn't know that a is about to
+    ("at 11 b decide g r 1,2 - 100 yes", 1),
+    # who decided and didn't send it asks once more
+    ("at 12 b decide g r 1,2 - 100 yes", 1),
+    ("at 13 a notified g r 1,2 - 100", None),
+    ("at 14 a decide g r 1,2 - 100 yes", None),
+    ("at 15 b decide g r 1,2 - 100 yes", 4),
+    # another group, another receiver, and other alerts
+    ("at 16 b decide h r 1,2 - 100 yes", None),
+    ("at 17 b decide g s 1,2 - 100 yes", None),
+    ("at 18 b decide g r 1,2,3 - 100 yes", None),
+    # c tells of the alerts before; they were told of last by b, who decided on others
+    ("at 19 c decide g r 1,2 - 100 yes", None),
+    ("at 20 c notified g r 1,2 - 100", None),
+    # the repeat interval is over a hundred seconds behind the last time, and not before
+    ("at 119.999999999 b decide g r 1,2 - 100 yes", 11),
+    ("at 120 b decide g r 1,2 - 100 yes", None),
+    # a member that is stopped sends nothing
+    ("stop a", None),
+    ("at 121 a notified g r 1,2 - 100", None),
+    ("at 122 b decide g r 1,2 - 100 yes", None),
+]
+
+
+def test_once_more(folder):
+    """A notification is red where it goes out although another member told of the same within the repeat interval."""
+    steps, wanted = zip(*ONCE_MORE)
+    (status, _, error), picture = drawn("\n".join(["cluster 1000 15 a b c", *steps, ""]).encode(), folder)
+    compare("they are drawn", (status, error), (0, ""))
+    tree = ElementTree.fromstring(picture)
+    found = [re.search(r"\nonce more: notified by line (\d+)$", it.find(f"{SVG}title").text) for it in of_class(tree, "g", "mark")]
+    lines = [int(it[1]) - 1 if it else None for it in found]
+    compare("which repeat which", lines, list(wanted))
+    red = [it.find(f"{SVG}text").text.endswith(", once more") for it in of_class(tree, "g", "again")]
+    compare("these are red, and say so", red, [True] * len([it for it in wanted if it]))
+
+
+def test_moments(folder):
+    """Moments of a clock are times of a day, behind days that are over, and the first stands there in whole; others are seconds."""
+    _, picture = drawn(b"cluster 1 1 a\nat 5.25 a show\nat 946684799 a show\n", folder)
+    tree = ElementTree.fromstring(picture)
+    compare("seconds", [it.text for it in of_class(tree, "text", "head")], ["5.250000000", "946684799"])
+    text = b"at 5 a show\nat 946771199 a show\nat 946771200.000000001 a show\nat 947462399 a show\nat 946684800 a show\n"
+    _, picture = drawn(b"cluster 1 1 a\n" + text, folder)
+    tree = ElementTree.fromstring(picture)
+    wanted = ["5", "23:59:59", "+1d 00:00:00.000000001", "+8d 23:59:59", "946684800"]
+    compare("times of a day", [it.text for it in of_class(tree, "text", "head")], wanted)
+    dim = [it.text for it in of_class(tree, "text", "dim")]
+    compare("the first in whole", [it for it in dim if it.startswith("from ")], ["from 2000-01-01T23:59:59.000Z"])
+    check("the end too", "at the end, at +8d 23:59:59" in dim, dim)
 
 
 def test_texts(folder):
@@ -195,6 +250,8 @@ def main():
         test_counts(folder)
         test_frames(folder)
         test_gaps(folder)
+        test_once_more(folder)
+        test_moments(folder)
         test_texts(folder)
         test_limits(folder)
     finish("pictures")

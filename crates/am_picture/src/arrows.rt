@@ -37,10 +37,10 @@ fn append_arrivals(sheet: &Sheet<'_>, out: &mut String) -> Result<(), AllocError
 
 fn append_flying(sheet: &Sheet<'_>, out: &mut String, sending: &Sending) -> Result<(), AllocError> {
     let stroke = Stroke {
-        x1: middle_of(sending.column),
-        y1: lane_of(sending.sender),
-        x2: beyond(sending.column, sending.sender, sending.addressee),
-        y2: flight_of(sending.sender, sending.addressee),
+        x1: lane_of(sending.sender),
+        y1: middle_of(sending.column),
+        x2: flight_of(sending.sender, sending.addressee),
+        y2: beyond(sending.column, sending.sender, sending.addressee),
     };
     open_curve(out, "frame fly", &stroke)?;
     append_story(sheet, out, sending)?;
@@ -54,10 +54,10 @@ fn append_lost(
     column: usize,
 ) -> Result<(), AllocError> {
     let stroke = Stroke {
-        x1: middle_of(sending.column),
-        y1: lane_of(sending.sender),
-        x2: middle_of(column),
-        y2: loss_of(sending.sender, sending.addressee),
+        x1: lane_of(sending.sender),
+        y1: middle_of(sending.column),
+        x2: loss_of(sending.sender, sending.addressee),
+        y2: middle_of(column),
     };
     open_curve(out, "frame", &stroke)?;
     append_story(sheet, out, sending)?;
@@ -76,10 +76,10 @@ fn append_delivery(
         return Ok(());
     };
     let stroke = Stroke {
-        x1: middle_of(sending.column),
-        y1: lane_of(sending.sender),
-        x2: middle_of(column),
-        y2: lane_of(sending.addressee),
+        x1: lane_of(sending.sender),
+        y1: middle_of(sending.column),
+        x2: lane_of(sending.addressee),
+        y2: middle_of(column),
     };
     open_curve(out, "frame tip", &stroke)?;
     append_story(sheet, out, sending)?;
@@ -98,10 +98,10 @@ fn append_written(
         return Ok(());
     };
     let stroke = Stroke {
-        x1: edge_of(column),
-        y1: lane_of(peer),
-        x2: middle_of(column),
-        y2: lane_of(place),
+        x1: lane_of(peer),
+        y1: edge_of(column),
+        x2: lane_of(place),
+        y2: middle_of(column),
     };
     open_curve(out, "frame tip", &stroke)?;
     append_title(sheet.alloc, out, sheet.line(mark.line))?;

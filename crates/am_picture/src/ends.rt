@@ -1,23 +1,27 @@
 //! What is told of the members at the end of a picture.
 
-use crate::lanes::runs_at_end;
-use crate::layout::{edge_of, lane_of};
+use crate::lanes::{MOST_OF_NAME, runs_at_end};
+use crate::layout::{edge_of, end_of};
 use crate::sheet::{Sheet, append_text, append_title};
+use crate::times::append_time;
 use am_instance::{Instance, Place};
 use am_told::append_view;
 use am_version_order::Moment;
 use std::alloc::AllocError;
 
-/// How far to the right of the last step it stands.
-const SPOT: i32 = 44;
+/// How far to the right what it shows stands.
+const SPOT: i32 = 192;
+
+/// How high a line is.
+const LINE: i32 = 22;
 
 /// How many lines of a view are shown.
-const MOST_LINES: usize = 4;
+const MOST_LINES: usize = 3;
 
 /// How many characters of a line are shown.
-const MOST_OF_LINE: usize = 48;
+const MOST_OF_LINE: usize = 64;
 
-/// Appends at the right, for each member, whether it was calm, and what it shows at the latest moment of all.
+/// Appends below the steps, for each member, whether it was calm, and what it shows at the latest moment of all.
 pub fn append_ends(sheet: &Sheet<'_>, out: &mut String) -> Result<(), AllocError> {
     let now = latest_moment(sheet);
     append_end_head(sheet, out, now)?;
@@ -44,17 +48,14 @@ fn later_of(first: Moment, second: Moment) -> Moment {
 
 /// Appends the head above what is told at the end.
 fn append_end_head(sheet: &Sheet<'_>, out: &mut String, now: Moment) -> Result<(), AllocError> {
-    let x = edge_of(sheet.scene.marks.len());
-    let (seconds, nanos) = now.parts();
+    let y = edge_of(sheet.scene.marks.len());
     write!(
         out,
-        "<g transform=\"translate({x} 16)\"><text class=\"dim\" x=\"{SPOT}\">at the end"
+        "<g transform=\"translate(8 {y})\"><text class=\"dim\" y=\"34\">at the end"
     )?;
-    if seconds >= 0 {
-        write!(out, ", at {seconds}")?;
-    }
-    if nanos > 0 {
-        write!(out, ".{nanos:09}")?;
+    if now.parts().0 >= 0 {
+        out.push_str(", at ")?;
+        append_time(out, sheet.first, now)?;
     }
     out.push_str("</text></g>\n")
 }
@@ -66,15 +67,21 @@ fn append_end(
     place: Place,
     now: Moment,
 ) -> Result<(), AllocError> {
-    let (x, y) = (edge_of(sheet.scene.marks.len()), lane_of(place));
-    write!(out, "<g transform=\"translate({x} {y})\">")?;
+    let y = end_of(sheet.scene.marks.len(), place);
+    write!(out, "<g transform=\"translate(8 {y})\">")?;
     match sheet.cluster.instance(place) {
         Some(instance) if runs_at_end(sheet, place) => append_shown(sheet, out, instance, now)?,
-        _ => write!(
-            out,
-            "<text class=\"dim\" x=\"{SPOT}\" y=\"-12\">stopped</text>"
-        )?,
+        _ => write!(out, "<text class=\"dim\" x=\"{SPOT}\">stopped</text>")?,
     }
+    append_text(
+        sheet.alloc,
+        out,
+        "who",
+        0,
+        0,
+        sheet.name(place),
+        MOST_OF_NAME,
+    )?;
     append_calm(sheet, out, place)?;
     out.push_str("</g>\n")
 }
@@ -84,12 +91,9 @@ fn append_calm(sheet: &Sheet<'_>, out: &mut String, place: Place) -> Result<(), 
     match sheet.cluster.calm(place).first_fault {
         Some(line) => write!(
             out,
-            "<text class=\"bad\" x=\"{SPOT}\" y=\"-24\">uncalm, line {line}</text>"
+            "<text class=\"bad\" y=\"{LINE}\">uncalm, line {line}</text>"
         ),
-        None => write!(
-            out,
-            "<text class=\"good\" x=\"{SPOT}\" y=\"-24\">calm</text>"
-        ),
+        None => write!(out, "<text class=\"good\" y=\"{LINE}\">calm</text>"),
     }
 }
 
@@ -110,17 +114,14 @@ fn append_shown(
 fn append_lines(sheet: &Sheet<'_>, out: &mut String, view: &str) -> Result<(), AllocError> {
     let lines: Vec<&str> = view.lines().collect(sheet.alloc)?;
     if lines.is_empty() {
-        return write!(
-            out,
-            "<text class=\"dim\" x=\"{SPOT}\" y=\"-12\">shows nothing</text>"
-        );
+        return write!(out, "<text class=\"dim\" x=\"{SPOT}\">shows nothing</text>");
     }
-    let mut y = -12i32;
+    let mut y = 0i32;
     let fits = lines.len() <= MOST_LINES;
     let shown = if fits { lines.len() } else { MOST_LINES - 1 };
     for line in &lines[..shown] {
         append_text(sheet.alloc, out, "end", SPOT, y, line, MOST_OF_LINE)?;
-        y = y.saturating_add(12);
+        y = y.saturating_add(LINE);
     }
     if fits {
         return Ok(());

@@ -7,7 +7,7 @@ use am_instance::Place;
 use std::alloc::AllocError;
 
 /// How many characters of a name are shown.
-const MOST_OF_NAME: usize = 17;
+pub const MOST_OF_NAME: usize = 8;
 
 /// Appends a lane for each member, with its name.
 pub fn append_lanes(sheet: &Sheet<'_>, out: &mut String) -> Result<(), AllocError> {
@@ -18,17 +18,17 @@ pub fn append_lanes(sheet: &Sheet<'_>, out: &mut String) -> Result<(), AllocErro
     Ok(())
 }
 
-/// Appends a member's name at the left.
+/// Appends a member's name at the head.
 fn append_name(
     sheet: &Sheet<'_>,
     out: &mut String,
     place: Place,
     name: &str,
 ) -> Result<(), AllocError> {
-    let y = lane_of(place);
-    write!(out, "<g transform=\"translate(0 {y})\">")?;
+    let x = lane_of(place);
+    write!(out, "<g transform=\"translate({x} 52)\">")?;
     append_title(sheet.alloc, out, name)?;
-    append_text(sheet.alloc, out, "name", 8, 4, name, MOST_OF_NAME)?;
+    append_text(sheet.alloc, out, "name", 0, 0, name, MOST_OF_NAME)?;
     out.push_str("</g>\n")
 }
 
@@ -92,7 +92,7 @@ fn append_span(
     start: u64,
     end: u64,
 ) -> Result<(), AllocError> {
-    append_level(out, "lane", place, start, end)?;
+    append_along(out, "lane", place, start, end)?;
     out.push_str("</line>\n")?;
     match sheet.cluster.calm(place).first_fault {
         Some(line) => append_fault(sheet, out, place, line, start, end),
@@ -100,20 +100,20 @@ fn append_span(
     }
 }
 
-/// Appends a level line, up to what it holds.
-fn append_level(
+/// Appends a line along a lane, up to what it holds.
+fn append_along(
     out: &mut String,
     class: &str,
     place: Place,
     start: u64,
     end: u64,
 ) -> Result<(), AllocError> {
-    let y = lane_of(place);
+    let x = lane_of(place);
     let stroke = Stroke {
-        x1: start,
-        y1: y,
-        x2: end,
-        y2: y,
+        x1: x,
+        y1: start,
+        x2: x,
+        y2: end,
     };
     open_stroke(out, class, &stroke)
 }
@@ -133,7 +133,7 @@ fn append_fault(
     if fault >= end {
         return Ok(());
     }
-    append_level(out, "lane bad", place, start.max(fault), end)?;
+    append_along(out, "lane bad", place, start.max(fault), end)?;
     append_title(sheet.alloc, out, sheet.line(line))?;
     out.push_str("</line>\n")
 }
@@ -148,7 +148,7 @@ fn cursor_of(sheet: &Sheet<'_>, line: u64) -> Option<u64> {
     None
 }
 
-/// Appends the number of the line of a member's first fault, below where it stands.
+/// Appends the number of the line of a member's first fault, beside where it stands.
 pub fn append_fault_lines(sheet: &Sheet<'_>, out: &mut String) -> Result<(), AllocError> {
     for place in 0..sheet.names().len() {
         append_fault_line(sheet, out, place as Place)?;
@@ -160,12 +160,12 @@ fn append_fault_line(sheet: &Sheet<'_>, out: &mut String, place: Place) -> Resul
     let Some(line) = sheet.cluster.calm(place).first_fault else {
         return Ok(());
     };
-    let Some(x) = cursor_of(sheet, line) else {
+    let Some(y) = cursor_of(sheet, line) else {
         return Ok(());
     };
-    let y = lane_of(place);
+    let x = lane_of(place);
     writeln!(
         out,
-        "<g transform=\"translate({x} {y})\"><text class=\"fault right\" x=\"8\" y=\"30\">line {line}</text></g>"
+        "<g transform=\"translate({x} {y})\"><text class=\"fault\" x=\"-8\" y=\"21\">line {line}</text></g>"
     )
 }

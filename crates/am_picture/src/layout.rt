@@ -1,4 +1,4 @@
-//! Where things stand in a picture, in its units.
+//! Where things stand in a picture, in its units: at its width these are pixels.
 
 ghost use Rattle.std.specs.Prelude.{◌≤◌};
 
@@ -10,70 +10,92 @@ pub const MOST_STEPS: usize = 2_000;
 /// How many members a cluster of a schedule has at most.
 const MOST_MEMBERS: u64 = 16;
 
-/// How wide the names at the left are, and what is shown at the right.
-const LEFT: u64 = 132;
+/// Where the first lane is, to the right of the moments.
+const LEFT: u64 = 200;
 
-const RIGHT: u64 = 372;
+/// How far it is from a lane to the next one, and from the last one to the words of the steps.
+const LANE: u64 = 80;
 
-/// How wide a step is, and how high a lane.
-const COLUMN: u64 = 72;
+const GAP: u64 = 48;
 
-const LANE: u64 = 64;
+/// How wide the words are.
+const WORDS: u64 = 450;
 
-/// Where the first lane is.
-const TOP: u64 = 96;
+/// Where the first step begins, below the names.
+const TOP: u64 = 64;
 
-/// Where what is of no member stands.
-pub const HEAD: u64 = 50;
+/// How high a step is.
+const ROW: u64 = 32;
+
+/// How high what is told of a member at the end is, and what stands above and below that.
+const END: u64 = 76;
+
+const ABOVE_ENDS: u64 = 64;
+
+const LEGEND: u64 = 16;
 
 /// How far before a lane a frame is lost.
 const LOSS: u64 = 24;
 
 /// How far from a lane a frame is drawn that flies.
-const FLIGHT: u64 = 48;
+const FLIGHT: u64 = 60;
 
-/// How wide a picture is at least, so that the line at its end has room.
-const LEAST_WIDTH: u64 = 880;
+/// How wide a picture is at least, so that the lines below have room.
+const LEAST_WIDTH: u64 = 860;
 
 /// Where the room of the step of this number begins, counted from 0.
-pub fn edge_of(column: usize) -> u64
-    ensures bound { result ≤ 144_132 }
+pub fn edge_of(step: usize) -> u64
+    ensures bound { result ≤ 64_064 }
 {
-    LEFT + COLUMN * column.min(MOST_STEPS) as u64
+    TOP + ROW * step.min(MOST_STEPS) as u64
 }
 
 /// Where the step of this number is, counted from 0.
-pub fn middle_of(column: usize) -> u64
-    ensures bound { result ≤ 144_168 }
+pub fn middle_of(step: usize) -> u64
+    ensures bound { result ≤ 64_080 }
 {
-    edge_of(column) + COLUMN / 2
+    edge_of(step) + ROW / 2
 }
 
 /// Where the lane of the member at a place is.
 pub fn lane_of(place: Place) -> u64
-    ensures least { 96 ≤ result }
-    ensures bound { result ≤ 1_120 }
+    ensures least { 200 ≤ result }
+    ensures bound { result ≤ 1_480 }
 {
-    TOP + LANE * place.min(MOST_MEMBERS)
+    LEFT + LANE * place.min(MOST_MEMBERS)
 }
 
-/// How wide a picture of so many steps is.
-pub fn width_of(steps: usize) -> u64
-    ensures bound { result ≤ 144_504 }
+/// Where the words of the steps begin, of so many members.
+pub fn words_of(members: usize) -> u64
+    ensures bound { result ≤ 1_528 }
 {
-    (edge_of(steps) + RIGHT).max(LEAST_WIDTH)
+    lane_of(members.saturating_sub(1) as u64) + GAP
 }
 
-/// How high a picture of so many members is.
-pub fn height_of(members: usize) -> u64
-    ensures bound { result ≤ 1_120 }
+/// How wide a picture of so many members is.
+pub fn width_of(members: usize) -> u64
+    ensures bound { result ≤ 1_978 }
 {
-    lane_of(members as u64)
+    (words_of(members) + WORDS).max(LEAST_WIDTH)
+}
+
+/// Where it is told of the member at a place how it stands at the end, of so many steps.
+pub fn end_of(steps: usize, place: Place) -> u64
+    ensures bound { result ≤ 65_344 }
+{
+    edge_of(steps) + ABOVE_ENDS + END * place.min(MOST_MEMBERS)
+}
+
+/// How high a picture of so many steps and members is.
+pub fn height_of(steps: usize, members: usize) -> u64
+    ensures bound { result ≤ 65_360 }
+{
+    end_of(steps, members as u64) + LEGEND
 }
 
 /// Where a frame is lost on its way from one lane to another: just before that one.
 pub fn loss_of(sender: Place, addressee: Place) -> u64
-    ensures bound { result ≤ 1_144 }
+    ensures bound { result ≤ 1_504 }
 {
     if sender < addressee {
         lane_of(addressee) - LOSS
@@ -84,7 +106,7 @@ pub fn loss_of(sender: Place, addressee: Place) -> u64
 
 /// Where a frame that flies is drawn to on its way from one lane to another: most of the way to the next lane.
 pub fn flight_of(sender: Place, addressee: Place) -> u64
-    ensures bound { result ≤ 1_168 }
+    ensures bound { result ≤ 1_540 }
 {
     if sender < addressee {
         lane_of(sender) + FLIGHT
@@ -93,10 +115,10 @@ pub fn flight_of(sender: Place, addressee: Place) -> u64
     }
 }
 
-/// Where a frame that flies is then, if it was sent by this step: the further its addressee is, the steeper it flies.
-pub fn beyond(column: usize, sender: Place, addressee: Place) -> u64
-    ensures bound { result ≤ 144_240 }
+/// Where a frame that flies is then, if it was sent by this step: the further its addressee is, the flatter it flies.
+pub fn beyond(step: usize, sender: Place, addressee: Place) -> u64
+    ensures bound { result ≤ 64_104 }
 {
     let lanes = sender.abs_diff(addressee).max(1);
-    middle_of(column) + COLUMN / 4 * 3 / lanes
+    middle_of(step) + ROW / 4 * 3 / lanes
 }

@@ -1,6 +1,7 @@
-//! A picture of a schedule that is played, as SVG: a lane for each member, and from left to right what each line did.
+//! A picture of a schedule that is played, as SVG: a lane for each member, and from top to bottom what each line did.
 #![tactic(auto)]
 
+mod again;
 mod arrows;
 mod ends;
 mod error;
@@ -14,6 +15,7 @@ mod playing;
 mod refusal;
 mod scene;
 mod sheet;
+mod times;
 
 pub use error::PictureError;
 pub use escape::{append_escaped, append_shortened};

@@ -1,44 +1,48 @@
 //! What the lines of a schedule did, in a picture.
 
-use crate::escape::append_escaped;
-use crate::layout::{HEAD, lane_of, loss_of, middle_of};
+use crate::again::repeated_line;
+use crate::escape::{append_escaped, append_shortened};
+use crate::lanes::MOST_OF_NAME;
+use crate::layout::{lane_of, loss_of, middle_of, words_of};
 use crate::mark::{Answer, Mark, Verb};
 use crate::sheet::{Sheet, Stroke, append_title, open_stroke};
+use crate::times::append_time;
 use am_dedup::Reason;
+use am_instance::Place;
 use am_version_order::Moment;
 use std::alloc::AllocError;
 
-/// Appends a mark for each line, with its moment at the head.
+/// Appends a mark for each line, with its moment at the left and its words at the right.
 pub fn append_marks(sheet: &Sheet<'_>, out: &mut String) -> Result<(), AllocError> {
     for (column, mark) in sheet.scene.marks.iter().enumerate() {
-        append_head(out, mark, column)?;
+        append_head(sheet, out, mark, column)?;
         append_mark(sheet, out, mark, column)?;
     }
     Ok(())
 }
 
-/// Appends the moment of a line at the head.
-fn append_head(out: &mut String, mark: &Mark, column: usize) -> Result<(), AllocError> {
+/// Appends the moment of a line.
+fn append_head(
+    sheet: &Sheet<'_>,
+    out: &mut String,
+    mark: &Mark,
+    column: usize,
+) -> Result<(), AllocError> {
     match mark.moment {
-        Some(moment) => append_moment(out, moment, middle_of(column)),
+        Some(moment) => append_moment(sheet, out, moment, middle_of(column)),
         None => Ok(()),
     }
 }
 
-/// Appends a moment in seconds since 1970, and below it the nanoseconds where there are some.
-fn append_moment(out: &mut String, moment: Moment, x: u64) -> Result<(), AllocError> {
-    let (seconds, nanos) = moment.parts();
-    write!(
-        out,
-        "<text class=\"head\" x=\"{x}\" y=\"16\">{seconds}</text>"
-    )?;
-    if nanos > 0 {
-        write!(
-            out,
-            "<text class=\"head\" x=\"{x}\" y=\"28\">.{nanos:09}</text>"
-        )?;
-    }
-    out.push_str("\n")
+fn append_moment(
+    sheet: &Sheet<'_>,
+    out: &mut String,
+    moment: Moment,
+    y: u64,
+) -> Result<(), AllocError> {
+    write!(out, "<text class=\"head\" x=\"8\" y=\"{y}\" dy=\"5\">")?;
+    append_time(out, sheet.first, moment)?;
+    out.push_str("</text>\n")
 }
 
 /// Appends what a line did.
@@ -48,86 +52,89 @@ fn append_mark(
     mark: &Mark,
     column: usize,
 ) -> Result<(), AllocError> {
-    let (x, y) = (middle_of(column), height_of_mark(sheet, mark));
-    let class = if mark.answer.is_refused() {
-        "mark no"
-    } else {
-        "mark"
-    };
+    let (x, y) = (lane_of_mark(sheet, mark), middle_of(column));
+    let repeated = repeated_line(sheet, column);
+    let class = class_of(mark, repeated);
     write!(
         out,
         "<g class=\"{class}\" transform=\"translate({x} {y})\">"
     )?;
-    append_mark_title(sheet, out, mark)?;
+    append_mark_title(sheet, out, mark, repeated)?;
     out.push_str(shape_of(mark))?;
-    append_words(sheet, out, mark)?;
-    out.push_str("</g>\n")
+    append_words(sheet, out, mark, x)?;
+    if repeated.is_some() {
+        out.push_str(", once more")?;
+    }
+    out.push_str("</text></g>\n")
 }
 
-/// Appends what a line is called, and what came of it.
-fn append_words(sheet: &Sheet<'_>, out: &mut String, mark: &Mark) -> Result<(), AllocError> {
-    let (label, answer) = cursors_of(sheet, mark);
-    write!(out, "<text {label}>")?;
+fn class_of(mark: &Mark, repeated: Option<u64>) -> &'static str {
+    if mark.answer.is_refused() {
+        "mark no"
+    } else if repeated.is_some() {
+        "mark again"
+    } else {
+        "mark"
+    }
+}
+
+/// Appends who does a line, what it is called, and what came of it, up to the end of these words.
+fn append_words(
+    sheet: &Sheet<'_>,
+    out: &mut String,
+    mark: &Mark,
+    x: u64,
+) -> Result<(), AllocError> {
+    let x = words_of(sheet.names().len()).saturating_sub(x);
+    write!(out, "<text x=\"{x}\" y=\"5\">")?;
+    append_who(sheet, out, mark)?;
     append_label(sheet, out, mark)?;
-    out.push_str("</text>")?;
     match word_of(&mark.answer) {
-        Some(word) => write!(out, "<text {answer}>{word}</text>"),
+        Some(word) => write!(out, ": {word}"),
         None => Ok(()),
     }
 }
 
-/// Where the words of a line stand: what it is called, and what came of it. At a lane they leave the way free on which
-/// a frame comes, and those that go.
-fn cursors_of(sheet: &Sheet<'_>, mark: &Mark) -> (&'static str, &'static str) {
-    if height_of_mark(sheet, mark) == HEAD {
-        return ("y=\"-10\"", "y=\"3\"");
-    }
-    if mark.verb == Verb::Lose {
-        return (BESIDE, BELOW);
-    }
-    if comes_from_above(sheet, mark) {
-        (BELOW, ABOVE)
-    } else {
-        (ABOVE, BELOW)
-    }
+fn append_who(sheet: &Sheet<'_>, out: &mut String, mark: &Mark) -> Result<(), AllocError> {
+    let Some(place) = mark.place else {
+        return Ok(());
+    };
+    append_name(sheet, out, place)?;
+    out.push_str(" ")
 }
 
-const ABOVE: &str = "class=\"left\" x=\"5\" y=\"-9\"";
-
-const BELOW: &str = "class=\"left\" x=\"5\" y=\"17\"";
-
-const BESIDE: &str = "class=\"right\" x=\"10\" y=\"4\"";
-
-/// Whether a frame comes to a mark from a lane above its own.
-fn comes_from_above(sheet: &Sheet<'_>, mark: &Mark) -> bool {
-    if let (Some(peer), Some(place)) = (mark.peer, mark.place) {
-        return peer < place;
-    }
-    match sheet.scene.frame_of(mark) {
-        Some(sending) => sending.sender < sending.addressee,
-        None => false,
-    }
+/// Appends the name of the member at a place.
+fn append_name(sheet: &Sheet<'_>, out: &mut String, place: Place) -> Result<(), AllocError> {
+    append_shortened(sheet.alloc, out, sheet.name(place), MOST_OF_NAME)
 }
 
-/// Where the mark of a line stands: at its member's lane, where a frame is delivered or lost, or else at the head.
-fn height_of_mark(sheet: &Sheet<'_>, mark: &Mark) -> u64 {
+/// Where the mark of a line stands: at its member's lane, where a frame is delivered or lost, or else at the words.
+fn lane_of_mark(sheet: &Sheet<'_>, mark: &Mark) -> u64 {
     if let Some(place) = mark.place {
         return lane_of(place);
     }
     match sheet.scene.frame_of(mark) {
         Some(sending) if mark.verb == Verb::Lose => loss_of(sending.sender, sending.addressee),
         Some(sending) => lane_of(sending.addressee),
-        None => HEAD,
+        None => words_of(sheet.names().len()),
     }
 }
 
-/// Appends a title: the line, and why it was refused.
-fn append_mark_title(sheet: &Sheet<'_>, out: &mut String, mark: &Mark) -> Result<(), AllocError> {
+/// Appends a title: the line, and why it was refused, or which one it repeats.
+fn append_mark_title(
+    sheet: &Sheet<'_>,
+    out: &mut String,
+    mark: &Mark,
+    repeated: Option<u64>,
+) -> Result<(), AllocError> {
     let line = mark.line;
     write!(out, "<title>line {line}: ")?;
     append_escaped(sheet.alloc, out, sheet.line(line))?;
     if let Answer::Refused(refusal) = mark.answer {
         write!(out, "\nrefused: {refusal:?}")?;
+    }
+    if let Some(line) = repeated {
+        write!(out, "\nonce more: notified by line {line}")?;
     }
     out.push_str("</title>")
 }
@@ -138,7 +145,7 @@ fn shape_of(mark: &Mark) -> &'static str {
         Verb::Lose if mark.flies() => "<path class=\"cross\" d=\"M-5-5L5 5M-5 5L5-5\"/>",
         Verb::Lose | Verb::Settle | Verb::Timely | Verb::Frames => "",
         Verb::Deliver if !mark.flies() => "",
-        _ => "<circle r=\"4\"/>",
+        _ => "<circle r=\"5\"/>",
     }
 }
 
@@ -147,18 +154,23 @@ fn append_label(sheet: &Sheet<'_>, out: &mut String, mark: &Mark) -> Result<(), 
     match sheet.scene.frame_of(mark) {
         Some(sending) if mark.verb == Verb::Deliver => {
             let (kind, number) = (sending.kind, sending.number);
-            write!(out, "{kind:?} {number}")
+            write!(out, "{kind:?} {number} to ")?;
+            append_name(sheet, out, sending.addressee)
         }
-        _ => append_verb(out, mark),
+        _ => append_verb(sheet, out, mark),
     }
 }
 
-fn append_verb(out: &mut String, mark: &Mark) -> Result<(), AllocError> {
+fn append_verb(sheet: &Sheet<'_>, out: &mut String, mark: &Mark) -> Result<(), AllocError> {
     out.push_str(mark.verb.name())?;
-    match mark.frame {
-        Some(number) => write!(out, " {number}"),
-        None => Ok(()),
+    if let Some(number) = mark.frame {
+        write!(out, " {number}")?;
     }
+    if let Some(peer) = mark.peer {
+        out.push_str(" ")?;
+        append_name(sheet, out, peer)?;
+    }
+    Ok(())
 }
 
 /// What came of a line, in a word.
@@ -197,12 +209,12 @@ fn append_settle(
     column: usize,
     last: u64,
 ) -> Result<(), AllocError> {
-    let x = middle_of(column);
+    let y = middle_of(column);
     let stroke = Stroke {
-        x1: x,
-        y1: lane_of(0),
-        x2: x,
-        y2: lane_of(last),
+        x1: lane_of(0),
+        y1: y,
+        x2: lane_of(last),
+        y2: y,
     };
     open_stroke(out, "settle", &stroke)?;
     append_title(sheet.alloc, out, sheet.line(mark.line))?;

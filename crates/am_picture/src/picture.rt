@@ -7,11 +7,13 @@ use crate::arrows::append_frames;
 use crate::ends::append_ends;
 use crate::error::PictureError;
 use crate::lanes::{append_fault_lines, append_lanes};
-use crate::layout::{MOST_STEPS, edge_of, height_of, lane_of, middle_of, width_of};
+use crate::layout::{MOST_STEPS, height_of, lane_of, middle_of, width_of, words_of};
 use crate::marks::{append_marks, append_settles};
 use crate::playing::{newborn, play};
 use crate::sheet::{Sheet, Stroke, open_stroke};
+use crate::times::first_of_clock;
 use am_schedule::{Schedule, parse};
+use am_silence_json::moments::write_moment;
 use std::alloc::{AllocError, Global};
 use std::str;
 
@@ -39,9 +41,11 @@ fn draw(alloc: Global, schedule: &Schedule, text: &[u8]) -> Result<String, Alloc
     let lines = lines_of(alloc, text)?;
     let sheet = Sheet {
         alloc,
+        schedule,
         cluster: &cluster,
         scene: &scene,
         lines: &lines,
+        first: first_of_clock(&scene),
     };
     let mut out = String::new(alloc);
     append_picture(&sheet, &mut out)?;
@@ -59,6 +63,7 @@ fn lines_of(alloc: Global, text: &[u8]) -> Result<Vec<&str>, AllocError> {
 /// Appends the whole picture.
 fn append_picture(sheet: &Sheet<'_>, out: &mut String) -> Result<(), AllocError> {
     append_front(sheet, out)?;
+    append_first(sheet, out)?;
     append_grid(sheet, out)?;
     append_lanes(sheet, out)?;
     append_settles(sheet, out)?;
@@ -71,8 +76,8 @@ fn append_picture(sheet: &Sheet<'_>, out: &mut String) -> Result<(), AllocError>
 
 /// Appends what comes before all marks.
 fn append_front(sheet: &Sheet<'_>, out: &mut String) -> Result<(), AllocError> {
-    let steps = sheet.scene.marks.len();
-    let (width, height) = (width_of(steps), height_of(sheet.names().len()));
+    let (steps, members) = (sheet.scene.marks.len(), sheet.names().len());
+    let (width, height) = (width_of(members), height_of(steps, members));
     writeln!(
         out,
         "<svg xmlns=\"http://www.w3.org/2000/svg\" width=\"{width}\" height=\"{height}\" viewBox=\"0 0 {width} {height}\">"
@@ -88,24 +93,33 @@ fn append_front(sheet: &Sheet<'_>, out: &mut String) -> Result<(), AllocError> {
     )
 }
 
-/// Appends a faint line down from the head of each step.
+/// Appends the first moment of a clock, in whole.
+fn append_first(sheet: &Sheet<'_>, out: &mut String) -> Result<(), AllocError> {
+    match sheet.first {
+        Some(first) => {
+            out.push_str("<text class=\"dim\" x=\"8\" y=\"24\">from ")?;
+            out.push_str(write_moment(first).as_str())?;
+            out.push_str("</text>\n")
+        }
+        None => Ok(()),
+    }
+}
+
+/// Appends a faint line for each step, up to its words.
 fn append_grid(sheet: &Sheet<'_>, out: &mut String) -> Result<(), AllocError> {
-    let Some(last) = sheet.names().len().checked_sub(1) else {
-        return Ok(());
-    };
     for column in 0..sheet.scene.marks.len() {
-        append_grid_line(out, column, last as u64)?;
+        append_grid_line(out, column, sheet.names().len())?;
     }
     Ok(())
 }
 
-fn append_grid_line(out: &mut String, column: usize, last: u64) -> Result<(), AllocError> {
-    let x = middle_of(column);
+fn append_grid_line(out: &mut String, column: usize, members: usize) -> Result<(), AllocError> {
+    let y = middle_of(column);
     let stroke = Stroke {
-        x1: x,
-        y1: 70,
-        x2: x,
-        y2: lane_of(last),
+        x1: lane_of(0),
+        y1: y,
+        x2: words_of(members),
+        y2: y,
     };
     open_stroke(out, "grid", &stroke)?;
     out.push_str("</line>\n")
@@ -113,39 +127,40 @@ fn append_grid_line(out: &mut String, column: usize, last: u64) -> Result<(), Al
 
 /// Appends what comes behind all marks.
 fn append_back(sheet: &Sheet<'_>, out: &mut String) -> Result<(), AllocError> {
-    let y = height_of(sheet.names().len());
+    let y = height_of(sheet.scene.marks.len(), sheet.names().len());
     writeln!(
         out,
-        "<g transform=\"translate(8 {y})\"><text class=\"dim\" y=\"-10\">{LEGEND}</text></g>\n</svg>"
+        "<g transform=\"translate(8 {y})\"><text class=\"dim\" y=\"-32\">{FRAMES}</text><text class=\"dim\" y=\"-10\">{LANES}</text></g>\n</svg>"
     )
 }
 
-const LEGEND: &str =
-    "arrow: a frame, from its sending to a delivery · dashed: still in flight · cross: lost · gap: stopped · red: uncalm from there on";
+const FRAMES: &str =
+    "arrow: a frame, from its sending to a delivery · dashed: still in flight · cross: lost";
+
+const LANES: &str = "gap: stopped · red: uncalm from there on, or notified once more";
 
 const STYLE: &str = "<style>
-text{font:11px monospace;fill:#24292f}
+text{font:16px monospace;fill:#24292f}
 line{stroke-linecap:round}
 .ground{fill:#ffffff}
 .grid{stroke:#eaeef2}
 .lane{stroke:#8c959f;stroke-width:2}
 .lane.bad{stroke:#cf222e;stroke-width:3}
 .settle{stroke:#8250df;stroke-width:6;stroke-opacity:.35}
-.frame{fill:none;stroke:#0969da;stroke-width:1.2}
+.frame{fill:none;stroke:#0969da;stroke-width:1.5}
 .tip{marker-end:url(#tip)}
 .fly{stroke-dasharray:4 4}
 #tip path{fill:#0969da}
 .mark circle{fill:#24292f}
 .no circle{fill:#ffffff;stroke:#cf222e;stroke-width:2}
+.again circle{fill:#cf222e}
 .cross{stroke:#cf222e;stroke-width:2}
-.mark text,.head{text-anchor:middle}
-.mark .left{text-anchor:end}
-.mark .right{text-anchor:start}
-.mark text,.fault{paint-order:stroke;stroke:#ffffff;stroke-width:3px;stroke-linejoin:round}
+.name{text-anchor:middle}
+.fault{text-anchor:end;paint-order:stroke;stroke:#ffffff;stroke-width:3px;stroke-linejoin:round}
 .head,.dim{fill:#57606a}
-.name{font-weight:bold}
+.name,.who{font-weight:bold}
 .good{fill:#1a7f37}
-.bad,.fault,.no text{fill:#cf222e}
+.bad,.fault,.no text,.again text{fill:#cf222e}
 @media (prefers-color-scheme:dark){
 text{fill:#e6edf3}
 .ground{fill:#0d1117}
@@ -157,11 +172,12 @@ text{fill:#e6edf3}
 #tip path{fill:#58a6ff}
 .mark circle{fill:#e6edf3}
 .no circle{fill:#0d1117;stroke:#ff7b72}
+.again circle{fill:#ff7b72}
 .cross{stroke:#ff7b72}
-.mark text,.fault{stroke:#0d1117}
+.fault{stroke:#0d1117}
 .head,.dim{fill:#9198a1}
 .good{fill:#56d364}
-.bad,.fault,.no text{fill:#ff7b72}
+.bad,.fault,.no text,.again text{fill:#ff7b72}
 }
 </style>
 <defs><marker id=\"tip\" viewBox=\"0 0 8 8\" refX=\"12\" refY=\"4\" markerWidth=\"8\" markerHeight=\"8\" markerUnits=\"userSpaceOnUse\" orient=\"auto\"><path d=\"M0 0L8 4L0 8z\"/></marker></defs>

@@ -6,16 +6,21 @@ use crate::escape::{append_escaped, append_shortened};
 use crate::scene::Scene;
 use am_cluster::Cluster;
 use am_instance::Place;
+use am_schedule::{Line, Schedule};
+use am_version_order::Moment;
 use am_wire::Text;
 use std::alloc::{AllocError, Global};
 
-/// What a picture is drawn of: the cluster as it stands at the end, what was played, and the lines of the text.
+/// What a picture is drawn of: the schedule, the cluster as it stands at the end, what was played, the lines of the text, and
+/// the first moment of a clock.
 #[derive(Clone, Copy)]
 pub struct Sheet<'a> {
     pub alloc: Global,
+    pub schedule: &'a Schedule,
     pub cluster: &'a Cluster,
     pub scene: &'a Scene,
     pub lines: &'a [&'a str],
+    pub first: Option<Moment>,
 }
 
 impl<'a> Sheet<'a> {
@@ -32,6 +37,14 @@ impl<'a> Sheet<'a> {
         match self.names().get(place as usize) {
             Some(name) => name.as_str(),
             None => "",
+        }
+    }
+
+    /// The step of a number, counted from 0.
+    pub fn step(&self, column: usize) -> Option<&'a Line> {
+        match self.schedule.lines.as_slice().get(column) {
+            Some((line, _)) => Some(line),
+            None => None,
         }
     }
 
@@ -62,13 +75,13 @@ pub fn open_stroke(out: &mut String, class: &str, stroke: &Stroke) -> Result<(),
     )
 }
 
-/// Appends a line from one cursor to another that is the steeper the nearer it comes, up to what it holds.
+/// Appends a line from one cursor to another that is the flatter the nearer it comes, up to what it holds.
 pub fn open_curve(out: &mut String, class: &str, stroke: &Stroke) -> Result<(), AllocError>
-    requires x { stroke.now.x1 + 3 * stroke.now.x2 < 2 ^ 64 }
-    requires y { 3 * stroke.now.y1 + stroke.now.y2 < 2 ^ 64 }
+    requires x { 3 * stroke.now.x1 + stroke.now.x2 < 2 ^ 64 }
+    requires y { stroke.now.y1 + 3 * stroke.now.y2 < 2 ^ 64 }
 {
     let (x1, y1, x2, y2) = (stroke.x1, stroke.y1, stroke.x2, stroke.y2);
-    let (x, y) = ((x1 + 3 * x2) / 4, (3 * y1 + y2) / 4);
+    let (x, y) = ((3 * x1 + x2) / 4, (y1 + 3 * y2) / 4);
     write!(
         out,
         "<path class=\"{class}\" d=\"M{x1} {y1}Q{x} {y} {x2} {y2}\">"
