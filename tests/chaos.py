@@ -61,7 +61,7 @@ OPTIONS = ["--time-limit", str(TIME_LIMIT)]
 OPTIONS += [word for what in ("tick", "pull", "save") for word in (f"--{what}-every", str(EVERY))]
 AGAIN = ["--pull-first", "--pull-first-limit", str(FIRST)]
 
-# Signals that stop a member are blocked, as docs/OPERATING.md has it, and too large files are a fault of the write.
+# Signals that stop a member are blocked, as docs/MEMBERS.md has it, and too large files are a fault of the write.
 STARTED_BY = ["env", "--block-signal=TERM", "--block-signal=INT", "--ignore-signal=XFSZ"]
 
 # Freezes a process as soon as one of four files is there. (Python is too slow for that.)

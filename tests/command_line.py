@@ -37,7 +37,9 @@ Commands:
   fold      Reads a row of versions, and writes the one that counts of each key, in key order
   show      Reads a snapshot, and prints a line for each version that is live, in key order
   diff      Reads what several replicas hold, and prints in key order at which keys they differ, and which of them counts
-  instance  Runs one member: serves the silences of API v2 to people and tools, and frames to its peers, on 127.0.0.1
+  pull      Reads a state of a running Alertmanager by its gossip, and writes it as a snapshot, in key order
+  push      Sends a running Alertmanager by its gossip those of the versions on standard input that it lacks, and tells which it doesn't hold then
+  instance  Runs one member: serves the silences of API v2 to people and tools, and frames to its peers
   help      Print this message or the help of the given subcommand(s)
 
 Options:
@@ -97,7 +99,7 @@ DIFF_HELP = """Reads what several replicas hold, and prints in key order at whic
 Usage: am_tool diff [OPTIONS] --state <STATE> <SOURCE>...
 
 Arguments:
-  <SOURCE>...  NAME=FILE, cut at its first '=', or FILE, which is then its own name; '-' is standard input, and http://HOST:PORT a server, perhaps with a path; 2 to 16 of them
+  <SOURCE>...  NAME=FILE, cut at its first '=', or FILE, which is then its own name; '-' is standard input, gossip://HOST:PORT an Alertmanager asked by its gossip, and http://HOST:PORT a server, perhaps with a path; 2 to 16 of them
 
 Options:
       --state <STATE>   The state that the sources are of: silences or the notification log [possible values: sil, nfl]
@@ -113,6 +115,9 @@ Of each key that differs there is a line for each group of sources that hold the
 greatest version, which counts, then those that are behind, and by what (update, expiry or bytes), and then those that
 hold nothing.
 
+By gossip://HOST:PORT, where it listens for other replicas, an Alertmanager tells all it holds, so it is compared as its files
+are, and takes no notice.
+
 A server is a member or an Alertmanager, at an address of IPv4, of IPv6 in brackets, or localhost: what it lists at
 /api/v2/silences, below the path, is compared. Beside a server all sources are compared by what API v2 shows of them: moments are cut to
 milliseconds, and a silence counts until its end.
@@ -120,46 +125,102 @@ milliseconds, and a silence counts until its end.
 The status is 0 where nothing is different, and 5 where something is.
 
 Examples:
+  am_tool diff --state nfl a=gossip://10.0.0.1:9094 b=gossip://10.0.0.2:9094
   am_tool diff --state sil a=http://127.0.0.1:9093 b=http://10.0.0.2:9093 c=c.sil
   am_tool diff --state sil --long a=a.sil b=b.sil c=c.sil
   am_tool diff --state sil --log a=a.sil b=b.sil
   ssh b cat b.nfl | am_tool diff --state nfl --held a=a.nfl b=-
   am_tool diff --state sil --json a=a.sil b=b.sil | jq -r '.[].key.id'
 """
-INSTANCE_HELP = r"""Runs one member: serves the silences of API v2 to people and tools, and frames to its peers, on 127.0.0.1
+REPLICA_HELP = """  <REPLICA>  gossip://HOST:PORT, where the replica listens for others (--cluster.listen-address), with an address of IPv4, of IPv6 in brackets, or localhost
+"""
 
-Usage: am_tool instance [OPTIONS] --name <NAME> --listen <PORT> --sil <FILE> --nfl <FILE>
+PULL_HELP = f"""Reads a state of a running Alertmanager by its gossip, and writes it as a snapshot, in key order
+
+Usage: am_tool pull [OPTIONS] --state <STATE> <REPLICA>
+
+Arguments:
+{REPLICA_HELP}
+Options:
+      --state <STATE>   The state that is read: silences or the notification log [possible values: sil, nfl]
+      --time-limit <S>  For how many seconds a connection to the replica may last, 1 to 3600 [default: 10]
+  -h, --help            Print help
+
+The replica is asked as other replicas ask it, and takes no notice: no member is added to its cluster. A cluster with TLS between
+its replicas is not asked.
+
+Examples:
+  am_tool pull --state sil gossip://10.0.0.1:9094 > a.sil
+  am_tool pull --state nfl gossip://localhost:9094 | am_tool show --state nfl
+"""
+
+PUSH_HELP = f"""Sends a running Alertmanager by its gossip those of the versions on standard input that it lacks, and tells which it doesn't hold then
+
+Usage: am_tool push [OPTIONS] --state <STATE> <REPLICA>
+
+Arguments:
+{REPLICA_HELP}
+Options:
+      --state <STATE>   The state that the versions are of: silences or the notification log [possible values: sil, nfl]
+      --now <MOMENT>    The moment, in nanoseconds since 1970 or as 2026-11-26T12:00:00Z; without it, the clock's
+      --dry-run         Sends nothing, and tells what it would send
+      --time-limit <S>  For how many seconds a connection to the replica may last, 1 to 3600 [default: 10]
+  -h, --help            Print help
+
+The replica is asked first what it holds. What is greater in the input is sent, and what the replica lacks, each key once, with
+the bytes that were read; a version that was updated after the moment is not, since it would block others until then. Then the
+replica is asked again. Lines tell which versions were sent, which are later than the moment, and which the replica refused: by
+expiry, which is past, by tie, where what it holds was updated at the same moment, or by replica, which has another cause.
+
+The status is 0 where the replica holds all of them or greater ones, and 5 where it doesn't. With --dry-run it is 5 where
+something would be sent.
+
+Examples:
+  cat a.sil b.sil c.sil | am_tool fold --state sil --now 0 | am_tool push --state sil gossip://10.0.0.1:9094
+  am_tool push --state nfl --dry-run gossip://10.0.0.1:9094 < all.nfl
+"""
+
+INSTANCE_HELP = r"""Runs one member: serves the silences of API v2 to people and tools, and frames to its peers
+
+Usage: am_tool instance [OPTIONS] --name <NAME> --listen <ADDRESS:PORT> --sil <FILE> --nfl <FILE>
 
 Options:
-      --name <NAME>              Its name among the members, 1 to 255 bytes
-      --listen <PORT>            The port at which it listens, 1 to 65535, for HTTP and for the frames of peers alike
-      --peer <NAME=PORT>         Another member and the port at which it listens, cut at the last '='; any number of times
-      --host <NAME>              A name by which it is asked beside 127.0.0.1 and localhost, as that of a proxy; any number of times. Under any other it answers 403, and so it does the page of another site
-      --sil <FILE>               The file of the silences; where there is none, it holds none
-      --nfl <FILE>               The file of the notification log; where there is none, it is empty
-      --retention <S>            For how many seconds a silence is kept after its end, 1 to 999999999 [default: 432000]
-      --peer-timeout <S>         For how many seconds members wait for one another before they notify, 1 to 999999999 [default: 15]
-      --connections <N>          After how many connections it saves both files and ends, 1 to 18446744073709551615; without it, it goes on
-      --time-limit <S>           For how many seconds a connection may last, of a client or to a peer, 1 to 3600 [default: 5]
-      --at-once <N>              How many connections it serves at once, 1 to 65535; one that comes beyond gets the place of the one on which nothing has moved for longest [default: 256]
-      --waiting <N>              How many requests for a decision wait for its turn, 1 to 65535, and no more than half of --at-once; one that comes beyond is answered 503 [default: 128]
-      --most-unfinished <BYTES>  How many bytes of unfinished requests and frames it keeps in all, 1 to 18446744073709551615; beyond, the connection that has most of them is closed [default: 134217728]
-      --most-bytes <BYTES>       How many bytes a file may have, of the silences or of the log, 1 to 4294967295; a post for which there is no room is answered 500 [default: 1073741824]
-      --lines-a-second <N>       How many lines of one kind of fault it prints in a second, 1 to 65535; further ones are counted in a line [default: 10]
-      --tick-every <S>           Ticks by itself every so many seconds, 1 to 999999999: drops what has expired, and saves both files
-      --pull-every <S>           Asks each peer for all it has every so many seconds, 1 to 999999999, and says at the start which spread and flight time that keeps
-      --save-every <S>           Saves both files every so many seconds, 1 to 999999999, where something may have changed
-      --log                      Keeps a log beside each file, and has all it takes there, on the disk, before it is answered or sent on
-      --pull-first               Answers no request, and no peer that asks for all, before a peer has sent all it has
-      --pull-first-limit <S>     For how many seconds --pull-first waits at the most, 1 to 999999999 [default: 30]
-      --stop-at-input-end        Saves both files and ends where standard input ends
-      --least-repeat <S>         The smallest repeat interval in seconds, 1 to 999999999: warns where --pull-every asks for more
-  -h, --help                     Print help
+      --name <NAME>                  Its name among the members, 1 to 255 bytes
+      --listen <ADDRESS:PORT>        The address at which it listens, for HTTP and for the frames of peers alike, as 10.0.0.1:9093 or [::1]:9093; a port alone is one of 127.0.0.1
+      --peer <NAME=ADDRESS:PORT>     Another member and the address at which it listens, or its port alone on 127.0.0.1, cut at the last '='; any number of times
+      --peers-listen <ADDRESS:PORT>  The address at which it listens for the frames of peers, and for nothing else; --listen then hears no frames
+      --secret <FILE>                The file of a secret that all members have, 16 to 4096 bytes: frames go out sealed by it, and others are refused
+      --open-peers                   Hears frames without --secret also at an address that other machines reach: whoever reaches it can change silences
+      --host <NAME>                  A name by which it is asked beside 127.0.0.1, localhost and the address of --listen, as that of a proxy; any number of times. Under any other it answers 403, and so it does the page of another site
+      --sil <FILE>                   The file of the silences; where there is none, it holds none
+      --nfl <FILE>                   The file of the notification log; where there is none, it is empty
+      --retention <S>                For how many seconds a silence is kept after its end, 1 to 999999999 [default: 432000]
+      --peer-timeout <S>             For how many seconds members wait for one another before they notify, 1 to 999999999 [default: 15]
+      --connections <N>              After how many connections it saves both files and ends, 1 to 18446744073709551615; without it, it goes on
+      --time-limit <S>               For how many seconds a connection may last, of a client or to a peer, 1 to 3600 [default: 5]
+      --at-once <N>                  How many connections it serves at once, 1 to 65535; one that comes beyond gets the place of the one on which nothing has moved for longest [default: 256]
+      --waiting <N>                  How many requests for a decision wait for its turn, 1 to 65535, and no more than half of --at-once; one that comes beyond is answered 503 [default: 128]
+      --most-unfinished <BYTES>      How many bytes of unfinished requests and frames it keeps in all, 1 to 18446744073709551615; beyond, the connection that has most of them is closed [default: 134217728]
+      --most-bytes <BYTES>           How many bytes a file may have, of the silences or of the log, 1 to 4294967295; a post for which there is no room is answered 500 [default: 1073741824]
+      --lines-a-second <N>           How many lines of one kind of fault it prints in a second, 1 to 65535; further ones are counted in a line [default: 10]
+      --tick-every <S>               Ticks by itself every so many seconds, 1 to 999999999: drops what has expired, and saves both files
+      --pull-every <S>               Asks each peer for all it has every so many seconds, 1 to 999999999, and says at the start which spread and flight time that keeps
+      --save-every <S>               Saves both files every so many seconds, 1 to 999999999, where something may have changed
+      --log                          Keeps a log beside each file, and has all it takes there, on the disk, before it is answered or sent on
+      --pull-first                   Answers no request, and no peer that asks for all, before a peer has sent all it has
+      --pull-first-limit <S>         For how many seconds --pull-first waits at the most, 1 to 999999999 [default: 30]
+      --stop-at-input-end            Saves both files and ends where standard input ends
+      --least-repeat <S>             The smallest repeat interval in seconds, 1 to 999999999: warns where --pull-every asks for more
+  -h, --help                         Print help
 
 Without --tick-every, what has expired is dropped, and both files are saved, when a peer sends a Tick frame, and when the
 member ends: after --connections, at --stop-at-input-end, or by SIGTERM or SIGINT where it was started with them blocked:
   env --block-signal=TERM --block-signal=INT am_tool instance --name a --listen 9101 --peer b=9102 \
     --sil a.sil --nfl a.nfl --tick-every 60 --pull-every 60 --save-every 5 --pull-first
+Three machines, a on 10.0.0.1, b on 10.0.0.2 and c on 10.0.0.3, each with the same file of a secret; this is a:
+  head -c 32 /dev/urandom | base64 > members.secret && chmod 600 members.secret
+  am_tool instance --name a --listen 127.0.0.1:9093 --peers-listen 10.0.0.1:9094 --secret members.secret \
+    --peer b=10.0.0.2:9094 --peer c=10.0.0.3:9094 --sil a.sil --nfl a.nfl --tick-every 60 --pull-every 60 --pull-first
 A Tick is a greeting with a peer's name and the bytes 4 and 0, sent to the port; for a peer b:
   printf '\0\1b\4\0' >/dev/tcp/127.0.0.1/PORT
 """
@@ -169,7 +230,7 @@ NEXT = ORDERS.count(b"\n") + 1
 MOST = 1 << 24
 
 INSTANCE_USAGE = (
-    "\nUsage: am_tool instance --name <NAME> --listen <PORT> --sil <FILE> --nfl <FILE>\n"
+    "\nUsage: am_tool instance --name <NAME> --listen <ADDRESS:PORT> --sil <FILE> --nfl <FILE>\n"
     "\nFor more information, try '--help'.\n"
 )
 
@@ -311,6 +372,8 @@ CASES = [
     (["help", "show"], b"", 0, SHOW_HELP.encode(), ""),
     (["diff", "--help"], b"", 0, DIFF_HELP.encode(), ""),
     (["help", "diff"], b"", 0, DIFF_HELP.encode(), ""),
+    (["pull", "--help"], b"", 0, PULL_HELP.encode(), ""),
+    (["push", "--help"], b"", 0, PUSH_HELP.encode(), ""),
     (["show"], b"", 2, b"", MISSING.replace(FOLD_WANTS, SHOW_USAGE.replace("[OPTIONS] ", "")).format("  --state <STATE>\n")),
     (SHOW + ["0", "extra"], b"", 3, b"", "am_tool: extra File NotFound\n"),
     (SHOW + ["0", "-", "extra"], b"", 2, b"", UNEXPECTED.format("extra") + SHOW_USAGE),
@@ -337,7 +400,7 @@ CASES = [
         b"",
         2,
         b"",
-        BAD_SOURCES.format("HOST:PORT is no source: a server is http://HOST:PORT, and a file of that name ./HOST:PORT"),
+        BAD_SOURCES.format("HOST:PORT is no source: a server is http://HOST:PORT, a replica asked by its gossip gossip://HOST:PORT, and a file of that name ./HOST:PORT"),
     ),
     (
         ["diff", "--state", "sil", "a", "b=http://am.example:9093"],
@@ -355,7 +418,7 @@ CASES = [
         2,
         b"",
         MISSING.replace(FOLD_WANTS, INSTANCE_USAGE).format(
-            "  --name <NAME>\n  --listen <PORT>\n  --sil <FILE>\n  --nfl <FILE>\n"
+            "  --name <NAME>\n  --listen <ADDRESS:PORT>\n  --sil <FILE>\n  --nfl <FILE>\n"
         ),
     ),
     # words that are not UTF-8

@@ -1,15 +1,17 @@
 #!/usr/bin/env python3
-"""Runs the commands of README.md and docs/OPERATING.md, so that none goes stale.
+"""Runs the commands of README.md and of the pages of docs/ that operators read, and checks all pages, so that none goes stale.
 
     tests/documents.py [PROGRAM]
 
-PROGRAM is crates/am_tool/out/am_tool if it isn't given. A block below a line `<!-- run -->` is given to bash, and has to end
-with status 0; one below `<!-- prints -->` is what the block before it printed, and one below `<!-- prints among others -->`
+PROGRAM is crates/am_tool/out/am_tool if it isn't given. A block below a line `<!--run-->` is given to bash, and has to end
+with status 0; one below `<!--prints-->` is what the block before it printed, and one below `<!--prints among others-->`
 are lines of that, in this order. The blocks of a document are run one after the other in one folder, where the files stand
 that the documents speak of. Status 5 of `am_tool diff`, that something differs, is none here, and `am_tool build` builds
 nothing. The ports of members are free ones. Blocks with curl or amtool are left out where these are not there. Each command of
 README.md has to stand in a block that is run, and samples/ has to be what tests/samples.py writes. Each block of Rust in
-docs/LIBRARY.md has to stand in a source of am_cases, am_part_cases or am_member. The last line says how many passed.
+docs/library/ has to stand in a source of crates/, whose crates the gate proves, and docs/PROOFS.md has to be what
+docs/promises.py makes. Each page has a budget of words, and links to what is there; no carrier, a word for every sense, is
+more frequent in it than once in a hundred words. The last line says how many passed.
 """
 
 import glob
@@ -29,9 +31,37 @@ from samples import REPLICAS, sample
 from tally import check, compare, count, finish
 from versions import row
 
-DOCUMENTS = ["README.md", "docs/OPERATING.md"]
+DOCUMENTS = ["README.md", "docs/MEND.md", "docs/MEMBERS.md"]
 
-MARK = re.compile(r"<!-- (run|prints|prints among others) -->")
+# How many words each page may have, as `wc -w` counts them, and all of docs/ and bench/ together.
+BUDGETS = {
+    "README.md": 600,
+    "docs/NIGHT.md": 450,
+    "docs/MEND.md": 1_200,
+    "docs/MEMBERS.md": 2_500,
+    "docs/FORMATS.md": 5_300,
+    "docs/MODEL.md": 3_000,
+    "docs/PROOFS.md": 3_000,
+    "docs/DECISIONS.md": 2_500,
+    "docs/MAP.md": 1_300,
+    "docs/CHANGING.md": 1_000,
+    "docs/CASES.md": 800,
+    "docs/LIBRARY.md": 150,
+    "docs/library/am_merge.md": 400,
+    "docs/library/am_snapshot.md": 400,
+    "docs/library/am_instance.md": 400,
+    "docs/library/am_member.md": 400,
+    "docs/library/am_cluster.md": 400,
+    "bench/README.md": 250,
+    "bench/RESULTS.md": 1_500,
+}
+WHOLE_BUDGET = 20_000
+
+# Words that carry every sense, and so none.
+CARRIERS = ["what", "where", "stands?", "(?:is|are) told", "tells?", "comes?", "goes?"]
+WORDS_A_CARRIER = 100
+
+MARK = re.compile(r"<!--(run|prints|prints among others)-->")
 PORT = re.compile(r"\b910[123]\b")
 
 # What only some machines have.
@@ -91,8 +121,8 @@ def prepare(folder):
         for file, data in (("silences", sample(replica)), ("nflog", row("nfl", LOG[replica]))):
             with open(f"{folder}/am{place}/{file}", "wb") as out:
                 out.write(data)
-    os.makedirs(f"{folder}/crates/am_tool")
-    for name in ("samples", "crates/am_tool/stdin"):
+    os.mkdir(f"{folder}/docs")
+    for name in ("samples", "docs/pictures"):
         os.symlink(f"{TOP}/{name}", f"{folder}/{name}")
     with open(f"{folder}/am_tool", "w", encoding="utf-8") as out:
         out.write(WRAPPER.format(program=members.program))
@@ -163,11 +193,71 @@ def content(path):
 
 
 def test_quotes():
-    """What docs/LIBRARY.md quotes is code."""
-    files = glob.glob(f"{TOP}/crates/am_*cases/src/**/*.rt", recursive=True) + glob.glob(f"{TOP}/crates/am_member/src/*.rt")
-    sources = [content(it) for it in files]
-    for block in re.findall(r"```rust\n(.*?)```", content(f"{TOP}/docs/LIBRARY.md"), re.DOTALL):
-        check("docs/LIBRARY.md", any(block in it for it in sources), block)
+    """What docs/library/ quotes is code."""
+    sources = [content(it) for it in glob.glob(f"{TOP}/crates/*/src/**/*.rt", recursive=True)]
+    for page in glob.glob(f"{TOP}/docs/library/*.md"):
+        quotes = re.findall(r"```rust\n(.*?)```", content(page), re.DOTALL)
+        check(page, quotes and all(any(it in source for source in sources) for it in quotes), quotes)
+
+
+def test_promises():
+    """docs/PROOFS.md is made from the marks beside the clauses."""
+    ran = subprocess.run([sys.executable, f"{TOP}/docs/promises.py"], capture_output=True, text=True)
+    check("docs/promises.py", ran.returncode == 0, ran.stderr)
+    compare("docs/PROOFS.md (docs/promises.py --write makes it)", content(f"{TOP}/docs/PROOFS.md"), ran.stdout)
+
+
+def plain(page):
+    """The text of a page without blocks and words of code, and without targets of links."""
+    lines = [it for it in re.sub(r"```.*?```", "", page, flags=re.DOTALL).split("\n") if not it.startswith("    ")]
+    return re.sub(r"\]\([^)]*\)", "]", re.sub(r"`[^`]*`", "`", "\n".join(lines)))
+
+
+def anchors(page):
+    """The anchors of a page's headings, as GitHub makes them."""
+    headings = re.findall(r"^#+ (.*)$", plain(page), re.MULTILINE)
+    return {re.sub(r"[^\w\- ]", "", it.lower()).replace(" ", "-") for it in headings}
+
+
+def broken_links(path, page):
+    found = []
+    for target in re.findall(r"\]\(([^)\s]+)\)", page):
+        file, _, anchor = target.partition("#")
+        if "://" in target:
+            continue
+        at = os.path.normpath(os.path.join(TOP, os.path.dirname(path), file)) if file else f"{TOP}/{path}"
+        if not os.path.exists(at) or (anchor and anchor not in anchors(content(at))):
+            found.append(target)
+    return found
+
+
+SOURCE = re.compile(r"\bam_\w+/src/[\w/]+\.rt\b")
+
+
+def test_sources():
+    """Each source that docs/MAP.md names is there, and each crate is named."""
+    page = content(f"{TOP}/docs/MAP.md")
+    compare("sources of docs/MAP.md that are not there", [it for it in SOURCE.findall(page) if not os.path.exists(f"{TOP}/crates/{it}")], [])
+    crates = [it for it in sorted(os.listdir(f"{TOP}/crates")) if os.path.isdir(f"{TOP}/crates/{it}/src")]
+    compare("crates that docs/MAP.md doesn't name", [it for it in crates if not re.search(rf"\b{it}\b", page)], [])
+
+
+def test_pages():
+    """Each page keeps to its budget, links to what is there, and says what it means."""
+    here = [*glob.glob(f"{TOP}/docs/**/*.md", recursive=True), *glob.glob(f"{TOP}/bench/*.md"), f"{TOP}/README.md"]
+    compare("pages that have a budget", sorted(BUDGETS), sorted(os.path.relpath(it, TOP) for it in here))
+    counts = {path: len(content(f"{TOP}/{path}").split()) for path in BUDGETS}
+    for path, count_of in counts.items():
+        check(f"{path}: at most {BUDGETS[path]} words", count_of <= BUDGETS[path], count_of)
+        page = content(f"{TOP}/{path}")
+        compare(f"{path}: broken links", broken_links(path, page), [])
+        words = plain(page)
+        for carrier in CARRIERS:
+            found = len(re.findall(rf"\b(?:{carrier})\b", words, re.IGNORECASE))
+            most = max(1, count_of // WORDS_A_CARRIER)
+            check(f"{path}: '{carrier}' at most {most} times", found <= most, found)
+    whole = sum(it for path, it in counts.items() if path != "README.md")
+    check(f"docs/ and bench/: at most {WHOLE_BUDGET} words", whole <= WHOLE_BUDGET, whole)
 
 
 def main():
@@ -175,6 +265,9 @@ def main():
     test_every_command()
     test_samples()
     test_quotes()
+    test_promises()
+    test_sources()
+    test_pages()
     for path in DOCUMENTS:
         count(any(blocks(path)))
         with tempfile.TemporaryDirectory() as folder:

@@ -5,7 +5,7 @@
 
 PROGRAM is crates/am_tool/out/am_tool if it isn't given. Members tick, pull and save by themselves, pull before they
 answer, stop by a signal and where their input ends, and serve one client beside hundreds that say nothing. What is wanted is
-written by hand, from docs/FORMATS.md and docs/OPERATING.md.
+written by hand, from docs/FORMATS.md and docs/MEMBERS.md.
 """
 
 import contextlib

@@ -8,7 +8,7 @@ one file, a stop and the time limit come while nothing is answered yet, the cloc
 no file stand in a file's place, faults and silent clients come by the hundred and the thousand, pages of other sites ask,
 frames ask for more than is good for anybody, requests have many patterns, and states are full, or of over 64 MiB.
 tests/system.c stands between a member and the C library. What is wanted is written by hand, from docs/FORMATS.md and
-docs/OPERATING.md.
+docs/MEMBERS.md.
 """
 
 import contextlib

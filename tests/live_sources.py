@@ -4,7 +4,7 @@
     tests/live_sources.py [PROGRAM]
 
 PROGRAM is crates/am_tool/out/am_tool if it isn't given. What is wanted is written by hand, from docs/FORMATS.md and
-docs/OPERATING.md. The last line says how many passed.
+docs/MEND.md. The last line says how many passed.
 """
 
 import contextlib

@@ -7,7 +7,7 @@ PROGRAM is crates/am_tool/out/am_tool if it isn't given. Health, readiness, stat
 heads, HEAD, other methods, foreign hosts; readiness while a first pull is waited for; figures that have to move. The text of
 the figures is read by a reader that was written from the format's rules, and by promtool where that is there. Alerting rules,
 the units, the completions and `am_tool install` are tried too. What is wanted is written by hand, from docs/FORMATS.md and
-docs/OPERATING.md. What can't be tried here for want of a tool is told in a line.
+docs/MEMBERS.md. What can't be tried here for want of a tool is told in a line.
 """
 
 import datetime
@@ -138,8 +138,8 @@ def figures(member):
 def documented():
     """The families that docs/FORMATS.md names."""
     text = open(f"{TOP}/docs/FORMATS.md").read()
-    table = text.partition("| Family |")[2].partition("\n\n")[0]
-    return sorted(re.findall(r"^\| `([a-z_]+)[`{]", table, re.M))
+    table = text.partition("\nFamily | ")[2].partition("\n\n")[0]
+    return sorted(re.findall(r"^`([a-z_]+)[`{]", table, re.M))
 
 
 def moment(seconds):
@@ -435,13 +435,10 @@ def test_rules(_folder):
 
 
 def test_unit(_folder):
-    """The unit that stands in docs/OPERATING.md is the one that is installed."""
-    unit = open(f"{TOP}/install/am-member@.service").read()
-    indented = "".join(f"    {it}\n" if it else "\n" for it in unit.rstrip("\n").split("\n"))
-    check("docs/OPERATING.md has the unit", indented in open(f"{TOP}/docs/OPERATING.md").read())
-    upgrade = open(f"{TOP}/install/am-members-upgrade.service").read()
-    indented = "".join(f"    {it}\n" if it else "\n" for it in upgrade.rstrip("\n").split("\n"))
-    check("and the one of an upgrade", indented in open(f"{TOP}/docs/OPERATING.md").read())
+    """docs/MEMBERS.md names the units that are installed, and the one for a member has a bounded exposure."""
+    page = open(f"{TOP}/docs/MEMBERS.md").read()
+    for unit in ("am-member@.service", "am-members-upgrade.service"):
+        check(f"docs/MEMBERS.md names {unit}", f"`{unit}`" in page and os.path.exists(f"{TOP}/install/{unit}"))
     if not shutil.which("systemd-analyze"):
         skip("the unit's exposure", "systemd-analyze")
         return
@@ -479,10 +476,10 @@ def completed(*words):
 
 
 def test_completions(_folder):
-    compare("commands", completed(""), ["replay", "fold", "show", "diff", "instance", "help"])
+    compare("commands", completed(""), ["replay", "fold", "show", "diff", "pull", "push", "instance", "help"])
     compare("a command", completed("ins"), ["instance"])
     compare("options of show", completed("show", "--"), ["--state", "--now", "--json", "--log", "--help"])
-    for command in ("replay", "fold", "show", "diff", "instance"):
+    for command in ("replay", "fold", "show", "diff", "pull", "push", "instance"):
         text = run([command, "--help"])[1].decode()
         wanted = re.findall(r"^ +(?:-\w, )?(--[a-z-]+)", text, re.M)
         compare(f"options of {command}", completed(command, "--"), wanted)

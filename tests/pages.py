@@ -3,7 +3,7 @@
 
     tests/pages.py [--seed N] [--seconds S] [--ignore turn|log] [PROGRAM]
 
-PROGRAM is crates/am_tool/out/am_tool if it isn't given; ./am_tool and rt ci build it. A notifier does what docs/OPERATING.md has
+PROGRAM is crates/am_tool/out/am_tool if it isn't given; ./am_tool and rt ci build it. A notifier does what docs/MEMBERS.md has
 programs do that send pages: it asks its member by `decide`, in its turn, sends a page where the reply says so, and hands the
 reply to `notified`. It does so for each incident by itself, some time after that began and then again and again, as
 Alertmanager does for a group. Incidents begin, change and end at random, and some are silenced, at any member, before they begin.

@@ -1,5 +1,5 @@
 #!/usr/bin/env python3
-"""Has a real Prometheus and a real HAProxy ask a running member, as docs/OPERATING.md says.
+"""Has a real Prometheus and a real HAProxy ask a running member, as docs/MEMBERS.md says.
 
     apt-get install prometheus haproxy
     tests/real_tools.py [PROGRAM]

@@ -6,7 +6,7 @@
 PROGRAM is crates/am_tool/out/am_tool if it isn't given; ./am_tool and rt ci build it. Three members are started at
 free ports. Silences are posted to one by HTTP and read from all; members are made to tick and to pull by frames; one is
 killed and started again from its files. Then each thing that may go wrong is brought about once. Prints each case that
-fails, and at the end how many passed. What is wanted is written by hand, from docs/FORMATS.md and docs/OPERATING.md.
+fails, and at the end how many passed. What is wanted is written by hand, from docs/FORMATS.md and docs/MEMBERS.md.
 """
 
 import calendar
@@ -277,7 +277,8 @@ def test_clients(folder):
     when = r"\d{4}-\d\d-\d\dT\d\d:\d\d:\d\dZ"
     stranger = rf"am_tool: UnknownName: who greeted so is no peer of this member; --peer names those \({when}\)\n"
     compare("a stranger has no name", len(re.findall(stranger, wholes)), 2)
-    cut = rf"am_tool: Frame Kind: no frame begins with this byte; did a peer send it\? \((.*?){when}\)\n"
+    sentence = r"no frame begins with this byte; did a peer send it, or has it a --secret, and this member none\?"
+    cut = rf"am_tool: Frame Kind: {sentence} \((.*?){when}\)\n"
     compare("a peer has", re.findall(cut, wholes), ["", "peer p, "])
     check("the Tick before a fault is a step", eventually(lambda: os.path.exists(member.sil)), member.lines)
     compare("behind which it saves", member.saved("sil"), (0, "", ""))

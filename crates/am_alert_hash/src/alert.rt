@@ -56,6 +56,7 @@ fn ended_pairs(alloc: Global, values: &BTreeMap<&str, &str>) -> Result<Vec<u8>, 
 /// [`AllocError`] where memory runs out. It takes as much as the labels' texts.
 #[tactic(auto, unfolding(crate::specs::Alerts::alert_hash))]
 pub fn alert_hash(alloc: Global, labels: &Labels) -> Result<u64, AllocError>
+    // PROMISE: An alert's hash is XXH64 of its labels in the order of their names.
     ensures { IfOk result (λ hash. hash ≡ alert_hash labels.now) }
 {
     let values = values_by_name(alloc, labels.as_slice())?;

@@ -9,8 +9,8 @@ use Rattle.am_instance.specs.InstanceStates.{AreSilencesLeftBy, InstanceState, I
 use Rattle.am_instance.specs.OneStep.{IsStep}
 use Rattle.am_instance.specs.Replies.{IsNothing, listed}
 use Rattle.am_instance.specs.Steps.{made_here}
-use Rattle.am_instance.specs.declared.error.StepError.{StepError}
-use Rattle.am_instance.specs.declared.error.StepError.TheVariants.{Frame, Memory, MomentBack, UnknownPeer}
+use Rattle.am_refusals.specs.declared.error.StepError.{StepError}
+use Rattle.am_refusals.specs.declared.error.StepError.TheVariants.{Frame, Memory, MomentBack, UnknownPeer}
 use Rattle.am_instance.specs.declared.event.Event.TheVariants as events
 use Rattle.am_instance.specs.declared.reply.Made.{Made}
 use Rattle.am_instance.specs.declared.reply.Outcome.{Outcome}

@@ -6,7 +6,7 @@ use Rattle.am_decision_json.specs.declared.message.Alert.{Alert}
 use Rattle.am_http.specs.Lines.{RefusalLine}
 use Rattle.am_instance.specs.InstanceStates.{InstanceState, entry_at, silence_at}
 use Rattle.am_instance.specs.OneStep.{IsStep}
-use Rattle.am_instance.specs.declared.error.StepError.{StepError}
+use Rattle.am_refusals.specs.declared.error.StepError.{StepError}
 use Rattle.am_instance.specs.declared.event.Event.TheVariants as events
 use Rattle.am_instance.specs.declared.reply.Outcome.{Outcome}
 use Rattle.am_instance.specs.declared.reply.Reply.{Reply}

@@ -4,8 +4,8 @@ use Rattle.am_decision_json.specs.declared.key.MessageKey.{MessageKey}
 use Rattle.am_decision_json.specs.Keys.{key_text}
 use Rattle.am_http.specs.Lines.{RefusalLine, line}
 use Rattle.am_api_silences.specs.Table.{clock_line, memory_line}
-use Rattle.am_instance.specs.declared.error.StepError.{StepError}
-use Rattle.am_instance.specs.declared.error.StepError.TheVariants.{MomentBack, Frame}
+use Rattle.am_refusals.specs.declared.error.StepError.{StepError}
+use Rattle.am_refusals.specs.declared.error.StepError.TheVariants.{MomentBack, Frame}
 use Rattle.am_api_decisions.specs.declared.cause.Cause.{Cause}
 use Rattle.am_api_decisions.specs.declared.cause.Cause.TheVariants.{NoSuchPath, MethodNotAllowed, BadQuery, BadJson, BadMessage, Memory}
 use Rattle.am_api_decisions.specs.declared.cause.Resource.{Resource}

@@ -9,7 +9,7 @@ use Rattle.am_decision_json.specs.declared.answer.Why.TheVariants as whys
 use Rattle.am_http.specs.Lines.{RefusalLine}
 use Rattle.am_instance.specs.InstanceStates.{InstanceState}
 use Rattle.am_instance.specs.OneStep.{IsStep}
-use Rattle.am_instance.specs.declared.error.StepError.{StepError}
+use Rattle.am_refusals.specs.declared.error.StepError.{StepError}
 use Rattle.am_instance.specs.declared.event.Event.{Event}
 use Rattle.am_instance.specs.declared.event.Event.TheVariants as events
 use Rattle.am_instance.specs.declared.reply.Outcome.{Outcome}

@@ -79,6 +79,7 @@ fn asked_in(alloc: Global, request: &Request) -> Result<Asked, Cause>
 ///
 /// The line of the first fault that stands: the path, the method, a word of the query or the body, or that memory ran out.
 pub fn asked_of(alloc: Global, request: &Request) -> Result<Asked, Refusal>
+    // PROMISE: A request for a decision asks what its path, query and message say, or has its first fault.
     ensures { IsAsked request.now result }
 {
     match asked_in(alloc, request) {

@@ -94,6 +94,7 @@ impl Deciding {
         now: Moment,
     ) -> Result<Deciding, Refusal>
         ensures asked { IsGoingOn now most self instance.old result instance.new }
+        // PROMISE: Asking alerts, in any stretches, changes nothing but the moment.
         ensures same { HoldsSame instance.old instance.new }
     {
         let Deciding {
@@ -120,6 +121,7 @@ impl Deciding {
     /// Whether to notify, in the bytes of a reply: the alerts that are left are asked, as by [`Deciding::go_on`], and then
     /// one step at `now` decides over those that no silence mutes. Where each is muted no step is made.
     pub fn decide(self, alloc: Global, instance: &mut Instance, now: Moment) -> ReplyBytes
+        // PROMISE: The decision is over all alerts that no silence mutes, and its reply is the text of that answer.
         ensures decided { IsDecided now self instance.old result instance.new }
         ensures same { HoldsSame instance.old instance.new }
     {

@@ -78,6 +78,7 @@ fn stopped(alloc: Global, error: StepError) -> Begun
 /// Where the step is refused that is answered, and nothing is sent: `entry too large`, `clock ran back`, or `out of memory`.
 /// Where memory runs out once the step is made, that is what is answered; the entry stands then, and its frames are answered.
 pub fn log_notice(alloc: Global, instance: &mut Instance, notice: Notice, now: Moment) -> Begun
+    // PROMISE: A notice is logged by one step, and its frames are handed on.
     ensures { Becomes (λ answered. IsLogged now notice instance.old answered instance.new) result }
 {
     match instance.step(event_of(notice), now) {

@@ -2,8 +2,8 @@
 use Rattle.std.proofs.Common.{◌≡◌, ℕ, List, Bor, sym, subst, ◌∙◌, ap}
 use Rattle.am_http.specs.Lines.{line_seen}
 use Rattle.am_http.specs.declared.refusal.Refusal.{Refusal}
-use Rattle.am_instance.specs.declared.error.StepError.{StepError}
-use Rattle.am_instance.specs.declared.error.StepError.TheVariants.{MomentBack}
+use Rattle.am_refusals.specs.declared.error.StepError.{StepError}
+use Rattle.am_refusals.specs.declared.error.StepError.TheVariants.{MomentBack}
 use Rattle.am_api_silences.specs.Answers.{IsErrorBytes}
 use Rattle.am_api_silences.specs.Replies.{Says, line_bytes, memory_bytes}
 use Rattle.am_api_silences.specs.Table.{clock_line}

@@ -6,8 +6,8 @@ use Rattle.am_http.specs.declared.request.Request.{Request}
 use Rattle.am_http.specs.declared.request.Read.{Read}
 use Rattle.am_http.specs.declared.request.Read.TheVariants.{More, Whole, Refused}
 use Rattle.am_instance.specs.declared.event.Event.{Event}
-use Rattle.am_instance.specs.declared.error.StepError.{StepError}
-use Rattle.am_instance.specs.declared.error.StepError.TheVariants.{MomentBack}
+use Rattle.am_refusals.specs.declared.error.StepError.{StepError}
+use Rattle.am_refusals.specs.declared.error.StepError.TheVariants.{MomentBack}
 use Rattle.am_instance.specs.declared.reply.Outcome.{Outcome}
 use Rattle.am_instance.specs.Sendings.{Sent, nothing_sent, sent_by}
 use Rattle.am_instance.specs.InstanceStates.{InstanceState}

@@ -84,6 +84,7 @@ pub fn begin_answer(
     bits: u128,
     now: Moment,
 ) -> Begun
+    // PROMISE: A request is answered by one step and that step's reply, or refused with nothing changed.
     ensures { Becomes (λ answered. IsAnswered instance.old request.now bits now answered instance.new) result }
 {
     match event_by(alloc, instance.patterns(), request, bits) {

@@ -78,6 +78,7 @@ fn asked(
 ///
 /// The line of the first fault that stands: the path, the method, a filter or the body, or that memory ran out.
 pub fn to_event(alloc: Global, request: &Request, bits: u128) -> Result<Event, Refusal>
+    // PROMISE: A request means the event of its path, filters and body, or its first fault.
     ensures { IsEventOf request.now bits result }
 {
     event_by(alloc, &PatternCache::new(alloc), request, bits)

@@ -82,6 +82,7 @@ impl Making {
 
     /// The whole reply: what is left of a list is written. Where there is no memory for it, that is what is replied.
     pub fn finish(self, alloc: Global) -> ReplyBytes
+        // PROMISE: A list that is written in stretches ends as the reply to its step.
         ensures { IsMadeOf self result }
     {
         match self {

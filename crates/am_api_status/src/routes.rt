@@ -45,6 +45,7 @@ fn path_of(target: &str) -> &str
 
 /// What the path of a target names, if it is one of these. All other paths are for the silences and for decisions.
 pub fn resource_of(target: &str) -> Option<Resource>
+    // PROMISE: A path names one page about the member, or none.
     ensures { IsNamed (path_of target.now) result }
 {
     match path_of(target) {

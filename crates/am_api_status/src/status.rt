@@ -156,6 +156,7 @@ pub fn status_reply(
     standing: &Standing,
     is_bare: bool,
 ) -> Result<Vec<u8>, AllocError>
+    // PROMISE: The status reply is the compact JSON of its value.
     ensures { IfOk result (λ bytes. (start : List ℕ) × WritesMoment standing.now.start start
         × (bytes.items ≡ told_bytes formats.Json is_bare (compact_text (standing_data standing.now start)))) }
 {

@@ -6,9 +6,10 @@ use crate::steps::print_error;
 use am_gossip::FrameError;
 use am_http::session::Session;
 use am_instance::{Instance, Outbox, StepError};
-use am_member::{Fault as Cause, SendError, exchange, frames_text, greeting};
+use am_member::exchange;
 use am_part_cases::common::{Brittle, Call, Case, Cut, Fault, Pieces, cut, phrase};
 use am_part_cases::{given, put, say};
+use am_peers::{Fault as Cause, SendError, frames_text, greeting};
 use am_version_order::Moment;
 
 /// A connection that comes to a copy of a member.

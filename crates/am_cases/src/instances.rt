@@ -6,11 +6,12 @@ use crate::connections::{connect, send};
 use crate::events::asks;
 use crate::members::{begin, hold, say_config, say_state};
 use crate::steps::happen;
+use am_address::{AddressWord, address_of, peer_of};
 use am_api_silences::to_bytes;
 use am_instance::{Instance, Reply};
-use am_member::{later_moment, number_within, peer_of, port_of};
 use am_part_cases::common::{Case, Printed, cut};
-use am_part_cases::{given, parts, say};
+use am_part_cases::{given, parts, say, say_some};
+use am_peers::{later_moment, number_within, port_of};
 use am_silence::SilenceError;
 use std::time::Duration;
 
@@ -59,7 +60,9 @@ fn alone(case: &Case, verb: &str, rest: &str) {
         "settle" => settle(case, rest),
         "steps" => steps(case, rest),
         "port" => say!(case; ?port_of(rest)),
-        "peer" => say!(case; ?peer_of(rest)),
+        "peer" => say_some!(case; peer = peer_of(rest); ?peer.name, " at ", peer.address),
+        "address" =>
+            say_some!(case; address = address_of(rest); address, ", as ", AddressWord(address)),
         "number" => say_number(case, rest),
         "clock" => say_clock(case, rest),
         _ => parts::answer(case, verb, rest),

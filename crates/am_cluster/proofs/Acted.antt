@@ -9,8 +9,8 @@ use Rattle.am_nflog.specs.Mesh.{IsMesh as IsLogMesh}
 use Rattle.am_gossip.specs.declared.frame.Frame.{Frame}
 use Rattle.am_instance.specs.declared.event.Event.{Event}
 use Rattle.am_instance.specs.declared.event.Event.TheVariants as events
-use Rattle.am_instance.specs.declared.error.StepError.{StepError}
-use Rattle.am_instance.specs.declared.error.StepError.TheVariants.{Memory, MomentBack, UnknownPeer, Frame as FrameFault}
+use Rattle.am_refusals.specs.declared.error.StepError.{StepError}
+use Rattle.am_refusals.specs.declared.error.StepError.TheVariants.{Memory, MomentBack, UnknownPeer, Frame as FrameFault}
 use Rattle.am_instance.specs.declared.reply.Made.{Made}
 use Rattle.am_instance.specs.declared.reply.Outcome.{Outcome}
 use Rattle.am_instance.specs.declared.reply.Reply.{Reply}

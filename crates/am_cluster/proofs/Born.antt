@@ -16,7 +16,7 @@ use Rattle.am_steps.specs.BothStates.{StateOf, log_state, silence_state}
 use Rattle.am_cluster.specs.declared.flight.Flight.{Flight}
 use Rattle.am_cluster.specs.Worlds.{Replica}
 use Rattle.am_cluster.specs.Beginnings.{AreUnborn, newborn, newborns}
-use Rattle.am_cluster.specs.Ties.{IsTied, IsMember, IsWorld}
+use Rattle.am_cluster.specs.Ties.{IsTied, IsMember, IsWorld, names_of}
 
 -- a place at which something stands is within the list
 got_within : {A : Type 0} (xs : List A) (n : ℕ) (x : A) → slice_get xs n ≡ Some x → ltb n (length xs) ≡ true
@@ -32,19 +32,27 @@ born_tied state members q inside = record {
   saved = λ key. refl;
 }
 
+born_names : (replicas : List Replica) (q : ℕ) (replica : Replica) (settings : Settings) → slice_get replicas q ≡ Some replica →
+    ((place : ℕ) (other : Replica) → slice_get replicas place ≡ Some other → other ≡ newborn settings place) → settings.members ≡ names_of (slice_get replicas 0)
+born_names [] q replica settings there each = absurd cc
+born_names (first ∷ others) q replica settings there each = sym (ap (λ r. r.stand.config.members) (each 0 first refl))
+
 born_member : (replicas : List Replica) (q : ℕ) (settings : Settings) → ltb q (length replicas) ≡ true → length settings.members ≡ length replicas →
+    settings.members ≡ names_of (slice_get replicas 0) →
     IsMember (record { replicas = replicas; silences = []; log = []; lines = []; flights = [] }) q (newborn settings q)
-born_member replicas q settings inside members = record {
+born_member replicas q settings inside members names = record {
   silences = born_tied silence_state (length replicas) q inside;
   log = born_tied log_state (length replicas) q inside;
   place = refl;
   members = members;
+  names = names;
 }
 
 born_here : (replicas : List Replica) → AreUnborn replicas → IsWorld (record { replicas = replicas; silences = []; log = []; lines = []; flights = [] })
 born_here replicas are = record {
-  members = λ q replica there. let of = are q replica there in
-      subst (IsMember (record { replicas = replicas; silences = []; log = []; lines = []; flights = [] }) q) (sym of.2) (born_member replicas q of.0 (got_within replicas q replica there) of.1);
+  members = λ q replica there.
+      subst (IsMember (record { replicas = replicas; silences = []; log = []; lines = []; flights = [] }) q) (sym (are.2 q replica there))
+      (born_member replicas q are.0 (got_within replicas q replica there) are.1 (born_names replicas q replica are.0 there are.2));
   flights = λ flight there. absurd (nothing flight there);
   numbers = tt;
 } where
@@ -71,17 +79,22 @@ born_more settings own place r old new before config stand runs silences log pus
 
 -- the members of a configuration are as a cluster begins with them
 pub unborn : (settings : Settings) (members : List Replica) → members ≡ newborns settings → AreUnborn members
-unborn settings members born place replica there = (settings, sym count, sym (get_or_from_slice_get members place replica replica there) ∙ (ap (λ ms. get_or ms place replica) born ∙ one)) where
+unborn settings members born = (settings, sym count, λ place replica there. sym (get_or_from_slice_get members place replica replica there) ∙ (ap (λ ms. get_or ms place replica) born ∙ one place replica there)) where
   count : length members ≡ length settings.members
   count = ap length born ∙ length-map-range_with_len (newborn settings) 0 (length settings.members)
 
-  within : place < length members
-  within = elim ((slice_get_cases members place).1) [ inl is ↦ is.1 | inr past ↦ absurd (no (sym past.1 ∙ there)) ] where
+  within : (place : ℕ) (replica : Replica) → slice_get members place ≡ Some replica → place < length members
+  within place replica there = elim ((slice_get_cases members place).1) [ inl is ↦ is.1 | inr past ↦ absurd (no (sym past.1 ∙ there)) ] where
     no : None ≡ Some replica → ⊥
     no e = cc
 
-  one : get_or (newborns settings) place replica ≡ newborn settings place
-  one = get_or-map-range_with_len (newborn settings) 0 (length settings.members) place place replica (omega (arith, count, within)) (omega arith)
+  one : (place : ℕ) (replica : Replica) → slice_get members place ≡ Some replica → get_or (newborns settings) place replica ≡ newborn settings place
+  one place replica there =
+      let less = within place replica there in get_or-map-range_with_len (newborn settings) 0 (length settings.members) place place replica (omega (arith, count, less)) (omega arith)
+
+-- where there is none, too
+pub none_unborn : (members : List Replica) → members ≡ [] → AreUnborn members
+none_unborn members none = subst AreUnborn (sym none) (record { members = []; place = 0; retention = 0; peer_timeout = 0 }, refl, λ place replica there. absurd cc)
 
 -- they are told by all of it but its own place
 pub newborns_are : (s : Settings) (retention peer_timeout : ℕ) → s.retention ≡ retention → s.peer_timeout ≡ peer_timeout →

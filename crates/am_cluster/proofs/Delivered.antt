@@ -19,6 +19,7 @@ use Rattle.am_cluster.specs.Lives.{OfMember}
 use Rattle.am_cluster.specs.Losing.{IsNumberedAt}
 use Rattle.am_cluster.specs.Ties.{IsFlying, IsSentIn, IsWorld}
 use Rattle.am_cluster.specs.Worlds.{World}
+use Rattle.am_cluster.proofs.Goes.{sent_there}
 use Rattle.am_cluster.proofs.Lost.{place_within}
 use Rattle.am_cluster.proofs.Places.{some_is}
 
@@ -57,7 +58,7 @@ module _ (w : World) (number : ℕ) (a : Arrival) (is : IsArrival w number a) wh
   arrives run sent_in =
       let versions = run.state.versions_in (carries is.flight.frame) in
       some_and (slice_get (flights_of (run.steps w)) a.index) _ (λ f. All (Contains f.versions) (run.state.versions_in (carries a.frame)))
-      (ap (slice_get (flights_of (run.steps w))) is.index_is ∙ sent_in is.flying)
+      (ap (slice_get (flights_of (run.steps w))) is.index_is ∙ sent_there run.state (run.steps w) is.flying.index is.flight (sent_in is.flying))
       (subst (λ x. All (Contains versions) (run.state.versions_in (carries x))) (sym is.frame_is) (All-contains_itself versions))
 
   pub delivered : (now line : ℕ) (result : Result Reply ClusterError) (new : World) →

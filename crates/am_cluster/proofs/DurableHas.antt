@@ -5,7 +5,7 @@ use Rattle.std.specs.List.{list_any}
 use Rattle.std.specs.declared.cmp.Ordering.{Ordering}
 use Rattle.std.proofs.lemmas.Bool.{cases_lt, eqb-true, false≢true}
 use Rattle.std.proofs.lemmas.Grind.{flat_map-append}
-use Rattle.std.proofs.lemmas.List.Elements.{All-contains, Contains-append_left, Contains-append_right, Contains-append_cases}
+use Rattle.std.proofs.lemmas.List.Elements.{All-contains, All-contains_itself, All-weaker, Contains-append_left, Contains-append_right, Contains-append_cases}
 use Rattle.am_version_order.specs.Versions.{Version, is_below}
 use Rattle.am_version_order.proofs.Ranks.{below-updated, tied}
 use Rattle.am_collect.specs.Events.{taken}
@@ -144,6 +144,12 @@ module _ {X : Type 0} where
         next before s after e h =
             subst (λ all. IsWithin all (member_of members q (before ++ s ∷ []))) (sym (came-push q before s))
             (subst (IsWithin (came q before ++ came_by q s)) (sym (member_of-push members q before s)) (within_after q (came q before) (member_of members q before) s h))
+
+  -- so what holds of all that was delivered holds of all that a member took
+  pub taken_values : (P : X → Type 0) (members q : ℕ) (steps : List (RunStep X)) → All P (delivered_in steps) → All P (set_of (member_of members q steps))
+  taken_values P members q steps all =
+      let set = set_of (member_of members q steps) in
+      All-weaker (Contains set) P (λ v within. All-contains P (delivered_in steps) v all (came_delivered q steps v (set_within members q steps v within))) set (All-contains_itself set)
 
 some_map : {A : Type 0} (P Q : A → Type 0) (o : Option A) → ((a : A) → P a → Q a) → IfSome o P → IfSome o Q
 some_map P Q None each holds = tt

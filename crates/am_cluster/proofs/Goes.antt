@@ -1,22 +1,46 @@
 -- A cluster hangs together as steps go on.
-use Rattle.std.proofs.Common.{◌≡◌, ◌≢◌, ◌⊎◌, inl, inr, ℕ, ◌<◌, true, false, eqb, List, [], ◌∷◌, ◌++◌, Some, refl, sym, ap, ◌∙◌, subst, slice_get, length, set}
+use Rattle.std.proofs.Common.{◌≡◌, ◌≢◌, ◌⊎◌, inl, inr, ℕ, zero, suc, ◌+◌, ◌<◌, true, false, eqb, List, [], ◌∷◌, ◌++◌, Some, refl, sym, ap, ◌∙◌, subst, append_assoc, slice_get, length, set, arith}
 use Rattle.std.proofs.lemmas.Bool.Decides.{eqb_tells}
+use Rattle.std.proofs.lemmas.Grind.{flat_map-append}
 use Rattle.am_silence.specs.Mesh.{Mesh}
 use Rattle.am_nflog.specs.Mesh.{Mesh as LogMesh}
 use Rattle.am_instance.specs.InstanceStates.{kept_silences, kept_log}
-use Rattle.am_runs.specs.Steps.{RunStep, SentFrame, is_at, flights_by, flights_of}
+use Rattle.am_runs.specs.Steps.{RunStep, flights_by, flights_of, is_at}
 use Rattle.am_runs.specs.Members.{Member, stepped, member_of}
-use Rattle.am_runs.proofs.Pasts.{flights_of-push}
-use Rattle.am_steps.specs.BothStates.{log_state, silence_state}
+use Rattle.am_steps.specs.BothStates.{StateOf, log_state, silence_state}
+use Rattle.am_steps.specs.Contents.{carries}
 use Rattle.am_cluster.specs.declared.flight.Flight.{Flight}
 use Rattle.am_cluster.specs.Worlds.{Replica, World, replica_at, with_replica, written}
-use Rattle.am_cluster.specs.Ties.{IsTied, IsMember, IsFlying, IsWorld}
+use Rattle.am_cluster.specs.Ties.{IsTied, IsMember, IsFlying, IsWorld, WasSent, names_of}
 use Rattle.am_cluster.proofs.Places.{got_before, got_set, got_other, set_length, some_is}
 use Rattle.am_cluster.proofs.Tied.{tied_elsewhere, tied_idle}
 
+-- the sending at a number among those before and those that are sent now
+got_behind : {A : Type 0} (xs ys : List A) (n : ℕ) (y : A) → slice_get ys n ≡ Some y → slice_get (xs ++ ys) (length xs + n) ≡ Some y
+got_behind [] ys n y e = ap (slice_get ys) (omega arith) ∙ e
+got_behind (x ∷ xs) ys n y e = let more : length (x ∷ xs) + n ≡ suc (length xs + n) = omega arith in ap (slice_get ((x ∷ xs) ++ ys)) more ∙ got_behind xs ys n y e
+
+-- a frame that was sent stands at its place among all that were
+pub sent_there : {K X : Type 0} (state : StateOf K X) (steps : List (RunStep X)) (index : ℕ) (flight : Flight) → WasSent state steps index flight →
+    slice_get (flights_of steps) index ≡ Some (record { sent = flight.sent; versions = state.versions_in (carries flight.frame) })
+sent_there state steps index flight was =
+    ap (λ ss. slice_get (flights_of ss) index) was.parts
+    ∙ (ap (λ fs. slice_get fs index) (flat_map-append flights_by was.before (was.step ∷ was.rest))
+    ∙ (ap (λ n. slice_get (flights_of was.before ++ (flights_by was.step ++ flights_of was.rest)) n) was.index_is
+    ∙ got_behind (flights_of was.before) (flights_by was.step ++ flights_of was.rest) was.nth _ (got_before (flights_by was.step) (flights_of was.rest) was.nth _ was.sent)))
+
 -- a frame that flew still does after a step more
-still_sent : {X : Type 0} (before : List (RunStep X)) (s : RunStep X) (index : ℕ) (f : SentFrame X) → slice_get (flights_of before) index ≡ Some f → slice_get (flights_of (before ++ s ∷ [])) index ≡ Some f
-still_sent before s index f e = subst (λ fs. slice_get fs index ≡ Some f) (sym (flights_of-push before s)) (got_before (flights_of before) (flights_by s) index f e)
+still_sent : {K X : Type 0} (state : StateOf K X) (steps : List (RunStep X)) (s : RunStep X) (index : ℕ) (flight : Flight) → WasSent state steps index flight → WasSent state (steps ++ s ∷ []) index flight
+still_sent state steps s index flight was = record {
+  before = was.before;
+  step = was.step;
+  rest = was.rest ++ s ∷ [];
+  parts = ap (λ ss. ss ++ s ∷ []) was.parts ∙ append_assoc was.before (was.step ∷ was.rest) (s ∷ []);
+  own = was.own;
+  nth = was.nth;
+  index_is = was.index_is;
+  sent = was.sent;
+}
 
 module _ (old : World) (s : RunStep Mesh) (l : RunStep LogMesh) (line : ℕ) where
   pub still_flying : (replicas : List Replica) (flight : Flight) → length replicas ≡ length old.replicas → IsFlying old flight →
@@ -24,13 +48,20 @@ module _ (old : World) (s : RunStep Mesh) (l : RunStep LogMesh) (line : ℕ) whe
   still_flying replicas flight same f = record {
     index = f.index;
     number = f.number;
-    silences = still_sent old.silences s f.index _ f.silences;
-    log = still_sent old.log l f.index _ f.log;
+    silences = still_sent silence_state old.silences s f.index flight f.silences;
+    log = still_sent log_state old.log l f.index flight f.log;
     sound = f.sound;
     addressee = subst (λ n. flight.addressee < n) (sym same) f.addressee;
     sender = subst (λ n. flight.sender < n) (sym same) f.sender;
     other = f.other;
   }
+
+-- all names stay where one member changes and keeps those that it knows
+names_kept : (replicas : List Replica) (place : ℕ) (was will : Replica) → slice_get replicas place ≡ Some was → will.stand.config ≡ was.stand.config →
+    names_of (slice_get (set replicas place will) 0) ≡ names_of (slice_get replicas 0)
+names_kept [] place was will found config = refl
+names_kept (r ∷ rs) zero was will found config = ap (λ c. c.members) config ∙ ap (λ x. x.stand.config.members) (sym (some_is r was found))
+names_kept (r ∷ rs) (suc place) was will found config = refl
 
 -- one member changes, and what is written down of it agrees
 module _ (old : World) (place : ℕ) (was will : Replica) (s : RunStep Mesh) (l : RunStep LogMesh) (line : ℕ) where
@@ -40,14 +71,16 @@ module _ (old : World) (place : ℕ) (was will : Replica) (s : RunStep Mesh) (l 
   same_length : length (set old.replicas place will) ≡ length old.replicas
   same_length = set_length old.replicas place will
 
-  elsewhere : (q : ℕ) (replica : Replica) → is_at q s ≡ false → is_at q l ≡ false → IsMember old q replica → IsMember changed_at q replica
-  elsewhere q replica not_s not_l is = record {
+  elsewhere : (q : ℕ) (replica : Replica) → is_at q s ≡ false → is_at q l ≡ false → names_of (slice_get (set old.replicas place will) 0) ≡ names_of (slice_get old.replicas 0) →
+      IsMember old q replica → IsMember changed_at q replica
+  elsewhere q replica not_s not_l names is = record {
     silences = subst (λ n. IsTied silence_state (member_of n q (old.silences ++ s ∷ [])) replica.runs (kept_silences replica.stand) replica.saved_silences) (sym same_length)
         (tied_elsewhere silence_state (length old.replicas) q old.silences s replica.runs (kept_silences replica.stand) replica.saved_silences not_s is.silences);
     log = subst (λ n. IsTied log_state (member_of n q (old.log ++ l ∷ [])) replica.runs (kept_log replica.stand) replica.saved_log) (sym same_length)
         (tied_elsewhere log_state (length old.replicas) q old.log l replica.runs (kept_log replica.stand) replica.saved_log not_l is.log);
     place = is.place;
     members = is.members ∙ sym same_length;
+    names = is.names ∙ sym names;
   }
 
   pub goes_on_at : IsWorld old → replica_at old place ≡ Some was →
@@ -60,12 +93,16 @@ module _ (old : World) (place : ℕ) (was will : Replica) (s : RunStep Mesh) (l 
     flights = λ flight there. still_flying old s l line (set old.replicas place will) flight same_length (is.flights flight there);
     numbers = is.numbers;
   } where
+    names : names_of (slice_get (set old.replicas place will) 0) ≡ names_of (slice_get old.replicas 0)
+    names = names_kept old.replicas place was will found config
+
     here : IsMember changed_at place will
     here = record {
       silences = subst (λ n. IsTied silence_state (member_of n place (old.silences ++ s ∷ [])) will.runs (kept_silences will.stand) will.saved_silences) (sym same_length) silences;
       log = subst (λ n. IsTied log_state (member_of n place (old.log ++ l ∷ [])) will.runs (kept_log will.stand) will.saved_log) (sym same_length) log;
       place = ap (λ c. c.place) config ∙ (is.members place was found).place;
       members = ap (λ c. length c.members) config ∙ ((is.members place was found).members ∙ sym same_length);
+      names = ap (λ c. c.members) config ∙ ((is.members place was found).names ∙ sym names);
     }
 
     member : (q : ℕ) (replica : Replica) → replica_at changed_at q ≡ Some replica → ((eqb place q ≡ true) × (place ≡ q)) ⊎ ((eqb place q ≡ false) × (place ≢ q)) → IsMember changed_at q replica
@@ -73,7 +110,7 @@ module _ (old : World) (place : ℕ) (was will : Replica) (s : RunStep Mesh) (l 
         subst (λ p. IsMember changed_at p replica) own.1
         (subst (λ r. IsMember changed_at place r) (some_is will replica (sym (got_set old.replicas place will was found) ∙ subst (λ p. slice_get (set old.replicas place will) p ≡ Some replica) (sym own.1) there)) here)
     member q replica there (inr other) =
-        elsewhere q replica (not_s q other.1) (not_l q other.1)
+        elsewhere q replica (not_s q other.1) (not_l q other.1) names
         (is.members q replica (sym (got_other old.replicas place q will other.1) ∙ there))
 
 -- no member changes
@@ -85,6 +122,7 @@ module _ (old : World) (s : RunStep Mesh) (l : RunStep LogMesh) (line : ℕ) whe
       log = tied_idle log_state (length old.replicas) q old.log l replica.runs (kept_log replica.stand) replica.saved_log (idle_l _) m.log;
       place = m.place;
       members = m.members;
+      names = m.names;
     };
     flights = λ flight there. still_flying old s l line old.replicas flight refl (is.flights flight there);
     numbers = is.numbers;

@@ -1,5 +1,5 @@
 -- A cluster hangs together after an event of a member.
-use Rattle.std.proofs.Common.{◌≡◌, ◌⊎◌, inl, inr, ℕ, suc, ◌+◌, ◌<◌, ◌≤◌, Bool, true, false, cond, eqb, List, [], ◌∷◌, ◌++◌, Some, Result, Ok, Err, refl, sym, ap, ◌∙◌, subst, slice_get, length, option_map, arith}
+use Rattle.std.proofs.Common.{◌≡◌, ◌⊎◌, inl, inr, ℕ, suc, ◌+◌, ◌<◌, ◌≤◌, Bool, true, false, cond, eqb, List, [], ◌∷◌, ◌++◌, Some, Result, Ok, Err, refl, sym, ap, ◌∙◌, subst, append-nil, slice_get, length, option_map, arith}
 use Rattle.std.specs.Prelude.{Contains, All}
 use Rattle.std.specs.List.{AllByRecursion}
 use Rattle.std.proofs.lemmas.List.Elements.{All-contains, Contains-append_left, Contains-append_right, Contains-append_cases, Contains-push}
@@ -9,14 +9,14 @@ use Rattle.am_merge.proofs.Indexes.{Contains-cases}
 use Rattle.am_collect.specs.Kept.{Kept}
 use Rattle.am_gossip.specs.declared.frame.Frame.{Frame}
 use Rattle.am_instance.specs.declared.event.Event.{Event}
-use Rattle.am_instance.specs.declared.error.StepError.{StepError}
-use Rattle.am_instance.specs.declared.error.StepError.TheVariants.{Memory, MomentBack, UnknownPeer, Frame as FrameFault}
+use Rattle.am_refusals.specs.declared.error.StepError.{StepError}
+use Rattle.am_refusals.specs.declared.error.StepError.TheVariants.{Memory, MomentBack, UnknownPeer, Frame as FrameFault}
 use Rattle.am_instance.specs.declared.reply.Outcome.{Outcome}
 use Rattle.am_instance.specs.InstanceStates.{InstanceState}
 use Rattle.am_instance.specs.Steps.{collects, delivers}
 use Rattle.am_instance.specs.OneStep.{IsStep}
 use Rattle.am_runs.specs.declared.step.Source.{Source}
-use Rattle.am_runs.specs.Steps.{RunStep, flights_of, is_at}
+use Rattle.am_runs.specs.Steps.{RunStep, flights_by, flights_of, is_at}
 use Rattle.am_runs.specs.Steps.RunStep.{Took, Ticked}
 use Rattle.am_runs.specs.Members.{Member, stepped, member_of, map_of}
 use Rattle.am_steps.specs.BothStates.{StateOf, log_state, silence_state}
@@ -29,15 +29,10 @@ use Rattle.am_cluster.specs.declared.flight.Flight.{Flight}
 use Rattle.am_cluster.specs.Worlds.{Replica, World, replica_at, sent_on, with_replica, written}
 use Rattle.am_cluster.specs.BothRuns.{RunOf, log_run, silence_run}
 use Rattle.am_cluster.specs.Events.{with_stand}
-use Rattle.am_cluster.specs.Ties.{CanFly, IsTied, IsTiedIn, IsFlying, IsWorld, AreAscending, member_in}
-use Rattle.am_cluster.proofs.Goes.{goes_on_at}
+use Rattle.am_cluster.specs.Ties.{CanFly, IsTied, IsTiedIn, IsFlying, IsWorld, AreAscending, WasSent, member_in}
+use Rattle.am_cluster.proofs.Goes.{goes_on_at, sent_there}
 use Rattle.am_cluster.proofs.Lived.{elsewhere}
-use Rattle.am_cluster.proofs.Places.{set_length}
-
--- the sending at a number among those before and those that are sent now
-got_behind : {A : Type 0} (xs ys : List A) (n : ℕ) (y : A) → slice_get ys n ≡ Some y → slice_get (xs ++ ys) (length xs + n) ≡ Some y
-got_behind [] ys n y e = ap (slice_get ys) (omega arith) ∙ e
-got_behind (x ∷ xs) ys n y e = let more : length (x ∷ xs) + n ≡ suc (length xs + n) = omega arith in ap (slice_get ((x ∷ xs) ++ ys)) more ∙ got_behind xs ys n y e
+use Rattle.am_cluster.proofs.Places.{own_place, set_length}
 
 -- one of the frames that fly, by its number
 pub record FliesAs (count place now : ℕ) (frames : List (ℕ × Frame)) (flight : Flight) : Type 0 where
@@ -66,19 +61,40 @@ sent_as count place now (f ∷ frames) flight within =
 got_of_all : {A : Type 0} (P : A → Type 0) (xs : List A) (n : ℕ) (x : A) → All P xs → slice_get xs n ≡ Some x → P x
 got_of_all P xs n x all there = All-contains P xs x all (n, slice_get_within xs n x there, get_or_from_slice_get xs n x x there)
 
+-- so far as it sends something it is a step of the member at the place
+sends_own : {K X : Type 0} (state : StateOf K X) (place now : ℕ) (source : Source) (event : Event) (answer : Result Outcome StepError) (frames : List (ℕ × Frame)) (nth : ℕ) (f : ℕ × Frame) →
+    AreInFlight answer frames → slice_get frames nth ≡ Some f → is_at place (event_step state place now source event answer frames) ≡ true
+sends_own state place now source event (Ok outcome) frames nth f flying there = by (collects event) where
+  by : (collecting : Bool) → is_at place (cond collecting (Ticked place now) (Took place now source (state.versions_in (delivers event outcome.made)) (sent_in state frames))) ≡ true
+  by true = own_place place
+  by false = own_place place
+sends_own state place now source event (Err e) frames nth f flying there = absurd (let none = ap (λ fs. slice_get fs nth) flying in cc)
+
+-- one of the runs goes on with a step of the member at a place, which sends these frames
+pub record Sends {K X : Type 0} (run : RunOf K X) (w new : World) (place now : ℕ) (frames : List (ℕ × Frame)) : Type 0 where
+  pub step : RunStep X
+  pub parts : run.steps new ≡ run.steps w ++ step ∷ []
+  pub own : (nth : ℕ) (frame : ℕ × Frame) → slice_get frames nth ≡ Some frame → is_at place step ≡ true
+  pub flights : flights_by step ≡ flights_in run.state now frames
+
 -- in one of the runs, what is sent now is sent behind what was sent before
-sent_behind : {K X : Type 0} (run : RunOf K X) (w new : World) (now count nth : ℕ) (frames : List (ℕ × Frame)) (frame : ℕ × Frame) → count ≡ length (flights_of (run.steps w)) →
-    flights_of (run.steps new) ≡ flights_of (run.steps w) ++ flights_in run.state now frames → slice_get frames nth ≡ Some frame →
-    slice_get (flights_of (run.steps new)) (count + nth) ≡ Some (record { sent = now; versions = run.state.versions_in (carries frame.1) })
-sent_behind run w new now count nth frames frame same added there =
-    ap (λ fs. slice_get fs (count + nth)) added
-    ∙ (ap (λ n. slice_get (flights_of (run.steps w) ++ flights_in run.state now frames) (n + nth)) same
-    ∙ got_behind (flights_of (run.steps w)) (flights_in run.state now frames) nth _
-    (slice_get-map (λ f. record { sent = now; versions = run.state.versions_in (carries f.1) }) frames nth ∙ ap (option_map (λ f. record { sent = now; versions = run.state.versions_in (carries f.1) })) there))
+sent_behind : {K X : Type 0} (run : RunOf K X) (w new : World) (place now count nth : ℕ) (frames : List (ℕ × Frame)) (frame : ℕ × Frame) → Sends run w new place now frames → count ≡ length (flights_of (run.steps w)) →
+    slice_get frames nth ≡ Some frame → WasSent run.state (run.steps new) (count + nth) (record { number = (count + nth) + 1; sender = place; addressee = frame.0; sent = now; frame = frame.1 })
+sent_behind run w new place now count nth frames frame sends same there = record {
+  before = run.steps w;
+  step = sends.step;
+  rest = [];
+  parts = sends.parts;
+  own = sends.own nth frame there;
+  nth = nth;
+  index_is = ap (λ n. n + nth) same;
+  sent = ap (λ fs. slice_get fs nth) sends.flights
+      ∙ (slice_get-map (λ f. record { sent = now; versions = run.state.versions_in (carries f.1) }) frames nth ∙ ap (option_map (λ f. record { sent = now; versions = run.state.versions_in (carries f.1) })) there);
+}
 
 module _ (w new : World) (place now : ℕ) (frames : List (ℕ × Frame)) where
   -- what is sent now flies behind what was sent before
-  flies : flights_of new.silences ≡ flights_of w.silences ++ flights_in silence_state now frames → flights_of new.log ≡ flights_of w.log ++ flights_in log_state now frames →
+  flies : Sends silence_run w new place now frames → Sends log_run w new place now frames →
       length (flights_of w.silences) ≡ length (flights_of w.log) → length new.replicas ≡ length w.replicas → place < length w.replicas → All (CanFly (length w.replicas) place) frames →
       (flight : Flight) → FliesAs (length (flights_of w.silences)) place now frames flight → IsFlying new flight
   flies silences log same members inside can flight fl =
@@ -86,8 +102,8 @@ module _ (w new : World) (place now : ℕ) (frames : List (ℕ × Frame)) where
       subst (IsFlying new) (sym fl.is) (record {
         index = length (flights_of w.silences) + fl.nth;
         number = refl;
-        silences = sent_behind silence_run w new now (length (flights_of w.silences)) fl.nth frames fl.frame refl silences fl.there;
-        log = sent_behind log_run w new now (length (flights_of w.silences)) fl.nth frames fl.frame same log fl.there;
+        silences = sent_behind silence_run w new place now (length (flights_of w.silences)) fl.nth frames fl.frame silences refl fl.there;
+        log = sent_behind log_run w new place now (length (flights_of w.silences)) fl.nth frames fl.frame log same fl.there;
         sound = good.no_fault;
         addressee = subst (λ n. fl.frame.0 < n) (sym members) good.addressee;
         sender = subst (λ n. place < n) (sym members) inside;
@@ -128,15 +144,15 @@ ascend_behind count (f ∷ old) more below over first second = (
 -- ---- the whole
 
 numbered_below : (w : World) (flight : Flight) → IsFlying w flight → flight.number ≤ length (flights_of w.silences)
-numbered_below w flight is = let inside : is.index < length (flights_of w.silences) = slice_get_within (flights_of w.silences) is.index _ is.silences in let number : flight.number ≡ is.index + 1 = is.number in omega arith
+numbered_below w flight is = let inside : is.index < length (flights_of w.silences) = slice_get_within (flights_of w.silences) is.index _ (sent_there silence_state w.silences is.index flight is.silences) in let number : flight.number ≡ is.index + 1 = is.number in omega arith
 
 -- a cluster whose members hang together, and frames that are sent on
 pub sent_world : (w new : World) (place now : ℕ) (frames : List (ℕ × Frame)) → IsWorld w → IsWorld new → new.flights ≡ w.flights →
-    flights_of new.silences ≡ flights_of w.silences ++ flights_in silence_state now frames → flights_of new.log ≡ flights_of w.log ++ flights_in log_state now frames →
+    Sends silence_run w new place now frames → Sends log_run w new place now frames →
     length (flights_of w.silences) ≡ length (flights_of w.log) → length new.replicas ≡ length w.replicas → place < length w.replicas → All (CanFly (length w.replicas) place) frames →
     IsWorld (record new { flights = w.flights ++ sent_on (length (flights_of w.silences)) place now frames })
 sent_world w new place now frames was is kept silences log same members inside can = record {
-  members = λ q replica there. let m = is.members q replica there in record { silences = m.silences; log = m.log; place = m.place; members = m.members };
+  members = λ q replica there. let m = is.members q replica there in record { silences = m.silences; log = m.log; place = m.place; members = m.members; names = m.names };
   flights = λ flight within. again flight (one flight (Contains-append_cases w.flights (sent_on (length (flights_of w.silences)) place now frames) flight within));
   numbers =
       ascend_behind (length (flights_of w.silences)) w.flights _
@@ -219,12 +235,21 @@ module _ (w : World) (place : ℕ) (r : Replica) (stand : InstanceState) (event 
       (tied_next log_run of_log (is.members place r found).log step)
       step.config
 
+  -- what it sends
+  sends_now : {K X : Type 0} (run : RunOf K X) (new : World) → run.steps new ≡ run.steps w ++ event_step run.state place now source event answer frames ∷ [] → IsStep r.stand event now answer stand → AreInFlight answer frames →
+      Sends run w new place now frames
+  sends_now run new parts step flying = record {
+    step = event_step run.state place now source event answer frames;
+    parts = parts;
+    own = λ nth frame there. sends_own run.state place now source event answer frames nth frame flying there;
+    flights = sym (append-nil (flights_by (event_step run.state place now source event answer frames))) ∙ frames_are_flights run.state place now [] source r.stand stand event answer frames step flying;
+  }
+
   -- and with them
   pub world_happened : IsWorld w → replica_at w place ≡ Some r → IsStep r.stand event now answer stand → AreInFlight answer frames →
       length (flights_of w.silences) ≡ length (flights_of w.log) → All (CanFly (length w.replicas) place) frames →
       IsWorld (record after_event { flights = w.flights ++ sent_on (length (flights_of w.silences)) place now frames })
   world_happened is found step flying same can =
       sent_world w after_event place now frames is (world_stepped is found step) refl
-      (frames_are_flights silence_state place now w.silences source r.stand stand event answer frames step flying)
-      (frames_are_flights log_state place now w.log source r.stand stand event answer frames step flying)
+      (sends_now silence_run after_event refl step flying) (sends_now log_run after_event refl step flying)
       same (set_length w.replicas place (with_stand r stand)) (slice_get_within w.replicas place r found) can

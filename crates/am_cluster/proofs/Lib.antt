@@ -18,6 +18,7 @@ pub mod Turned
 pub mod Admitted
 pub mod Settled
 pub mod OneOfBoth
+pub mod Answered
 pub mod Asking
 pub mod DurableHas
 pub mod DurableShown

@@ -75,7 +75,7 @@ module _ {K X : Type 0} {run : RunOf K X} (one : IsOneOfBoth run) where
 
   pub agree_on_what_is_old : (is_value : X → Type 0) → ViewsAgree is_value → (earlier later : World) → IsWorld earlier → AreRuns (length later.replicas) later.silences later.log →
       All is_value (delivered_in (run.steps later)) → AgreeOnWhatIsOld run earlier later
-  agree_on_what_is_old is_value law earlier later is runs values = λ spread flight now key positive goes timely old place other first found second there running running_too.
+  agree_on_what_is_old is_value law earlier later is runs values = λ spread flight now positive goes timely key old place other first found second there running running_too.
       let members = length later.replicas in
       let on = one.goes earlier later now goes in
       let tied = tied_later earlier later place first goes.members (is.members place first found) in

@@ -7,8 +7,8 @@ use Rattle.am_collect.specs.Events.MapEvent.{Collected}
 use Rattle.am_gossip.specs.declared.frame.Frame.{Frame}
 use Rattle.am_instance.specs.declared.event.Event.{Event}
 use Rattle.am_instance.specs.declared.event.Event.TheVariants as events
-use Rattle.am_instance.specs.declared.error.StepError.{StepError}
-use Rattle.am_instance.specs.declared.error.StepError.TheVariants.{Memory, MomentBack, UnknownPeer, Frame as FrameFault}
+use Rattle.am_refusals.specs.declared.error.StepError.{StepError}
+use Rattle.am_refusals.specs.declared.error.StepError.TheVariants.{Memory, MomentBack, UnknownPeer, Frame as FrameFault}
 use Rattle.am_instance.specs.declared.reply.Outcome.{Outcome}
 use Rattle.am_instance.specs.declared.reply.Reply.{Reply}
 use Rattle.am_instance.specs.Deliveries.{Delivery, events_at, to_silences}
@@ -63,7 +63,7 @@ one_made old turn now line new made = (new, made, refl)
 pub one_stopped : (old : World) (turn : Turn) (now line : ℕ) (new : World) → IsStopped old turn now line new → AreCutShort old (turn ∷ []) now line new
 one_stopped old turn now line new stopped = record { made = []; turn = turn; left = []; all = refl; between = old; first = refl; stopped = stopped }
 
-got : {A : Type 0} (xs : List A) (n : ℕ) → n < length xs → (x : A) × (slice_get xs n ≡ Some x)
+pub got : {A : Type 0} (xs : List A) (n : ℕ) → n < length xs → (x : A) × (slice_get xs n ≡ Some x)
 got [] n less = absurd (omega arith)
 got (x ∷ xs) zero less = (x, refl)
 got (x ∷ xs) (suc n) less = got xs n (omega arith)

@@ -1,7 +1,7 @@
 -- The step of a member's instance in the cluster, and how it is written down.
 use Rattle.std.specs.Prelude.{◌≡◌, ℕ, true, None, length, List, All, Result}
 use Rattle.am_instance.specs.declared.event.Event.{Event}
-use Rattle.am_instance.specs.declared.error.StepError.{StepError}
+use Rattle.am_refusals.specs.declared.error.StepError.{StepError}
 use Rattle.am_instance.specs.declared.reply.Outcome.{Outcome}
 use Rattle.am_instance.specs.declared.reply.Reply.{Reply}
 use Rattle.am_instance.specs.Configs.{Settings}

@@ -28,7 +28,7 @@ pub record AreNewborn (names : List (List ℕ)) (retention peer_timeout : ℕ) (
   pub lines : world.lines ≡ []
   pub flights : world.flights ≡ []
 
--- each member is as a cluster begins with it
+-- each member is as a cluster begins with it, all by one configuration
 abbrev pub AreUnborn : List Replica → Type 0
-AreUnborn replicas = (place : ℕ) (replica : Replica) → slice_get replicas place ≡ Some replica →
-    (settings : Settings) × (length settings.members ≡ length replicas) × (replica ≡ newborn settings place)
+AreUnborn replicas = (settings : Settings) × (length settings.members ≡ length replicas)
+    × ((place : ℕ) (replica : Replica) → slice_get replicas place ≡ Some replica → replica ≡ newborn settings place)

@@ -2,8 +2,8 @@
 use Rattle.std.specs.Prelude.{◌≡◌, ◌⊎◌, ℕ, Bool, true, false, List, [], Result, Ok, Err, if◌then◌else◌}
 use Rattle.am_gossip.specs.declared.frame.Frame.{Frame}
 use Rattle.am_instance.specs.declared.event.Event.{Event}
-use Rattle.am_instance.specs.declared.error.StepError.{StepError}
-use Rattle.am_instance.specs.declared.error.StepError.TheVariants.{MomentBack, UnknownPeer, Memory}
+use Rattle.am_refusals.specs.declared.error.StepError.{StepError}
+use Rattle.am_refusals.specs.declared.error.StepError.TheVariants.{MomentBack, UnknownPeer, Memory}
 use Rattle.am_instance.specs.declared.reply.Outcome.{Outcome}
 use Rattle.am_instance.specs.declared.reply.Reply.{Reply}
 use Rattle.am_instance.specs.InstanceStates.{InstanceState}

@@ -17,6 +17,8 @@ pub mod Delivering
 pub mod Steps
 pub mod Settling
 pub mod Replicas
+pub mod Clusters
+pub mod Answered
 pub mod Shown
 pub mod Questions
 pub mod Durable

@@ -19,10 +19,14 @@ module _ {K X : Type 0} (run : RunOf K X) where
   ShowTheBareSet world = (place now : ℕ) (key : K) → OfMember world place (λ replica. IsCalmBy world place replica now →
       IsViewAt run.state.seen (taken_in run world place) now key (shown_by replica now key))
 
-  -- when a step begins in a timely run, members that run show the same of a key of which every version is a spread old
-  abbrev pub AgreeOnWhatIsOld : World → World → Type 0
-  AgreeOnWhatIsOld earlier later = (spread flight now : ℕ) (key : K) → 0 < spread → GoesOnAt earlier later now →
-      AreTimely spread flight (length later.replicas) later.silences later.log →
+  -- members that run show the same of a key of which every version of the later run is a spread old
+  abbrev pub AgreeAt : World → World → ℕ → ℕ → Type 0
+  AgreeAt earlier later spread now = (key : K) →
       All (λ v. (run.state.seen v).key ≡ key → (run.state.seen v).updated + spread ≤ now) (delivered_in (run.steps later)) →
       (place other : ℕ) → OfMember earlier place (λ one. OfMember earlier other (λ two. one.runs ≡ true → two.runs ≡ true →
       shown_by one now key ≡ shown_by two now key))
+
+  -- so they do when a step begins in a timely run
+  abbrev pub AgreeOnWhatIsOld : World → World → Type 0
+  AgreeOnWhatIsOld earlier later = (spread flight now : ℕ) → 0 < spread → GoesOnAt earlier later now →
+      AreTimely spread flight (length later.replicas) later.silences later.log → AgreeAt earlier later spread now

@@ -1,12 +1,12 @@
 -- How a cluster hangs together: each member stands as its past says, and each frame in flight is one that a step sent.
 -- K is the type of keys, and X that of versions.
-use Rattle.std.specs.Prelude.{◌≡◌, ℕ, ◌+◌, ◌<◌, ◌==◌, Bool, false, List, [], ◌∷◌, length, Some, None, slice_get, Contains}
+use Rattle.std.specs.Prelude.{◌≡◌, ℕ, ◌+◌, ◌<◌, ◌==◌, Bool, true, false, List, [], ◌∷◌, ◌++◌, length, Option, Some, None, slice_get, Contains}
 use Rattle.std.specs.List.{AllByRecursion}
 use Rattle.am_merge.specs.Maps.{at}
 use Rattle.am_collect.specs.Kept.{Kept}
 use Rattle.am_gossip.specs.declared.frame.Frame.{Frame}
 use Rattle.am_instance.specs.Deliveries.{first_fault, rows_in, parts_of}
-use Rattle.am_runs.specs.Steps.{flights_of}
+use Rattle.am_runs.specs.Steps.{RunStep, flights_by, flights_of, is_at}
 use Rattle.am_runs.specs.Members.{Member, member_of, map_of}
 use Rattle.am_steps.specs.BothStates.{StateOf}
 use Rattle.am_steps.specs.Contents.{carries}
@@ -21,6 +21,18 @@ pub record IsTied {K X : Type 0} (state : StateOf K X) (member : Member X) (runn
   pub held : HasGoneThrough state member.past kept
   pub saved : (key : K) → at state.seen state.cmp copy key ≡ map_of state.seen state.cmp member.saved key
 
+-- A frame was sent in a run, as the one of this place among all that ever were: by a step of its sender, at its moment, with its
+-- versions.
+pub record WasSent {K X : Type 0} (state : StateOf K X) (steps : List (RunStep X)) (index : ℕ) (flight : Flight) : Type 0 where
+  pub before : List (RunStep X)
+  pub step : RunStep X
+  pub rest : List (RunStep X)
+  pub parts : steps ≡ before ++ step ∷ rest
+  pub own : is_at flight.sender step ≡ true
+  pub nth : ℕ
+  pub index_is : index ≡ length (flights_of before) + nth
+  pub sent : slice_get (flights_by step) nth ≡ Some (record { sent = flight.sent; versions = state.versions_in (carries flight.frame) })
+
 module _ {K X : Type 0} (run : RunOf K X) where
   -- the member at a place, as a run of the cluster tells
   abbrev pub member_in : World → ℕ → Member X
@@ -30,18 +42,26 @@ module _ {K X : Type 0} (run : RunOf K X) where
   abbrev pub IsTiedIn : World → ℕ → Replica → Type 0
   IsTiedIn world q replica = IsTied run.state (member_in world q) replica.runs (run.state.kept replica.stand) (run.saved replica)
 
-  -- a frame was sent in the run, as the one of this place among all that ever were
+  -- a frame was sent in that run
   abbrev pub IsSentIn : World → ℕ → Flight → Type 0
-  IsSentIn world index flight =
-      slice_get (flights_of (run.steps world)) index
-      ≡ Some (record { sent = flight.sent; versions = run.state.versions_in (carries flight.frame) })
+  IsSentIn world index flight = WasSent run.state (run.steps world) index flight
 
--- a member is as both runs tell, and knows its place
+-- the names that a member knows, its own among them, in their order
+abbrev pub names_of : Option Replica → List (List ℕ)
+names_of None = []
+names_of (Some replica) = replica.stand.config.members
+
+-- those of all members, as the first of them knows them
+abbrev pub names_in : World → List (List ℕ)
+names_in world = names_of (replica_at world 0)
+
+-- a member is as both runs tell, and knows its place and the names of all, in one order for all
 pub record IsMember (world : World) (q : ℕ) (replica : Replica) : Type 0 where
   pub silences : IsTiedIn silence_run world q replica
   pub log : IsTiedIn log_run world q replica
   pub place : replica.stand.config.place ≡ q
   pub members : length replica.stand.config.members ≡ length world.replicas
+  pub names : replica.stand.config.members ≡ names_in world
 
 -- a frame in flight is one that a step sent, under its number among all that were ever sent, from one member to another
 pub record IsFlying (world : World) (flight : Flight) : Type 0 where

@@ -1,24 +1,20 @@
 //! A cluster, and what can be asked of it.
 
-ghost use Rattle.std.specs.Prelude.{◌≡◌, ◌↔◌, ℕ, [], All, Any, Err, IfOk, IsTrue, MatchOption, length, option_map};
+ghost use Rattle.std.specs.Prelude.{◌≡◌, ◌↔◌, ◌<◌, ℕ, [], Any, Err, IfOk, IsTrue, MatchOption, length, option_map};
 ghost use Rattle.std.specs.Option.{option_copied};
 ghost use Rattle.am_instance.specs.Configs.{HasTwice, IsEmptyName, IsLongName};
-ghost use Rattle.am_instance.specs.declared.error.ConfigError.TheVariants as errors;
-ghost use Rattle.am_silence.specs.Mesh.{IsMesh};
-ghost use Rattle.am_nflog.specs.Mesh.{IsMesh as IsLogMesh};
-ghost use Rattle.am_runs.specs.Steps.{delivered_in};
-ghost use Rattle.am_cluster.specs.Reports.{AreRuns, AreTimely, IsCalmInBoth, IsLineOfFault};
-ghost use Rattle.am_cluster.specs.Twins.{AreTwins};
+ghost use Rattle.am_refusals.specs.declared.error.ConfigError.TheVariants as errors;
+ghost use Rattle.am_cluster.specs.Reports.{AreTimely, IsCalmInBoth, IsLineOfFault};
+ghost use Rattle.am_cluster.specs.Clusters.{IsCluster};
 ghost use Rattle.am_cluster.specs.Beginnings.{AreNewborn, AreUnborn, newborns};
 ghost use Rattle.am_cluster.specs.DurableRuns.{IsDurableInBoth};
-ghost use Rattle.am_cluster.specs.Ties.{IsWorld};
 ghost use Rattle.am_cluster.specs.Worlds.{replica_at};
 
 use crate::flight::Flight;
 use crate::journal::{CalmReport, Journal};
 use crate::member::Member;
 use am_instance::{Config, ConfigError, Instance, Place};
-use am_version_order::Interval;
+use am_version_order::{Interval, Moment};
 use am_wire::Text;
 use std::alloc::{AllocError, Global};
 use std::marker::Model;
@@ -133,15 +129,10 @@ impl Cluster {
     }
 
     /// Says how the cluster hangs together: each member stands as its past in both runs tells, and each frame in flight
-    /// is one that a step sent; both are runs, which tell of the same steps, each of which has a line; and what was
-    /// delivered in them are values. It does nothing.
+    /// is one that a step of its sender sent; both are runs, which tell of the same steps, each of which has a line; and
+    /// what was delivered in them are values. It does nothing.
     pub fn consistency(&self)
-        ensures world { IsWorld self.now }
-        ensures runs { AreRuns (length self.now.replicas) self.now.silences self.now.log }
-        ensures silences { All IsMesh (delivered_in self.now.silences) }
-        ensures log { All IsLogMesh (delivered_in self.now.log) }
-        ensures twins { AreTwins self.now.silences self.now.log }
-        ensures lines { length self.now.lines ≡ length self.now.silences }
+        ensures { IsCluster self.now }
     {
         self.journal.consistency();
     }
@@ -167,6 +158,7 @@ impl Cluster {
     /// or settle was refused to it since its moment was before its last one; else the line of the first step at which
     /// that fails. It takes no memory.
     pub fn calm(&self, place: Place) -> CalmReport
+        // PROMISE: Whether a member was calm is answered exactly.
         ensures calm { IsTrue result.calm ↔ IsCalmInBoth (length self.now.replicas) place self.now.silences self.now.log }
         ensures fault { MatchOption result.first_fault
             (IsCalmInBoth (length self.now.replicas) place self.now.silences self.now.log)
@@ -178,11 +170,13 @@ impl Cluster {
     /// Whether the run so far keeps a spread and a flight time, by one clock; then every member is calm. It takes no
     /// memory.
     pub fn timely(&self, spread: Interval, flight: Interval) -> bool
+        ensures some_time { 0 < spread }
         ensures exactly { IsTrue result
             ↔ AreTimely spread flight (length self.now.replicas) self.now.silences self.now.log }
         ensures calm { IsTrue result → (place : ℕ) →
             IsCalmInBoth (length self.now.replicas) place self.now.silences self.now.log }
     {
+        let _sum = Moment::LEAST.checked_add(spread);
         self.journal.timely(spread, flight)
     }
 

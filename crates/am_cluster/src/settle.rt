@@ -238,6 +238,7 @@ impl Cluster {
     /// as [`SettleError::Memory`].
     pub fn settle(&mut self, now: Moment, line: u64) -> Result<(), SettleError>
         ensures settled { IsSettle self.old now line result self.new }
+        // PROMISE: After a settle all members hold the greatest live version of each key that any of them held.
         ensures joined { OnOk result (HasSettled self.old now self.new) }
     {
         self.admit(now, line)?;

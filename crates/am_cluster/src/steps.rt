@@ -74,6 +74,7 @@ impl Cluster {
     ///
     /// The first [`ClusterError`] that applies, in their order; for want of room to write the step down before all others.
     pub fn step(&mut self, step: &Step, line: u64) -> Result<Reply, ClusterError>
+        // PROMISE: A line of a schedule changes one member, the record and the frames in flight exactly as it says.
         ensures { IsStepped self.old step.now line result self.new }
     {
         match step.action() {

@@ -209,6 +209,7 @@ impl<V: Version> Keeper<V> {
     pub fn run(&mut self, steps: &[(Step<V>, Moment)]) -> Result<(), (usize, KeeperError)>
         ensures refusal { IfErr result (IsStop self.new.last steps.now) }
         ensures left { IsLeftBy V.seen V.Key.cmp self.old (events_of (accepted steps.now result)) self.new }
+        // PROMISE: After calm events a map shows what it would show if it had never forgotten anything.
         ensures shown { ShowsBareSet V.seen V.Key.cmp self.old (events_of (accepted steps.now result)) self.new }
     {
         for (place, (step, now)) in steps.iter().enumerate() {

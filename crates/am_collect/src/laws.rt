@@ -30,6 +30,7 @@ pub fn calm_events_show_the_bare_set<V: Version>()
 /// Two keepers that took the same versions in calm events, in any order and however often, show
 /// the same from the later one of their last moments on.
 pub fn calm_keepers_agree<V: Version>()
+    // PROMISE: Two maps that took the same in calm events, in any order and however often, show the same.
     ensures { (start begin : Kept V) (events others : Events V) (one other : Kept V) (now : ℕ) (key : V.Key) →
         IsCalmlyLeft V.seen V.Key.cmp start events one → IsCalmlyLeft V.seen V.Key.cmp begin others other →
         HaveSame (taken start.held events) (taken begin.held others) → All V.is_value (taken start.held events) →

@@ -4,9 +4,10 @@ ghost use Rattle.std.specs.Prelude.{◌≡◌, ◌≢◌};
 
 mod diff;
 mod instance;
+mod live;
 
 use am_jobs::{FoldJob, Form, Job, ShowJob, StateName, VERSION, is_file};
-use am_member::number_within;
+use am_peers::number_within;
 use am_silence_json::moments::read_moment;
 use am_version_order::Moment;
 use clap::error::ErrorKind;
@@ -92,6 +93,8 @@ fn command<'a>(alloc: Global) -> Result<Command<'a>, AllocError> {
         .subcommand(fold_command(alloc, FOLD)?)?
         .subcommand(show_command(alloc, SHOW)?)?
         .subcommand(diff::command(alloc, diff::NAME)?)?
+        .subcommand(live::pull_command(alloc, live::PULL)?)?
+        .subcommand(live::push_command(alloc, live::PUSH)?)?
         .subcommand(instance::command(alloc, instance::NAME)?)
 }
 
@@ -186,6 +189,12 @@ fn read_job<'a, R: Files + AllocGlobal>(
     }
     if let Some(flags) = matches.subcommand_matches(instance::NAME) {
         return Ok(Job::Instance(instance::read_options(rt, flags)?));
+    }
+    if let Some(flags) = matches.subcommand_matches(live::PULL) {
+        return Ok(Job::Pull(live::read_pull(alloc, flags)?));
+    }
+    if let Some(flags) = matches.subcommand_matches(live::PUSH) {
+        return Ok(Job::Push(live::read_push(alloc, flags)?));
     }
     if let Some(flags) = matches.subcommand_matches(SHOW) {
         return Ok(Job::Show(read_show(alloc, flags)?));

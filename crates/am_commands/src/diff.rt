@@ -3,9 +3,10 @@
 use crate::host::{Host, Streams};
 use crate::live::ask_all;
 use crate::moment::{moment_of, warn};
+use crate::replica::told_by;
 use crate::source::{Keys, NO_MEMORY, Origin, ReadFault, Source, open_row, report_read};
 use am_faults::{Fault, SourceFault, report, status};
-use am_jobs::{DiffJob, Form, SourceWord, StateName};
+use am_jobs::{DiffJob, Form, PullJob, SourceWord, StateName};
 use am_merge::Held;
 use am_nflog::MeshEntry;
 use am_silence::MeshSilence;
@@ -89,7 +90,7 @@ fn compare_opened<'a, R: Host>(
     now: Moment,
 ) -> Result<DiffOutcome, ReadFault<'a>> {
     let Streams { input, mut output } = streams;
-    let mut inputs = match open_all(rt, input, &job.sources) {
+    let mut inputs = match open_all(rt, input, job) {
         Ok(inputs) => inputs,
         Err(fault) => return Err(fault),
     };
@@ -115,20 +116,47 @@ fn named<'a>(job: &DiffJob<'a>, error: DiffError) -> ReadFault<'a> {
 fn open_all<'a, R: Host>(
     rt: &R,
     input: Stdin,
-    sources: &[SourceWord<'a>],
+    job: &DiffJob<'a>,
 ) -> Result<Vec<Opened<'a>>, ReadFault<'a>> {
     let mut inputs = Vec::new(rt.alloc());
-    for source in sources {
+    for source in &job.sources {
         let name = source.name;
-        let reader = match open_row(rt, input, source.file) {
+        let reader = match open_source(rt, input, job, source) {
             Ok(reader) => reader,
-            Err(fault) => return Err(ReadFault::of(name, Fault::File(fault))),
+            Err(fault) => return Err(fault),
         };
         if inputs.push(Input { name, reader }).is_err() {
             return Err(ReadFault::of(name, NO_MEMORY));
         }
     }
     Ok(inputs)
+}
+
+/// Opens the row of a source: what a replica tells, a file, or standard input.
+fn open_source<'a, R: Host>(
+    rt: &R,
+    input: Stdin,
+    job: &DiffJob<'a>,
+    source: &SourceWord<'a>,
+) -> Result<BufReader<Origin>, ReadFault<'a>> {
+    if let Some(pull) = pull_of(job, source) {
+        return told_by(rt, &pull);
+    }
+    match open_row(rt, input, source.file) {
+        Ok(reader) => Ok(reader),
+        Err(fault) => Err(ReadFault::of(source.name, Fault::File(fault))),
+    }
+}
+
+/// What a replica is asked, where the source is one that is asked by gossip.
+pub fn pull_of<'a>(job: &DiffJob<'a>, source: &SourceWord<'a>) -> Option<PullJob<'a>> {
+    let replica = source.replica()?;
+    Some(PullJob {
+        state: job.state,
+        name: source.name,
+        replica,
+        time_limit: job.time_limit,
+    })
 }
 
 /// Writes all differences of files, each joined with the logs beside it, to standard output. What was read is forgotten: the
@@ -140,7 +168,7 @@ fn compare_logged<'a, R: Host, V: Told + InJson + Message>(
     now: Moment,
 ) -> Result<DiffOutcome, ReadFault<'a>> {
     let Streams { input, mut output } = streams;
-    let opened = match open_logged(rt, input, &job.sources) {
+    let opened = match open_logged(rt, input, job) {
         Ok(opened) => opened,
         Err(fault) => return Err(fault),
     };
@@ -157,12 +185,12 @@ fn compare_logged<'a, R: Host, V: Told + InJson + Message>(
 fn open_logged<'a, R: Host>(
     rt: &R,
     input: Stdin,
-    sources: &[SourceWord<'a>],
+    job: &DiffJob<'a>,
 ) -> Result<Vec<Source<'a>>, ReadFault<'a>> {
     let mut opened = Vec::new(rt.alloc());
-    for source in sources {
+    for source in &job.sources {
         let name = source.name;
-        let source = match Source::open(rt, input, name, source.file, true) {
+        let source = match open_with_logs(rt, input, job, source) {
             Ok(source) => source,
             Err(fault) => return Err(fault),
         };
@@ -171,6 +199,22 @@ fn open_logged<'a, R: Host>(
         }
     }
     Ok(opened)
+}
+
+/// Opens a source with the logs beside it; a replica that is asked by gossip has none.
+fn open_with_logs<'a, R: Host>(
+    rt: &R,
+    input: Stdin,
+    job: &DiffJob<'a>,
+    source: &SourceWord<'a>,
+) -> Result<Source<'a>, ReadFault<'a>> {
+    match pull_of(job, source) {
+        Some(pull) => match told_by(rt, &pull) {
+            Ok(row) => Ok(Source::told(rt.alloc(), source.name, row)),
+            Err(fault) => Err(fault),
+        },
+        None => Source::open(rt, input, source.name, source.file, true),
+    }
 }
 
 /// Reads all sources, each to its end before the next.

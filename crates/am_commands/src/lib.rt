@@ -1,4 +1,5 @@
-//! The commands over snapshots and rows: one is shown, many are folded, and it is told how replicas differ.
+//! The commands over snapshots and rows: one is shown, many are folded, it is told how replicas differ, and a running replica's
+//! state is read, or mended.
 #![tactic(auto)]
 
 mod diff;
@@ -6,10 +7,15 @@ mod fold;
 mod host;
 mod live;
 mod moment;
+mod pull;
+mod push;
+mod replica;
 mod show;
 mod source;
 
 pub use diff::run_diff;
 pub use fold::run_fold;
 pub use host::{Host, Streams};
+pub use pull::run_pull;
+pub use push::run_push;
 pub use show::run_show;

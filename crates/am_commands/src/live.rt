@@ -1,11 +1,13 @@
 //! What sources show, be they servers or files.
 
+use crate::diff::pull_of;
 use crate::host::Host;
+use crate::replica::told_by;
 use crate::source::{Keys, NO_MEMORY, ReadFault, Source, open_row};
 use am_faults::Fault;
-use am_jobs::{DiffJob, SourceWord};
-use am_member::{Server, body_of, fetch, held_of, shown_of_row};
+use am_jobs::{DiffJob, PullJob, SourceWord};
 use am_merge::Held;
+use am_peers::{Server, body_of, fetch, held_of, shown_of_row};
 use am_silence::MeshSilence;
 use am_silence_json::read_silences;
 use am_snapshot::{SnapshotError, row_bytes, row_length};
@@ -41,6 +43,9 @@ fn shown_by<'a, R: Host>(
     job: &DiffJob<'a>,
     source: &SourceWord<'a>,
 ) -> Result<Held<MeshSilence>, ReadFault<'a>> {
+    if let Some(pull) = pull_of(job, source) {
+        return shown_by_replica(rt, &pull);
+    }
     let shown = match source.server() {
         Some(server) => shown_by_server(rt, &server, job.time_limit),
         None if job.has_logs => return shown_by_logged(rt, input, source),
@@ -56,6 +61,21 @@ fn shown_by<'a, R: Host>(
 fn shown_by_file<R: Host>(rt: &R, input: Stdin, file: &str) -> Result<Held<MeshSilence>, Fault> {
     let mut reader = open_row(rt, input, file)?;
     Ok(shown_of_row(rt.alloc(), &mut reader)?)
+}
+
+/// What a replica shows that is asked by gossip.
+fn shown_by_replica<'a, R: Host>(
+    rt: &R,
+    pull: &PullJob<'a>,
+) -> Result<Held<MeshSilence>, ReadFault<'a>> {
+    let mut reader = match told_by(rt, pull) {
+        Ok(reader) => reader,
+        Err(fault) => return Err(fault),
+    };
+    match shown_of_row(rt.alloc(), &mut reader) {
+        Ok(held) => Ok(held),
+        Err(error) => Err(ReadFault::of(pull.name, Fault::Snapshot(error))),
+    }
 }
 
 /// What a file shows that is joined with the logs beside it.

@@ -2,7 +2,7 @@
 
 use crate::host::Host;
 use am_faults::Fault;
-use am_member::later_moment;
+use am_peers::later_moment;
 use am_silence_json::moments::write_moment;
 use am_version_order::Moment;
 

@@ -4,15 +4,17 @@ ghost use Rattle.std.specs.Prelude.{◌≤◌, IfOk};
 ghost use Rattle.am_merge.specs.Maps.{IsMap};
 
 use crate::host::Host;
-use am_faults::{Fault, SourceFault, report_source};
+use crate::replica::{AskFault, ToldRow};
+use am_disk::FileFault;
+use am_faults::{Fault, SourceFault, report_source, status};
 use am_files::{LogFault, Logs, WholeFile};
 use am_jobs::STANDARD_INPUT;
-use am_member::FileFault;
 use am_merge::Held;
 use am_snapshot::{SnapshotError, load, take_row};
+use am_told::Word;
 use am_version_order::Version;
 use am_wire::{MOST_MESSAGE_BYTES, Message};
-use std::alloc::Global;
+use std::alloc::{AllocError, Global};
 use std::io::{self, BufReader, ErrorKind, Read, Stdin};
 
 /// Where the row of a source stands.
@@ -20,6 +22,8 @@ use std::io::{self, BufReader, ErrorKind, Read, Stdin};
 pub enum Origin {
     File(WholeFile),
     StandardInput(Stdin),
+    /// What a replica told that was asked by its gossip.
+    Replica(ToldRow),
 }
 
 impl Read for Origin {
@@ -27,6 +31,7 @@ impl Read for Origin {
         match self {
             Origin::File(file) => file.read(buf),
             Origin::StandardInput(input) => input.read(buf),
+            Origin::Replica(row) => row.read(buf),
         }
     }
 }
@@ -48,6 +53,8 @@ pub enum ReadFault<'a> {
     Source(SourceFault<'a>),
     /// A log beside a source is at fault.
     Log(String, FileFault),
+    /// The replica of this name told an error, in these words.
+    Words(&'a str, Vec<u8>),
 }
 
 /// That memory ran out.
@@ -60,6 +67,14 @@ impl<'a> ReadFault<'a> {
             name: Some(name),
             fault,
         })
+    }
+
+    /// That the replica of this name told no state.
+    pub fn of_replica(name: &'a str, fault: AskFault) -> ReadFault<'a> {
+        match fault {
+            AskFault::Fault(fault) => ReadFault::of(name, fault),
+            AskFault::Words(words) => ReadFault::Words(name, words),
+        }
     }
 
     /// That a log beside the source of this name is at fault.
@@ -82,6 +97,12 @@ impl From<SnapshotError> for ReadFault<'_> {
     }
 }
 
+impl From<AllocError> for ReadFault<'_> {
+    fn from(_error: AllocError) -> Self {
+        ReadFault::from(SnapshotError::Memory)
+    }
+}
+
 /// Prints a fault on standard error, behind the name of its source, or the path of its log. Gives the exit status of the program.
 pub fn report_read<R: Host>(rt: &R, fault: &ReadFault<'_>) -> u8
     ensures { (1 ≤ result) × (result ≤ 4) }
@@ -94,6 +115,13 @@ pub fn report_read<R: Host>(rt: &R, fault: &ReadFault<'_>) -> u8
                 fault: Fault::File(*fault),
             };
             report_source(rt, &fault)
+        }
+        ReadFault::Words(name, words) => {
+            let (name, words) = (Word(name.as_bytes()), Word(words));
+            let _ = eprintln!(rt;
+                "am_tool: {name} Gossip Error {words}: the replica told this error"
+            );
+            status::REFUSED
         }
     }
 }
@@ -136,6 +164,15 @@ impl<'a> Source<'a> {
             Err(fault) => return Err(ReadFault::of(name, Fault::File(fault))),
         };
         Ok(Source { name, row, logs })
+    }
+
+    /// A source of this name whose row was told, and beside which no logs stand.
+    pub fn told(alloc: Global, name: &'a str, row: BufReader<Origin>) -> Source<'a> {
+        Source {
+            name,
+            row: Some(row),
+            logs: Logs::none(alloc),
+        }
     }
 
     /// What it is called.

@@ -22,6 +22,7 @@ pub fn a_written_answer_is_read()
 
 /// What [`write_answer`](crate::write_answer) writes of an answer to notify is read as the notice that says the same.
 pub fn a_written_answer_is_a_notice()
+    // PROMISE: An answer that says to notify is read back as the notice that says the same.
     ensures { (a : Answer) (d : Data) → IsAnswer a → IsToNotify a → IsObjectText (compact_text (answer_data a)) d →
         IsNotice d (notice_from a) }
 {}

@@ -167,6 +167,7 @@ fn read_object(alloc: Global, object: &Value) -> Result<Message, MessageError>
 /// that is wanting or of another kind: `groupKey`, `receiver`, `alerts`, which has to be an array of objects, one at least,
 /// and then of each alert `labels` and `status`; [`MessageError::Memory`] where memory runs out.
 pub fn read_message(alloc: Global, body: &[u8]) -> Result<Message, MessageError>
+    // PROMISE: A webhook message is read as its object says, no alert left out.
     ensures message { IfOk result (λ m. (d : Data) × IsObjectText body.now d × IsMessage d m) }
     ensures in_order { IfOk result (λ m. All IsInOrder m.alerts.items) }
     ensures bad_json { IsErrOf result errors.BadJson → (d : Data) → ¬ IsObjectText body.now d }

@@ -62,6 +62,7 @@ pub fn decide(
     send_resolved: bool,
     now: Moment,
 ) -> Decision
+    // PROMISE: Whether a group is notified follows from sets of alerts and the last entry.
     ensures { result ≡ decision (option_map logged (option_copied entry.entry)) (set_of firing.now)
         (set_of resolved.now) repeat send_resolved now }
 {

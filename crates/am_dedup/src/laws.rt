@@ -26,5 +26,6 @@ pub fn what_fires_untold_is_notified()
 /// Lists of hashes count as sets: those with the same members decide alike.
 pub fn order_and_repetition_do_not_count()
     ensures members { (hashes : List ℕ) (hash : ℕ) → (contains (set_of hashes) hash ≡ true) ↔ Contains hashes hash }
+    // PROMISE: The order and the repetition of alerts make no difference.
     ensures alike { (hashes others : List ℕ) → ((hash : ℕ) → Contains hashes hash ↔ Contains others hash) → set_of hashes ≡ set_of others }
 {}

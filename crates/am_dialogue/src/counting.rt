@@ -5,8 +5,7 @@ ghost use Rattle.std.specs.Prelude.{◌<◌};
 use am_api_decisions as decisions;
 use am_api_silences::Read;
 use am_api_status::{Resource, resource_of};
-use am_figures::{Kind, Request};
-use am_gossip::Frame;
+use am_figures::Request;
 use am_http as silences;
 use am_http::session::Said;
 use am_merge::Held;
@@ -77,15 +76,6 @@ pub fn request_of(said: &Said) -> Option<Request> {
         Some(Read::Whole(request)) => Some(kind_of(request)),
         Some(_) => Some(Request::Other),
         None => None,
-    }
-}
-
-/// What a frame is counted as.
-pub fn kind_of_frame(frame: &Frame) -> Kind {
-    match frame {
-        Frame::Delta(_) => Kind::Update,
-        Frame::Push(_) | Frame::Pull(_) => Kind::FullState,
-        Frame::Tick => Kind::Tick,
     }
 }
 

@@ -7,6 +7,7 @@ use crate::counting::{Account, Census};
 use crate::turns::{Turn, bytes_of_request, is_dear_call};
 use am_api_decisions::{Deciding, LogWriting};
 use am_api_silences::{Begun, Making, Read, Refusal, ReplyBytes, turn_away};
+use am_gate::{Gate, Hears};
 use am_gossip::Frame;
 use am_http::session::{Said, Session};
 use am_http::{Cause, Screened};
@@ -22,6 +23,8 @@ const STRETCH: usize = 512;
 /// A connection, what it said that waits to be answered, and the reply that is being made or goes out.
 #[derive(Drop)]
 pub struct Dialogue {
+    /// What stands before the session.
+    pub gate: Gate,
     pub session: Session,
     /// It is known where the request comes from.
     is_screened: bool,
@@ -87,9 +90,10 @@ struct HeldBack {
 }
 
 impl Dialogue {
-    /// Before the first byte. It takes no memory.
-    pub fn new(alloc: Global) -> Dialogue {
+    /// Before the first byte of a connection of which this is heard. It takes no memory.
+    pub fn new(alloc: Global, hears: Hears) -> Dialogue {
         Dialogue {
+            gate: Gate::new(alloc, hears),
             session: Session::new(alloc),
             is_screened: false,
             work: Work::Nothing,
@@ -247,7 +251,8 @@ impl Dialogue {
 
     /// How many bytes of what came are kept.
     pub fn held(&self) -> usize {
-        self.session.waiting().saturating_add(self.work.held())
+        let coming = self.session.waiting().saturating_add(self.gate.waiting());
+        coming.saturating_add(self.work.held())
     }
 
     /// What is still to be written.

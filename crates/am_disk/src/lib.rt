@@ -1,10 +1,11 @@
 //! A state in a file: the calls that a save makes of a file system, in their order, whatever each is answered; what stands at a
-//! path, and why a file was not read or not written.
+//! path, which file it names, and why a file was not read or not written.
 #![tactic(auto)]
 
 mod disk;
 mod error;
 mod opening;
+mod paths;
 mod record;
 mod saving;
 mod system;
@@ -12,5 +13,6 @@ mod system;
 pub use disk::Disk;
 pub use error::FileFault;
 pub use opening::is_there;
+pub use paths::{are_one_file, target_of};
 pub use saving::{directory_of, save_file};
 pub use system::{SystemDisk, SystemFile, new_file, sync_directory};

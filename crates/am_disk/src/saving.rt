@@ -61,9 +61,11 @@ pub fn save_file<V: Version, D: Disk>(
     held: &Held<V>,
     most: u32,
 ) -> Result<u64, FileFault>
+    // PROMISE: A save that succeeds wrote a new file, synced it, renamed it and synced its directory.
     ensures saved { OnOk result (IsSaved path.now (row_text V.seen held.now) (D.calls disk.old) (D.calls disk.new)) }
     ensures savable { OnOk result (IsSavableWithin V.seen V.Key.cmp V.is_value most held.now) }
     ensures count { IfOk result (λ written. written ≡ length (row_text V.seen held.now)) }
+    // PROMISE: A save that fails removes its own new file and touches nothing else.
     ensures stopped { IfErr result (IsStopped (FitsRow V.seen most held.now) path.now (row_text V.seen held.now) (D.calls disk.old) (D.calls disk.new)) }
 {
     let Ok(new) = format!(in alloc; "{path}.new") else {

@@ -7,9 +7,13 @@ mod meaning;
 
 use crate::occasion::Occasion;
 use crate::status;
-use am_instance::ConfigError;
-use am_member::{Fault as ConnectionFault, FileFault, ServerFault};
+use am_disk::FileFault;
+use am_gate::GateFault;
+use am_memberlist::AnswerError;
+use am_peers::{Fault as ConnectionFault, ServerFault};
 use am_reactor::LinkFault;
+use am_refusals::ConfigError;
+use am_secret::SecretFault;
 use am_silence_json::ListError;
 use am_snapshot::SnapshotError;
 use am_told::Word;
@@ -17,6 +21,7 @@ use lines::FileLine;
 use meaning::meaning_of;
 use std::fmt;
 use std::io::ErrorKind;
+use std::net::SocketAddr;
 use thiserror::Error;
 
 /// Prints a fault on standard error: its words, what it means, and when it is told.
@@ -54,7 +59,13 @@ pub enum Fault {
     /// In the list that a server replied.
     #[error(fmt = lines::write_list_error)]
     List(#[from] ListError),
-    /// A peer is not NAME=PORT.
+    /// In what a replica answered by gossip.
+    #[error(fmt = lines::write_answer_error)]
+    Gossip(#[from] AnswerError),
+    /// A replica has no such state.
+    #[error("Gossip NoState")]
+    NoState,
+    /// A peer is not NAME=ADDRESS:PORT.
     #[error("Peer")]
     Peer,
     /// The names of the members are at fault.
@@ -75,15 +86,21 @@ pub enum Fault {
     /// The system refused random bytes.
     #[error("Random {0:?}")]
     Random(ErrorKind),
-    /// The system refused to listen at a port.
-    #[error("Listen {0:?} {1}")]
-    Listen(ErrorKind, u16),
+    /// The secret isn't read.
+    #[error(fmt = lines::write_secret_fault)]
+    Secret(SecretFault),
+    /// The system refused to listen at an address.
+    #[error(fmt = lines::write_listen_fault)]
+    Listen(ErrorKind, SocketAddr),
     /// The system refused a connection that came.
     #[error("Accept {0:?}")]
     Accept(ErrorKind),
     /// In a connection.
     #[error(fmt = lines::write_connection_fault)]
     Connection(ConnectionFault),
+    /// At the gate of a connection.
+    #[error(fmt = lines::write_gate_fault)]
+    Gate(GateFault),
     /// A connection gave its place to another one, after so many bytes came.
     #[error("Crowded {0}")]
     Crowded(u64),
@@ -111,9 +128,9 @@ pub enum Fault {
     /// So many faults of a member were not told, since nobody read its lines.
     #[error("Lines Lost {0}")]
     LinesLost(u64),
-    /// What was to be sent to the peer at a port is lost.
+    /// What was to be sent to the peer at an address is lost.
     #[error(fmt = lines::write_link_fault)]
-    Lost(LinkFault, u16),
+    Lost(LinkFault, Option<SocketAddr>),
 }
 
 impl Fault {
@@ -135,13 +152,16 @@ impl Fault {
                 fault,
             ),
             Fault::Server(fault) => status_of_server(fault),
+            Fault::Gossip(AnswerError::Memory) => status::MEMORY,
+            Fault::Gossip(_) | Fault::NoState => status::REFUSED,
+            Fault::Secret(fault) => status_of_secret(fault),
             _ => status::OUTSIDE,
         }
     }
 }
 
 /// How many kinds of faults a member tells apart.
-pub const KINDS: usize = 16;
+pub const KINDS: usize = 18;
 
 impl Fault {
     /// Which kind of fault of a member it is, from 0 on: one for each word with which a line begins.
@@ -159,7 +179,9 @@ impl Fault {
             Fault::ClockBehind(_) | Fault::ClockCaughtUp => 12,
             Fault::Crowded(_) => 13,
             Fault::Unfinished(_) => 14,
-            _ => 15,
+            Fault::Gate(GateFault::Seal(_) | GateFault::Unsealed | GateFault::Cut) => 15,
+            Fault::Gate(_) => 16,
+            _ => 17,
         }
     }
 }
@@ -211,6 +233,17 @@ fn status_of_server(fault: ServerFault) -> u8
         }
         ServerFault::TooLarge | ServerFault::NoHead | ServerFault::Status(_) => status::REFUSED,
         ServerFault::Memory => status::MEMORY,
+    }
+}
+
+/// The exit status where a secret is at fault.
+fn status_of_secret(fault: SecretFault) -> u8
+    ensures { (1 ≤ result) × (result ≤ 4) }
+{
+    match fault {
+        SecretFault::File(_) | SecretFault::Read(_) => status::OUTSIDE,
+        SecretFault::Short | SecretFault::Long => status::REFUSED,
+        SecretFault::Memory => status::MEMORY,
     }
 }
 

@@ -1,6 +1,6 @@
 //! What stands beside a file.
 
-use am_member::{FileFault, directory_of, sync_directory};
+use am_disk::{FileFault, directory_of, sync_directory};
 use am_snapshot::SnapshotError;
 use std::alloc::Global;
 use std::fs;

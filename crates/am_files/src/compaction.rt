@@ -22,7 +22,7 @@
 use crate::beside::{NEW, beside};
 use crate::spent::opened_to_go;
 use crate::state::StateFile;
-use am_member::{FileFault, new_file};
+use am_disk::{FileFault, new_file};
 use am_merge::{Held, Iter};
 use am_snapshot::{RowPiece, SnapshotError, row_piece};
 use am_version_order::Version;

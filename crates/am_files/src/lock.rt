@@ -1,7 +1,7 @@
 //! A file that is one process's at a time.
 
 use crate::beside::{LOCK, beside};
-use am_member::FileFault;
+use am_disk::FileFault;
 use std::fs::{self, File, OpenOptions, TryLockError};
 use std::rt::Files;
 

@@ -2,8 +2,8 @@
 
 use crate::beside::{LOG, OLD_LOG, beside, remove_logs};
 use crate::reading::{LogEnd, NO_LOG, fault_of};
+use am_disk::{FileFault, directory_of, sync_directory};
 use am_journal::{Found, Journal, LogError, LogFile, open_file};
-use am_member::{FileFault, directory_of, sync_directory};
 use am_snapshot::SnapshotError;
 use std::alloc::Global;
 use std::fs::{self, File, OpenOptions};

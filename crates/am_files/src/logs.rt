@@ -7,7 +7,7 @@ ghost use Rattle.am_files.specs.Logs.{JoinsLog};
 use crate::beside::{LOG, OLD_LOG, beside};
 use crate::reading::join_batches;
 use crate::whole_file::WholeFile;
-use am_member::{FileFault, is_there, target_of};
+use am_disk::{FileFault, is_there, target_of};
 use am_merge::Held;
 use am_snapshot::{SnapshotError, row_length_within};
 use am_version_order::Version;

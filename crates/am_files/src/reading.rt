@@ -4,8 +4,8 @@ ghost use Rattle.std.specs.Prelude.{OnOk, IfSome};
 ghost use Rattle.am_files.specs.Logs.{JoinsRow, JoinsLog};
 
 use crate::beside::beside;
+use am_disk::{FileFault, is_there};
 use am_journal::{Batches, LogError, settle};
-use am_member::{FileFault, is_there};
 use am_merge::Held;
 use am_snapshot::SnapshotError;
 use am_version_order::{Moment, Version};

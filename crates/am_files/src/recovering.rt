@@ -6,7 +6,7 @@ ghost use Rattle.am_files.specs.Recovering.{HoldsRow, IsRecovered, content_of};
 
 use crate::beside::{LOG, OLD_LOG};
 use crate::reading::{FoundLogs, LogEnd, join_batches, opened, opened_log};
-use am_member::FileFault;
+use am_disk::FileFault;
 use am_merge::Held;
 use am_snapshot::load_within;
 use am_version_order::Version;
@@ -37,6 +37,7 @@ pub fn recover<V: Version + Message, R: Read + Drop>(
     old_log: Option<R>,
     log: Option<R>,
 ) -> Result<Recovered<V>, FileFault>
+    // PROMISE: A start holds the greatest version of each key in the file and both logs.
     ensures { IfOk result (λ recovered. IfSome (content_of R.remaining file) (λ row.
         IfSome (content_of R.remaining old_log) (λ first. IfSome (content_of R.remaining log) (λ second.
         IsRecovered V.seen V.reads row first second recovered.held)))) }

@@ -9,7 +9,7 @@
 //! and a [`WholeFile`](crate::WholeFile) tells who reads for longer that it was made shorter.
 
 use crate::whole_file::is_named;
-use am_member::is_there;
+use am_disk::is_there;
 use std::alloc::Global;
 use std::fs::{File, OpenOptions};
 use std::rt::Files;

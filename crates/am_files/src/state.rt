@@ -6,8 +6,9 @@ use crate::log::StateLog;
 use crate::reading::FoundLogs;
 use crate::recovering::{Recovered, load_state};
 use crate::spent::{SpentFiles, opened_to_go};
-use am_disk::{SystemDisk, save_file};
-use am_member::{FileFault, directory_of, is_there, sync_directory, target_of};
+use am_disk::{
+    FileFault, SystemDisk, directory_of, is_there, save_file, sync_directory, target_of,
+};
 use am_merge::Held;
 use am_snapshot::{SnapshotError, row_length_within};
 use am_version_order::Version;

@@ -1,6 +1,6 @@
 //! Files that are read while a member may put others in their place.
 
-use am_member::FileFault;
+use am_disk::FileFault;
 use std::fs::{self, File, Metadata};
 use std::io::{self, ErrorKind, Read};
 use std::os::unix::fs::MetadataExt;

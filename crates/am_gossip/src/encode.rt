@@ -179,6 +179,7 @@ fn push_frame(out: &mut Vec<u8>, frame: &Frame, size: u64) -> Result<(), AllocEr
 /// [`FrameError::Length`] for a payload over its kind's limit, of 4,194,304 bytes for a Delta and 67,108,864 for a
 /// Push or a Pull, whatever memory there is; else [`FrameError::Memory`].
 pub fn encode_frame(alloc: Global, frame: &Frame) -> Result<Vec<u8>, FrameError>
+    // PROMISE: A frame is written in its one form.
     ensures written { IfOk result (λ bytes. bytes.items ≡ frame_text frame.now) }
     ensures size { OnOk result (length (payload_text frame.now) ≤ limit (kind_of frame.now)) }
     ensures too_long { (result ≡ Err FrameError.Length) ↔ (limit (kind_of frame.now) < length (payload_text frame.now)) }

@@ -123,6 +123,7 @@ impl Feeder {
     /// [`FrameError::Ended`] after a fault, else [`FrameError::Memory`] where memory runs out, which leaves the feeder as
     /// it was.
     pub fn feed(&mut self, piece: &[u8]) -> Result<Fed, FrameError>
+        // PROMISE: A peer's bytes are the frames that they spell, up to the first fault.
         ensures frames { IfOk result (λ fed. fed.frames.items ≡ (stream_of (rest_bytes self.old ++ piece.now)).frames) }
         ensures fault { IfOk result (λ fed. fed.fault ≡ fault_in (stream_of (rest_bytes self.old ++ piece.now)).ending) }
         ensures rest { OnOk result (self.new ≡ waiting_rest (stream_of (rest_bytes self.old ++ piece.now)).ending) }

@@ -21,6 +21,7 @@ pub fn streams_are_the_grammar()
 /// Two pieces one after the other are read as both joined are, and so is any list of pieces.
 pub fn cuts_change_nothing()
     ensures cut { (first second : List ℕ) → stream_of (first ++ second) ≡ goes_on (stream_of first) second }
+    // PROMISE: How a peer's bytes are cut makes no difference.
     ensures pieces { (pieces : List (List ℕ)) → fed_in (stream_of []) pieces ≡ stream_of (flat_map (λ piece. piece) pieces) }
 {}
 
@@ -28,6 +29,7 @@ pub fn cuts_change_nothing()
 /// other are read as their frames.
 pub fn frames_are_read_again()
     ensures frame { (f : Frame) → length (payload_text f) ≤ limit (kind_of f) → IsFrame f (frame_text f) }
+    // PROMISE: A frame that was written is read again.
     ensures stream { (fs : List Frame) → All (λ f. length (payload_text f) ≤ limit (kind_of f)) fs →
         stream_of (flat_map frame_text fs) ≡ record { frames = fs; ending = Ok [] } }
 {}

@@ -1,5 +1,5 @@
 -- The hosts that a server is asked under (RFC 9110, section 7.2), and the sites of the pages that ask (RFC 6454, sections 6 and 7).
-use Rattle.std.specs.Prelude.{◌≡◌, ◌⊎◌, ◌==◌, ◌||◌, ℕ, ◌+◌, ◌<◌, Bool, true, false, not, List, [], ◌∷◌, length, take, drop, map, codes, if◌then◌else◌}
+use Rattle.std.specs.Prelude.{◌≡◌, ◌⊎◌, ◌==◌, ◌||◌, ℕ, ◌+◌, ◌<◌, Bool, true, false, not, List, [], ◌∷◌, length, take, drop, map, codes, Option, None, Some, slice_get, if◌then◌else◌}
 use Rattle.std.specs.Borrow.{Bor}
 use Rattle.std.specs.List.{take_while, list_all, list_any}
 use Rattle.std.specs.Str.{str_eq_ignore_ascii_case}
@@ -19,9 +19,16 @@ texts names = map (λ name. name.now) names
 abbrev pub length_before : ℕ → List ℕ → ℕ
 length_before mark text = length (take_while (λ b. not (b == mark)) text)
 
--- the name of a host, without its port: what stands before the first colon
+-- the name of a host by its first byte: an address of IPv6 stands in [ and ] (RFC 3986, section 3.2.2), and another name before the
+-- first colon
+abbrev pub name_by : Option ℕ → List ℕ → List ℕ
+name_by None authority = []
+name_by (Some first) authority =
+    if first == 91 then take (length_before 93 authority + 1) authority else take (length_before 58 authority) authority
+
+-- the name of a host, without its port
 abbrev pub host_name : List ℕ → List ℕ
-host_name authority = take (length_before 58 authority) authority
+host_name authority = name_by (slice_get authority 0) authority
 
 -- what stands behind the first slash
 abbrev pub behind_slash : List ℕ → List ℕ

@@ -1,6 +1,6 @@
 //! The hosts that a server is asked under. A page of another site, open in a browser beside the server, asks under its own.
 
-ghost use Rattle.std.specs.Prelude.{◌≡◌, ◌≤◌, false, length, map, All};
+ghost use Rattle.std.specs.Prelude.{◌≡◌, ◌+◌, ◌≤◌, false, length, map, take, All};
 ghost use Rattle.std.specs.Str.{str_eq_ignore_ascii_case};
 ghost use Rattle.httparse.specs.Spans.{IsHeaderWithin, header_bytes};
 ghost use Rattle.am_http.specs.Hosts.{IsScreened, all_known, behind_slash, field_of, host_name, is_fine, is_fine_field, is_known, is_one_of, length_before, line_of_foreign, texts};
@@ -79,11 +79,24 @@ fn length_before(mark: u8, text: &[u8]) -> usize
     text.iter().take_while(|byte| **byte != mark).count()
 }
 
+/// The first bytes of a text, up to and with a mark, or all where there is none.
+fn up_to(mark: u8, text: &[u8]) -> &[u8]
+    ensures { result.now ≡ take (length_before mark text.now + 1) text.now }
+{
+    match text.get(..length_before(mark, text) + 1) {
+        Some(front) => front,
+        None => text,
+    }
+}
+
 /// The name of a host, without its port.
 fn host_name(authority: &[u8]) -> &[u8]
     ensures { result.now ≡ host_name authority.now }
 {
-    &authority[..length_before(b':', authority)]
+    match authority.first() {
+        Some(b'[') => up_to(b']', authority),
+        _ => &authority[..length_before(b':', authority)],
+    }
 }
 
 /// What stands behind the first slash.
@@ -161,6 +174,7 @@ fn all_known(what: Foreign, head: &[u8], fields: &[HeaderSpan], names: &[&str]) 
 ///
 /// Whatever names no host, as a request of HTTP/1.0 may, comes from no browser.
 pub fn screen(bytes: &[u8], names: &[&str]) -> Screened
+    // PROMISE: A request from a foreign host or origin is recognized as soon as its head is whole.
     ensures { IsScreened (texts names.now) bytes.now result }
 {
     let mut fields = [EMPTY_HEADER_SPAN; MOST_FIELDS];

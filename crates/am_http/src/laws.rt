@@ -8,6 +8,7 @@ ghost use Rattle.am_http.specs.Requests.{HasFault, IsRequestIn, IsUnfinished};
 /// Bytes have one whole request at their front, or none. Where they have one, nothing is wanting, and nothing is at
 /// fault; that the head isn't too large is not said, since the grammar's own words leave that to the parser.
 pub fn a_request_is_read_in_one_way()
+    // PROMISE: A request has one reading.
     ensures one { (bytes method target body other_method other_target other_body : List ℕ)
         → IsRequestIn bytes method target body → IsRequestIn bytes other_method other_target other_body
         → (method ≡ other_method) × (target ≡ other_target) × (body ≡ other_body) }

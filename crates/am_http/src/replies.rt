@@ -51,6 +51,7 @@ pub fn reply(
     body: &[u8],
 ) -> Result<Vec<u8>, AllocError>
     requires { IsStatusCode status }
+    // PROMISE: A reply is exactly its status, its fields and its body.
     ensures { IfOk result (λ v. v.items ≡ reply_bytes status (option_copied allow.entry) body.now) }
 {
     let head = head(alloc, status, allow, body.len())?;

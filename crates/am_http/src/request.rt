@@ -65,6 +65,7 @@ fn unfinished(bytes: &[u8], ended: bool) -> Read
 /// A head has at most 16,384 bytes and 64 fields, and a body 1,048,576 bytes. [`Read::Refused`] has the line of the
 /// first fault that stands; input that ended before its first byte is [`Read::More`].
 pub fn read_request(alloc: Global, bytes: &[u8], ended: bool) -> Read
+    // PROMISE: Bytes are a whole request, unfinished, or at fault by the first line of the table.
     ensures { IsReadOf bytes.now ended result }
 {
     match standing_of(bytes) {

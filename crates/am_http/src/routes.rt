@@ -53,6 +53,7 @@ fn id_in(path: &str) -> Option<&str>
 ///
 /// [`Cause::NoSuchPath`] for any other path, and [`Cause::MethodNotAllowed`] for another method on a path that is one.
 pub fn call_of<'a>(method: &str, target: &'a str) -> Result<Call<'a>, Cause>
+    // PROMISE: A method and a path are one call, or the line of their fault.
     ensures { IsCallOf method.now target.now result }
 {
     let (path, query) = cut(target);

@@ -62,6 +62,7 @@ impl Session {
     ///
     /// Where the pieces are cut makes no difference. Where memory runs out, that is said, and no more is heard.
     pub fn feed(&mut self, piece: &[u8]) -> Said
+        // PROMISE: A piece of a connection says the frames or the request that end in it.
         ensures { Feeds self.old piece.now (spoken result) self.new }
     {
         let state = mem::replace(&mut self.state, State::Over(None));

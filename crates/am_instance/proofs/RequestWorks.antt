@@ -17,8 +17,8 @@ use Rattle.am_silence.specs.declared.error.SilenceError.TheVariants as silence_e
 use Rattle.am_silence.proofs.Refusing.{unread_tells_no_memory}
 use Rattle.am_matcher.specs.Matching.{has_regexp, IsVerdict}
 use Rattle.am_matcher.proofs.Verdicts.{has_verdict}
-use Rattle.am_instance.specs.declared.error.StepError.{StepError}
-use Rattle.am_instance.specs.declared.error.StepError.TheVariants.{Memory}
+use Rattle.am_refusals.specs.declared.error.StepError.{StepError}
+use Rattle.am_refusals.specs.declared.error.StepError.TheVariants.{Memory}
 use Rattle.am_instance.specs.declared.event.Event.TheVariants as events
 use Rattle.am_instance.specs.declared.event.Request.TheVariants as requests
 use Rattle.am_instance.specs.declared.reply.Reply.{Reply}

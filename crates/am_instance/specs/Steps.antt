@@ -24,8 +24,8 @@ use Rattle.am_collect.specs.Events.MapEvent.{Collected}
 use Rattle.am_instance.specs.declared.event.Event.{Event}
 use Rattle.am_instance.specs.declared.event.Event.TheVariants as events
 use Rattle.am_instance.specs.declared.event.Request.TheVariants as requests
-use Rattle.am_instance.specs.declared.error.StepError.{StepError}
-use Rattle.am_instance.specs.declared.error.StepError.TheVariants.{MomentBack, UnknownPeer, Frame, Memory}
+use Rattle.am_refusals.specs.declared.error.StepError.{StepError}
+use Rattle.am_refusals.specs.declared.error.StepError.TheVariants.{MomentBack, UnknownPeer, Frame, Memory}
 use Rattle.am_instance.specs.declared.reply.Made.{Made}
 use Rattle.am_instance.specs.declared.reply.Outcome.{Outcome}
 use Rattle.am_instance.specs.Configs.{Settings, is_peer, peers_but}
@@ -210,11 +210,6 @@ pub record StopsDelivering (now : ℕ) (ds : List Delivery) (old new : InstanceS
   pub within : number < length ds
   pub counted : count ≡ before + number
   pub delivered : Delivers now (take number ds) old new
-
--- a fault of a row, as that of a step
-abbrev pub step_fault : WireError → StepError
-step_fault wire_errors.Memory = Memory 0
-step_fault e = Frame (frame_errors.Wire e)
 
 -- what the first fault of rows is answered with; memory may run out before it is found
 abbrev pub IsJudgement : Option WireError → StepError → Type 0

@@ -6,12 +6,11 @@ ghost use Rattle.std.specs.Option.{SomeIff};
 ghost use Rattle.std.specs.Str.{bytes_eq};
 ghost use Rattle.am_version_order.specs.Moments.{greatest};
 ghost use Rattle.am_instance.specs.Configs.{AreInOrder, AreMembers, HasTwice, IsEmptyName, IsLongName, is_peer, place_named};
-ghost use Rattle.am_instance.specs.declared.error.ConfigError.TheVariants as errors;
+ghost use Rattle.am_refusals.specs.declared.error.ConfigError.TheVariants as errors;
 
-use crate::error::ConfigError;
-use crate::event::Place;
 use am_dedup::due;
 use am_gossip::MOST_NAME_BYTES;
+use am_refusals::{ConfigError, Place};
 use am_version_order::{Interval, Moment};
 use am_wire::Text;
 use std::alloc::{AllocError, Global};
@@ -171,6 +170,7 @@ impl Config {
         retention: Interval,
         peer_timeout: Interval,
     ) -> Result<Config, ConfigError>
+        // PROMISE: Members are in the order of their names, none twice.
         ensures order { IfOk result (λ config. AreInOrder config.members) }
         ensures members { IfOk result (λ config. IsPermutation (name ∷ peers.items) config.members) }
         ensures own { IfOk result (λ config. slice_get config.members config.place ≡ Some name) }

@@ -3,12 +3,10 @@
 use am_gossip::Frame;
 use am_matcher::{Filter, Labels};
 use am_nflog::{Hashes, Receiver};
+use am_refusals::Place;
 use am_silence::Posted;
 use am_version_order::Interval;
 use am_wire::{Bytes, Text};
-
-/// A member of the cluster: its position, from 0, among all members in the order of their names.
-pub type Place = u64;
 
 /// What a person or a tool asks of the silences.
 #[derive(Drop)]

@@ -16,8 +16,6 @@ ghost use Rattle.am_instance.specs.Sendings.{Sends, deltas_to, nothing_sent, sen
 ghost use Rattle.am_instance.specs.Replies.{IsNothing};
 ghost use Rattle.am_instance.specs.Steps.{Delivers, IsArrival, IsJudgement, IsWork, StopsDelivering};
 
-use crate::error::StepError;
-use crate::event::Place;
 use crate::instance::Instance;
 use crate::outbox::{Exchange, Outbox, Route};
 use crate::reply::{Made, Outcome, Reply};
@@ -26,6 +24,7 @@ use am_gossip::{Frame, Part, StateKey};
 use am_matcher::PatternCache;
 use am_merge::Held;
 use am_nflog::MeshEntry;
+use am_refusals::{Place, StepError};
 use am_silence::MeshSilence;
 use am_version_order::Moment;
 use std::alloc::{AllocError, Global};

@@ -7,12 +7,12 @@ ghost use Rattle.am_instance.specs.OneStep.{IsStep};
 ghost use Rattle.am_instance.specs.Steps.{IsAdmitted, IsUnadmitted, IsWork, counts, peer_of};
 
 use crate::config::Config;
-use crate::error::StepError;
-use crate::event::{Event, Place};
+use crate::event::Event;
 use crate::reply::Outcome;
 use am_matcher::PatternCache;
 use am_merge::Held;
 use am_nflog::MeshEntry;
+use am_refusals::{Place, StepError};
 use am_silence::MeshSilence;
 use am_version_order::Moment;
 use std::alloc::Global;
@@ -132,6 +132,7 @@ impl Instance {
     /// The first [`StepError`] that applies, in their order; memory may run out before the fault of a frame is found.
     /// What is refused changes nothing, but where memory ran out: then the moment counts, and what was taken stands.
     pub fn step(&mut self, event: Event, now: Moment) -> Result<Outcome, StepError>
+        // PROMISE: An event is refused for its first fault, or it is one step with exactly these changes, frames and reply.
         ensures { IsStep self.old event now result self.new }
     {
         self.admit(&event, now)?;

@@ -40,6 +40,7 @@ use am_version_order::Version;
 /// After any steps from any maps and moment, each map that they were calm for shows, at every key and at every moment
 /// from the last step on, what the bare set of all versions shows that the instance began with or that were delivered.
 pub fn steps_show_the_bare_sets()
+    // PROMISE: After calm steps a replica shows what everything that it ever took would show.
     ensures silences { (start new : InstanceState) (steps : List Happened) (now : ℕ) (id : List ℕ) →
         IsMap mesh_version (slice_cmp nat_cmp) start.silences → AreMade start steps new →
         IsCalm mesh_version start.silences start.last (run_events to_silences steps) → new.last ≤ now →
@@ -75,6 +76,7 @@ fn equal_views_are_one<V: Version>()
 
 /// Two instances that show the same have the same replies to what is answered from the views alone.
 pub fn equal_views_reply_alike()
+    // PROMISE: Replicas that show the same answer alike.
     ensures { (one other : InstanceState) (event : Event) (now : ℕ) (reply : Reply) (made : Made) → HasMaps one → HasMaps other →
         ShowSame now one other →
         asks_views event ≡ true → IsReply one event now reply made → IsReply other event now reply made }
@@ -117,6 +119,7 @@ pub fn what_is_shown_replies()
 /// an alert is, at every moment from the last step on, the one that the bare sets give of all versions that the instance
 /// began with or that were delivered.
 pub fn calm_steps_reply_as_the_bare_sets()
+    // PROMISE: After calm steps its lists, silences, decisions and mutes are those of everything that it ever took.
     ensures { (start new : InstanceState) (steps : List Happened) (event : Event) (now : ℕ) (reply : Reply) (made : Made) →
         AreCalmSteps start steps new → HasMaps new → new.last ≤ now → asks_shown event ≡ true → IsReply new event now reply made →
         IsBareReply (all_silences start steps) (all_entries start steps) event now reply }
@@ -135,6 +138,7 @@ pub fn cuts_change_no_event()
 
 /// Of maps that stay as they are, all parts that are handed out have, one behind the other, each state's row.
 pub fn parts_have_all_that_is_held()
+    // PROMISE: A full state that is sent part by part is complete.
     ensures silences { (most : ℕ) (silences : List Mesh) (log : List LogMesh) (parts : List HandedPart) →
         IsMap mesh_version (slice_cmp nat_cmp) silences → IsMap entry_version key_cmp log →
         AreHandedOut most silences log (Silences None) parts →

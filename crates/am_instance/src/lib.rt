@@ -2,7 +2,6 @@
 #![tactic(auto)]
 
 mod config;
-mod error;
 mod event;
 mod frames;
 mod handing;
@@ -15,9 +14,9 @@ mod requests;
 mod rows;
 mod views;
 
+pub use am_refusals::{ConfigError, Place, StepError};
 pub use config::Config;
-pub use error::{ConfigError, StepError};
-pub use event::{Event, Place, Request};
+pub use event::{Event, Request};
 pub use handing::{HandedPart, Handout, names_both};
 pub use instance::Instance;
 pub use outbox::{Outbox, whole_state};

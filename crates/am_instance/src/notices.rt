@@ -2,7 +2,7 @@
 
 ghost use Rattle.std.specs.Prelude.{◌≡◌, [], Some, OnErr, IfOk, IfErr};
 ghost use Rattle.am_instance.specs.declared.event.Event.TheVariants as events;
-ghost use Rattle.am_instance.specs.declared.error.StepError.TheVariants as errors;
+ghost use Rattle.am_refusals.specs.declared.error.StepError.TheVariants as errors;
 ghost use Rattle.am_instance.specs.declared.reply.Reply.TheVariants as replies;
 ghost use Rattle.am_instance.specs.Configs.{peers_but};
 ghost use Rattle.am_instance.specs.Changes.{only_if};
@@ -10,7 +10,6 @@ ghost use Rattle.am_instance.specs.Deliveries.Delivery.{OfEntry};
 ghost use Rattle.am_instance.specs.Sendings.{Sends, deltas_to, sent_by};
 ghost use Rattle.am_instance.specs.Steps.{IsLoggedHere, IsWork, is_changed};
 
-use crate::error::StepError;
 use crate::instance::Instance;
 use crate::outbox::Outbox;
 use crate::reply::{Made, Outcome, Reply};
@@ -21,6 +20,7 @@ use am_gossip::StateKey;
 use am_matcher::Labels;
 use am_merge::Taken;
 use am_nflog::{Hashes, LogKey, MeshEntry, Receiver, make_entry};
+use am_refusals::StepError;
 use am_version_order::{Interval, Moment, Version};
 use am_wire::Bytes;
 use std::alloc::Global;

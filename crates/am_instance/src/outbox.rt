@@ -13,11 +13,11 @@ ghost use Rattle.am_instance.specs.Configs.{is_other, places_but};
 ghost use Rattle.am_instance.specs.Sendings.{Gathers, IsSent, Sends, addressed, delta, no_memory, states_frame};
 ghost use Rattle.am_instance.specs.Sendings.{nothing_sent, over_limit, whole_state};
 
-use crate::event::Place;
 use crate::reply::Unsent;
 use am_gossip::{Frame, FullState, Part, StateKey, delta_fits, states_fit};
 use am_merge::Held;
 use am_nflog::MeshEntry;
+use am_refusals::Place;
 use am_silence::MeshSilence;
 use am_snapshot::{row_bytes, row_length};
 use am_version_order::Version;

@@ -3,12 +3,12 @@
 ghost use Rattle.std.specs.Prelude.{◌≡◌};
 ghost use Rattle.am_instance.specs.Sendings.{sent_by};
 
-use crate::event::Place;
 use crate::outbox::Outbox;
 use am_dedup::Decision;
 use am_gossip::Frame;
 use am_matcher::Mutes;
 use am_nflog::MeshEntry;
+use am_refusals::Place;
 use am_silence::{MeshSilence, SilenceError, State};
 use am_wire::Text;
 

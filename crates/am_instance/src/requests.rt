@@ -8,7 +8,7 @@ ghost use Rattle.am_silence.specs.Refusals.{unread_refusal};
 ghost use Rattle.am_silence.specs.declared.error.SilenceError.TheVariants as silence_errors;
 ghost use Rattle.am_matcher.specs.Matching.{has_regexp, IsVerdict};
 ghost use Rattle.am_instance.specs.InstanceStates.{silence_at};
-ghost use Rattle.am_instance.specs.declared.error.StepError.TheVariants as errors;
+ghost use Rattle.am_refusals.specs.declared.error.StepError.TheVariants as errors;
 ghost use Rattle.am_instance.specs.declared.event.Event.TheVariants as events;
 ghost use Rattle.am_instance.specs.declared.event.Request.TheVariants as requests;
 ghost use Rattle.am_instance.specs.Configs.{peers_but};
@@ -19,7 +19,6 @@ ghost use Rattle.am_instance.specs.Sendings.{Sends, deltas_to, nothing_sent, sen
 ghost use Rattle.am_instance.specs.Replies.{AreSilencesMade, IsNothing, posted_id, posted_over};
 ghost use Rattle.am_instance.specs.Steps.{IsPlanned, IsPutHere, IsTurnedAway, IsWork, is_changed, post_refusal};
 
-use crate::error::StepError;
 use crate::event::Request;
 use crate::frames::outcome;
 use crate::instance::Instance;
@@ -29,6 +28,7 @@ use crate::views::{silence_in_view, silences_shown};
 use am_gossip::StateKey;
 use am_matcher::Filter;
 use am_merge::{Held, Taken};
+use am_refusals::StepError;
 use am_silence::{
     Matchers, MeshSilence, Plan, Posted, SilenceError, Verdict, fresh_id, plan_expire, plan_post,
     refused_unread,

@@ -2,6 +2,7 @@
 
 use crate::options::Options;
 use crate::source::{SourceWord, are_live};
+use am_peers::Server;
 use am_told::Compared;
 use am_version_order::Moment;
 use std::time::Duration;
@@ -17,6 +18,10 @@ pub enum Job<'a> {
     Show(ShowJob<'a>),
     /// Sources are to be compared.
     Diff(DiffJob<'a>),
+    /// A state of a running replica is to be read.
+    Pull(PullJob<'a>),
+    /// Versions are to be sent to a running replica.
+    Push(PushJob<'a>),
     /// A member is to be run.
     Instance(Options<'a>),
 }
@@ -93,4 +98,28 @@ impl DiffJob<'_> {
     pub fn is_live(&self) -> bool {
         are_live(&self.sources)
     }
+}
+
+/// Which state of a running replica is to be read.
+#[derive(Clone, Copy)]
+pub struct PullJob<'a> {
+    /// The state.
+    pub state: StateName,
+    /// The replica as it was named.
+    pub name: &'a str,
+    /// Where it listens for other replicas.
+    pub replica: Server<'a>,
+    /// For how long a connection to it may last.
+    pub time_limit: Duration,
+}
+
+/// To which running replica the versions on standard input are to be sent.
+#[derive(Clone, Copy)]
+pub struct PushJob<'a> {
+    /// The state that they are of, and the replica.
+    pub to: PullJob<'a>,
+    /// Nothing is sent, and it is told what would be.
+    pub is_dry: bool,
+    /// The moment; without it, the clock's.
+    pub now: Option<Moment>,
 }

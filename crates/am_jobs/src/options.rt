@@ -1,7 +1,8 @@
 //! How a member is run.
 
-use am_member::Peer;
+use am_address::Peer;
 use am_version_order::Interval;
+use std::net::SocketAddr;
 use std::time::Duration;
 
 /// How a member is run.
@@ -9,11 +10,19 @@ use std::time::Duration;
 pub struct Options<'a> {
     /// Its name among the members.
     pub name: &'a str,
-    /// The port at which it listens.
-    pub port: u16,
+    /// The address at which it listens.
+    pub address: SocketAddr,
+    /// That address without its port, as it was written, where it is no port alone.
+    pub own_host: Option<&'a str>,
+    /// The one at which it listens for the frames of peers, where they have one of their own.
+    pub peers_address: Option<SocketAddr>,
     /// The other members.
     pub peers: Vec<Peer<'a>>,
-    /// What it is called by those who ask it, beside `127.0.0.1` and `localhost`.
+    /// The file of the members' secret, where they have one.
+    pub secret: Option<&'a str>,
+    /// Frames are heard without a secret, wherever they come from.
+    pub opens_peers: bool,
+    /// What it is called by those who ask it, beside `127.0.0.1`, `localhost` and its own address.
     pub hosts: Vec<&'a str>,
     /// The file of the silences.
     pub silences: &'a str,

@@ -1,19 +1,22 @@
 //! The sources of a comparison.
 
-use am_member::{Server, server_of};
+use am_peers::{Server, server_of};
 
 /// The file that is standard input.
 pub const STANDARD_INPUT: &str = "-";
 
-/// What a source begins with that is a server.
+/// What a source begins with that is a server of API v2.
 const SCHEME: &str = "http://";
 
-/// A source: its name, and its file, or the address of a server behind `http://`.
+/// What a source begins with that is asked by gossip.
+const GOSSIP: &str = "gossip://";
+
+/// A source: its name, and its file, or the address of a server behind `http://`, or of a replica behind `gossip://`.
 #[derive(Clone, Copy)]
 pub struct SourceWord<'a> {
     /// What the source is called.
     pub name: &'a str,
-    /// The path of its file, `-`, or `http://HOST:PORT`.
+    /// The path of its file, `-`, `http://HOST:PORT` or `gossip://HOST:PORT`.
     pub file: &'a str,
 }
 
@@ -28,13 +31,31 @@ impl<'a> SourceWord<'a> {
         server_of(self.place()?)
     }
 
+    /// What stands behind `gossip://`, where the source is asked by gossip.
+    pub fn gossip_place(&self) -> Option<&'a str> {
+        self.file.strip_prefix(GOSSIP)
+    }
+
+    /// The replica that is asked by gossip, if the source is one: where it listens for other replicas.
+    pub fn replica(&self) -> Option<Server<'a>> {
+        match server_of(self.gossip_place()?) {
+            Some(server) if server.path.is_empty() => Some(server),
+            _ => None,
+        }
+    }
+
     /// Whether the source is a file.
     pub fn is_file(&self) -> bool {
-        self.place().is_none() && is_file(self.file)
+        self.place().is_none() && self.gossip_place().is_none() && is_file(self.file)
     }
 }
 
-/// Whether one of the sources is a server.
+/// Whether one of the sources is asked by gossip.
+pub fn are_gossiped(sources: &[SourceWord<'_>]) -> bool {
+    sources.iter().any(|source| source.gossip_place().is_some())
+}
+
+/// Whether one of the sources is a server of API v2.
 pub fn are_live(sources: &[SourceWord<'_>]) -> bool {
     sources.iter().any(|source| source.place().is_some())
 }

@@ -46,6 +46,7 @@ impl<D: Device> Journal<D> {
         requires durable { Only (D.seen device) (D.may_leave device) }
         requires end { end ≡ blocks_length (recovered (D.seen device)) }
         ensures usable { IfOk result (λ journal. IsTrue (usable journal)) }
+        // PROMISE: Opening a log after a crash keeps exactly its whole batches.
         ensures same { IfOk result (λ journal. recovered (D.seen (device_of journal)) ≡ recovered (D.seen device)) }
         ensures any_moment { IfOk result (λ journal. LeavesOnly D.moment D.left_since device (device_of journal)
             (λ c. recovered c ≡ recovered (D.seen device))) }
@@ -93,11 +94,13 @@ impl<D: Device> Journal<D> {
     /// [`LogError::Failed`] where the disk failed, [`LogError::Memory`], and [`LogError::Full`] for a log of 2^62 bytes.
     /// The file then has the batch or hasn't, the log is used up, and every later call is [`LogError::Closed`].
     pub fn commit(&mut self, alloc: Global, batch: &[u8]) -> Result<(), LogError>
+        // PROMISE: A batch that a log acknowledged is on the disk.
         ensures acknowledged { OnOk result (recovered (D.seen (device_of self.new)) ≡
             with_batch (recovered (D.seen (device_of self.old))) batch.now) }
         ensures usable { OnOk result (IsTrue (usable self.new)) }
 
         // A crash at any moment of the call leaves the batches from before it, with the new one or without.
+        // PROMISE: A crash at any moment leaves every earlier batch whole, and the new one whole or absent.
         ensures any_moment { IsTrue (usable self.old) → LeavesOnly D.moment D.left_since (device_of self.old) (device_of self.new)
             (IsBeforeOrAfter (recovered (D.seen (device_of self.old))) batch.now) }
 

@@ -1,7 +1,7 @@
 //! Whether the clock is behind the moment of the last event, and what is told of that.
 
 use am_faults::Fault;
-use am_member::{is_behind, later_moment};
+use am_peers::{is_behind, later_moment};
 use am_version_order::Moment;
 use std::time::{Duration, Instant};
 

@@ -5,8 +5,8 @@ ghost use Rattle.std.specs.Prelude.{◌<◌};
 
 use crate::standard_error::StandardError;
 use am_faults::{Fault, KINDS, Occasion, print, print_count};
-use am_instance::Place;
-use am_member::later_moment;
+use am_peers::later_moment;
+use am_refusals::Place;
 use am_version_order::Moment;
 use am_wire::Text;
 use std::alloc::{AllocError, Global};

@@ -81,6 +81,7 @@ impl PatternCache {
     /// The bytes that are counted for what is kept: at most 64 MiB.
     pub fn size(&self) -> usize
         ensures size { result ≡ size_of_all self.now }
+        // PROMISE: At most 64 MiB of patterns are kept.
         ensures bounded { size_of_all self.now ≤ 67_108_864 }
     {
         self.bytes

@@ -150,6 +150,7 @@ impl Compiled {
     ///
     /// [`AllocError`] where memory runs out.
     pub fn matches(&mut self, value: &str) -> Result<bool, AllocError>
+        // PROMISE: A matcher answers as `regex` finds its pattern from end to end.
         ensures answer { IfOk result (λ yes. yes ≡ matches_value self.old value.now) }
         ensures same { self.new ≡ self.old }
     {

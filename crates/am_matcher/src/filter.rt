@@ -206,6 +206,7 @@ impl Filter {
     ///
     /// [`AllocError`] where memory runs out.
     pub fn passes_version(&mut self, version: &MeshSilence) -> Result<bool, AllocError>
+        // PROMISE: A filter passes exactly the silences of the rule.
         ensures answer { IfOk result (λ yes. yes ≡ passes self.old version.now.silence) }
         ensures same { self.new ≡ self.old }
     {

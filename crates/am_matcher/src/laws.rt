@@ -6,6 +6,7 @@ ghost use Rattle.am_matcher.specs.Filters.{IsFilter};
 
 /// A text is read as a filter in one way at most.
 pub fn filter_is_read_in_one_way()
+    // PROMISE: A filter has one reading.
     ensures { (bytes : List ℕ) (m other : Matcher) →
         IsFilter bytes m → IsFilter bytes other → m ≡ other }
 {}

@@ -160,6 +160,7 @@ pub fn mutes(
     labels: &Labels,
     now: Moment,
 ) -> Result<Mutes, AllocError>
+    // PROMISE: An alert is muted by exactly the active silences whose matchers all match.
     ensures { IfOk result (λ m. AreMuted labels.now now held.now m.ids m.broken) }
 {
     mutes_by(

@@ -5,8 +5,8 @@ use Rattle.std.specs.Prelude.{◌==◌, if◌then◌else◌}
 use Rattle.std.specs.List.{AllByRecursion, flat_map}
 use Rattle.am_instance.specs.InstanceStates.{InstanceState}
 use Rattle.am_http.specs.Sessions.{Says, SaysAll, Spoken, Standing, fresh}
-use Rattle.am_member.specs.declared.fault.Fault.{Fault}
-use Rattle.am_member.specs.declared.fault.Fault.TheVariants.{Read, Write, TooLarge, Frame as InFrame, UnknownName, Step}
+use Rattle.am_peers.specs.declared.fault.Fault.{Fault}
+use Rattle.am_peers.specs.declared.fault.Fault.TheVariants.{Read, Write, TooLarge, Frame as InFrame, UnknownName, Step}
 use Rattle.am_member.specs.Exchanging.{is_stopped, left_at}
 use Rattle.am_member.specs.Lives.{Came, Deed, IsHeardOut, IsLife, IsTurn, Tells, Turn, bytes_in, bytes_of, said_in, standings_after, standings_in, turns_of}
 use Rattle.am_member.specs.Lives.Came.{Heard, Fed, AtEnd}

@@ -14,8 +14,8 @@ use Rattle.am_http.specs.declared.session.fault.SessionFault.TheVariants as sess
 use Rattle.am_http.specs.Sessions.{Standing, name_of, over}
 use Rattle.am_member.specs.declared.exchanged.Effects.{Effects}
 use Rattle.am_member.specs.declared.exchanged.Exchanged.{Exchanged}
-use Rattle.am_member.specs.declared.fault.Fault.{Fault}
-use Rattle.am_member.specs.declared.fault.Fault.TheVariants.{Read as InRead, Write, TooLarge, Frame as InFrame, UnknownName, Step}
+use Rattle.am_peers.specs.declared.fault.Fault.{Fault}
+use Rattle.am_peers.specs.declared.fault.Fault.TheVariants.{Read as InRead, Write, TooLarge, Frame as InFrame, UnknownName, Step}
 use Rattle.am_member.specs.Incoming.{no_effects}
 use Rattle.am_member.specs.Exchanging.{AreHeard, AreStepped, Comes, IsAnsweredTo, IsHandedOn, fault_heard, left_at, with_reply}
 

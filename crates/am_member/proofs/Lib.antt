@@ -1,4 +1,3 @@
-mod Whole
 pub mod Making
 pub mod Greeted
 pub mod Names
@@ -6,8 +5,4 @@ mod Lives
 mod Connections
 mod Replied
 mod Exchanging
-mod Cuts
-mod Decimals
-mod Queued
 mod OneRead
-mod Signs

@@ -10,7 +10,7 @@ use Rattle.am_http.specs.declared.request.Read.TheVariants.{More, Whole, Refused
 use Rattle.am_instance.specs.InstanceStates.{InstanceState}
 use Rattle.am_instance.specs.Laws.{AreMade, Happened}
 use Rattle.am_instance.specs.OneStep.{IsStep}
-use Rattle.am_instance.specs.declared.error.StepError.{StepError}
+use Rattle.am_refusals.specs.declared.error.StepError.{StepError}
 use Rattle.am_instance.specs.declared.event.Event.{Event}
 use Rattle.am_instance.specs.declared.event.Event.TheVariants as events
 use Rattle.am_instance.specs.declared.reply.Outcome.{Outcome}
@@ -18,8 +18,8 @@ use Rattle.am_api_silences.specs.Answers.{Answered, ComesOf}
 use Rattle.am_http.specs.declared.session.fault.SessionFault.{SessionFault}
 use Rattle.am_http.specs.Sessions.{Standing, name_of}
 use Rattle.am_member.specs.Sparing.{spared}
-use Rattle.am_member.specs.declared.fault.Fault.{Fault}
-use Rattle.am_member.specs.declared.fault.Fault.TheVariants.{Read as InRead, Write, TooLarge, Frame as InFrame, UnknownName, Step}
+use Rattle.am_peers.specs.declared.fault.Fault.{Fault}
+use Rattle.am_peers.specs.declared.fault.Fault.TheVariants.{Read as InRead, Write, TooLarge, Frame as InFrame, UnknownName, Step}
 use Rattle.am_member.specs.declared.exchanged.Effects.{Effects}
 use Rattle.am_member.specs.Incoming.{MakesAll, StopsAt, no_effects}
 use Rattle.am_member.specs.Exchanging.{Answer, AreHeard, AreStepped, IsAnsweredTo, IsFromNobody, MakesNamed, is_stopped}

@@ -19,8 +19,8 @@ use Rattle.am_http.specs.declared.session.fault.SessionFault.TheVariants as sess
 use Rattle.am_http.specs.Sessions.{Spoken, Standing, name_of, over}
 use Rattle.am_member.specs.declared.exchanged.Effects.{Effects}
 use Rattle.am_member.specs.declared.exchanged.Exchanged.{Exchanged}
-use Rattle.am_member.specs.declared.fault.Fault.{Fault}
-use Rattle.am_member.specs.declared.fault.Fault.TheVariants.{TooLarge, Frame as InFrame, UnknownName, Step}
+use Rattle.am_peers.specs.declared.fault.Fault.{Fault}
+use Rattle.am_peers.specs.declared.fault.Fault.TheVariants.{TooLarge, Frame as InFrame, UnknownName, Step}
 use Rattle.am_member.specs.Incoming.{IsOnlyPeerOf, IsPeerOf, MakesAll, StopsAt, no_effects}
 
 -- ---- what comes of an exchange

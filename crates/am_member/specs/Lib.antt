@@ -1,13 +1,5 @@
-pub mod Replies
-pub mod Requests
-pub mod Shown
 pub mod Sparing
-pub mod Outgoing
 pub mod Incoming
 pub mod Exchanging
 pub mod Lives
 pub mod Conversing
-pub mod Moments
-pub mod Peers
-pub mod Queues
-pub mod Times

@@ -6,7 +6,6 @@ ghost use Rattle.am_http.specs.Sessions.{name_of, spoken};
 ghost use Rattle.am_member.specs.Exchanging.{AreHeard, AreStepped, Comes, IsAnsweredTo, IsDear, IsExchanged, IsHandedOn, fault_heard, is_list, left_at};
 
 use crate::exchanged::{Effects, Exchanged};
-use crate::fault::Fault;
 use crate::sender::peer_named;
 use crate::steps::make_steps;
 use am_api_silences::{Begun, begin_answer, turn_away};
@@ -14,6 +13,7 @@ use am_gossip::Frame;
 use am_http::session::{Said, Session, SessionFault};
 use am_http::{Call, Cause, Read, call_of};
 use am_instance::Instance;
+use am_peers::Fault;
 use am_version_order::Moment;
 use std::alloc::Global;
 
@@ -138,6 +138,7 @@ pub fn exchange(
     bits: u128,
     now: Moment,
 ) -> Exchanged
+    // PROMISE: A request is answered by one step at its moment, a peer's frames by one step each.
     ensures exchanged { Comes (IsExchanged (name_of session.old) bits now (spoken said) instance.old instance.new) result }
     ensures session { session.new ≡ left_at result.fault session.old }
 {

@@ -10,11 +10,11 @@ ghost use Rattle.am_api_silences.specs.declared.replies.ReplyBytes.{ReplyBytes};
 
 use crate::answering::exchange;
 use crate::exchanged::{Effects, Exchanged};
-use crate::fault::Fault;
 use crate::sparing::{Spared, spare};
 use am_api_silences::Making;
 use am_http::session::{Said, Session};
 use am_instance::Instance;
+use am_peers::Fault;
 use am_streams::WriteFault;
 use am_version_order::Moment;
 use std::alloc::Global;
@@ -79,6 +79,7 @@ pub fn converse<R: io::Read, W: io::Write>(
     bits: u128,
     now: Moment,
 ) -> io::Result<Conversed>
+    // PROMISE: One read of a connection is one turn; its whole reply goes out, or a counted part.
     ensures conversed { IfOk result (IsConversed session.old instance.old bits now (R.remaining reader.old) (R.remaining reader.new)
         (W.contents writer.old) (W.contents writer.new) session.new instance.new) }
     ensures unheard { OnErr result (Consumes (R.remaining reader.old) (R.remaining reader.new) []) }

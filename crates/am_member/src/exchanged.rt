@@ -4,9 +4,9 @@ ghost use Rattle.std.specs.Prelude.{◌≡◌, None};
 ghost use Rattle.am_instance.specs.Sendings.{sent_by};
 ghost use Rattle.am_member.specs.Incoming.{Adds, no_effects};
 
-use crate::fault::Fault;
 use am_api_silences::Making;
 use am_instance::{Outbox, Outcome};
+use am_peers::Fault;
 use std::alloc::Global;
 
 /// What steps have for effects besides those on the instance.

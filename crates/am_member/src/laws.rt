@@ -10,7 +10,7 @@ ghost use Rattle.am_instance.specs.Laws.{AreMade, Happened, HasMaps, all_entries
 ghost use Rattle.am_http.specs.Sessions.{Says, Standing, fresh};
 ghost use Rattle.am_member.specs.Lives.{AreCalm, AreStepsOfAll, Deed, IsBareAnswer, IsHeardOut, IsLife, IsTurn, ShowsBareSets, Turn};
 ghost use Rattle.am_member.specs.Lives.{bytes_in, said_in, standings_in, turns_of};
-ghost use Rattle.am_member.specs.Outgoing.{is_name};
+ghost use Rattle.am_peers.specs.Outgoing.{is_name};
 
 use am_http::session::laws::pieces_are_their_bytes;
 use am_instance::laws::{calm_steps_reply_as_the_bare_sets, steps_show_the_bare_sets};
@@ -32,6 +32,7 @@ pub fn connections_say_what_their_bytes_say()
 /// A member's life is steps of its instance, one after the other: the turns of any connections in any interleaving, whose events
 /// are those of what was said, each at the moment of its turn; and between them the steps that the member made by itself.
 pub fn lives_are_steps()
+    // PROMISE: Any interleaving of connections is one list of steps.
     ensures { (standings : ℕ → Standing) (start new : InstanceState) (deeds : List Deed) → IsLife standings start deeds new →
         (steps : List Happened) × AreStepsOfAll start deeds steps × AreMade start steps new }
 {}
@@ -50,6 +51,7 @@ pub fn lives_show_the_bare_sets()
 /// And the bytes that a request for a list or a silence is replied are, after calm steps, those that the bare sets give of all
 /// that came before it.
 pub fn lives_reply_as_the_bare_sets()
+    // PROMISE: After calm steps a list's reply is, byte for byte, that of everything that came.
     ensures { (standings : ℕ → Standing) (start stand : InstanceState) (deeds : List Deed) (turn : Turn) (request : Request) →
         HasMaps start → HasMaps stand → IsLife standings start deeds stand →
         IsTurn (standings_in standings deeds turn.connection) stand turn → turn.said.request ≡ Some (Whole request) →

@@ -198,6 +198,7 @@ impl<V: Version> Held<V> {
     ///
     /// [`AllocError`] where memory runs out. Nothing has changed then.
     pub fn take(&mut self, version: V, now: Moment) -> Result<Taken, AllocError>
+        // PROMISE: A version that is taken is joined, live or not, and the answer says whether that changed the map.
         ensures taken { IfOk result (IsTaking V.seen V.Key.cmp now self.old version self.new) }
         ensures err { OnErr result (self.new ≡ self.old) }
     {
@@ -271,6 +272,7 @@ impl<V: Version> Held<V> {
     /// Where memory runs out, the versions before that one were taken.
     pub fn merge(&mut self, other: &Held<V>, _now: Moment) -> Result<usize, MergeError>
         ensures order { IsMap V.seen V.Key.cmp self.new }
+        // PROMISE: A merge is the join of both maps.
         ensures joined { OnOk result (IsJoin V.seen V.Key.cmp self.old other.now self.new) }
         ensures count { IfOk result (λ changed.
             changed ≡ count_by (replaces V.seen V.Key.cmp self.old) other.now) }
@@ -283,6 +285,7 @@ impl<V: Version> Held<V> {
 
     /// Drops each version that isn't live, and says how many went. It takes no memory.
     pub fn sweep(&mut self, now: Moment) -> usize
+        // PROMISE: A sweep drops exactly the versions that aren't live.
         ensures swept { self.new ≡ swept V.seen now self.old }
         ensures each { (key : V.Key) →
             at V.seen V.Key.cmp self.new key ≡ if_live V.seen now (at V.seen V.Key.cmp self.old key) }

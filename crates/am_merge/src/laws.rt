@@ -20,12 +20,14 @@ pub fn join_is_unique<V: Version>()
 
 /// Which of two maps is joined to the other makes no difference.
 pub fn join_is_commutative<V: Version>()
+    // PROMISE: Joining maps in either order gives the same map.
     ensures { (a b joined : List V) → All V.is_value a → All V.is_value b →
         IsJoin V.seen V.Key.cmp a b joined → IsJoin V.seen V.Key.cmp b a joined }
 {}
 
 /// Which two of three maps are joined first makes no difference.
 pub fn join_is_associative<V: Version>()
+    // PROMISE: Joining three maps in any grouping gives the same map.
     ensures { (a b c ab bc joined : List V) →
         IsJoin V.seen V.Key.cmp a b ab → IsJoin V.seen V.Key.cmp b c bc →
         (IsJoin V.seen V.Key.cmp ab c joined ↔ IsJoin V.seen V.Key.cmp a bc joined) }
@@ -33,6 +35,7 @@ pub fn join_is_associative<V: Version>()
 
 /// A map joined to itself is itself.
 pub fn join_is_idempotent<V: Version>()
+    // PROMISE: Joining a map with itself changes nothing.
     ensures { (map : List V) → IsJoin V.seen V.Key.cmp map map map }
 {}
 

@@ -41,6 +41,7 @@ pub fn make_entry(
     retention: Interval,
     now: Moment,
 ) -> Result<Option<MeshEntry>, WireError>
+    // PROMISE: A notification leaves exactly its entry.
     ensures made { IfOk result (λ made. IfSome made (λ m. m ≡ made_entry group_key receiver firing resolved repeat retention now)) }
     ensures none { IfOk result (λ made. IsNone made ↔ (expiry repeat retention now ≤ now)) }
     ensures wanted { OnErr result (now < expiry repeat retention now) }

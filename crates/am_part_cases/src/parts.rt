@@ -2,12 +2,14 @@
 
 mod figures;
 mod frames;
+mod gossip;
 mod hashes;
 mod json;
 mod maps;
 mod matchers;
 mod messages;
 mod requests;
+mod seals;
 mod snapshots;
 mod versions;
 mod wire;

@@ -23,6 +23,7 @@ use std::str;
 ///
 /// The first [`PictureError`] that applies, before anything is played but for want of memory.
 pub fn picture_of(alloc: Global, text: &[u8]) -> Result<String, PictureError>
+    // PROMISE: A picture is made of a valid schedule of at most 2,000 steps, and of nothing else.
     ensures pictured { OnOk result (IsPictured text.now) }
     ensures stopped { IfErr result (StopsPicture text.now) }
 {

@@ -3,7 +3,7 @@
 use crate::host::Host;
 use crate::play::play_shown;
 use crate::schedule_fault::ScheduleFault;
-use am_member::FileFault;
+use am_disk::FileFault;
 use am_picture::picture_of;
 use am_replay::read_input;
 use std::fs;

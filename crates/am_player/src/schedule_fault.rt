@@ -2,8 +2,8 @@
 
 ghost use Rattle.std.specs.Prelude.{◌≤◌};
 
+use am_disk::FileFault;
 use am_faults::{Fault, status};
-use am_member::FileFault;
 use am_picture::PictureError;
 use am_replay::ReplayError;
 use am_schedule::{FaultKind, ScheduleError};

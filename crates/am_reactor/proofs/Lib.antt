@@ -1,2 +1,3 @@
 pub mod Hears
+pub mod Histories
 pub mod Sends

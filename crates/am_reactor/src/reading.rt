@@ -86,6 +86,7 @@ pub fn hear<S: Service, C: Stream>(
     service: &mut S,
     piece: &mut [u8],
 ) -> Result<Pace, Failure>
+    // PROMISE: The bytes of a connection reach its own session, in order, each once.
     ensures heard { Hears S.does C.coming C.gone (length piece.old) service.old connection.old service.new connection.new }
 {
     for _ in 0..PIECES {

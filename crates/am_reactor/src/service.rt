@@ -8,6 +8,7 @@ ghost use Rattle.am_reactor.specs.Deeds.{Deed};
 ghost use Rattle.am_reactor.specs.Deeds.Deed.{Fed, Ended, Sent, Resumed, Released, CameDue, Hurried, BrokenOff};
 ghost use Rattle.am_reactor.specs.Sending.{IsFirstPart};
 
+use crate::entrance::Entrance;
 use crate::fault::{Broken, LinkFault};
 use std::io::ErrorKind;
 use std::time::{Duration, Instant};
@@ -15,7 +16,7 @@ use std::time::{Duration, Instant};
 /// What goes to a peer.
 #[derive(Drop)]
 pub struct Outgoing {
-    /// The peer's place among the ports of the loop.
+    /// The peer's place among the addresses of the loop.
     pub peer: usize,
     pub bytes: Vec<u8>,
 }
@@ -55,11 +56,18 @@ pub trait Service {
     /// What the service is once it was asked for more for a peer, and gave these bytes or none.
     ghost gives: { Self → ℕ → Option (List ℕ) → Self → Type 0 };
 
+    /// What the service is once a connection was accepted, whose session is this.
+    ghost begins: { Self → Self.Session → Self → Type 0 };
+
+    /// What a call that is for no session makes of the service.
+    ghost acts: { Self → Self → Type 0 };
+
     /// What a call for the session of one connection makes of the service and of the session.
     ghost does: { Self → Self.Session → Deed → Self → Self.Session → Type 0 };
 
-    /// A connection was accepted.
-    fn begin(&mut self) -> Self::Session;
+    /// A connection was accepted, which came so.
+    fn begin(&mut self, entrance: Entrance) -> Self::Session
+        ensures { begins self.old result self.new };
 
     /// Bytes came, at least one. It isn't called once the session is over.
     fn feed(&mut self, session: &mut Self::Session, piece: &[u8])
@@ -92,7 +100,8 @@ pub trait Service {
     fn has_uncommitted(&self) -> bool;
 
     /// Makes sure of all that was done so far. It is called once in a turn of the loop, where there is something uncommitted.
-    fn commit(&mut self);
+    fn commit(&mut self)
+        ensures { acts self.old self.new };
 
     /// Whether a reply of the session waits for the next commit.
     fn is_held_back(&self, session: &Self::Session) -> bool
@@ -137,23 +146,29 @@ pub trait Service {
     fn held(&self, session: &Self::Session) -> usize;
 
     /// What goes to a peer next. It is asked after each call that may bring something, until there is nothing.
-    fn outgoing(&mut self) -> Option<Outgoing>;
+    fn outgoing(&mut self) -> Option<Outgoing>
+        ensures { acts self.old self.new };
 
     /// What goes to a peer behind all that went out, over the link that is open to it; the link's time begins anew then. It is
     /// asked where all bytes of a link went out. Where there is nothing, the link is closed.
     fn more(&mut self, peer: usize) -> Option<Vec<u8>>
-        ensures { gives self.old peer (option_map (λ bytes. bytes.items) result) self.new };
+        ensures given { gives self.old peer (option_map (λ bytes. bytes.items) result) self.new }
+        ensures acted { acts self.old self.new };
 
     /// What waited for a peer is lost. It is told once of a link.
     fn lost(&mut self, peer: usize, fault: LinkFault)
-        ensures { loses self.old peer fault self.new };
+        ensures told { loses self.old peer fault self.new }
+        ensures acted { acts self.old self.new };
 
     /// The timer: it is called in each turn, before the loop waits.
-    fn wake(&mut self, now: Instant) -> Wake;
+    fn wake(&mut self, now: Instant) -> Wake
+        ensures { acts self.old self.new };
 
     /// Standard input ended. It is told once, and only where it is watched.
-    fn input_ended(&mut self);
+    fn input_ended(&mut self)
+        ensures { acts self.old self.new };
 
     /// No connection was accepted, for a reason that doesn't end the loop.
-    fn accept_failed(&mut self, kind: ErrorKind);
+    fn accept_failed(&mut self, kind: ErrorKind)
+        ensures { acts self.old self.new };
 }

@@ -52,6 +52,7 @@ pub fn run<R: Read, W: Write>(
     reader: &mut R,
     writer: &mut W,
 ) -> Result<(), ReplayError>
+    // PROMISE: A replay prints exactly what its lines do on a new cluster.
     ensures played { OnOk result ((text : List ℕ) × Appends (W.contents writer.old) (W.contents writer.new) text ×
         IfSome (R.remaining reader.old) (λ input. IsReplay input text)) }
     ensures stopped { IfErr result (StopsReplay (R.remaining reader.old) (R.remaining reader.new) W.contents writer.old writer.new) }

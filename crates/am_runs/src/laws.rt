@@ -40,6 +40,7 @@ pub fn calm_members_show_the_bare_set<V: Version>()
 
 /// Where a run keeps a spread and a flight time, every member is calm.
 pub fn timely_runs_are_calm<V: Version>()
+    // PROMISE: In a timely run every replica is calm, whatever was lost, repeated or restarted.
     ensures { (members spread flight : ℕ) (steps : List (RunStep V)) → 0 < spread →
         IsRun V.seen V.Key.cmp members steps → IsTimely V.seen spread flight members steps →
         (place : ℕ) → IsCalmAt V.seen members place steps }
@@ -48,6 +49,7 @@ pub fn timely_runs_are_calm<V: Version>()
 /// When a step of a timely run begins, any two members that run show the same of each key of which every version
 /// delivered anywhere in the run was made a spread ago or earlier.
 pub fn views_agree<V: Version>()
+    // PROMISE: In a timely run, replicas show the same of each key whose versions are all old enough.
     ensures { (members spread flight now : ℕ) (before rest : List (RunStep V)) (step : RunStep V) (key : V.Key) → 0 < spread →
         let steps = before ++ step ∷ rest in
         IsRun V.seen V.Key.cmp members steps → IsTimely V.seen spread flight members steps →
@@ -102,6 +104,7 @@ pub fn settled<V: Version>()
 /// the same before it collected. After a restart from nothing a run is timely until that member acts while a version
 /// should have come to it again. And a version may come late in a timely run.
 pub fn worked_runs()
+    // PROMISE: The premises can be met, and their lack makes a difference: worked runs.
     ensures forgotten { IsRun (λ v. v) nat_cmp 2 forgotten }
     ensures shown { if_live (λ v. v) 22 (map_of (λ v. v) nat_cmp (member_of 2 0 forgotten).past 0) ≡ Some lesser }
     ensures hidden { if_live (λ v. v) 22 (map_of (λ v. v) nat_cmp (member_of 2 1 forgotten).past 0) ≡ None }

@@ -188,6 +188,7 @@ impl<V: Version> Run<V> {
 
     /// Whether the run keeps a spread and a flight time. It takes no memory.
     pub fn timely(&self, spread: Interval, flight: Interval) -> bool
+        // PROMISE: Whether a run was timely is answered exactly.
         ensures exactly { IsTrue result ↔ IsTimely V.seen spread flight self.now.members self.now.steps }
         ensures calm { IsTrue result → (place : ℕ) → IsCalmAt V.seen self.now.members place self.now.steps }
     {

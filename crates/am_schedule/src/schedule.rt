@@ -43,7 +43,9 @@ impl Drop for Schedule {
 /// The first line at fault, and what is wrong with it. `Memory` where memory runs out, with the line that is read
 /// then: it is UTF-8, its verb is known and has as many words as it wants, and no line before it is at fault.
 pub fn parse(alloc: Global, text: &[u8]) -> Result<Schedule, ScheduleError>
+    // PROMISE: A schedule is read as its lines say.
     ensures read { IfOk result (λ schedule. schedule_of text.now ≡ Ok schedule) }
+    // PROMISE: Else its first line at fault is reported, with its kind.
     ensures fault { IfErr result (λ error. error.kind ≢ Memory → schedule_of text.now ≡ Err error) }
     ensures memory { IfErr result (λ error. error.kind ≡ Memory → IsReached text.now error.line) }
     ensures formed { IfErr result (λ error. error.kind ≡ Memory → IsFormedAt text.now error.line) }

@@ -37,6 +37,7 @@ impl IdText {
 
 /// The text of the identifier that these random bits give: RFC 9562, version 4. It takes no memory.
 pub fn fresh_id(bits: u128) -> IdText
+    // PROMISE: A new identifier is a UUID of version 4.
     ensures { result ≡ id_text bits }
 {
     let id = Builder::from_random_bytes(bits.to_be_bytes()).into_uuid();

@@ -72,8 +72,10 @@ pub fn plan_post(
     id_held: bool,
     retention: Interval,
 ) -> Result<Plan, SilenceError>
+    // PROMISE: A post makes, changes or replaces a silence exactly by the rule.
     ensures planned { IfOk result (λ plan. plan ≡ planned (option_copied held.entry) (post_of posted now bits retention)) }
     ensures accepted { OnOk result (refusal (option_copied held.entry) verdict id_held (post_of posted now bits retention) ≡ None) }
+    // PROMISE: A post is refused for the first cause that applies.
     ensures refused { IfErr result (λ e. e ≢ errors.Memory →
         refusal (option_copied held.entry) verdict id_held (post_of posted now bits retention) ≡ Some e) }
     ensures memory { IfErr result (λ e. e ≡ errors.Memory →
@@ -180,6 +182,7 @@ pub fn plan_expire(
     now: Moment,
     retention: Interval,
 ) -> Result<MeshSilence, SilenceError>
+    // PROMISE: An end changes a silence exactly by the rule.
     ensures ended { IfOk result (λ v. ended_of (option_copied held.entry) now retention ≡ Some v) }
     ensures accepted { OnOk result (end_refusal (option_copied held.entry) now retention ≡ None) }
     ensures refused { IfErr result (λ e. e ≢ errors.Memory → end_refusal (option_copied held.entry) now retention ≡ Some e) }

@@ -49,6 +49,7 @@ pub fn reads_again(
     alloc: Global,
     rows: &[(MeshSilence, State)],
 ) -> Result<Vec<MeshSilence>, ListError>
+    // PROMISE: A list that was written is read as its silences, cut to milliseconds.
     ensures round_trip { IfOk result (λ vs. vs.items ≡ map (λ row. cut_to_shown row.0) rows.now) }
     ensures refused { IfErr result (λ e. e ≢ errors.Memory → IsRowTooLarge rows.now e) }
 {

@@ -164,8 +164,10 @@ fn object_in(alloc: Global, body: &[u8]) -> Result<Value, BodyError>
 /// [`BodyError::BadJson`] where the body is no JSON, or no object; else [`BodyError::Wrong`] with the first key that is
 /// wanting or of another kind, in the order of [`Key`]; [`BodyError::Memory`] where memory runs out.
 pub fn read_post(alloc: Global, body: &[u8]) -> Result<Posted, BodyError>
+    // PROMISE: A posted silence is the one that its object describes.
     ensures posted { IfOk result (λ p. (d : Data) × IsObjectText body.now d × IsPosted d p) }
     ensures bad_json { IsErrOf result errors.BadJson → (d : Data) → ¬ IsObjectText body.now d }
+    // PROMISE: Else its first wrong key is reported.
     ensures wrong { (key : Key) → IsErrOf result (errors.Wrong key) → (d : Data) × IsObjectText body.now d × IsFirstWrong d key }
 {
     let object = object_in(alloc, body)?;

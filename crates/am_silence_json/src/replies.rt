@@ -19,6 +19,7 @@ use std::alloc::AllocError;
 ///
 /// [`AllocError`] where memory runs out.
 pub fn write_silences(out: Vec<u8>, rows: &[(MeshSilence, State)]) -> Result<Vec<u8>, AllocError>
+    // PROMISE: Silences are written as the compact JSON of their values.
     ensures { IfOk result (λ body. (ds : List Data) × AreGettable rows.now ds
         × (body.items ≡ out.items ++ compact_text (array (items_of ds)))) }
 {

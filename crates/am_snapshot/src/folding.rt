@@ -31,12 +31,14 @@ pub fn fold<V: Version + Message, R: Read, W: Write>(
     writer: &mut W,
     now: Moment,
 ) -> Result<u64, SnapshotError>
+    // PROMISE: A fold writes the last write of each key in its input.
     ensures row { IfOk result (λ written. (row : List ℕ) × (written ≡ length row) ×
         Appends (W.contents writer.old) (W.contents writer.new) row ×
         IfSome (R.remaining reader.old) (λ input. IsFold V.seen V.Key.cmp V.reads input row)) }
     ensures size { OnOk result (IfSome (R.remaining reader.old) (λ input. length input ≤ most)) }
     ensures room { IfOk result (λ written. written ≤ most) }
 
+    // PROMISE: If its input has a fault, a fold writes nothing.
     ensures stopped { IfErr result (StopsFold V.seen V.Key.cmp V.reads (R.remaining reader.old)
         (R.remaining reader.new) W.contents writer.old writer.new) }
 {

@@ -29,6 +29,7 @@ pub fn an_input_has_one_fault<M: Message>()
 /// What is saved of a map is loaded as that map, by any limit: its row is that of these versions, another map is not
 /// loaded of it, and no fault stands in it.
 pub fn what_is_saved_is_loaded<V: Record>()
+    // PROMISE: A map that was saved loads as itself.
     ensures loaded { (limit : ℕ) (map : List V) → IsSavableWithin V.seen V.Key.cmp V.Version.is_value limit map →
         IsLoaded V.seen V.reads (row_text V.seen map) map }
     ensures alone { (limit : ℕ) (map held : List V) → IsSavableWithin V.seen V.Key.cmp V.Version.is_value limit map →

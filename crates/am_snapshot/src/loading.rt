@@ -30,6 +30,7 @@ pub fn load<V: Version + Message, R: Read>(
     ensures size { OnOk result (IfSome (R.remaining reader.old) (λ input. length input ≤ most)) }
     ensures end { OnOk result (IsAtEnd (R.remaining reader.new)) }
 
+    // PROMISE: A file that isn't loaded is refused for its first fault.
     ensures stopped { IfErr result (λ e. IfSome (R.remaining reader.old) (λ input.
         StopsLoad V.seen V.reads input (R.remaining reader.new) e)) }
 {

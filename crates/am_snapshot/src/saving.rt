@@ -66,6 +66,7 @@ pub fn save<V: Version, W: Write>(
     held: &Held<V>,
     writer: &mut W,
 ) -> Result<u64, SnapshotError>
+    // PROMISE: A saved file is the row of the whole map.
     ensures row { OnOk result (Appends (W.contents writer.old) (W.contents writer.new) (row_text V.seen held.now)) }
     ensures savable { OnOk result (IsSavable V.seen V.Key.cmp V.is_value held.now) }
     ensures count { IfOk result (λ written. written ≡ length (row_text V.seen held.now)) }

@@ -14,8 +14,8 @@ use Rattle.am_runs.specs.Steps.RunStep.{Took, Ticked}
 use Rattle.am_runs.specs.Members.{Member, map_of, member_after, member_of, passes, stepped}
 use Rattle.am_runs.proofs.Pasts.{last-passes, map_of-append, member_of-push}
 use Rattle.am_instance.specs.declared.event.Event.{Event}
-use Rattle.am_instance.specs.declared.error.StepError.{StepError}
-use Rattle.am_instance.specs.declared.error.StepError.TheVariants.{MomentBack, UnknownPeer, Frame as FrameFault, Memory}
+use Rattle.am_refusals.specs.declared.error.StepError.{StepError}
+use Rattle.am_refusals.specs.declared.error.StepError.TheVariants.{MomentBack, UnknownPeer, Frame as FrameFault, Memory}
 use Rattle.am_instance.specs.declared.reply.Outcome.{Outcome}
 use Rattle.am_instance.specs.Deliveries.{Delivery, events_at}
 use Rattle.am_instance.specs.Steps.{brought, collects, delivers, step_events}

@@ -15,8 +15,8 @@ use Rattle.am_runs.specs.Runs.{AreFrom, CanAct, IsPossible, IsSent, changed}
 use Rattle.am_runs.proofs.Loops.{all_left}
 use Rattle.am_instance.specs.declared.event.Event.{Event}
 use Rattle.am_instance.specs.declared.event.Event.TheVariants as events
-use Rattle.am_instance.specs.declared.error.StepError.{StepError}
-use Rattle.am_instance.specs.declared.error.StepError.TheVariants.{MomentBack, UnknownPeer, Frame as FrameFault, Memory}
+use Rattle.am_refusals.specs.declared.error.StepError.{StepError}
+use Rattle.am_refusals.specs.declared.error.StepError.TheVariants.{MomentBack, UnknownPeer, Frame as FrameFault, Memory}
 use Rattle.am_instance.specs.declared.reply.Made.{Made as MadeHere}
 use Rattle.am_instance.specs.declared.reply.Reply.{Reply}
 use Rattle.am_instance.specs.declared.reply.Outcome.{Outcome}

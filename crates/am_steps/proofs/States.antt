@@ -18,7 +18,7 @@ use Rattle.am_collect.specs.Events.MapEvent.{Delivered}
 use Rattle.am_collect.specs.Keepers.{IsLeftBy}
 use Rattle.am_runs.specs.Runs.{changed}
 use Rattle.am_instance.specs.declared.event.Event.{Event}
-use Rattle.am_instance.specs.declared.error.StepError.{StepError}
+use Rattle.am_refusals.specs.declared.error.StepError.{StepError}
 use Rattle.am_instance.specs.declared.reply.Made.{Made}
 use Rattle.am_instance.specs.declared.reply.Outcome.{Outcome}
 use Rattle.am_instance.specs.Deliveries.{Delivery, to_silences, to_log}

@@ -10,7 +10,7 @@ use Rattle.am_runs.specs.Steps.RunStep.{Started}
 use Rattle.am_runs.specs.Members.{Member, member_of, stepped}
 use Rattle.am_runs.specs.Runs.{AreFrom, IsPossible}
 use Rattle.am_instance.specs.declared.event.Event.{Event}
-use Rattle.am_instance.specs.declared.error.StepError.{StepError}
+use Rattle.am_refusals.specs.declared.error.StepError.{StepError}
 use Rattle.am_instance.specs.declared.reply.Outcome.{Outcome}
 use Rattle.am_instance.specs.Deliveries.{Delivery}
 use Rattle.am_instance.specs.Deliveries.Delivery.{OfSilence, OfEntry}

@@ -50,6 +50,7 @@ fn pull(place: Option<Place>) -> Asked
 ///
 /// [`AllocError`] where memory runs out.
 pub fn to_event(alloc: Global, config: &Config, event: &LineEvent) -> Result<Asked, AllocError>
+    // PROMISE: A line of a schedule means exactly its event, or names no member.
     ensures asked { IfOk result (λ asked. asked ≡ asked_by config.now event.now) }
     ensures sound { IfOk result IsSound }
     ensures brought { IfOk result (λ asked. Brings asked (brought_by event.now)) }

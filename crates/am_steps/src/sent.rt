@@ -15,6 +15,7 @@ ghost use Rattle.am_steps.specs.Recorded.{AreValues};
 
 /// No row of a frame that a step sent is at fault, and each frame goes to a peer.
 pub fn sent_frames_are_sound()
+    // PROMISE: No frame that is sent has a fault.
     ensures sound { (old new : InstanceState) (event : Event) (now : ℕ) (outcome : Outcome) → IsStep old event now (Ok outcome) new →
         AreValues event outcome new →
         All (λ frame. first_fault (rows_in (parts_of frame.1)) ≡ None) outcome.frames.items }

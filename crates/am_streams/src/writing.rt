@@ -18,7 +18,9 @@ pub struct WriteFault {
 ///
 /// [`WriteFault`] at the first call that fails or takes nothing; it is not tried again.
 pub fn send<W: Write>(writer: &mut W, bytes: &[u8]) -> Result<(), WriteFault>
+    // PROMISE: All bytes go out, in order.
     ensures all { OnOk result (Appends (W.contents writer.old) (W.contents writer.new) bytes.now) }
+    // PROMISE: If a write fails, exactly the counted first bytes went out.
     ensures stopped { IfErr result (λ e. WritesPart (W.contents writer.old) (W.contents writer.new) bytes.now e.written) }
 {
     let mut written = 0;

@@ -3,7 +3,8 @@
 use crate::members::{PEER, at, instance};
 use am_http::session::Session;
 use am_instance::Instance;
-use am_member::{Fault, converse};
+use am_member::converse;
+use am_peers::Fault;
 use std::alloc::{AllocError, Global};
 use std::io::{self, Read};
 

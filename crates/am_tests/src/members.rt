@@ -1,8 +1,8 @@
 //! The member that tests reach, and the moment of its next event.
 
 use am_instance::{Config, Instance};
-use am_member::next_moment;
 use am_merge::Held;
+use am_peers::next_moment;
 use am_version_order::{Interval, Moment};
 use am_wire::Text;
 use std::alloc::Global;

@@ -83,6 +83,7 @@ pub fn next_difference<V: Version>(
 ) -> bool
     requires order { All (λ side. IsMap V.seen V.Key.cmp side.left) sides.old }
     ensures order { All (λ side. IsMap V.seen V.Key.cmp side.left) sides.new }
+    // PROMISE: No difference is skipped, and none is invented.
     ensures next { IsTrue result → (key : V.Key) × ((differences : List (Difference V.Key V)) →
         AreDifferences V.seen V.Key.cmp compared now (map rest_of sides.new) differences →
         AreDifferences V.seen V.Key.cmp compared now (map rest_of sides.old)

@@ -128,6 +128,7 @@ pub fn diff_rows<V: Told + Message, R: Read + Drop, W: Write>(
     manner: &Manner,
     writer: &mut W,
 ) -> Result<DiffOutcome, DiffError>
+    // PROMISE: `diff` prints exactly the lines of all keys at which sources differ.
     ensures lines { IfOk result (λ outcome. (sources : List (Source V)) ×
         AllZip (IsRead V.seen V.Key.cmp V.reads R.remaining) inputs.old sources ×
         (outcome.has_later ≡ has_later_source V.seen manner.now.moment sources) ×

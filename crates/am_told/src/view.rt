@@ -101,6 +101,7 @@ pub fn write_view<W: Write>(
     now: Moment,
     writer: &mut W,
 ) -> Result<u64, SnapshotError>
+    // PROMISE: `show` prints a line for each live version.
     ensures lines { OnOk result (Appends (W.contents writer.old) (W.contents writer.new)
         (view_text (option_copied name.entry) now silences.now log.now)) }
     ensures count { IfOk result (λ written. written ≡ length (view_text (option_copied name.entry) now silences.now log.now)) }

@@ -6,6 +6,7 @@ ghost use Rattle.am_told.specs.Words.{listed_word_of, text_of_word, word_of};
 
 /// A word is read as its text, in a list too; so no two texts have one word.
 pub fn a_word_is_read_in_one_way()
+    // PROMISE: A word on a line stands for one text.
     ensures read { (text : List ℕ) → AreBytes text → text_of_word (word_of text) ≡ text }
     ensures listed { (text : List ℕ) → AreBytes text → text_of_word (listed_word_of text) ≡ text }
     ensures own { (text other : List ℕ) → AreBytes text → AreBytes other → word_of text ≡ word_of other → text ≡ other }

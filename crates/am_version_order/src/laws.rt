@@ -7,6 +7,7 @@ ghost use Rattle.am_version_order.specs.Versions.{Version, rank_cmp};
 
 /// The order of versions is total, and versions of one key that it doesn't tell apart are one version.
 pub fn versions_are_in_order<K>()
+    // PROMISE: Of two versions of a key one is greater, or they are the same.
     ensures total { IsTotalOrder {K = Version K} rank_cmp }
     ensures exact { (v w : Version K) → v.key ≡ w.key → rank_cmp v w ≡ Equal → v ≡ w }
 {}

@@ -176,6 +176,7 @@ pub fn insides_are_told()
 /// A message is read as v exactly where its bytes are fields that fit its table, nothing inside them is at fault, its
 /// tests pass, and v is their value. It is refused exactly for the first fault in its bytes, or for a test's.
 pub fn messages_are_their_fields<A>()
+    // PROMISE: A message has exactly the value of its fields, or their first fault.
     ensures read { (table : Table) (tests : ℕ → List FieldAt → Option WireError) (value : List FieldAt → A) →
         (place at : ℕ) (bytes : List ℕ) (v : A) →
         (read_by table tests value place at bytes ≡ Ok v) ↔ IsMessage table tests value place at bytes v }

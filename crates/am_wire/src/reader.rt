@@ -117,6 +117,7 @@ impl<V: Message> RowReader<V> {
     /// [`RowFault::Read`] for a read that failed, which is not tried again; [`RowFault::TooLarge`] for an input
     /// of more bytes than it may have; [`RowFault::Memory`]; and after a refusal at every call [`RowFault::Ended`].
     pub fn next<R: Read>(&mut self, reader: &mut R) -> Result<Option<V>, RowFault>
+        // PROMISE: A row's next message is read from exactly its own bytes.
         ensures { (bytes : List ℕ) × Consumes (R.remaining reader.old) (R.remaining reader.new) bytes ×
             Answers V.reads self.old bytes (R.remaining reader.new) result self.new }
     {

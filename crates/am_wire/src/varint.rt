@@ -55,6 +55,7 @@ fn long_varint_from(bytes: &[u8], at: usize) -> Result<(u64, usize), WireError>
 /// [`WireError::Truncated`] where the bytes end in the number, and [`WireError::LongVarint`] where it has more
 /// than 64 bits.
 pub fn read_varint(bytes: &[u8]) -> Result<(u64, usize), WireError>
+    // PROMISE: A number is read as its bytes say, or its fault is reported.
     ensures exact { result ≡ varint_at 0 bytes.now }
 {
     varint_from(bytes, 0)

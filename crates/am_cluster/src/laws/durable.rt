@@ -11,24 +11,24 @@ ghost use Rattle.am_cluster.specs.Durable.{IsDurable};
 ghost use Rattle.am_cluster.specs.DurableExamples.{saved_behind};
 ghost use Rattle.am_cluster.specs.DurableRuns.{AreTimelyByWhatCame, ComeInTime, IsDurableInBoth, LoseNothing, ShowWhatCame};
 ghost use Rattle.am_cluster.specs.Reports.{AreTimely};
+ghost use Rattle.am_cluster.specs.Worlds.{World};
 
 use crate::Cluster;
 use crate::laws::shown::members_show_the_bare_sets;
 
 /// What came live to a durable member by any moment of a run is in its bare set at every later one, whatever it was stopped
 /// and started in between.
-pub fn durable_members_lose_nothing(earlier: &Cluster, later: &Cluster)
-    ensures silences { LoseNothing silence_run earlier.now later.now }
-    ensures log { LoseNothing log_run earlier.now later.now }
-{
-    earlier.consistency();
-    later.consistency();
-}
+pub fn durable_members_lose_nothing()
+    // PROMISE: A member that is saved after each live change keeps these through every restart.
+    ensures silences { (earlier later : World) → LoseNothing silence_run earlier later }
+    ensures log { (earlier later : World) → LoseNothing log_run earlier later }
+{}
 
 /// Where all members of a cluster are durable, its run is timely exactly where it would be if no start lost anything: from a
 /// spread after a version's update on, that version, or a greater one of its key, once came to every member that runs. How
 /// long ago that was, and what the member was started from since, doesn't count.
 pub fn durable_runs_are_timely_by_what_came(cluster: &Cluster)
+    // PROMISE: For such members a run is timely exactly if each version once reached all in time.
     ensures { (spread flight : ℕ) →
         ((place : ℕ) → place < length cluster.now.replicas → IsDurableInBoth place cluster.now.silences cluster.now.log) →
         AreTimely spread flight (length cluster.now.replicas) cluster.now.silences cluster.now.log

@@ -28,6 +28,7 @@ use am_version_order::Version;
 /// A calm member, asked at a moment from its last one on, says that a group is notified for the first time exactly where
 /// something fires, and of all entries of the group that were delivered to it none is best and live.
 pub fn first_is_told_exactly(cluster: &Cluster)
+    // PROMISE: A calm member calls a notification the first exactly if something fires and no entry that reached it is best and live.
     ensures { (place now : ℕ) (asked : Question) (reply : Reply) (made : Made) →
         OfMember cluster.now place (λ replica. IsCalmBy cluster.now place replica now →
         IsReply replica.stand (asks asked) now reply made →
@@ -41,6 +42,7 @@ pub fn first_is_told_exactly(cluster: &Cluster)
 /// the run, a member that runs says that the group is notified for the first time only where the greatest entry of it that
 /// the member took, at least as great as that one, isn't live any more.
 pub fn first_is_told_after_a_spread()
+    // PROMISE: In a timely run, a spread after an entry, no member calls it the first while the greatest entry that it took lives.
     ensures { (members spread flight now : ℕ) (before rest : List (RunStep LogMesh)) (step : RunStep LogMesh) (entry : LogMesh) → 0 < spread →
         let steps = before ++ step ∷ rest in
         IsRun entry_version key_cmp members steps → IsTimely entry_version spread flight members steps → moment step ≡ Some now →

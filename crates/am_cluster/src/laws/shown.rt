@@ -3,8 +3,6 @@
 ghost use Rattle.std.specs.Prelude.{◌≡◌, ℕ, List, Option, All, Contains, true};
 ghost use Rattle.am_matcher.specs.declared.labels.Label.{Label};
 ghost use Rattle.am_matcher.specs.Mutes.{AreMuted};
-ghost use Rattle.am_silence.specs.Mesh.{IsMesh};
-ghost use Rattle.am_nflog.specs.Mesh.{IsMesh as IsLogMesh};
 ghost use Rattle.am_merge.specs.Views.{IsViewAt};
 ghost use Rattle.am_collect.specs.Events.{HaveSame};
 ghost use Rattle.am_instance.specs.declared.event.Event.{Event};
@@ -63,6 +61,7 @@ fn member_has_maps(cluster: &Cluster, place: Place)
 /// After any steps of a cluster, a member that was calm replies to a list, a single silence, a decision, both views and the
 /// mutes of an alert, at every moment from its last one on, as the bare sets say of all versions that were delivered to it.
 pub fn members_reply_as_the_bare_sets(cluster: &Cluster, place: Place)
+    // PROMISE: A calm member of any cluster answers as everything that was delivered to it would.
     ensures { (now : ℕ) (event : Event) (reply : Reply) (made : Made) →
         OfMember cluster.now place (λ replica. IsCalmBy cluster.now place replica now →
         asks_shown event ≡ true → IsReply replica.stand event now reply made →
@@ -81,12 +80,14 @@ pub fn members_with_equal_sets_reply_alike(
     other: &Cluster,
     peer: Place,
 )
+    // PROMISE: Two calm members that were delivered the same answer alike.
     ensures { (now : ℕ) (event : Event) (reply : Reply) (made : Made) → OfMember cluster.now place (λ one. OfMember other.now peer (λ two.
         IsCalmBy cluster.now place one now → IsCalmBy other.now peer two now →
-        HaveSame (silences_taken cluster.now place) (silences_taken other.now peer) → All IsMesh (silences_taken cluster.now place) →
-        HaveSame (entries_taken cluster.now place) (entries_taken other.now peer) → All IsLogMesh (entries_taken cluster.now place) →
+        HaveSame (silences_taken cluster.now place) (silences_taken other.now peer) →
+        HaveSame (entries_taken cluster.now place) (entries_taken other.now peer) →
         asks_views event ≡ true → IsReply one.stand event now reply made → IsReply two.stand event now reply made)) }
 {
+    cluster.consistency();
     members_show_the_bare_sets(cluster);
     members_show_the_bare_sets(other);
     equal_sets_show_one::<MeshSilence>();
@@ -106,11 +107,12 @@ pub fn members_with_equal_sets_mute_alike(
     ensures { (now : ℕ) (labels : List Label) (ids broken others broken_too : List (List ℕ)) →
         OfMember cluster.now place (λ one. OfMember other.now peer (λ two.
         IsCalmBy cluster.now place one now → IsCalmBy other.now peer two now →
-        HaveSame (silences_taken cluster.now place) (silences_taken other.now peer) → All IsMesh (silences_taken cluster.now place) →
-        HaveSame (entries_taken cluster.now place) (entries_taken other.now peer) → All IsLogMesh (entries_taken cluster.now place) →
+        HaveSame (silences_taken cluster.now place) (silences_taken other.now peer) →
+        HaveSame (entries_taken cluster.now place) (entries_taken other.now peer) →
         AreMuted labels now one.stand.silences ids broken → AreMuted labels now two.stand.silences others broken_too →
         (id : List ℕ) → Contains ids id → ¬ Contains broken_too id → Contains others id)) }
 {
+    cluster.consistency();
     members_show_the_bare_sets(cluster);
     members_show_the_bare_sets(other);
     equal_sets_show_one::<MeshSilence>();

@@ -6,7 +6,7 @@ use super::{
     state_flag, state_of,
 };
 use am_jobs::{DiffJob, STANDARD_INPUT, SourceWord, StateName, are_live};
-use am_member::port_of;
+use am_peers::port_of;
 use am_told::Compared;
 use am_version_order::Moment;
 use clap::{Arg, ArgAction, ArgMatches, Command};
@@ -72,6 +72,7 @@ fn numbers_of(
     let names_file = sources.iter().any(|source| source.is_file());
     let said = mistake_of(sources)
         .or(live_mistake_of(flags, sources))
+        .or(gossip_mistake_of(sources))
         .or(log_mistake(flags, names_file));
     match said {
         Some(text) => Err(text),
@@ -93,6 +94,13 @@ fn live_mistake_of(flags: &ArgMatches<'_>, sources: &[SourceWord<'_>]) -> Option
         return Some(BAD_SERVER);
     }
     None
+}
+
+/// What is said where a replica that is to be asked by gossip has no address.
+fn gossip_mistake_of(sources: &[SourceWord<'_>]) -> Option<&'static str> {
+    let is_nowhere = |source: &SourceWord<'_>| source.gossip_place().is_some()
+        && source.replica().is_none();
+    sources.iter().any(is_nowhere).then_some(BAD_GOSSIP)
 }
 
 fn compared_of(flags: &ArgMatches<'_>) -> Compared {
@@ -217,12 +225,15 @@ const JSON_HELP: &str =
 const TIME_LIMIT_HELP: &str = "For how many seconds a connection to a server may last, 1 to 3600";
 
 const SOURCES_HELP: &str =
-    "NAME=FILE, cut at its first '=', or FILE, which is then its own name; '-' is standard input, and http://HOST:PORT a server, perhaps with a path; 2 to 16 of them";
+    "NAME=FILE, cut at its first '=', or FILE, which is then its own name; '-' is standard input, gossip://HOST:PORT an Alertmanager asked by its gossip, and http://HOST:PORT a server, perhaps with a path; 2 to 16 of them";
 
 const AFTER: &str = "\
 Of each key that differs there is a line for each group of sources that hold the same there: first those that have the
 greatest version, which counts, then those that are behind, and by what (update, expiry or bytes), and then those that
 hold nothing.
+
+By gossip://HOST:PORT, where it listens for other replicas, an Alertmanager tells all it holds, so it is compared as its files
+are, and takes no notice.
 
 A server is a member or an Alertmanager, at an address of IPv4, of IPv6 in brackets, or localhost: what it lists at
 /api/v2/silences, below the path, is compared. Beside a server all sources are compared by what API v2 shows of them: moments are cut to
@@ -231,6 +242,7 @@ milliseconds, and a silence counts until its end.
 The status is 0 where nothing is different, and 5 where something is.
 
 Examples:
+  am_tool diff --state nfl a=gossip://10.0.0.1:9094 b=gossip://10.0.0.2:9094
   am_tool diff --state sil a=http://127.0.0.1:9093 b=http://10.0.0.2:9093 c=c.sil
   am_tool diff --state sil --long a=a.sil b=b.sil c=c.sil
   am_tool diff --state sil --log a=a.sil b=b.sil
@@ -248,9 +260,12 @@ const NO_HTTPS: &str =
     "invalid values for '<SOURCE>...': no server is asked by HTTPS: a proxy before it is named, as http://HOST:PORT";
 
 const NO_SCHEME: &str =
-    "invalid values for '<SOURCE>...': HOST:PORT is no source: a server is http://HOST:PORT, and a file of that name ./HOST:PORT";
+    "invalid values for '<SOURCE>...': HOST:PORT is no source: a server is http://HOST:PORT, a replica asked by its gossip gossip://HOST:PORT, and a file of that name ./HOST:PORT";
 
 const BAD_SERVER: &str =
     "invalid values for '<SOURCE>...': http://HOST:PORT is wanted, with an address or localhost as HOST, perhaps with a path";
+
+const BAD_GOSSIP: &str =
+    "invalid values for '<SOURCE>...': gossip://HOST:PORT is wanted, with an address or localhost as HOST";
 
 const INPUT_TWICE: &str = "invalid values for '<SOURCE>...': '-' is named twice";

@@ -3,11 +3,14 @@
 ghost use Rattle.std.specs.Prelude.{◌≤◌, IfSome};
 
 use super::{WordsError, mistake};
+use am_address::{Peer, address_of, is_loopback, peer_of};
+use am_disk::are_one_file;
 use am_jobs::Options;
-use am_member::{Peer, are_one_file, number_within, peer_of};
+use am_peers::number_within;
 use am_version_order::Interval;
 use clap::{Arg, ArgAction, ArgMatches, Command};
 use std::alloc::{AllocError, Global};
+use std::net::SocketAddr;
 use std::rt::Files;
 use std::time::Duration;
 
@@ -17,7 +20,8 @@ pub const NAME: &str = "instance";
 /// The numbers among the options.
 #[derive(Clone, Copy)]
 struct Numbers {
-    port: u16,
+    address: SocketAddr,
+    peers_address: Option<SocketAddr>,
     retention: Interval,
     peer_timeout: Interval,
     connections: u64,
@@ -46,12 +50,21 @@ pub fn command<'a>(alloc: Global, name: &'a str) -> Result<Command<'a>, AllocErr
         .about(ABOUT)
         .after_help(AFTER)
         .arg(option(alloc, "name", "NAME", NAME_HELP).required(true))?
-        .arg(option(alloc, "listen", "PORT", LISTEN_HELP).required(true))?
-        .arg(option(alloc, "peer", "NAME=PORT", PEER_HELP).action(ArgAction::Append))?
+        .arg(option(alloc, "listen", "ADDRESS:PORT", LISTEN_HELP).required(true))?
+        .arg(option(alloc, "peer", "NAME=ADDRESS:PORT", PEER_HELP).action(ArgAction::Append))?;
+    let command = between(alloc, command)?
         .arg(option(alloc, "host", "NAME", HOST_HELP).action(ArgAction::Append))?
         .arg(option(alloc, "sil", "FILE", SIL_HELP).required(true))?
         .arg(option(alloc, "nfl", "FILE", NFL_HELP).required(true))?;
     own(alloc, limits(alloc, command)?)
+}
+
+/// The options of what goes between members.
+fn between<'a>(alloc: Global, command: Command<'a>) -> Result<Command<'a>, AllocError> {
+    command
+        .arg(option(alloc, "peers-listen", "ADDRESS:PORT", PEERS_LISTEN_HELP))?
+        .arg(option(alloc, "secret", "FILE", SECRET_HELP))?
+        .arg(flag(alloc, "open-peers", OPEN_PEERS_HELP))
 }
 
 /// The options that have a default.
@@ -107,6 +120,9 @@ pub fn read_options<'a, R: Files + AllocGlobal>(
         Ok(numbers) => numbers,
         Err(text) => return Err(wrong(rt.alloc(), text)),
     };
+    if let Some(text) = between_mistake(flags, &numbers) {
+        return Err(wrong(rt.alloc(), text));
+    }
     let hosts = hosts(rt.alloc(), flags.get_strs("host").unwrap_or(&[]))?;
     if !hosts.iter().all(|host| is_host(host)) {
         return Err(wrong(rt.alloc(), BAD_HOST));
@@ -116,7 +132,11 @@ pub fn read_options<'a, R: Files + AllocGlobal>(
     }
     Ok(Options {
         name: text(flags, "name"),
-        port: numbers.port,
+        address: numbers.address,
+        own_host: own_host(text(flags, "listen")),
+        peers_address: numbers.peers_address,
+        secret: flags.get_str("secret"),
+        opens_peers: flags.get_flag("open-peers"),
         peers: peers(rt.alloc(), flags.get_strs("peer").unwrap_or(&[]))?,
         hosts,
         silences: text(flags, "sil"),
@@ -154,7 +174,8 @@ fn text<'a>(flags: &ArgMatches<'a>, name: &str) -> &'a str {
 
 /// The numbers among the options, or what is said of the first one that is none.
 fn read_numbers(flags: &ArgMatches<'_>) -> Result<Numbers, &'static str> {
-    let port = number(flags, "listen", 65_535).ok_or(BAD_LISTEN)?;
+    let address = address_of(text(flags, "listen")).ok_or(BAD_LISTEN)?;
+    let peers_address = peers_address(flags).ok_or(BAD_PEERS_LISTEN)?;
     let retention = seconds(flags, "retention").ok_or(BAD_RETENTION)?;
     let peer_timeout = seconds(flags, "peer-timeout").ok_or(BAD_PEER_TIMEOUT)?;
     let connections = connections(flags).ok_or(BAD_CONNECTIONS)?;
@@ -165,7 +186,8 @@ fn read_numbers(flags: &ArgMatches<'_>) -> Result<Numbers, &'static str> {
     let most_bytes = number(flags, "most-bytes", 4_294_967_295).ok_or(BAD_MOST_BYTES)?;
     let lines = number(flags, "lines-a-second", 65_535).ok_or(BAD_LINES)?;
     Ok(Numbers {
-        port: port as u16,
+        address,
+        peers_address,
         retention,
         peer_timeout,
         connections,
@@ -177,6 +199,32 @@ fn read_numbers(flags: &ArgMatches<'_>) -> Result<Numbers, &'static str> {
         lines: lines as u32,
         own: read_own(flags)?,
     })
+}
+
+/// What stands before the port of an address.
+fn own_host(word: &str) -> Option<&str> {
+    let (host, _) = word.rsplit_once(':')?;
+    Some(host)
+}
+
+/// The address of the listener for peers, where the option is given; nothing where the word is no address.
+fn peers_address(flags: &ArgMatches<'_>) -> Option<Option<SocketAddr>> {
+    match flags.get_str("peers-listen") {
+        Some(word) => Some(Some(address_of(word)?)),
+        None => Some(None),
+    }
+}
+
+/// What is said where nobody could be heard at the listener for peers, or where a secret and none are asked for.
+fn between_mistake(flags: &ArgMatches<'_>, numbers: &Numbers) -> Option<&'static str> {
+    let is_open = flags.get_flag("open-peers");
+    if flags.get_str("secret").is_some() {
+        return if is_open { Some(BOTH_WAYS) } else { None };
+    }
+    match numbers.peers_address {
+        Some(address) if !is_open && !is_loopback(address) => Some(NOBODY_HEARD),
+        _ => None,
+    }
 }
 
 /// The numbers of what it does by itself, or what is said of the first one that is none.
@@ -269,19 +317,30 @@ fn push<'a>(peers: &mut Vec<Peer<'a>>, peer: Peer<'a>) -> Result<(), AllocError>
 const MOST_SECONDS: u64 = 999_999_999;
 
 const ABOUT: &str =
-    "Runs one member: serves the silences of API v2 to people and tools, and frames to its peers, \
-    on 127.0.0.1";
+    "Runs one member: serves the silences of API v2 to people and tools, and frames to its peers";
 
 const NAME_HELP: &str = "Its name among the members, 1 to 255 bytes";
 
 const LISTEN_HELP: &str =
-    "The port at which it listens, 1 to 65535, for HTTP and for the frames of peers alike";
+    "The address at which it listens, for HTTP and for the frames of peers alike, as 10.0.0.1:9093 or [::1]:9093; a port \
+    alone is one of 127.0.0.1";
 
 const PEER_HELP: &str =
-    "Another member and the port at which it listens, cut at the last '='; any number of times";
+    "Another member and the address at which it listens, or its port alone on 127.0.0.1, cut at the last '='; any number of \
+    times";
+
+const PEERS_LISTEN_HELP: &str =
+    "The address at which it listens for the frames of peers, and for nothing else; --listen then hears no frames";
+
+const SECRET_HELP: &str =
+    "The file of a secret that all members have, 16 to 4096 bytes: frames go out sealed by it, and others are refused";
+
+const OPEN_PEERS_HELP: &str =
+    "Hears frames without --secret also at an address that other machines reach: whoever reaches it can change silences";
 
 const HOST_HELP: &str =
-    "A name by which it is asked beside 127.0.0.1 and localhost, as that of a proxy; any number of times. \
+    "A name by which it is asked beside 127.0.0.1, localhost and the address of --listen, as that of a proxy; any number of \
+    times. \
     Under any other it answers 403, and so it does the page of another site";
 
 const SIL_HELP: &str = "The file of the silences; where there is none, it holds none";
@@ -348,11 +407,26 @@ Without --tick-every, what has expired is dropped, and both files are saved, whe
 member ends: after --connections, at --stop-at-input-end, or by SIGTERM or SIGINT where it was started with them blocked:
   env --block-signal=TERM --block-signal=INT am_tool instance --name a --listen 9101 --peer b=9102 \\
     --sil a.sil --nfl a.nfl --tick-every 60 --pull-every 60 --save-every 5 --pull-first
+Three machines, a on 10.0.0.1, b on 10.0.0.2 and c on 10.0.0.3, each with the same file of a secret; this is a:
+  head -c 32 /dev/urandom | base64 > members.secret && chmod 600 members.secret
+  am_tool instance --name a --listen 127.0.0.1:9093 --peers-listen 10.0.0.1:9094 --secret members.secret \\
+    --peer b=10.0.0.2:9094 --peer c=10.0.0.3:9094 --sil a.sil --nfl a.nfl --tick-every 60 --pull-every 60 --pull-first
 A Tick is a greeting with a peer's name and the bytes 4 and 0, sent to the port; for a peer b:
   printf '\\0\\1b\\4\\0' >/dev/tcp/127.0.0.1/PORT";
 
 const BAD_LISTEN: &str =
-    "invalid value for '--listen <PORT>': a whole number from 1 to 65535 is wanted, in digits alone";
+    "invalid value for '--listen <ADDRESS:PORT>': an address and a port are wanted, as 10.0.0.1:9093 or [::1]:9093, or a port \
+    alone, from 1 to 65535";
+
+const BAD_PEERS_LISTEN: &str =
+    "invalid value for '--peers-listen <ADDRESS:PORT>': an address and a port are wanted, as 10.0.0.1:9094 or [::1]:9094, or a \
+    port alone, from 1 to 65535";
+
+const NOBODY_HEARD: &str =
+    "'--peers-listen <ADDRESS:PORT>' at an address that other machines reach wants '--secret <FILE>', or '--open-peers'";
+
+const BOTH_WAYS: &str =
+    "'--open-peers' says that there is no secret, and '--secret <FILE>' names one";
 
 const BAD_RETENTION: &str =
     "invalid value for '--retention <S>': a whole number from 1 to 999999999 is wanted, in digits alone";

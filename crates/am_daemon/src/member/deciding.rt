@@ -1,7 +1,6 @@
 //! Decisions for programs that send pages: what they ask is answered at once, or at this member's turn.
 
 use super::Member;
-use super::host::Host;
 use super::serving::put_off;
 use super::telling::time_between;
 use am_api_decisions::{Asked, Deciding, Notice, Question, asked_of, begin_log, log_notice};
@@ -10,7 +9,8 @@ use am_dialogue::{Dialogue, Turn, Work};
 use am_figures::Step;
 use am_http::session::Said;
 use am_instance::Outbox;
-use am_member::next_moment;
+use am_peers::next_moment;
+use am_upkeep::Host;
 use am_version_order::Moment;
 use std::time::{Duration, Instant};
 
@@ -36,9 +36,9 @@ impl<R: Host> Member<'_, R> {
         let Some(Read::Whole(request)) = request else {
             return;
         };
-        match asked_of(self.rt.alloc(), &request) {
+        match asked_of(self.upkeep.rt.alloc(), &request) {
             Ok(asked) => self.take_up(dialogue, request, asked),
-            Err(refusal) => dialogue.refuse(self.rt.alloc(), &refusal),
+            Err(refusal) => dialogue.refuse(self.upkeep.rt.alloc(), &refusal),
         }
     }
 
@@ -59,12 +59,12 @@ impl<R: Host> Member<'_, R> {
         if !question.waits() {
             return None;
         }
-        let now = next_moment(self.rt, self.instance.last());
-        let wait = time_between(now, self.instance.due_from(now)?);
+        let now = next_moment(self.upkeep.rt, self.upkeep.instance.last());
+        let wait = time_between(now, self.upkeep.instance.due_from(now)?);
         if wait == Duration::ZERO {
             return None;
         }
-        Instant::now(self.rt).ok()?.checked_add(wait)
+        Instant::now(self.upkeep.rt).ok()?.checked_add(wait)
     }
 
     /// Has a request wait for its turn, where another one may.
@@ -72,7 +72,7 @@ impl<R: Host> Member<'_, R> {
         if self.turns.begin() {
             put_off(dialogue, Work::Turn(turn));
         } else {
-            dialogue.refuse(self.rt.alloc(), &Refusal::new(503, "too many wait"));
+            dialogue.refuse(self.upkeep.rt.alloc(), &Refusal::new(503, "too many wait"));
         }
     }
 
@@ -81,7 +81,7 @@ impl<R: Host> Member<'_, R> {
     pub(super) fn take_turn(&mut self, dialogue: &mut Dialogue, turn: Turn) {
         self.turns.end();
         if self.stops {
-            dialogue.refuse(self.rt.alloc(), &Refusal::new(503, "member stops"));
+            dialogue.refuse(self.upkeep.rt.alloc(), &Refusal::new(503, "member stops"));
         } else if turn.is_dear() {
             put_off(dialogue, Work::Due(turn));
         } else {
@@ -91,7 +91,7 @@ impl<R: Host> Member<'_, R> {
 
     /// Begins to answer a request whose turn has come.
     pub(super) fn answer_turn(&mut self, dialogue: &mut Dialogue, turn: &Turn) {
-        let alloc = self.rt.alloc();
+        let alloc = self.upkeep.rt.alloc();
         match asked_of(alloc, turn.request()) {
             Ok(Asked::Decide(question)) => self.begin_deciding(dialogue, question),
             Ok(_) => {}
@@ -102,21 +102,21 @@ impl<R: Host> Member<'_, R> {
     /// Begins to answer a question.
     fn begin_deciding(&mut self, dialogue: &mut Dialogue, question: Question) {
         let alerts = question.message.alerts.len() as u64;
-        self.figures.step(Step::Mutes, alerts);
-        let deciding = Deciding::new(self.rt.alloc(), question);
+        self.upkeep.figures.step(Step::Mutes, alerts);
+        let deciding = Deciding::new(self.upkeep.rt.alloc(), question);
         self.go_on_deciding(dialogue, deciding);
     }
 
     /// Holds more of the alerts against the silences, for as long as a turn of the loop may take. Where none is left, it is
     /// decided.
     pub(super) fn go_on_deciding(&mut self, dialogue: &mut Dialogue, deciding: Deciding) {
-        let alloc = self.rt.alloc();
-        let begun = Instant::now(self.rt).ok();
-        let most = stretch_over(self.instance.silences().len());
+        let alloc = self.upkeep.rt.alloc();
+        let begun = Instant::now(self.upkeep.rt).ok();
+        let most = stretch_over(self.upkeep.instance.silences().len());
         let mut left = deciding;
         for _ in 0..u64::MAX {
-            let now = next_moment(self.rt, self.instance.last());
-            match left.go_on(alloc, &mut self.instance, most, now) {
+            let now = next_moment(self.upkeep.rt, self.upkeep.instance.last());
+            match left.go_on(alloc, &mut self.upkeep.instance, most, now) {
                 Ok(deciding) if deciding.is_asked() => return self.decide(dialogue, deciding, now),
                 Ok(deciding) => left = deciding,
                 Err(refusal) => return dialogue.refuse(alloc, &refusal),
@@ -130,7 +130,7 @@ impl<R: Host> Member<'_, R> {
 
     /// Whether alerts were held against silences for long enough, in a turn that began then.
     fn is_enough(&self, begun: Option<Instant>) -> bool {
-        match (begun, Instant::now(self.rt)) {
+        match (begun, Instant::now(self.upkeep.rt)) {
             (Some(begun), Ok(now)) => {
                 now.saturating_duration_since(begun) >= Duration::from_micros(ENOUGH)
             }
@@ -140,25 +140,30 @@ impl<R: Host> Member<'_, R> {
 
     /// Decides, now that all alerts were held against the silences.
     fn decide(&mut self, dialogue: &mut Dialogue, deciding: Deciding, now: Moment) {
-        let alloc = self.rt.alloc();
-        let reply = deciding.decide(alloc, &mut self.instance, now);
+        let alloc = self.upkeep.rt.alloc();
+        let reply = deciding.decide(alloc, &mut self.upkeep.instance, now);
         self.count_decision(reply.as_slice());
         self.reply_to_call(dialogue, Making::Whole(reply), Outbox::new(alloc));
     }
 
     /// Logs what was notified.
     fn log(&mut self, dialogue: &mut Dialogue, notice: Notice) {
-        self.is_changed = true;
-        let now = next_moment(self.rt, self.instance.last());
-        let Begun { making, outbox } = log_notice(self.rt.alloc(), &mut self.instance, notice, now);
+        self.upkeep.is_changed = true;
+        let now = next_moment(self.upkeep.rt, self.upkeep.instance.last());
+        let Begun { making, outbox } = log_notice(
+            self.upkeep.rt.alloc(),
+            &mut self.upkeep.instance,
+            notice,
+            now,
+        );
         self.reply_to_call(dialogue, making, outbox);
     }
 
     /// Begins to write the entries of the log that are live.
     fn list_log(&mut self, dialogue: &mut Dialogue) {
-        let alloc = self.rt.alloc();
-        let now = next_moment(self.rt, self.instance.last());
-        match begin_log(alloc, &self.instance, now) {
+        let alloc = self.upkeep.rt.alloc();
+        let now = next_moment(self.upkeep.rt, self.upkeep.instance.last());
+        match begin_log(alloc, &self.upkeep.instance, now) {
             Ok(writing) => put_off(dialogue, Work::Log(writing)),
             Err(refusal) => dialogue.refuse(alloc, &refusal),
         }
@@ -166,11 +171,11 @@ impl<R: Host> Member<'_, R> {
 
     /// Has a reply go out, and what its step sends: behind the next commit, where something came since the last one.
     fn reply_to_call(&mut self, dialogue: &mut Dialogue, making: Making, outbox: Outbox) {
-        let news = self.keeping.news();
-        self.follow_step(outbox);
-        dialogue.reply_with(self.rt.alloc(), Some(making));
-        if self.keeping.has_news() {
-            dialogue.hold_back(self.keeping.news() != news);
+        let news = self.upkeep.keeping.news();
+        self.upkeep.follow_step(outbox);
+        dialogue.reply_with(self.upkeep.rt.alloc(), Some(making));
+        if self.upkeep.keeping.has_news() {
+            dialogue.hold_back(self.upkeep.keeping.news() != news);
         }
     }
 }

@@ -1,11 +1,11 @@
 //! All that a member holds, as it is handed to a peer: part by part, each made when the one before it went out.
 
 use super::Member;
-use super::host::Host;
 use am_dialogue::Share;
 use am_faults::Fault;
 use am_instance::{HandedPart, Place};
 use am_reactor::Outgoing;
+use am_upkeep::Host;
 
 /// The most bytes of a part, but where one version has more.
 const MOST_OF_PART: usize = 1_048_576;
@@ -30,17 +30,18 @@ impl<R: Host> Member<'_, R> {
         let peer = self.shares.iter().position(|share| share.waits())?;
         let share = self.shares.get_mut(peer)?;
         share.open();
-        let bytes = Vec::new(self.rt.alloc());
+        let bytes = Vec::new(self.upkeep.rt.alloc());
         Some(Outgoing { peer, bytes })
     }
 
     /// The next part for a peer, as it goes out.
     pub fn next_part(&mut self, peer: usize) -> Option<Vec<u8>> {
         let left = self.shares.get_mut(peer)?.take_left()?;
-        let text = match self.instance.hand_out(left, MOST_OF_PART) {
+        let text = match self.upkeep.instance.hand_out(left, MOST_OF_PART) {
             Ok(part) => self.text_of_part(peer, part),
             Err(_) => {
-                self.tell_of(Some(peer as Place), Fault::UnsentMemory(1));
+                self.upkeep
+                    .tell_of(Some(peer as Place), Fault::UnsentMemory(1));
                 None
             }
         };
@@ -55,6 +56,6 @@ impl<R: Host> Member<'_, R> {
         let share = self.shares.get_mut(peer)?;
         let HandedPart { state, next } = part;
         let frame = share.frame_of(state, next);
-        self.text_of(peer as Place, &[frame])
+        self.upkeep.text_of(peer as Place, &[frame])
     }
 }

@@ -1,13 +1,13 @@
-//! Requests whose patterns are compiled before they are answered, one in a turn of the loop.
+//! Requests whose patterns are compiled before they are answered, one in a turn of the loop; and posts for which there is no room.
 
 use super::Member;
-use super::host::Host;
 use super::serving::put_off;
 use am_api_silences::{Read, Refusal};
-use am_dialogue::{Dialogue, Work, is_call};
+use am_dialogue::{Dialogue, Work, is_call, post_bytes};
 use am_http::Cause;
 use am_http::session::Said;
 use am_member::{Judged, Judging};
+use am_upkeep::Host;
 use std::alloc::{AllocError, Global};
 
 /// The patterns of what was said, where it has such.
@@ -42,9 +42,23 @@ impl<R: Host> Member<'_, R> {
         }
     }
 
+    /// Refuses a post for which there is no room, and answers whether it did.
+    fn refuses(&mut self, dialogue: &mut Dialogue, said: &Said) -> bool {
+        match post_bytes(said) {
+            Some(bytes) if !self.upkeep.has_room(bytes) => {
+                dialogue.refuse(
+                    self.upkeep.rt.alloc(),
+                    &Refusal::new(500, "state too large"),
+                );
+                true
+            }
+            _ => false,
+        }
+    }
+
     /// Answers what was said that isn't refused, or keeps it until its patterns are compiled.
     fn begin_judging(&mut self, dialogue: &mut Dialogue, said: Said) {
-        let alloc = self.rt.alloc();
+        let alloc = self.upkeep.rt.alloc();
         match judging_of(alloc, &said) {
             Ok(Some(judging)) => put_off(dialogue, Work::Judging(said, judging)),
             Ok(None) => self.answer(dialogue, said),
@@ -58,7 +72,7 @@ impl<R: Host> Member<'_, R> {
         match is_judged(&mut judging) {
             Ok(true) => self.answer_by(dialogue, said, judging),
             Ok(false) => put_off(dialogue, Work::Judging(said, judging)),
-            Err(refusal) => dialogue.refuse(self.rt.alloc(), &refusal),
+            Err(refusal) => dialogue.refuse(self.upkeep.rt.alloc(), &refusal),
         }
     }
 
@@ -67,8 +81,8 @@ impl<R: Host> Member<'_, R> {
         if self.refuses(dialogue, &said) {
             return;
         }
-        let own = self.instance.swap_patterns(judging.into_patterns());
+        let own = self.upkeep.instance.swap_patterns(judging.into_patterns());
         self.answer(dialogue, said);
-        let _ = self.instance.swap_patterns(own);
+        let _ = self.upkeep.instance.swap_patterns(own);
     }
 }

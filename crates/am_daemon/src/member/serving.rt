@@ -5,31 +5,20 @@ ghost use Rattle.am_api_silences.specs.Replies.{bytes_of};
 ghost use Rattle.am_http.specs.Sessions.{name_of, over as ended_under};
 
 use super::Member;
-use super::host::Host;
+use super::guarding::{hears_at, lock_at};
 use am_dialogue::{Dialogue, Work, asked_of_itself, bytes_said, ends_pull, is_nothing, may_change};
 use am_faults::Fault;
 use am_figures::Request;
-use am_gossip::Frame;
 use am_http::Refusal;
 use am_http::session::Said;
 use am_instance::Place;
-use am_member::{
-    Exchanged, Fault as ConnectionFault, Parted, Spared, exchange, frames_text, next_moment,
-    part_frames, spare,
-};
-use am_reactor::{Broken, Failure, LinkFault, Outgoing, Service, Wake};
+use am_member::{Exchanged, Spared, exchange, spare};
+use am_peers::{Fault as ConnectionFault, next_moment};
+use am_reactor::{Broken, Entrance, Failure, LinkFault, Outgoing, Service, Wake};
+use am_upkeep::{DISK, Host, sooner};
 use std::io::ErrorKind;
 use std::mem;
 use std::time::{Duration, Instant};
-
-/// The shorter one of two times, where there are such.
-pub fn sooner(one: Option<Duration>, other: Option<Duration>) -> Option<Duration> {
-    match (one, other) {
-        (Some(one), Some(other)) => Some(one.min(other)),
-        (one, None) => one,
-        (None, other) => other,
-    }
-}
 
 /// A connection that was closed before its end, as a fault.
 fn fault_of(broken: Broken, is_over: bool) -> Fault {
@@ -64,7 +53,7 @@ struct Asked {
 
 impl<R: Host> Member<'_, R> {
     /// Answers what was said, or keeps it until it may be answered.
-    fn hear(&mut self, dialogue: &mut Dialogue, said: Said) {
+    pub(super) fn hear(&mut self, dialogue: &mut Dialogue, said: Said) {
         self.count_said(dialogue, &said);
         if let Some(resource) = asked_of_itself(&said) {
             return self.tell_itself(dialogue, said, resource);
@@ -78,8 +67,8 @@ impl<R: Host> Member<'_, R> {
     fn turn_away(&mut self, dialogue: &mut Dialogue, refusal: &Refusal) {
         dialogue
             .account
-            .ask(Request::Other, Instant::now(self.rt).ok());
-        dialogue.refuse(self.rt.alloc(), refusal);
+            .ask(Request::Other, Instant::now(self.upkeep.rt).ok());
+        dialogue.refuse(self.upkeep.rt.alloc(), refusal);
     }
 
     /// Answers what was said.
@@ -93,10 +82,21 @@ impl<R: Host> Member<'_, R> {
         self.take_in(dialogue, said);
     }
 
+    /// Refuses who greets by the name of the disk, and answers whether somebody did.
+    fn refuses_disk(&mut self, dialogue: &mut Dialogue) -> bool {
+        let is_disk = self.upkeep.keeping.is_on() && dialogue.session.name() == Some(DISK);
+        if is_disk {
+            dialogue.session.stop();
+            self.upkeep
+                .tell(Fault::Connection(ConnectionFault::UnknownName));
+        }
+        is_disk
+    }
+
     /// Makes the steps of what was said, and what follows them.
     fn take_in(&mut self, dialogue: &mut Dialogue, said: Said) {
-        self.room.add(bytes_said(&said));
-        self.is_changed |= may_change(&said);
+        self.upkeep.room.add(bytes_said(&said));
+        self.upkeep.is_changed |= may_change(&said);
         let pulled = ends_pull(&said);
         let Spared { said, asks, ticks } = spare(said);
         let exchanged = self.make_steps(dialogue, said);
@@ -131,12 +131,12 @@ impl<R: Host> Member<'_, R> {
             effects,
             fault,
         } = exchanged;
-        let news = self.keeping.news();
-        let peer = self.place_of(dialogue.session.name());
-        self.follow(peer, effects, fault);
-        dialogue.reply_with(self.rt.alloc(), reply);
-        if self.keeping.has_news() {
-            dialogue.hold_back(self.keeping.news() != news);
+        let news = self.upkeep.keeping.news();
+        let peer = self.upkeep.place_of(dialogue.session.name());
+        self.upkeep.follow(peer, effects.outbox, fault);
+        dialogue.reply_with(self.upkeep.rt.alloc(), reply);
+        if self.upkeep.keeping.has_news() {
+            dialogue.hold_back(self.upkeep.keeping.news() != news);
         }
     }
 
@@ -153,7 +153,7 @@ impl<R: Host> Member<'_, R> {
 
     /// Writes a stretch more of what is being written. What waits for its turn goes on waiting.
     fn go_on_writing(&mut self, dialogue: &mut Dialogue, work: Work) {
-        let alloc = self.rt.alloc();
+        let alloc = self.upkeep.rt.alloc();
         match work {
             Work::Making(making) => dialogue.go_on(alloc, making),
             Work::Log(writing) => dialogue.go_on_log(alloc, writing),
@@ -182,7 +182,7 @@ impl<R: Host> Member<'_, R> {
         if !asks || self.duties.waits_for_pull() {
             return;
         }
-        let Some(place) = self.place_of(name) else {
+        let Some(place) = self.upkeep.place_of(name) else {
             return;
         };
         self.hand_all(place as usize, false);
@@ -191,7 +191,7 @@ impl<R: Host> Member<'_, R> {
     /// Answers what has waited: where it waited for a first pull that a stop has ended, that nothing is answered.
     fn answer_late(&mut self, dialogue: &mut Dialogue, said: Said) {
         if self.turns_away {
-            dialogue.turn_away(self.rt.alloc(), Some(said));
+            dialogue.turn_away(self.upkeep.rt.alloc(), Some(said));
         } else {
             self.judge(dialogue, said);
         }
@@ -200,10 +200,10 @@ impl<R: Host> Member<'_, R> {
     /// Makes the steps of what was said.
     fn make_steps(&mut self, dialogue: &mut Dialogue, said: Said) -> Exchanged {
         let bits = self.random_bits();
-        let now = next_moment(self.rt, self.instance.last());
-        let alloc = self.rt.alloc();
+        let now = next_moment(self.upkeep.rt, self.upkeep.instance.last());
+        let alloc = self.upkeep.rt.alloc();
         let session = &mut dialogue.session;
-        exchange(alloc, &mut self.instance, session, said, bits, now)
+        exchange(alloc, &mut self.upkeep.instance, session, said, bits, now)
     }
 
     /// Whether each peer has pushed all that it has, now that the one of this name did.
@@ -211,7 +211,7 @@ impl<R: Host> Member<'_, R> {
         let Some(name) = name else {
             return false;
         };
-        let place = self.instance.config().place_named(name);
+        let place = self.upkeep.instance.config().place_named(name);
         if let Some(at) = self
             .awaited
             .iter()
@@ -224,7 +224,7 @@ impl<R: Host> Member<'_, R> {
 
     /// What all peers have is here.
     fn end_first_pull(&mut self) {
-        if let Ok(now) = Instant::now(self.rt) {
+        if let Ok(now) = Instant::now(self.upkeep.rt) {
             self.duties.end_first_pull(now);
         }
     }
@@ -235,37 +235,6 @@ impl<R: Host> Member<'_, R> {
             self.turns_away = true;
             self.duties.end_first_pull(now);
         }
-    }
-
-    /// The text of frames for a peer. Where there is none, they are told unsent.
-    pub fn text_of(&mut self, peer: Place, frames: &[Frame]) -> Option<Vec<u8>> {
-        match frames_text(self.rt.alloc(), frames) {
-            Ok(bytes) => {
-                self.count_handed(peer, frames);
-                Some(bytes)
-            }
-            Err(_) => {
-                self.figures.unsent(frames.len(), 0);
-                self.tell_of(Some(peer), Fault::UnsentMemory(frames.len()));
-                None
-            }
-        }
-    }
-
-    /// The frames that wait for the peer of the first of them, as they go out.
-    fn next_outgoing(&mut self) -> Option<Outgoing> {
-        let place = self.queue.first()?.0;
-        let alloc = self.rt.alloc();
-        let frames = std::mem::replace(&mut self.queue, Vec::new(alloc));
-        let count = frames.len();
-        let Ok(Parted { own, others }) = part_frames(alloc, place, frames) else {
-            self.tell(Fault::UnsentMemory(count));
-            return None;
-        };
-        self.queue = others;
-        let bytes = self.text_of(place, &own)?;
-        let peer = place as usize;
-        Some(Outgoing { peer, bytes })
     }
 }
 
@@ -282,6 +251,10 @@ impl<R: Host> Service for Member<'_, R> {
 
     ghost due = { λ _ _. ⊤ };
 
+    ghost begins = { λ _ _ _. ⊤ };
+
+    ghost acts = { λ _ _. ⊤ };
+
     // What a session says of a piece, its own `feed` tells.
     ghost does = { λ _ _ _ _ _. ⊤ };
 
@@ -289,23 +262,27 @@ impl<R: Host> Service for Member<'_, R> {
 
     ghost gives = { λ _ _ _ _. ⊤ };
 
-    fn begin(&mut self) -> Dialogue {
-        self.figures.begin();
-        Dialogue::new(self.rt.alloc())
+    fn begin(&mut self, entrance: Entrance) -> Dialogue {
+        self.upkeep.figures.begin();
+        Dialogue::new(
+            self.upkeep.rt.alloc(),
+            hears_at(self.upkeep.options, entrance),
+        )
     }
 
     fn feed(&mut self, session: &mut Dialogue, piece: &[u8]) {
-        if let Some(refusal) = session.screen(piece, self.options.hosts.as_slice()) {
+        if let Some(refusal) = session.screen(piece, self.hosts.as_slice()) {
             return self.turn_away(session, &refusal);
         }
-        let said = session.session.feed(piece);
-        self.hear(session, said);
+        let lock = lock_at(&self.upkeep);
+        let heard = session.gate.feed(&mut session.session, lock, piece);
+        self.hear_at_gate(session, heard);
         self.count_done(session);
     }
 
     fn end(&mut self, session: &mut Dialogue) {
-        let said = session.session.end();
-        self.hear(session, said);
+        let heard = session.gate.end(&mut session.session);
+        self.hear_at_gate(session, heard);
         self.count_done(session);
     }
 
@@ -314,8 +291,9 @@ impl<R: Host> Service for Member<'_, R> {
             self.turns.end();
         }
         self.count_broken(session, broken.why);
-        let peer = self.place_of(session.session.name());
-        self.tell_of(peer, fault_of(broken, session.session.is_over()));
+        let peer = self.upkeep.place_of(session.session.name());
+        self.upkeep
+            .tell_of(peer, fault_of(broken, session.session.is_over()));
     }
 
     fn waits(&self, session: &Dialogue) -> bool {
@@ -332,11 +310,11 @@ impl<R: Host> Service for Member<'_, R> {
     }
 
     fn has_uncommitted(&self) -> bool {
-        self.keeping.has_news()
+        self.upkeep.keeping.has_news()
     }
 
     fn commit(&mut self) {
-        self.keep();
+        self.upkeep.keep();
     }
 
     fn is_held_back(&self, session: &Dialogue) -> bool {
@@ -344,7 +322,7 @@ impl<R: Host> Service for Member<'_, R> {
     }
 
     fn release(&mut self, session: &mut Dialogue) {
-        session.release(self.rt.alloc(), self.keeping.is_kept());
+        session.release(self.upkeep.rt.alloc(), self.upkeep.keeping.is_kept());
     }
 
     fn due(&self, session: &Dialogue) -> Option<Instant> {
@@ -360,7 +338,7 @@ impl<R: Host> Service for Member<'_, R> {
 
     fn hurry(&mut self, session: &mut Dialogue) {
         let said = session.take_waiting();
-        session.turn_away(self.rt.alloc(), said);
+        session.turn_away(self.upkeep.rt.alloc(), said);
     }
 
     fn output<'a>(&self, session: &'a Dialogue) -> &'a [u8] {
@@ -381,25 +359,26 @@ impl<R: Host> Service for Member<'_, R> {
     }
 
     fn outgoing(&mut self) -> Option<Outgoing> {
-        if self.keeping.has_news() {
+        if self.upkeep.keeping.has_news() {
             None
-        } else if self.queue.is_empty() {
+        } else if self.upkeep.sends_nothing() {
             self.open_link()
         } else {
-            self.next_outgoing()
+            self.upkeep.next_outgoing()
         }
     }
 
     fn more(&mut self, peer: usize) -> Option<Vec<u8>> {
-        self.figures.heard.all_out(peer);
+        self.upkeep.figures.heard.all_out(peer);
         self.next_part(peer)
     }
 
     fn lost(&mut self, peer: usize, fault: LinkFault) {
         self.hand_nothing(peer);
-        self.count_lost(peer, fault);
-        let port = self.ports.get(peer).copied().unwrap_or(0);
-        self.tell_of(Some(peer as Place), Fault::Lost(fault, port));
+        self.upkeep.count_lost(peer, fault);
+        let address = self.address_of(peer);
+        self.upkeep
+            .tell_of(Some(peer as Place), Fault::Lost(fault, address));
     }
 
     fn wake(&mut self, now: Instant) -> Wake {
@@ -408,10 +387,10 @@ impl<R: Host> Service for Member<'_, R> {
             self.give_up_first_pull(now);
             return Wake::Stop;
         }
-        let compaction = self.compact(now);
+        let compaction = self.upkeep.compact(now);
         Wake::GoOn(sooner(
             compaction,
-            sooner(self.duties.left(now), self.lines.left(now)),
+            sooner(self.duties.left(now), self.upkeep.lines.left(now)),
         ))
     }
 
@@ -420,7 +399,7 @@ impl<R: Host> Service for Member<'_, R> {
     }
 
     fn accept_failed(&mut self, kind: ErrorKind) {
-        self.figures.miss();
-        self.tell(Fault::Accept(kind));
+        self.upkeep.figures.miss();
+        self.upkeep.tell(Fault::Accept(kind));
     }
 }

@@ -1,28 +1,21 @@
 //! The start of a member.
 
-use super::compaction::Compacting;
-use super::counting::since_1970;
-use super::host::Host;
-use super::started::Started;
-use super::{Member, times};
-use am_dialogue::{DISK, Duties, Intervals, Keeping, Room, Share, Turns};
+use super::Member;
+use super::guarding::{hosts_of, opening};
+use am_address::Peer;
+use am_dialogue::{Duties, Intervals, Share, Turns};
 use am_faults::{Fault, report, status};
-use am_figures::Figures;
-use am_files::{OpenedState, StateFile, open_state};
-use am_instance::{Config, ConfigError, Instance, Place};
+use am_instance::{Config, ConfigError, Place};
 use am_jobs::Options;
-use am_lines::{Lines, Watch, signals};
-use am_member::{Peer, greeting, next_moment};
-use am_nflog::MeshEntry;
-use am_reactor::{Limits, listen};
-use am_silence::MeshSilence;
-use am_version_order::Moment;
-use am_wire::Text;
+use am_lines::signals;
+use am_reactor::{Entrances, Limits, listen};
+use am_self::Started;
+use am_upkeep::{Host, Upkeep};
 use rand::make_rng;
 use rand::rngs::StdRng;
 use std::alloc::{AllocError, Global};
 use std::io::ErrorKind;
-use std::net::TcpListener;
+use std::net::SocketAddr;
 use std::random::RandomSource;
 use std::time::Instant;
 
@@ -44,49 +37,53 @@ pub fn run<'a, R: Host>(rt: &'a R, options: &'a Options<'a>) -> u8 {
 ///
 /// # Errors
 ///
-/// The first [`Fault`] of the start, in the order of names, silences, log, listener.
+/// The first [`Fault`] of the start, in the order of names, secret, silences, log, listeners.
 fn run_on<'a, R: Host>(rt: &'a R, options: &'a Options<'a>) -> Result<Option<Fault>, Fault> {
     let member = member(rt, options)?;
-    match listen(rt, options.port) {
-        Ok(listener) => Ok(run_member(member, listener)),
-        Err(error) => Err(Fault::Listen(error.kind(), options.port)),
+    let entrances = entrances(rt, options)?;
+    Ok(run_member(member, entrances))
+}
+
+/// The listeners.
+fn entrances<R: Host>(rt: &R, options: &Options<'_>) -> Result<Entrances, Fault> {
+    let main = match listen(rt, options.address) {
+        Ok(listener) => listener,
+        Err(error) => return Err(Fault::Listen(error.kind(), options.address)),
+    };
+    let Some(address) = options.peers_address else {
+        return Ok(Entrances { main, peers: None });
+    };
+    match listen(rt, address) {
+        Ok(listener) => Ok(Entrances {
+            main,
+            peers: Some(listener),
+        }),
+        Err(error) => Err(Fault::Listen(error.kind(), address)),
     }
 }
 
 /// Runs a member that listens. Answers with which fault it ended, which is told.
-fn run_member<R: Host>(member: Member<'_, R>, listener: TcpListener) -> Option<Fault> {
+fn run_member<R: Host>(member: Member<'_, R>, entrances: Entrances) -> Option<Fault> {
     let mut member = member;
     tell_start(&mut member);
-    tell_torn(&mut member);
-    member.save_owed();
-    let failed = serve(&mut member, listener);
-    member.end(failed)
+    member.upkeep.tell_torn();
+    member.upkeep.save_owed();
+    let failed = serve(&mut member, entrances);
+    member.upkeep.end(failed)
 }
 
 /// Prints that a member listens, and the times that it keeps, where that finds room.
 fn tell_start<R: Host>(member: &mut Member<'_, R>) {
-    if !member.lines.has_room() {
+    if !member.upkeep.lines.has_room() {
         return;
     }
     let started = Started {
-        options: member.options,
-        silences: member.instance.silences().len(),
-        entries: member.instance.log().len(),
+        options: member.upkeep.options,
+        silences: member.upkeep.instance.silences().len(),
+        entries: member.upkeep.instance.log().len(),
     };
-    let _ = eprintln!(member.rt; "am_tool: {started}");
-    times::report(member.rt, member.options);
-}
-
-/// Prints how many bytes were cut off from the logs, where some were.
-fn tell_torn<R: Host>(member: &mut Member<'_, R>) {
-    let silences = member.silences.torn();
-    if silences > 0 {
-        member.tell(Fault::SilencesTorn(silences));
-    }
-    let log = member.log.torn();
-    if log > 0 {
-        member.tell(Fault::LogTorn(log));
-    }
+    let _ = eprintln!(member.upkeep.rt; "am_tool: {started}");
+    am_self::report(member.upkeep.rt, member.upkeep.options);
 }
 
 /// Why nobody is served, or no more.
@@ -98,31 +95,40 @@ enum Unserved {
 
 /// Serves whoever connects, until the member is told to end or has taken its connections. Answers why it doesn't, or no more,
 /// which is told.
-fn serve<R: Host>(member: &mut Member<'_, R>, listener: TcpListener) -> Option<Fault> {
-    match serve_peers(member, listener) {
+fn serve<R: Host>(member: &mut Member<'_, R>, entrances: Entrances) -> Option<Fault> {
+    match serve_peers(member, entrances) {
         Ok(()) => None,
         Err(Unserved::Memory) => {
-            member.tell(Fault::Config(ConfigError::Memory));
+            member.upkeep.tell(Fault::Config(ConfigError::Memory));
             Some(Fault::Config(ConfigError::Memory))
         }
         Err(Unserved::Listener(kind)) => {
-            member.tell(Fault::Accept(kind));
+            member.upkeep.tell(Fault::Accept(kind));
             Some(Fault::Accept(kind))
         }
     }
 }
 
 /// Serves whoever connects, and the peers.
-fn serve_peers<R: Host>(member: &mut Member<'_, R>, listener: TcpListener) -> Result<(), Unserved> {
-    let rt = member.rt;
-    let Ok(greeting) = greeting(rt.alloc(), member.options.name) else {
+fn serve_peers<R: Host>(member: &mut Member<'_, R>, entrances: Entrances) -> Result<(), Unserved> {
+    let rt = member.upkeep.rt;
+    let is_sealed = member.upkeep.secret.is_some();
+    let Ok(greeting) = opening(rt.alloc(), member.upkeep.options.name, is_sealed) else {
         return Err(Unserved::Memory);
     };
-    let Ok(ports) = member.ports.clone() else {
+    let Ok(addresses) = member.addresses.clone() else {
         return Err(Unserved::Memory);
     };
-    let limits = limits(member.options);
-    match am_reactor::run(rt.alloc(), rt, listener, &ports, &greeting, member, limits) {
+    let limits = limits(member.upkeep.options);
+    match am_reactor::run(
+        rt.alloc(),
+        rt,
+        entrances,
+        &addresses,
+        &greeting,
+        member,
+        limits,
+    ) {
         Ok(()) => Ok(()),
         Err(error) => Err(Unserved::Listener(error.kind())),
     }
@@ -142,123 +148,73 @@ fn limits(options: &Options<'_>) -> Limits {
 
 /// What is kept of each member, by place.
 #[derive(Drop)]
-struct Places {
-    ports: Vec<u16>,
+struct Places<'a> {
+    hosts: Vec<&'a str>,
+    addresses: Vec<Option<SocketAddr>>,
     awaited: Vec<Place>,
     shares: Vec<Share>,
-    figures: Figures,
-}
-
-/// What a member holds, and the files that hold it.
-#[derive(Drop)]
-struct Loaded {
-    instance: Instance,
-    silences: StateFile,
-    log: StateFile,
-}
-
-/// What a member draws bits from, prints by and goes by.
-#[derive(Drop)]
-struct Means {
-    random: StdRng,
-    lines: Lines,
-    duties: Duties,
 }
 
 /// The member before it listens.
 fn member<'a, R: Host>(rt: &'a R, options: &'a Options<'a>) -> Result<Member<'a, R>, Fault> {
-    let config = config(rt.alloc(), options)?;
-    let Ok(places) = places_of(rt, &config, options) else {
+    let upkeep = Upkeep::load(rt, options)?;
+    let Ok(places) = places_of(rt.alloc(), upkeep.instance.config(), options) else {
         return Err(Fault::Config(ConfigError::Memory));
     };
-    let loaded = load(rt, config, options)?;
-    let means = means_of(rt, options)?;
-    Ok(member_of(rt, options, places, loaded, means))
+    let random = random(rt)?;
+    let duties = duties(rt, options)?;
+    Ok(member_of(upkeep, places, random, duties))
 }
 
 /// The member that has all this.
 fn member_of<'a, R: Host>(
-    rt: &'a R,
-    options: &'a Options<'a>,
-    places: Places,
-    loaded: Loaded,
-    means: Means,
+    upkeep: Upkeep<'a, R>,
+    places: Places<'a>,
+    random: StdRng,
+    duties: Duties,
 ) -> Member<'a, R> {
     let Places {
-        ports,
+        hosts,
+        addresses,
         awaited,
         shares,
-        figures,
     } = places;
-    let Loaded {
-        instance,
-        silences,
-        log,
-    } = loaded;
-    let Means {
-        random,
-        lines,
-        duties,
-    } = means;
-    let room = Room::of(instance.silences(), options.most_bytes);
-    let keeping = Keeping::new(instance.config().place_named(DISK));
-    let is_changed = silences.owes_save() || log.owes_save();
+    let waiting = upkeep.options.waiting.min(upkeep.options.at_once / 2);
     Member {
-        rt,
-        options,
-        instance,
-        silences,
-        log,
-        room,
-        keeping,
-        compacting: Compacting::new(),
-        turns: Turns::new(options.waiting.min(options.at_once / 2)),
-        figures,
-        ports,
+        upkeep,
+        hosts,
+        addresses,
         random,
-        queue: Vec::new(rt.alloc()),
         duties,
-        lines,
-        watch: Watch::new(),
         shares,
         awaited,
-        is_changed,
+        turns: Turns::new(waiting),
         stops: false,
         turns_away: false,
     }
 }
 
 /// What is kept of each member before any is heard.
-fn places_of<R: Host>(
-    rt: &R,
+fn places_of<'a>(
+    alloc: Global,
     config: &Config,
-    options: &Options<'_>,
-) -> Result<Places, AllocError> {
-    let alloc = rt.alloc();
-    let ports = ports(alloc, config, &options.peers)?;
-    let awaited = peer_places(alloc, &ports)?;
-    let shares = shares(alloc, ports.len())?;
-    let figures = Figures::new(alloc, ports.len(), since_1970(rt))?;
+    options: &Options<'a>,
+) -> Result<Places<'a>, AllocError> {
+    let addresses = addresses(alloc, config, &options.peers)?;
+    let awaited = peer_places(alloc, &addresses)?;
+    let shares = shares(alloc, addresses.len())?;
     Ok(Places {
-        ports,
+        hosts: hosts_of(alloc, options)?,
+        addresses,
         awaited,
         shares,
-        figures,
     })
 }
 
-/// What a member draws bits from, prints by and goes by.
-fn means_of<R: Host>(rt: &R, options: &Options<'_>) -> Result<Means, Fault> {
-    let random = random(rt)?;
-    let Ok(lines) = Lines::new(rt.alloc(), rt, options.lines) else {
-        return Err(Fault::Config(ConfigError::Memory));
-    };
+/// What is due by itself from now on.
+fn duties<R: Host>(rt: &R, options: &Options<'_>) -> Result<Duties, Fault> {
     match Instant::now(rt) {
-        Ok(now) => Ok(Means {
-            random,
-            lines,
-            duties: Duties::new(&intervals(options), signals::are_blocked(rt), now),
-        }),
+        Ok(now) => Ok(Duties::new(&intervals(options), signals::are_blocked(rt), now)),
         Err(error) => Err(Fault::Clock(error.kind())),
     }
 }
@@ -286,37 +242,18 @@ fn random<R: RandomSource>(rt: &R) -> Result<StdRng, Fault> {
     }
 }
 
-/// The names of the members, and how long things are kept.
-fn config(alloc: Global, options: &Options<'_>) -> Result<Config, Fault> {
-    let Ok(name) = Text::copied(alloc, options.name) else {
-        return Err(Fault::Config(ConfigError::Memory));
-    };
-    let Ok(peers) = names(alloc, &options.peers, options.keeps_log) else {
-        return Err(Fault::Config(ConfigError::Memory));
-    };
-    Ok(Config::new(alloc, name, peers, options.retention, options.peer_timeout)?)
-}
-
-/// The names of peers, and of the disk where logs are kept.
-fn names(alloc: Global, peers: &[Peer<'_>], keeps_log: bool) -> Result<Vec<Text>, AllocError> {
-    let mut names = Vec::with_capacity(alloc, peers.len())?;
-    if keeps_log {
-        names.push(Text::copied(alloc, DISK)?)?;
-    }
-    for peer in peers {
-        names.push(Text::copied(alloc, peer.name)?)?;
-    }
-    Ok(names)
-}
-
-/// At which port each member listens, by place.
-fn ports(alloc: Global, config: &Config, peers: &[Peer<'_>]) -> Result<Vec<u16>, AllocError> {
-    let mut ports = Vec::with_capacity(alloc, config.members().len())?;
+/// At which address each peer listens, by the places of members.
+fn addresses(
+    alloc: Global,
+    config: &Config,
+    peers: &[Peer<'_>],
+) -> Result<Vec<Option<SocketAddr>>, AllocError> {
+    let mut addresses = Vec::with_capacity(alloc, config.members().len())?;
     for name in config.members() {
         let peer = peers.iter().find(|peer| peer.name == name.as_str());
-        ports.push(peer.map_or(0, |peer| peer.port))?;
+        addresses.push(peer.map(|peer| peer.address))?;
     }
-    Ok(ports)
+    Ok(addresses)
 }
 
 /// What each of so many members is handed: nothing yet.
@@ -328,47 +265,13 @@ fn shares(alloc: Global, count: usize) -> Result<Vec<Share>, AllocError> {
     Ok(shares)
 }
 
-/// The places of the peers: those at which a port is known.
-fn peer_places(alloc: Global, ports: &[u16]) -> Result<Vec<Place>, AllocError> {
-    let mut places = Vec::with_capacity(alloc, ports.len())?;
-    for (place, port) in ports.iter().enumerate() {
-        if *port > 0 {
+/// The places of the peers: those of which an address is known.
+fn peer_places(alloc: Global, addresses: &[Option<SocketAddr>]) -> Result<Vec<Place>, AllocError> {
+    let mut places = Vec::with_capacity(alloc, addresses.len())?;
+    for (place, address) in addresses.iter().enumerate() {
+        if address.is_some() {
             places.push(place as Place)?;
         }
     }
     Ok(places)
-}
-
-/// The instance that holds what its files hold, and the files of the silences and of the log.
-fn load<R: Host>(rt: &R, config: Config, options: &Options<'_>) -> Result<Loaded, Fault> {
-    let most = options.most_bytes;
-    let silences = match open_state(rt, options.silences, most, options.keeps_log) {
-        Ok(opened) => opened,
-        Err(fault) => return Err(Fault::Silences(fault)),
-    };
-    let log = match open_state(rt, options.log, most, options.keeps_log) {
-        Ok(opened) => opened,
-        Err(fault) => return Err(Fault::Log(fault)),
-    };
-    let now = next_moment(rt, Moment::LEAST);
-    Ok(loaded_of(config, silences, log, now))
-}
-
-/// An instance that starts with what was opened, and its files.
-fn loaded_of(
-    config: Config,
-    silences: OpenedState<MeshSilence>,
-    log: OpenedState<MeshEntry>,
-    now: Moment,
-) -> Loaded {
-    let OpenedState { file, held } = silences;
-    let OpenedState {
-        file: log_file,
-        held: entries,
-    } = log;
-    Loaded {
-        instance: Instance::start(config, held, entries, now),
-        silences: file,
-        log: log_file,
-    }
 }

@@ -1,22 +1,20 @@
 //! What a member tells of itself.
 
 use super::Member;
-use super::counting::since_1970;
-use super::host::Host;
-use super::options::options_text;
-use super::process::Process;
 use super::serving::put_off;
 use am_api_silences::Read;
 use am_api_status::{
     Call, Peer, Resource, Standing, call_of, metrics_reply, not_ready, page_reply, receivers_reply,
     status_reply, well_reply,
 };
-use am_dialogue::{Census, DISK, Dialogue, Work};
+use am_dialogue::{Census, Dialogue, Work};
 use am_figures::{PeerName, Shown, families};
 use am_http::Cause;
 use am_http::session::Said;
 use am_jobs::VERSION;
-use am_member::later_moment;
+use am_peers::later_moment;
+use am_self::{Process, options_text};
+use am_upkeep::{DISK, Host, since_1970};
 use am_version_order::Moment;
 use am_wire::Text;
 use std::alloc::AllocError;
@@ -41,13 +39,13 @@ impl<R: Host> Member<'_, R> {
         };
         match call_of(resource, &request.method) {
             Ok(call) => self.tell_call(dialogue, call),
-            Err(refusal) => dialogue.refuse(self.rt.alloc(), &refusal),
+            Err(refusal) => dialogue.refuse(self.upkeep.rt.alloc(), &refusal),
         }
     }
 
     /// Answers a call.
     fn tell_call(&mut self, dialogue: &mut Dialogue, call: Call) {
-        let alloc = self.rt.alloc();
+        let alloc = self.upkeep.rt.alloc();
         let Call { resource, is_bare } = call;
         match resource {
             Resource::Page => dialogue.tell(alloc, page_reply(alloc, is_bare)),
@@ -66,7 +64,7 @@ impl<R: Host> Member<'_, R> {
 
     /// Tells whether it answers requests.
     fn tell_readiness(&mut self, dialogue: &mut Dialogue, is_bare: bool) {
-        let alloc = self.rt.alloc();
+        let alloc = self.upkeep.rt.alloc();
         if self.is_ready() {
             dialogue.tell(alloc, well_reply(alloc, is_bare));
         } else {
@@ -76,7 +74,7 @@ impl<R: Host> Member<'_, R> {
 
     /// Tells who it is.
     fn tell_status(&mut self, dialogue: &mut Dialogue, is_bare: bool) {
-        let alloc = self.rt.alloc();
+        let alloc = self.upkeep.rt.alloc();
         let reply = match self.standing() {
             Ok(standing) => status_reply(alloc, &standing, is_bare),
             Err(error) => Err(error),
@@ -86,32 +84,34 @@ impl<R: Host> Member<'_, R> {
 
     /// Who it is.
     fn standing(&self) -> Result<Standing, AllocError> {
-        let alloc = self.rt.alloc();
+        let alloc = self.upkeep.rt.alloc();
         Ok(Standing {
-            name: Text::copied(alloc, self.options.name)?,
+            name: Text::copied(alloc, self.upkeep.options.name)?,
             is_ready: self.is_ready(),
             peers: self.members_shown()?,
-            options: Text::new(options_text(alloc, self.options)?),
-            start: later_moment(self.figures.start, Moment::LEAST),
+            options: Text::new(options_text(alloc, self.upkeep.options)?),
+            start: later_moment(self.upkeep.figures.start, Moment::LEAST),
             version: VERSION,
         })
     }
 
     /// All members, with where they listen.
     fn members_shown(&self) -> Result<Vec<Peer>, AllocError> {
-        let alloc = self.rt.alloc();
+        let alloc = self.upkeep.rt.alloc();
+        let own = self
+            .upkeep
+            .options
+            .peers_address
+            .unwrap_or(self.upkeep.options.address);
         let mut peers = Vec::new(alloc);
-        for (place, name) in self.instance.config().members().iter().enumerate() {
+        for (place, name) in self.upkeep.instance.config().members().iter().enumerate() {
             if name.as_str() == DISK {
                 continue;
             }
-            let port = match self.ports.get(place).copied() {
-                Some(port) if port > 0 => port,
-                _ => self.options.port,
-            };
+            let address = self.address_of(place).unwrap_or(own);
             peers.push(Peer {
                 name: Text::copied(alloc, name.as_str())?,
-                address: Text::new(format!(in alloc; "127.0.0.1:{port}")?),
+                address: Text::new(format!(in alloc; "{address}")?),
             })?;
         }
         Ok(peers)
@@ -137,9 +137,9 @@ impl<R: Host> Member<'_, R> {
 
     /// Counts a stretch more of the silences. Where none is left, the figures are told.
     pub(super) fn go_on_counting(&mut self, dialogue: &mut Dialogue, census: Census) {
-        let alloc = self.rt.alloc();
-        let now = later_moment(since_1970(self.rt), self.instance.last());
-        match census.go_on(alloc, self.instance.silences(), now) {
+        let alloc = self.upkeep.rt.alloc();
+        let now = later_moment(since_1970(self.upkeep.rt), self.upkeep.instance.last());
+        match census.go_on(alloc, self.upkeep.instance.silences(), now) {
             Ok(census) => self.follow_counting(dialogue, census),
             Err(_) => dialogue.refuse(alloc, &Cause::Memory.refusal()),
         }
@@ -156,9 +156,9 @@ impl<R: Host> Member<'_, R> {
 
     /// Tells its figures.
     fn tell_figures(&mut self, dialogue: &mut Dialogue, census: &Census) {
-        let alloc = self.rt.alloc();
+        let alloc = self.upkeep.rt.alloc();
         let reply = match self.shown(census.counts) {
-            Ok(shown) => match families(alloc, &self.figures, &shown) {
+            Ok(shown) => match families(alloc, &self.upkeep.figures, &shown) {
                 Ok(families) => metrics_reply(alloc, &families, census.is_bare),
                 Err(error) => Err(error),
             },
@@ -169,14 +169,14 @@ impl<R: Host> Member<'_, R> {
 
     /// What is told of it beside what it counts.
     fn shown(&self, silences: [u64; 3]) -> Result<Shown<'_>, AllocError> {
-        let process = Process::now(self.rt);
+        let process = Process::now(self.upkeep.rt);
         let peers = self.peers_counted()?;
         Ok(Shown {
             version: VERSION,
             members: (peers.len() as u64).saturating_add(1),
             peers,
             silences,
-            entries: self.instance.log().len() as u64,
+            entries: self.upkeep.instance.log().len() as u64,
             waiting: self.turns.count(),
             behind: self.clock_behind(),
             is_ready: self.is_ready(),
@@ -188,9 +188,9 @@ impl<R: Host> Member<'_, R> {
 
     /// The peers, by place.
     fn peers_counted(&self) -> Result<Vec<PeerName<'_>>, AllocError> {
-        let mut peers = Vec::new(self.rt.alloc());
-        for (place, name) in self.instance.config().members().iter().enumerate() {
-            if self.ports.get(place).copied().unwrap_or(0) > 0 {
+        let mut peers = Vec::new(self.upkeep.rt.alloc());
+        for (place, name) in self.upkeep.instance.config().members().iter().enumerate() {
+            if self.address_of(place).is_some() {
                 peers.push(PeerName {
                     place,
                     name: name.as_str(),
@@ -202,7 +202,7 @@ impl<R: Host> Member<'_, R> {
 
     /// How far the clock is behind the moment of the last event.
     fn clock_behind(&self) -> Duration {
-        let now = later_moment(since_1970(self.rt), Moment::LEAST);
-        time_between(now, self.instance.last())
+        let now = later_moment(since_1970(self.upkeep.rt), Moment::LEAST);
+        time_between(now, self.upkeep.instance.last())
     }
 }

@@ -1,14 +1,22 @@
 //! Faults of the libraries, as their names and numbers.
 
+use am_address::AddressWord;
+use am_disk::FileFault;
+use am_gate::GateFault;
 use am_gossip::FrameError;
-use am_instance::{ConfigError, StepError};
-use am_member::{Fault, FileFault, ServerFault};
+use am_lzw::LzwError;
+use am_memberlist::AnswerError;
+use am_peers::{Fault, ServerFault};
 use am_reactor::LinkFault;
+use am_refusals::{ConfigError, StepError};
+use am_seal::SealError;
+use am_secret::SecretFault;
 use am_silence_json::ListError;
 use am_snapshot::SnapshotError;
 use am_wire::WireError;
 use std::fmt::{self, Display, Formatter};
 use std::io::ErrorKind;
+use std::net::SocketAddr;
 
 /// A name and a number.
 fn numbered<W: fmt::Write, N: Display + Drop>(
@@ -72,6 +80,27 @@ pub fn write_server_fault<W: fmt::Write>(fault: &ServerFault, f: &mut Formatter<
         ServerFault::Memory => f.write_str("Memory"),
         ServerFault::NoHead => f.write_str("Reply"),
         ServerFault::Status(code) => numbered(f, "Status", code),
+    }
+}
+
+pub fn write_answer_error<W: fmt::Write>(error: &AnswerError, f: &mut Formatter<W>) -> fmt::Result {
+    match *error {
+        AnswerError::Nothing => f.write_str("Gossip Nothing"),
+        AnswerError::Kind(kind) => numbered(f, "Gossip Kind", kind),
+        AnswerError::Cut => f.write_str("Gossip Cut"),
+        AnswerError::Form => f.write_str("Gossip Form"),
+        AnswerError::Compression(way) => numbered(f, "Gossip Compression", way),
+        AnswerError::Nodes => f.write_str("Gossip Nodes"),
+        AnswerError::Length => f.write_str("Gossip Length"),
+        AnswerError::Unpacking(LzwError::Cut) => f.write_str("Gossip Lzw Cut"),
+        AnswerError::Unpacking(LzwError::Code) => f.write_str("Gossip Lzw Code"),
+        AnswerError::Unpacking(LzwError::TooLong) => f.write_str("Gossip Lzw TooLong"),
+        AnswerError::Wire(error) => {
+            f.write_str("Gossip ")?;
+            write_wire_error(error, f)
+        }
+        AnswerError::Twice => f.write_str("Gossip Twice"),
+        AnswerError::Unpacking(LzwError::Memory) | AnswerError::Memory => f.write_str("Memory"),
     }
 }
 
@@ -147,19 +176,64 @@ fn write_step_error<W: fmt::Write>(error: StepError, f: &mut Formatter<W>) -> fm
     }
 }
 
+/// The address of a peer, or 0 where none is known.
+#[derive(Clone, Copy)]
+struct PeerWord(Option<SocketAddr>);
+
+impl Display for PeerWord {
+    fn fmt<W: fmt::Write>(&self, f: &mut Formatter<W>) -> fmt::Result {
+        match self.0 {
+            Some(address) => write!(f, "{}", AddressWord(address)),
+            None => f.write_str("0"),
+        }
+    }
+}
+
 pub fn write_link_fault<W: fmt::Write>(
     fault: &LinkFault,
-    port: &u16,
+    address: &Option<SocketAddr>,
     f: &mut Formatter<W>,
 ) -> fmt::Result {
-    let port = *port;
+    let peer = PeerWord(*address);
     match *fault {
-        LinkFault::Connect(kind) => write!(f, "Connect {kind:?} {port}"),
+        LinkFault::Connect(kind) => write!(f, "Connect {kind:?} {peer}"),
         LinkFault::Write { written, .. } | LinkFault::Time { written } => {
-            write!(f, "Send Write {port} {written}")
+            write!(f, "Send Write {peer} {written}")
         }
-        LinkFault::Full => numbered(f, "Send Full", port),
-        LinkFault::Memory => numbered(f, "Send Memory", port),
-        LinkFault::NoPeer => numbered(f, "Send NoPeer", port),
+        LinkFault::Full => numbered(f, "Send Full", peer),
+        LinkFault::Memory => numbered(f, "Send Memory", peer),
+        LinkFault::NoPeer => numbered(f, "Send NoPeer", peer),
+    }
+}
+
+pub fn write_listen_fault<W: fmt::Write>(
+    kind: &ErrorKind,
+    address: &SocketAddr,
+    f: &mut Formatter<W>,
+) -> fmt::Result {
+    let address = AddressWord(*address);
+    write!(f, "Listen {kind:?} {address}")
+}
+
+pub fn write_gate_fault<W: fmt::Write>(fault: &GateFault, f: &mut Formatter<W>) -> fmt::Result {
+    f.write_str(match *fault {
+        GateFault::Frames => "Door Frames",
+        GateFault::Requests => "Door Requests",
+        GateFault::Unsealed => "Seal Missing",
+        GateFault::Cut => "Seal Cut",
+        GateFault::Seal(SealError::Length) => "Seal Length",
+        GateFault::Seal(SealError::Sum) => "Seal Sum",
+        GateFault::Seal(SealError::Text) => "Seal Text",
+        GateFault::Seal(SealError::Memory) => "Seal Memory",
+    })
+}
+
+pub fn write_secret_fault<W: fmt::Write>(fault: &SecretFault, f: &mut Formatter<W>) -> fmt::Result {
+    match *fault {
+        SecretFault::File(kind) => of_kind(f, "Secret File", kind),
+        SecretFault::Read(at) => numbered(f, "Secret Read", at),
+        SecretFault::Short => f.write_str("Secret Short"),
+        SecretFault::Long => f.write_str("Secret Long"),
+        SecretFault::Memory => f.write_str("Secret Memory"),
     }
 }

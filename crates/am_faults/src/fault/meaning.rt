@@ -1,10 +1,16 @@
 //! What faults mean, and what is to be done, as a sentence for people: one for each kind.
 
 use crate::fault::Fault;
+use am_disk::FileFault;
+use am_gate::GateFault;
 use am_gossip::FrameError;
-use am_instance::{ConfigError, StepError};
-use am_member::{Fault as ConnectionFault, FileFault, ServerFault};
+use am_lzw::LzwError;
+use am_memberlist::AnswerError;
+use am_peers::{Fault as ConnectionFault, ServerFault};
 use am_reactor::LinkFault;
+use am_refusals::{ConfigError, StepError};
+use am_seal::SealError;
+use am_secret::SecretFault;
 use am_silence_json::ListError;
 use am_snapshot::SnapshotError;
 use am_wire::WireError;
@@ -52,13 +58,18 @@ pub fn meaning_of(fault: &Fault) -> &'static str {
         Fault::Silences(fault) | Fault::Log(fault) => meaning_of_state(fault),
         Fault::Server(fault) => meaning_of_server(fault),
         Fault::List(error) => meaning_of_list(error),
-        Fault::Peer => "a peer is NAME=PORT, with a port from 1 to 65535",
+        Fault::Gossip(error) => meaning_of_answer(error),
+        Fault::NoState => "the replica tells of no such state",
+        Fault::Peer =>
+            "a peer is NAME=ADDRESS:PORT, or NAME=PORT on 127.0.0.1, with a port from 1 to 65535",
         Fault::Config(error) => meaning_of_names(error),
         Fault::Connection(fault) => meaning_of_connection(fault),
         Fault::Lost(fault, _) => meaning_of_link(fault),
         Fault::SilencesTorn(_) | Fault::LogTorn(_) => TORN,
         Fault::Random(_) => "the system gave no random bytes",
         Fault::Listen(kind, _) => meaning_of_listen(kind),
+        Fault::Secret(fault) => meaning_of_secret(fault),
+        Fault::Gate(fault) => meaning_of_gate(fault),
         Fault::Accept(_) => "a connection that came was not accepted",
         Fault::Crowded(_) => CROWDED,
         Fault::Unfinished(_) => UNFINISHED,
@@ -76,7 +87,36 @@ pub fn meaning_of(fault: &Fault) -> &'static str {
 fn meaning_of_listen(kind: ErrorKind) -> &'static str {
     match kind {
         ErrorKind::AddrInUse => "another process listens at this port",
+        ErrorKind::AddrNotAvailable => "this machine doesn't have this address",
         _ => "the system doesn't let it listen at this port",
+    }
+}
+
+/// Why the secret isn't read.
+fn meaning_of_secret(fault: SecretFault) -> &'static str {
+    match fault {
+        SecretFault::File(kind) => meaning_of_file(FileFault::File(kind)),
+        SecretFault::Read(_) => READ,
+        SecretFault::Short => "the file of --secret has fewer than 16 bytes, but for a line feed",
+        SecretFault::Long => "the file of --secret has over 4,096 bytes",
+        SecretFault::Memory => MEMORY,
+    }
+}
+
+/// Why no more is heard of a connection at its gate.
+fn meaning_of_gate(fault: GateFault) -> &'static str {
+    match fault {
+        GateFault::Frames =>
+            "frames came where none are heard; --secret, --peers-listen and --open-peers say where they are",
+        GateFault::Requests => "a request came at --peers-listen, where only frames are heard",
+        GateFault::Unsealed =>
+            "frames came unsealed, and this member has a --secret; has the peer one?",
+        GateFault::Cut => "the connection ended in a sealed frame, of which nothing is taken",
+        GateFault::Seal(SealError::Length) => "the length of a sealed frame is out of its range",
+        GateFault::Seal(SealError::Sum) =>
+            "the sum of a frame isn't right, so it isn't taken; has the peer the same --secret, and this member's name?",
+        GateFault::Seal(SealError::Text) => "what is sealed isn't one frame",
+        GateFault::Seal(SealError::Memory) => MEMORY,
     }
 }
 
@@ -154,6 +194,47 @@ fn meaning_of_server(fault: ServerFault) -> &'static str {
     }
 }
 
+/// What is wrong with what a replica answered by gossip.
+fn meaning_of_answer(error: AnswerError) -> &'static str {
+    match error {
+        AnswerError::Nothing => {
+            "the connection was closed without an answer; is this the port of its gossip (--cluster.listen-address), and without TLS?"
+        }
+        AnswerError::Kind(ENCRYPTED) => "the answer is encrypted, which is not spoken",
+        AnswerError::Kind(LABELLED) => "the cluster has a label, which is not spoken",
+        AnswerError::Kind(ALERT) => "the answer is of TLS, which is not spoken",
+        AnswerError::Kind(_) =>
+            "the answer begins with no type of message that is one; is this the port of its gossip (--cluster.listen-address)?",
+        AnswerError::Cut => "the answer ends in the middle",
+        AnswerError::Form => "the answer has a value of another form than memberlist writes",
+        AnswerError::Compression(_) => "the answer is compressed in another way than by LZW",
+        AnswerError::Nodes => "the answer tells of over 65,536 nodes",
+        AnswerError::Length => "the answer has other bytes than it says",
+        AnswerError::Unpacking(error) => meaning_of_lzw(error),
+        AnswerError::Wire(error) => meaning_of_wire(error),
+        AnswerError::Twice => "the answer has the state twice",
+        AnswerError::Memory => MEMORY,
+    }
+}
+
+/// The types of messages that are told apart among those that aren't read: one that is encrypted, one that has a label, and an
+/// alert of TLS (RFC 8446, section 5.1).
+const ENCRYPTED: u8 = 10;
+
+const LABELLED: u8 = 244;
+
+const ALERT: u8 = 21;
+
+/// What is wrong with what is compressed.
+fn meaning_of_lzw(error: LzwError) -> &'static str {
+    match error {
+        LzwError::Cut => "what is compressed in the answer ends in the middle",
+        LzwError::Code => "what is compressed in the answer has a code that stands for nothing",
+        LzwError::TooLong => "the answer unpacks to over 268,435,456 bytes",
+        LzwError::Memory => MEMORY,
+    }
+}
+
 /// Why there is no connection.
 fn meaning_of_connect(kind: ErrorKind) -> &'static str {
     match kind {
@@ -202,7 +283,8 @@ fn meaning_of_connection(fault: ConnectionFault) -> &'static str {
 /// What is wrong with a greeting or a frame.
 fn meaning_of_frame(error: FrameError) -> &'static str {
     match error {
-        FrameError::Kind => "no frame begins with this byte; did a peer send it?",
+        FrameError::Kind =>
+            "no frame begins with this byte; did a peer send it, or has it a --secret, and this member none?",
         FrameError::Length => "the length of a greeting or a frame is out of its range",
         FrameError::Wire(error) => meaning_of_wire(error),
         FrameError::UnknownState => "a part of a frame is of no known state",

@@ -6,6 +6,7 @@ ghost use Rattle.am_http.specs.Sessions.{Standing, fresh, Spoken, and_then, Says
 
 /// Two pieces one after the other say what both joined say, and leave the connection at the same place.
 pub fn cuts_change_nothing()
+    // PROMISE: How a connection is cut into pieces makes no difference.
     ensures { (old mid new : Standing) (first second : List ℕ) (said later : Spoken) → Says old first said mid → Says mid second later new
         → Says old (first ++ second) (and_then said later) new }
 {}

@@ -1,7 +1,7 @@
 //! Frames as they are read, in any cut, and as they are made and written; sessions, piece by piece.
 
 use crate::common::{Brittle, Call, Case, Cut, Fault, Pieces, Spelled, cut, first};
-use crate::parts::maps;
+use crate::parts::gossip;
 use crate::parts::requests::print_read;
 use am_gossip::{
     Bytes, Feeder, Frame, FrameError, FrameKind, FullState, Part, StateKey, encode_frame,
@@ -35,7 +35,7 @@ pub fn answer(case: &Case, verb: &str, rest: &str) {
         }
         "session" => session(case, rest),
         "receive" => receive(case, rest),
-        _ => maps::answer(case, verb, rest),
+        _ => gossip::answer(case, verb, rest),
     }
 }
 

@@ -97,6 +97,7 @@ fn read_date_time(text: &[u8]) -> Option<DateTime>
 /// nanoseconds count, and `Z`, `z`, `+HH:MM` or `-HH:MM` (RFC 3339, section 5.6, without leap seconds). None where
 /// the text is none, or what it spells is before the year 1 or after the year 9999 in UTC. It takes no memory.
 pub fn read_moment(text: &str) -> Option<Moment>
+    // PROMISE: A moment's text is read as the moment that it spells.
     ensures value { IfSome result (ReadsMoment text.now) }
     ensures only { (m : ℕ) → ReadsMoment text.now m → result ≡ Some m }
 {

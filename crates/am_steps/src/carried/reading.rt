@@ -18,6 +18,7 @@ use std::alloc::{AllocError, Global};
 ///
 /// [`AllocError`] where memory runs out.
 pub fn carried_by(alloc: Global, frame: &Frame) -> Result<Vec<AnyVersion>, AllocError>
+    // PROMISE: A frame carries the versions of its rows, up to its first fault.
     ensures versions { IfOk result (λ versions. map delivery_of versions.items ≡ carries frame.now) }
     ensures values { IfOk result (λ versions. All IsValue (map delivery_of versions.items)) }
 {

@@ -129,6 +129,7 @@ pub fn diff_json<V: InJson + Message, R: Read + Drop, W: Write>(
     now: Moment,
     writer: &mut W,
 ) -> Result<DiffOutcome, DiffError>
+    // PROMISE: `diff --json` prints one array of exactly these differences.
     ensures line { IfOk result (λ outcome. (sources : List (Source V)) ×
         AllZip (IsRead V.seen V.Key.cmp V.reads R.remaining) inputs.old sources ×
         (outcome.has_later ≡ has_later_source V.seen now sources) ×

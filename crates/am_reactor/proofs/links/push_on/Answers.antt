@@ -1,4 +1,5 @@
 use Rattle.std.proofs.Common.{refl, inl, inr}
+use Rattle.am_reactor.proofs.Histories.{acts_once}
 use Rattle.am_reactor.proofs.links.push_on.Goals as goal
 
 pub returns-in-Ok-Going-Idle-clause-pushed : goal.returns-in-Ok-Going-Idle-clause-pushed
@@ -18,5 +19,8 @@ pub returns-in-Err-clause-pushed : goal.returns-in-Err-clause-pushed
 returns-in-Err-clause-pushed g c = λ _. record {
   mid = c.advance.new.self;
   went = c.advance.ensures.out;
-  next = inr (inr (c.close.ensures.closed, (_, c.lost.ensures)));
+  next = inr (inr (c.close.ensures.closed, (_, c.lost.ensures.told)));
 }
+
+pub returns-in-Err-clause-acted : goal.returns-in-Err-clause-acted
+returns-in-Err-clause-acted g c = acts_once _ _ _ c.lost.ensures.acted

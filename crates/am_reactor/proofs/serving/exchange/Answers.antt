@@ -1,4 +1,6 @@
-use Rattle.std.proofs.Common.{refl}
+use Rattle.std.proofs.Common.{ap, refl}
+use Rattle.am_reactor.specs.History.{leaves_in, line_of}
+use Rattle.am_reactor.proofs.Histories.{leads_hears, leads_tells}
 use Rattle.am_reactor.proofs.Sends.{tells_none}
 use Rattle.am_reactor.proofs.serving.exchange.Goals as goal
 
@@ -30,3 +32,16 @@ returns-clause-exchanged g c = record {
   heard = c.hear.ensures.heard;
   told = record { sent = c.tell.ensures.out; unread = c.tell.ensures.unread; read = refl; ended = refl; phase = refl };
 }
+
+pub returns-in_err-heard-clause-led : goal.returns-in_err-heard-clause-led
+returns-in_err-heard-clause-led g c = leads_hears _ _ _ _ _ _ _ _ _ _ _ c.hear.ensures.heard (ap leaves_in c.requires.«open»)
+
+pub returns-in_err-told-clause-led : goal.returns-in_err-told-clause-led
+returns-in_err-told-clause-led g c key others first begun leads =
+    leads_tells _ _ _ _ _ _ _ (line_of c.hear.new.connection) _ _ _ _ c.tell.ensures.out c.tell.ensures.unread refl key others first begun
+    (leads_hears _ _ _ _ _ _ _ _ _ _ _ c.hear.ensures.heard (ap leaves_in c.requires.«open») key others first begun leads)
+
+pub returns-clause-led : goal.returns-clause-led
+returns-clause-led g c key others first begun leads =
+    leads_tells _ _ _ _ _ _ _ (line_of c.hear.new.connection) _ _ _ _ c.tell.ensures.out c.tell.ensures.unread refl key others first begun
+    (leads_hears _ _ _ _ _ _ _ _ _ _ _ c.hear.ensures.heard (ap leaves_in c.requires.«open») key others first begun leads)

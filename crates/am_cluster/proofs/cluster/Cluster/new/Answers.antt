@@ -1,8 +1,8 @@
 use Rattle.std.proofs.Common.{◌≡◌, ◌∙◌, arith}
 use Rattle.std.proofs.lemmas.List.Sorted.{IsPermutation-trans}
 use Rattle.std.proofs.lemmas.Result.{err_from_is_err_and}
-use Rattle.am_instance.specs.declared.error.ConfigError.TheVariants.{EmptyName, LongName, SameName, Memory}
-use Rattle.am_cluster.proofs.Born.{empty_told, err_moved, long_told, newborns_are, no_error, other_error, same_told, to_front, twice_long, unborn}
+use Rattle.am_refusals.specs.declared.error.ConfigError.TheVariants.{EmptyName, LongName, SameName, Memory}
+use Rattle.am_cluster.proofs.Born.{empty_told, err_moved, long_told, newborns_are, no_error, none_unborn, other_error, same_told, to_front, twice_long, unborn}
 use Rattle.am_cluster.proofs.cluster.Cluster.new.Goals as goal
 
 not_empty : Memory ≡ EmptyName → ⊥
@@ -53,6 +53,9 @@ returns-in_err-members-clause-same_name c =
     let p = err_from_is_err_and c.from_residual-in_err-members.result c.from_residual-in_err-members.ensures.1 in
     rw (p.1, p.2)
     (same_told c.args.names.items c.pop.new.self.items c.in-Some.name c.in-Some.ensures.items _ _ (λ a. absurd (no_error _ _ a)) (λ b. absurd (other_error _ _ not_same b)) c.in_ok-config.ensures.same_name)
+
+pub of-requires : goal.of-requires
+of-requires c = none_unborn c.new.result.items c.new.ensures.items
 
 pub of-requires-2 : goal.of-requires-2
 of-requires-2 c = unborn c.in_ok-config.config c.in_ok-members.members.items c.in_ok-members.ensures

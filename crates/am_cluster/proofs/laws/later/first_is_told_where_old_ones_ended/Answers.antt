@@ -8,11 +8,10 @@ use Rattle.am_runs.specs.Timely.{IsTimely}
 use Rattle.am_cluster.proofs.laws.later.first_is_told_where_old_ones_ended.Goals as goal
 
 pub returns : goal.returns
-returns c = λ spread flight now entry asked made place positive goes timely has old key replica found runs answered.
-    let earlier = c.args.earlier.now in
+returns c = λ earlier later spread flight now entry asked place positive was is goes timely has old key replica found answered.
     let members = length earlier.replicas in
-    let tied = (c.consistency.ensures.world.members place replica found).log in
+    let tied = (was.world.members place replica found).log in
     c.first_is_told_after_a_spread.ensures members spread flight now earlier.log goes.log.rest goes.log.step entry positive
-    (subst (λ n. IsRun entry_version key_cmp n (earlier.log ++ goes.log.step ∷ goes.log.rest)) goes.members (subst (IsRun entry_version key_cmp (length c.args.later.now.replicas)) goes.log.parts c.consistency-2.ensures.runs.1))
-    (subst (λ n. IsTimely entry_version spread flight n (earlier.log ++ goes.log.step ∷ goes.log.rest)) goes.members (subst (IsTimely entry_version spread flight (length c.args.later.now.replicas)) goes.log.parts timely.1))
-    goes.log.begins (subst (λ ss. Contains (delivered_in ss) entry) goes.log.parts has) old place (tied.runs ∙ runs) replica.stand asked made tied.held key answered
+    (subst (λ n. IsRun entry_version key_cmp n (earlier.log ++ goes.log.step ∷ goes.log.rest)) goes.members (subst (IsRun entry_version key_cmp (length later.replicas)) goes.log.parts is.runs.1))
+    (subst (λ n. IsTimely entry_version spread flight n (earlier.log ++ goes.log.step ∷ goes.log.rest)) goes.members (subst (IsTimely entry_version spread flight (length later.replicas)) goes.log.parts timely.1))
+    goes.log.begins (subst (λ ss. Contains (delivered_in ss) entry) goes.log.parts has) old place (tied.runs ∙ answered.runs) replica.stand asked answered.made tied.held key answered.is

@@ -4,9 +4,7 @@ use Rattle.am_cluster.proofs.OneOfBoth.{agree_on_what_is_old, of_log, of_silence
 use Rattle.am_cluster.proofs.laws.later.members_agree_on_what_is_old.Goals as goal
 
 pub returns-clause-silences : goal.returns-clause-silences
-returns-clause-silences c =
-    agree_on_what_is_old of_silences IsMesh c.views_agree.ensures c.args.earlier.now c.args.later.now c.consistency.ensures.world c.consistency-2.ensures.runs c.consistency-2.ensures.silences
+returns-clause-silences c = λ earlier later was is. agree_on_what_is_old of_silences IsMesh c.views_agree.ensures earlier later was.world is.runs is.silences
 
 pub returns-clause-log : goal.returns-clause-log
-returns-clause-log c =
-    agree_on_what_is_old of_log IsLogMesh c.views_agree-2.ensures c.args.earlier.now c.args.later.now c.consistency.ensures.world c.consistency-2.ensures.runs c.consistency-2.ensures.log
+returns-clause-log c = λ earlier later was is. agree_on_what_is_old of_log IsLogMesh c.views_agree-2.ensures earlier later was.world is.runs is.log

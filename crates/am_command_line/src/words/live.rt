@@ -1,0 +1,136 @@
+//! The words of `pull` and of `push`.
+
+use super::instance::{flag, option, time_limit};
+use super::{WordsError, mistake, now_flag, now_of, state_flag, state_of};
+use am_jobs::{PullJob, PushJob, SourceWord};
+use clap::{Arg, ArgAction, ArgMatches, Command};
+use std::alloc::{AllocError, Global};
+
+/// The names of the commands.
+pub const PULL: &str = "pull";
+
+pub const PUSH: &str = "push";
+
+/// `pull` with its options, under a name.
+pub fn pull_command<'a>(alloc: Global, name: &'a str) -> Result<Command<'a>, AllocError> {
+    Command::new(alloc, name)
+        .about(PULL_ABOUT)
+        .after_help(AFTER_PULL)
+        .arg(state_flag(alloc, PULL_STATE_HELP))?
+        .arg(time_flag(alloc))?
+        .arg(replica_word(alloc))
+}
+
+/// `push` with its options, under a name.
+pub fn push_command<'a>(alloc: Global, name: &'a str) -> Result<Command<'a>, AllocError> {
+    Command::new(alloc, name)
+        .about(PUSH_ABOUT)
+        .after_help(AFTER_PUSH)
+        .arg(state_flag(alloc, PUSH_STATE_HELP))?
+        .arg(now_flag(alloc, NOW_HELP))?
+        .arg(flag(alloc, DRY_RUN, DRY_RUN_HELP))?
+        .arg(time_flag(alloc))?
+        .arg(replica_word(alloc))
+}
+
+fn time_flag<'a>(alloc: Global) -> Arg<'a> {
+    option(alloc, "time-limit", "S", TIME_LIMIT_HELP).default_value("10")
+}
+
+fn replica_word<'a>(alloc: Global) -> Arg<'a> {
+    Arg::new(alloc, REPLICA)
+        .value_name("REPLICA")
+        .help(REPLICA_HELP)
+        .required(true)
+        .action(ArgAction::Set)
+}
+
+/// The state that is to be read.
+pub fn read_pull<'a>(alloc: Global, flags: &ArgMatches<'a>) -> Result<PullJob<'a>, WordsError> {
+    match pull_of(flags) {
+        Ok(job) => Ok(job),
+        Err(text) => Err(mistake(pull_command(alloc, "am_tool pull"), text)),
+    }
+}
+
+/// To which replica versions are to be sent.
+pub fn read_push<'a>(alloc: Global, flags: &ArgMatches<'a>) -> Result<PushJob<'a>, WordsError> {
+    match push_of(flags) {
+        Ok(job) => Ok(job),
+        Err(text) => Err(mistake(push_command(alloc, "am_tool push"), text)),
+    }
+}
+
+/// What the words name, or what is said of what is at fault.
+fn pull_of<'a>(flags: &ArgMatches<'a>) -> Result<PullJob<'a>, &'static str> {
+    let time_limit = time_limit(flags)?;
+    let name = flags.get_str(REPLICA).unwrap_or("");
+    let source = SourceWord { name, file: name };
+    Ok(PullJob {
+        state: state_of(flags),
+        name,
+        replica: source.replica().ok_or(BAD_REPLICA)?,
+        time_limit,
+    })
+}
+
+/// What the words name, or what is said of what is at fault. The moment is judged first.
+fn push_of<'a>(flags: &ArgMatches<'a>) -> Result<PushJob<'a>, &'static str> {
+    let now = now_of(flags)?;
+    Ok(PushJob {
+        to: pull_of(flags)?,
+        is_dry: flags.get_flag(DRY_RUN),
+        now,
+    })
+}
+
+/// The name of the replica among the options.
+const REPLICA: &str = "replica";
+
+const DRY_RUN: &str = "dry-run";
+
+const PULL_ABOUT: &str =
+    "Reads a state of a running Alertmanager by its gossip, and writes it as a snapshot, in key order";
+
+const PUSH_ABOUT: &str =
+    "Sends a running Alertmanager by its gossip those of the versions on standard input that it lacks, and tells which it doesn't hold then";
+
+const PULL_STATE_HELP: &str = "The state that is read: silences or the notification log";
+
+const PUSH_STATE_HELP: &str =
+    "The state that the versions are of: silences or the notification log";
+
+const NOW_HELP: &str =
+    "The moment, in nanoseconds since 1970 or as 2026-11-26T12:00:00Z; without it, the clock's";
+
+const DRY_RUN_HELP: &str = "Sends nothing, and tells what it would send";
+
+const TIME_LIMIT_HELP: &str =
+    "For how many seconds a connection to the replica may last, 1 to 3600";
+
+const REPLICA_HELP: &str =
+    "gossip://HOST:PORT, where the replica listens for others (--cluster.listen-address), with an address of IPv4, of IPv6 in brackets, or localhost";
+
+const BAD_REPLICA: &str =
+    "invalid value for '<REPLICA>': gossip://HOST:PORT is wanted, with an address or localhost as HOST";
+
+const AFTER_PULL: &str = "\
+The replica is asked as other replicas ask it, and takes no notice: no member is added to its cluster. A cluster with TLS between
+its replicas is not asked.
+
+Examples:
+  am_tool pull --state sil gossip://10.0.0.1:9094 > a.sil
+  am_tool pull --state nfl gossip://localhost:9094 | am_tool show --state nfl";
+
+const AFTER_PUSH: &str = "\
+The replica is asked first what it holds. What is greater in the input is sent, and what the replica lacks, each key once, with
+the bytes that were read; a version that was updated after the moment is not, since it would block others until then. Then the
+replica is asked again. Lines tell which versions were sent, which are later than the moment, and which the replica refused: by
+expiry, which is past, by tie, where what it holds was updated at the same moment, or by replica, which has another cause.
+
+The status is 0 where the replica holds all of them or greater ones, and 5 where it doesn't. With --dry-run it is 5 where
+something would be sent.
+
+Examples:
+  cat a.sil b.sil c.sil | am_tool fold --state sil --now 0 | am_tool push --state sil gossip://10.0.0.1:9094
+  am_tool push --state nfl --dry-run gossip://10.0.0.1:9094 < all.nfl";

@@ -1,0 +1,75 @@
+//! Whose frames are heard: what is asked of a connection by where it comes in.
+
+use super::Member;
+use am_address::is_loopback;
+use am_dialogue::Dialogue;
+use am_faults::Fault;
+use am_gate::{Heard, Hears};
+use am_jobs::Options;
+use am_peers::{SendError, greeting};
+use am_reactor::Entrance;
+use am_seal::{Lock, SEALED};
+use am_upkeep::{Host, Upkeep, lock_of};
+use std::alloc::{AllocError, Global};
+
+/// What a member opens sealed frames by, where it has a secret.
+pub fn lock_at<'a, R: Host>(upkeep: &'a Upkeep<'_, R>) -> Option<Lock<'a>> {
+    lock_of(upkeep.options, &upkeep.secret)
+}
+
+/// What is heard of those who come by an entrance: frames without a secret only where none but this machine reaches it, or where
+/// that is wanted.
+pub fn hears_at(options: &Options<'_>, entrance: Entrance) -> Hears {
+    match (options.peers_address, entrance) {
+        (Some(_), Entrance::Main) => Hears::Requests,
+        (_, Entrance::Peers) => Hears::Frames,
+        (None, Entrance::Main) => {
+            let is_guarded = options.secret.is_some() || is_loopback(options.address);
+            if is_guarded || options.opens_peers {
+                Hears::Both
+            } else {
+                Hears::Requests
+            }
+        }
+    }
+}
+
+/// By which names a member is asked: those of its options, and its own address.
+///
+/// # Errors
+///
+/// [`AllocError`] where memory runs out.
+pub fn hosts_of<'a>(alloc: Global, options: &Options<'a>) -> Result<Vec<&'a str>, AllocError> {
+    let mut hosts = Vec::from_slice(alloc, options.hosts.as_slice())?;
+    if let Some(host) = options.own_host {
+        hosts.push(host)?;
+    }
+    Ok(hosts)
+}
+
+/// The greeting with which each connection to a peer begins, behind a byte that says so where frames are sealed.
+///
+/// # Errors
+///
+/// [`SendError`] where the name is none, or memory ran out.
+pub fn opening(alloc: Global, name: &str, is_sealed: bool) -> Result<Vec<u8>, SendError> {
+    let greeting = greeting(alloc, name)?;
+    if !is_sealed {
+        return Ok(greeting);
+    }
+    let mut sealed = Vec::from_slice(alloc, &[SEALED])?;
+    sealed.extend_from_slice(&greeting)?;
+    Ok(sealed)
+}
+
+impl<R: Host> Member<'_, R> {
+    /// Answers what was heard at the gate of a connection, and tells why no more is.
+    pub fn hear_at_gate(&mut self, dialogue: &mut Dialogue, heard: Heard) {
+        let Heard { said, fault } = heard;
+        self.hear(dialogue, said);
+        if let Some(fault) = fault {
+            let peer = self.upkeep.place_of(dialogue.session.name());
+            self.upkeep.tell_of(peer, Fault::Gate(fault));
+        }
+    }
+}

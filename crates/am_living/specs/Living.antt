@@ -1,0 +1,105 @@
+-- What a loop did, as a member's life.
+use Rattle.std.specs.Prelude.{◌≡◌, ◌==◌, ℕ, ◌+◌, ◌<◌, ◌≤◌, List, [], ◌∷◌, ◌++◌, Option, Some, None, ⊤, if◌then◌else◌}
+use Rattle.am_http.specs.Sessions.{Standing, fresh}
+use Rattle.am_instance.specs.InstanceStates.{InstanceState}
+use Rattle.am_member.specs.Lives.{Deed as LifeDeed, IsLife, Turn, standings_in, turns_of}
+use Rattle.am_member.specs.Lives.Deed.{Served, Own}
+use Rattle.am_reactor.specs.Deeds.{Deed}
+use Rattle.am_reactor.specs.History.{Happening, Happens, Line, fed_in}
+use Rattle.am_reactor.specs.History.Happening.{Came, Called, Thrown, Closed, Acted}
+
+-- ---- connections, each with a number that is never used again
+
+-- how many connections came
+abbrev pub count_after : ℕ → Happening → ℕ
+count_after count (Came key) = count + 1
+count_after count _ = count
+
+-- The number of the connection under each key: how many had come before it.
+abbrev pub numbers_after : ℕ → (ℕ → ℕ) → Happening → ℕ → ℕ
+numbers_after count numbers (Came key) = λ other. if other == key then count else numbers other
+numbers_after count numbers _ = numbers
+
+-- those of the connections that are under the keys behind these happenings
+abbrev pub numbers_by : ℕ → (ℕ → ℕ) → List Happening → ℕ → ℕ
+numbers_by count numbers [] = numbers
+numbers_by count numbers (happening ∷ happenings) = numbers_by (count_after count happening) (numbers_after count numbers happening) happenings
+
+-- the bytes that were fed to the session under each key
+abbrev pub fed_after : (ℕ → List ℕ) → Happening → ℕ → List ℕ
+fed_after fed (Came key) = λ other. if other == key then [] else fed other
+fed_after fed (Called key deeds) = λ other. if other == key then fed key ++ fed_in deeds else fed other
+fed_after fed _ = fed
+
+-- those that were fed by these happenings
+abbrev pub fed_by : (ℕ → List ℕ) → List Happening → ℕ → List ℕ
+fed_by fed [] = fed
+fed_by fed (happening ∷ happenings) = fed_by (fed_after fed happening) happenings
+
+-- ---- what a member does, as its life
+
+-- deeds of one connection, and steps that the member made by itself
+abbrev pub AreOf : ℕ → List LifeDeed → Type 0
+AreOf connection [] = ⊤
+AreOf connection (Served turn ∷ deeds) = (turn.connection ≡ connection) × AreOf connection deeds
+AreOf connection (Own step ∷ deeds) = AreOf connection deeds
+
+-- steps that the member made by itself
+abbrev pub AreOwn : List LifeDeed → Type 0
+AreOwn [] = ⊤
+AreOwn (Served turn ∷ deeds) = ⊥
+AreOwn (Own step ∷ deeds) = AreOwn deeds
+
+-- A call that is for no session is steps that the member made by itself.
+pub record ActsAlone {S : Type 0} (instance_of : S → InstanceState) (service service' : S) : Type 0 where
+  pub deeds : List LifeDeed
+  pub own : AreOwn deeds
+  pub life : (standings : ℕ → Standing) → IsLife standings (instance_of service) deeds (instance_of service')
+
+module _ {S T : Type 0} (instance_of : S → InstanceState) (accords : T → List ℕ → Standing → List Turn → Type 0) where
+  -- a session begins with a connection of which nothing came
+  pub record BeginsFresh (service : S) (session : T) (service' : S) : Type 0 where
+    pub same : instance_of service' ≡ instance_of service
+    pub accord : accords session [] fresh []
+
+  -- turns of one connection, and steps by itself, behind which its session accords with what was fed to it and with its turns
+  pub record LivesOn (connection : ℕ) (standings : ℕ → Standing) (service : S) (service' : S) (session' : T) (fed : List ℕ) (turns : List Turn) : Type 0 where
+    pub deeds : List LifeDeed
+    pub of : AreOf connection deeds
+    pub life : IsLife standings (instance_of service) deeds (instance_of service')
+    pub accord : accords session' fed (standings_in standings deeds connection) (turns ++ turns_of connection deeds)
+
+  -- A call for a session is turns of its connection, whichever that is, and steps by itself.
+  abbrev pub DoesForOne : S → T → Deed → S → T → Type 0
+  DoesForOne service session deed service' session' =
+      (connection : ℕ) (standings : ℕ → Standing) (fed : List ℕ) (turns : List Turn) → accords session fed (standings connection) turns
+      → LivesOn connection standings service service' session' (fed ++ fed_in (deed ∷ [])) turns
+
+-- ---- what a loop did, as a life
+
+-- there is a connection under a key
+abbrev pub StandsUnder : {T C : Type 0} → (ℕ → Option (Line T C)) → ℕ → Type 0
+StandsUnder {T} {C} lines key = (line : Line T C) × (lines key ≡ Some line)
+
+-- How the connections stand in a life: each session accords with the bytes that were fed to it, and with the turns of its connection,
+-- by its number. No two have one number, and each number was given already; of those that weren't nothing came.
+pub record Accords {T C : Type 0} (accords : T → List ℕ → Standing → List Turn → Type 0) (count : ℕ) (numbers : ℕ → ℕ) (fed : ℕ → List ℕ)
+    (standings : ℕ → Standing) (turns : ℕ → List Turn) (lines : ℕ → Option (Line T C)) : Type 0 where
+  pub each : (key : ℕ) (line : Line T C) → lines key ≡ Some line → accords line.session (fed key) (standings (numbers key)) (turns (numbers key))
+  pub given : (key : ℕ) → StandsUnder lines key → numbers key < count
+  pub apart : (one other : ℕ) → StandsUnder lines one → StandsUnder lines other → numbers one ≡ numbers other → one ≡ other
+  pub unused : (number : ℕ) → count ≤ number → (standings number ≡ fresh) × (turns number ≡ [])
+
+-- how many connections came by these happenings
+abbrev pub count_by : ℕ → List Happening → ℕ
+count_by count [] = count
+count_by count (happening ∷ happenings) = count_by (count_after count happening) happenings
+
+-- What a loop did is the life of a member: turns of its connections, each by its number, and steps that the member made by itself, lead
+-- its instance from where it stood to where it stands.
+pub record IsLived {S T C : Type 0} (instance_of : S → InstanceState) (accords : T → List ℕ → Standing → List Turn → Type 0)
+    (first : S) (happenings : List Happening) (service : S) (lines : ℕ → Option (Line T C)) : Type 0 where
+  pub deeds : List LifeDeed
+  pub life : IsLife (λ _. fresh) (instance_of first) deeds (instance_of service)
+  pub accord : Accords accords (count_by 0 happenings) (numbers_by 0 (λ _. 0) happenings) (fed_by (λ _. []) happenings) (standings_in (λ _. fresh) deeds)
+      (λ connection. turns_of connection deeds) lines

@@ -1,0 +1,59 @@
+//! A member that a loop runs has lived a life: what came of its connections, in whatever order, are turns of it one after the
+//! other.
+#![tactic(auto)]
+
+ghost use Rattle.std.specs.Prelude.{◌≡◌, ℕ, List, Option};
+ghost use Rattle.am_http.specs.Sessions.{Standing};
+ghost use Rattle.am_instance.specs.InstanceStates.{InstanceState};
+ghost use Rattle.am_member.specs.Lives.{Turn};
+ghost use Rattle.am_reactor.specs.Deeds.{Deed};
+ghost use Rattle.am_reactor.specs.History.{Leads, Line, no_lines};
+ghost use Rattle.am_living.specs.Living.{ActsAlone, BeginsFresh, DoesForOne, IsLived};
+
+use am_reactor::{Entrances, Limits, Service, Stream};
+use mio::net::TcpStream;
+use std::alloc::Global;
+use std::io::{self, Input};
+use std::net::{Net, SocketAddr};
+use std::rt::Clock;
+
+/// A service that is a member: its calls are turns of its connections, and steps that it makes by itself.
+pub trait Living: Service {
+    /// The instance that it holds.
+    ghost instance_of: { Self → InstanceState };
+
+    /// A session accords with the bytes that were fed to it, with how far its connection has come in the member's life, and with
+    /// the turns that the connection had in it.
+    ghost accords: { Self.Session → List ℕ → Standing → List Turn → Type 0 };
+
+    ghost begins_fresh: { (service : Self) (session : Self.Session) (service' : Self) → Self.begins service session service' →
+        BeginsFresh instance_of accords service session service' };
+
+    ghost acts_alone: { (service : Self) (service' : Self) → Self.acts service service' → ActsAlone instance_of service service' };
+
+    ghost does_for_one: { (service : Self) (session : Self.Session) (deed : Deed) (service' : Self) (session' : Self.Session) →
+        Self.does service session deed service' session' → DoesForOne instance_of accords service session deed service' session' };
+}
+
+/// Serves the connections of listeners as [`am_reactor::run`] does. What happened is what that tells of it, and it is a life of
+/// the member: turns of the connections, each by its number, and steps that the member made by itself, one after the other.
+///
+/// # Errors
+///
+/// As [`am_reactor::run`].
+pub fn run<S: Living, R: Net + Clock + Input>(
+    alloc: Global,
+    rt: &R,
+    entrances: Entrances,
+    addresses: &[Option<SocketAddr>],
+    greeting: &[u8],
+    service: &mut S,
+    limits: Limits,
+) -> io::Result<()>
+    // PROMISE: A member that the loop runs has lived a life: one list of steps, each connection's own bytes in order.
+    ensures lived { (left : ℕ → Option (Line S.Session TcpStream))
+        × (history : Leads S.does S.begins S.acts S.pending ⟦<TcpStream as Stream>⟧.coming ⟦<TcpStream as Stream>⟧.gone service.old no_lines service.new left)
+        × IsLived S.instance_of S.accords service.old history.happenings service.new left }
+{
+    am_reactor::run(alloc, rt, entrances, addresses, greeting, service, limits)
+}

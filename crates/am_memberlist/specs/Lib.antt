@@ -1,0 +1,6 @@
+pub mod Answers
+pub mod Messages
+pub mod Msgpack
+pub mod Requests
+pub mod Rows
+pub mod Seen

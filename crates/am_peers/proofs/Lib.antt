@@ -1,0 +1,3 @@
+mod Whole
+mod Decimals
+mod Queued

@@ -1,0 +1,42 @@
+//! Why a server did not do what it was to do.
+
+ghost use Rattle.std.specs.Prelude.{◌≡◌};
+
+use std::io::{self, ErrorKind};
+use thiserror::Error;
+
+/// Why a server has not told what it was asked.
+#[derive(Clone, Copy, Debug, PartialEq, Eq, Error)]
+pub enum ServerFault {
+    /// There is no connection.
+    #[error("the connection is refused: {0}")]
+    Connect(ErrorKind),
+    /// A write failed or took nothing, when so many bytes of the request had gone out.
+    #[error("a write failed after {written} bytes")]
+    Write { written: u64 },
+    /// A read failed, when so many bytes of the reply had come.
+    #[error("a read failed after {at} bytes")]
+    Read { at: usize },
+    #[error("more than 67,125,248 bytes")]
+    TooLarge,
+    #[error("out of memory")]
+    Memory,
+    /// The reply doesn't begin with the head of a response of HTTP/1.0 or HTTP/1.1 within 16,384 bytes, of at most 64
+    /// fields.
+    #[error("no reply of HTTP")]
+    NoHead,
+    /// Its status isn't 200.
+    #[error("status {0}")]
+    Status(u16),
+}
+
+impl From<io::Error> for ServerFault {
+    ghost use Rattle.std.specs.IoError.{error_kind};
+    ghost use Rattle.am_peers.specs.declared.error.ServerFault.TheVariants.{Connect};
+
+    ghost from_gives = { λ error e. e ≡ Connect (error_kind error) };
+
+    fn from(error: io::Error) -> ServerFault {
+        ServerFault::Connect(error.kind())
+    }
+}

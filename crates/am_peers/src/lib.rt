@@ -1,0 +1,26 @@
+//! The peers of a member, and servers of API v2: where each listens, what goes to them, what comes of it, and the moments of events.
+#![tactic(auto)]
+
+pub mod asking;
+mod clock;
+mod error;
+mod fault;
+mod fetching;
+mod peer;
+mod queue;
+mod reply;
+mod shown;
+mod timed;
+mod times;
+mod writing;
+
+pub use clock::{is_behind, later_moment, next_moment};
+pub use error::ServerFault;
+pub use fault::{Fault, SendError};
+pub use fetching::{Server, ask, fetch, server_of};
+pub use peer::{number_within, port_of};
+pub use queue::{Parted, part_frames};
+pub use reply::body_of;
+pub use shown::{held_of, shown_of_row};
+pub use times::{Times, times_of};
+pub use writing::{frames_text, greeting};

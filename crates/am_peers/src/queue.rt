@@ -1,0 +1,40 @@
+//! What waits to be sent.
+
+ghost use Rattle.std.specs.Prelude.{◌≡◌, IfOk};
+ghost use Rattle.am_peers.specs.Queues.{frames_beside, frames_for};
+
+use am_gossip::Frame;
+use am_refusals::Place;
+use std::alloc::{AllocError, Global};
+
+/// Frames, parted in those of one peer and those of all others.
+#[derive(Drop)]
+pub struct Parted {
+    pub own: Vec<Frame>,
+    pub others: Vec<(Place, Frame)>,
+}
+
+/// Parts frames in those for a place and those for other places, each in their order.
+///
+/// # Errors
+///
+/// [`AllocError`] where memory runs out.
+pub fn part_frames(
+    alloc: Global,
+    place: Place,
+    frames: Vec<(Place, Frame)>,
+) -> Result<Parted, AllocError>
+    ensures own { IfOk result (λ parted. parted.own.items ≡ frames_for place frames.items) }
+    ensures others { IfOk result (λ parted. parted.others.items ≡ frames_beside place frames.items) }
+{
+    let mut own = Vec::new(alloc);
+    let mut others = Vec::new(alloc);
+    for queued in frames {
+        if queued.0 == place {
+            own.push(queued.1)?;
+        } else {
+            others.push(queued)?;
+        }
+    }
+    Ok(Parted { own, others })
+}

@@ -1,0 +1,83 @@
+//! What goes out to a peer.
+
+ghost use Rattle.std.specs.Prelude.{◌≡◌, ◌++◌, ◌⊎◌, ◌↔◌, false, Err, OnOk, IfOk, IfErr};
+ghost use Rattle.std.specs.List.{flat_map};
+ghost use Rattle.am_gossip.specs.Frames.{frame_text};
+ghost use Rattle.am_peers.specs.Outgoing.{all_fit, greeting_text, is_name};
+ghost use Rattle.am_peers.specs.declared.fault.SendError.TheVariants as errors;
+
+use crate::fault::SendError;
+use am_gossip::{Frame, MOST_NAME_BYTES, append_frame, frame_fits};
+use am_wire::writing::append_delimited;
+use std::alloc::{AllocError, Global};
+
+/// Whether a greeting may have this name.
+fn is_name(name: &str) -> bool
+    ensures { result ≡ is_name name.now }
+{
+    !name.is_empty() && name.len() as u64 <= MOST_NAME_BYTES
+}
+
+/// Whether each frame keeps its limit.
+fn all_fit(frames: &[Frame]) -> bool
+    ensures { result ≡ all_fit frames.now }
+{
+    frames.iter().all(|frame| frame_fits(frame))
+}
+
+/// Writes a greeting.
+fn append_greeting(out: &mut Vec<u8>, name: &str) -> Result<(), AllocError>
+    ensures { OnOk result (out.new.items ≡ out.old.items ++ greeting_text name.now) }
+{
+    out.push(0)?;
+    append_delimited(out, name.as_bytes())
+}
+
+/// Writes frames, one after the other; one over its limit, which was looked for before, would end it too.
+fn append_frames(out: &mut Vec<u8>, frames: &[Frame]) -> Result<(), AllocError>
+    ensures { OnOk result (out.new.items ≡ out.old.items ++ flat_map frame_text frames.now) }
+{
+    for frame in frames {
+        if append_frame(out, frame).is_err() {
+            return Err(AllocError);
+        }
+    }
+    Ok(())
+}
+
+/// The greeting of a member of this name, with which each of its connections to a peer begins.
+///
+/// # Errors
+///
+/// [`SendError::Length`] where the name has no byte or over 255, whatever memory there is, and [`SendError::Memory`].
+pub fn greeting(alloc: Global, name: &str) -> Result<Vec<u8>, SendError>
+    ensures text { IfOk result (λ text. text.items ≡ greeting_text name.now) }
+    ensures too_long { (result ≡ Err errors.Length) ↔ (is_name name.now ≡ false) }
+    ensures refused { IfErr result (λ e. (e ≡ errors.Memory) ⊎ (e ≡ errors.Length)) }
+{
+    if !is_name(name) {
+        return Err(SendError::Length);
+    }
+    let mut text = Vec::new(alloc);
+    append_greeting(&mut text, name)?;
+    Ok(text)
+}
+
+/// The text of frames, one after the other, as it goes to a peer behind the greeting.
+///
+/// # Errors
+///
+/// [`SendError::Length`] where the payload of a frame is over its limit, whatever memory there is, and
+/// [`SendError::Memory`].
+pub fn frames_text(alloc: Global, frames: &[Frame]) -> Result<Vec<u8>, SendError>
+    ensures text { IfOk result (λ text. text.items ≡ flat_map frame_text frames.now) }
+    ensures too_long { (result ≡ Err errors.Length) ↔ (all_fit frames.now ≡ false) }
+    ensures refused { IfErr result (λ e. (e ≡ errors.Memory) ⊎ (e ≡ errors.Length)) }
+{
+    if !all_fit(frames) {
+        return Err(SendError::Length);
+    }
+    let mut text = Vec::new(alloc);
+    append_frames(&mut text, frames)?;
+    Ok(text)
+}

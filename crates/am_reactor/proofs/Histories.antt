@@ -1,0 +1,319 @@
+-- What a loop did, one happening more.
+use Rattle.std.proofs.Common.{◌≡◌, ◌≢◌, ◌∙◌, ◌==◌, ap, sym, subst, ℕ, zero, suc, ◌+◌, Bool, true, false, List, [], ◌∷◌, ◌++◌, take, sum, refl, Option, None, Some, IsSome, option_map, append-nil, arith, if◌then◌else◌, inl, inr, ◌⊎◌}
+use Rattle.std.proofs.KnownBytes.{Appends-nil, Consumes-nil, Consumes-trans}
+use Rattle.std.proofs.lemmas.List.Sums.{sum_by-cons}
+use Rattle.std.proofs.lemmas.Bool.Decides.{nat_tests}
+use Rattle.std.specs.Io.KnownBytes.{Appends, Consumes}
+use Rattle.am_reactor.specs.Deeds.{Deed, Did, ending, feeds, sends}
+use Rattle.am_reactor.specs.Deeds.Deed.{Fed, Ended, Sent}
+use Rattle.am_reactor.specs.declared.connection.Connection.{Connection}
+use Rattle.am_reactor.specs.declared.connection.Phase.{Phase}
+use Rattle.am_reactor.specs.declared.connection.Phase.TheVariants.{Open, Leaving}
+use Rattle.am_reactor.specs.Connections.{KeepsOthers}
+use Rattle.am_reactor.specs.History.{Line, Happening, line_of, lines, leaves_in, AreSame, fed_in, sent_in, with_line, Acts, ActsOn, Calls, Closes, Stays, StaysUnder, Throws, Makes, Happens, Leads, LeadsOn, LeadsUnder}
+use Rattle.am_reactor.specs.History.Happening.{Came, TurnedAway, Called, Thrown, Closed, Acted}
+use Rattle.am_reactor.specs.Reading.{Hears, joined}
+use Rattle.am_reactor.specs.Sending.{SendsOn}
+use Rattle.slab.specs.Slab.{Slab, Updates, get, with_value}
+use Rattle.slab.proofs.SlabLemmas.{Updates-with_value}
+
+-- ---- calls for no session
+
+acts_more : {S : Type 0} (acts : S → S → Type 0) (n : ℕ) (s m s' : S) → Acts acts n s m → acts m s' → (count : ℕ) × Acts acts count s s'
+acts_more acts zero s m s' e h = (1, (s', subst (λ x. acts x s') e h, refl))
+acts_more acts (suc n) s m s' e h = let more = acts_more acts n e.0 m s' e.2 h in (suc more.0, (e.0, e.1, more.1))
+
+-- one call more
+pub acts_once : {S : Type 0} (acts : S → S → Type 0) (m s' : S) → acts m s' → ActsOn acts m s'
+acts_once acts m s' h = λ first a. acts_more acts a.0 first m s' a.1 h
+
+-- ---- what is under keys
+
+if_twice : {A : Type 0} (b : Bool) (one two old : A) → (if b then two else (if b then one else old)) ≡ (if b then two else old)
+if_twice true one two old = refl
+if_twice false one two old = refl
+
+module _ {T C : Type 0} where
+  same_at : (key : ℕ) (line : Option (Line T C)) (old new : ℕ → Option (Line T C)) → AreSame new old → AreSame (with_line key line new) (with_line key line old)
+  same_at key line old new h other = ap (λ x. if other == key then line else x) (h other)
+
+  -- what is put under one key twice
+  pub with_twice : (key : ℕ) (one two : Option (Line T C)) (old : ℕ → Option (Line T C)) → AreSame (with_line key two (with_line key one old)) (with_line key two old)
+  with_twice key one two old other = if_twice (other == key) one two (old other)
+
+  -- what is there already, put there once more
+  pub with_same : (key : ℕ) (line : Option (Line T C)) (old : ℕ → Option (Line T C)) → old key ≡ line → AreSame (with_line key line old) old
+  with_same key line old e other = grind (arith, nat_tests, e)
+
+  -- what is put under a key
+  pub with_here : (key : ℕ) (line : Option (Line T C)) (old : ℕ → Option (Line T C)) → with_line key line old key ≡ line
+  with_here key line old = grind (arith, nat_tests)
+
+  -- this stands under one key, and the others are as they were
+  pub same_with : (key : ℕ) (line : Option (Line T C)) (old new : ℕ → Option (Line T C)) → new key ≡ line → ((other : ℕ) → other ≢ key → new other ≡ old other)
+      → AreSame new (with_line key line old)
+  same_with key line old new e h other = grind (arith, nat_tests, e, h other)
+
+module _ {S T C : Type 0} (does : S → T → Deed → S → T → Type 0) (begins : S → T → S → Type 0) (acts : S → S → Type 0)
+    (pending : T → List ℕ) (coming gone : C → Option (List ℕ)) where
+  -- a happening, between what is the same
+  makes_same : (h : Happening) (s : S) (t n : ℕ → Option (Line T C)) (s' : S) (t' n' : ℕ → Option (Line T C)) → AreSame n t → AreSame n' t'
+      → Makes does begins acts pending coming gone s n h s' t' → Makes does begins acts pending coming gone s t h s' n'
+  makes_same (Came key) s t n s' t' n' e f m =
+      (m.0, sym (e key) ∙ m.1, m.2, m.3, λ other. f other ∙ (m.4 other ∙ same_at key _ t n e other))
+  makes_same TurnedAway s t n s' t' n' e f m = (m.0, λ other. f other ∙ (m.1 other ∙ e other))
+  makes_same (Called key deeds) s t n s' t' n' e f m =
+      (m.0, m.1, sym (e key) ∙ m.2, m.3, λ other. f other ∙ (m.4 other ∙ same_at key _ t n e other))
+  makes_same (Thrown key bytes) s t n s' t' n' e f m =
+      (m.0, m.1, sym (e key) ∙ m.2, m.3, m.4, λ other. f other ∙ (m.5 other ∙ same_at key _ t n e other))
+  makes_same Closed s t n s' t' n' e f m = (m.0, λ key. elim (m.1 key) [ inl p ↦ inl (f key ∙ (p ∙ e key)) | inr p ↦ inr (f key ∙ p) ])
+  makes_same (Acted count) s t n s' t' n' e f m = (m.0, λ other. f other ∙ (m.1 other ∙ e other))
+
+  happens_more : (hs : List Happening) (h : Happening) (s : S) (t : ℕ → Option (Line T C)) (m : S) (n : ℕ → Option (Line T C)) (s' : S) (t' : ℕ → Option (Line T C))
+      → Happens does begins acts pending coming gone s t hs m n → Makes does begins acts pending coming gone m n h s' t'
+      → Happens does begins acts pending coming gone s t (hs ++ h ∷ []) s' t'
+  happens_more [] h s t m n s' t' same makes =
+      (s', t', subst (λ x. Makes does begins acts pending coming gone x t h s' t') same.0 (makes_same h m t n s' t' t' same.1 (λ _. refl) makes), (refl, λ _. refl))
+  happens_more (g ∷ gs) h s t m n s' t' happens makes =
+      (happens.0, happens.1, happens.2, happens_more gs h happens.0 happens.1 m n s' t' happens.3 makes)
+
+  happens_same : (hs : List Happening) (s : S) (t : ℕ → Option (Line T C)) (m : S) (n n' : ℕ → Option (Line T C)) → AreSame n' n
+      → Happens does begins acts pending coming gone s t hs m n → Happens does begins acts pending coming gone s t hs m n'
+  happens_same [] s t m n n' e same = (same.0, λ key. e key ∙ same.1 key)
+  happens_same (g ∷ gs) s t m n n' e happens = (happens.0, happens.1, happens.2, happens_same gs happens.0 happens.1 m n n' e happens.3)
+
+  -- nothing has happened yet
+  pub leads_none : (s : S) (t : ℕ → Option (Line T C)) → Leads does begins acts pending coming gone s t s t
+  leads_none s t = record { happenings = []; happens = (refl, λ _. refl) }
+
+  -- one happening more
+  pub leads_more : (h : Happening) (m : S) (n : ℕ → Option (Line T C)) (s' : S) (t' : ℕ → Option (Line T C))
+      → Makes does begins acts pending coming gone m n h s' t' → LeadsOn does begins acts pending coming gone m n s' t'
+  leads_more h m n s' t' makes s t leads =
+      record { happenings = leads.happenings ++ h ∷ []; happens = happens_more leads.happenings h s t m n s' t' leads.happens makes }
+
+  -- what is the same is led to alike
+  pub leads_same : (s' : S) (t' n' : ℕ → Option (Line T C)) → AreSame n' t' → LeadsOn does begins acts pending coming gone s' t' s' n'
+  leads_same s' t' n' e s t leads = record { happenings = leads.happenings; happens = happens_same leads.happenings s t s' t' n' e leads.happens }
+
+  -- calls for one session more
+  pub leads_calls : (deeds : List Deed) (s : S) (c : Line T C) (s' : S) (c' : Line T C) → Calls does begins acts pending coming gone deeds s c s' c'
+      → LeadsUnder does begins acts pending coming gone s c s' c'
+  leads_calls deeds s c s' c' calls key others =
+      leads_more (Called key deeds) s _ s' _ (c, c', with_here key (Some c) others, calls, λ other. sym (with_twice key (Some c) (Some c') others other))
+
+  -- bytes more that are thrown away
+  pub leads_throws : (bytes : List ℕ) (s : S) (c c' : Line T C) → Throws coming gone bytes c c'
+      → LeadsUnder does begins acts pending coming gone s c s c'
+  leads_throws bytes s c c' throws key others =
+      leads_more (Thrown key bytes) s _ s _ (c, c', with_here key (Some c) others, throws, refl, λ other. sym (with_twice key (Some c) (Some c') others other))
+
+  -- connections more that are closed
+  pub leads_closes : (s : S) (t t' : ℕ → Option (Line T C)) → Closes t t' → LeadsOn does begins acts pending coming gone s t s t'
+  leads_closes s t t' closes = leads_more Closed s t s t' (refl, closes)
+
+  -- calls for no session more
+  pub leads_acts : (s s' : S) (t : ℕ → Option (Line T C)) → ActsOn acts s s' → LeadsOn does begins acts pending coming gone s t s' t
+  leads_acts s s' t more = let all = more s (0, refl) in leads_more (Acted all.0) s t s' t (all.1, λ _. refl)
+
+-- ---- what a connection's turn is, as calls
+
+fed_end : (was is : Bool) → fed_in (ending was is) ≡ []
+fed_end false false = refl
+fed_end false true = refl
+fed_end true false = refl
+fed_end true true = refl
+
+fed_pieces : (pieces : List (List ℕ)) (was is : Bool) → fed_in (feeds pieces ++ ending was is) ≡ joined pieces
+fed_pieces [] was is = fed_end was is
+fed_pieces (p ∷ ps) was is = ap (λ l. p ++ l) (fed_pieces ps was is)
+
+sent_end : (was is : Bool) → sent_in (ending was is) ≡ 0
+sent_end false false = refl
+sent_end false true = refl
+sent_end true false = refl
+sent_end true true = refl
+
+sent_pieces : (pieces : List (List ℕ)) (was is : Bool) → sent_in (feeds pieces ++ ending was is) ≡ 0
+sent_pieces [] was is = sent_end was is
+sent_pieces (p ∷ ps) was is = sent_pieces ps was is
+
+fed_sends : (counts : List ℕ) → fed_in (sends counts) ≡ []
+fed_sends [] = refl
+fed_sends (n ∷ ns) = fed_sends ns
+
+sent_sends : (counts : List ℕ) → sent_in (sends counts) ≡ sum counts
+sent_sends [] = refl
+sent_sends (n ∷ ns) = ap (λ k. n + k) (sent_sends ns) ∙ sym (sum_by-cons (λ x. x) n ns)
+
+module _ {S T C : Type 0} (does : S → T → Deed → S → T → Type 0) (begins : S → T → S → Type 0) (acts : S → S → Type 0)
+    (pending : T → List ℕ) (coming gone : C → Option (List ℕ)) where
+  -- what is read of a connection, as calls for its session
+  pub leads_hears : (room : ℕ) (s : S) (c : Connection T C) (s' : S) (c' : Connection T C) → Hears does coming gone room s c s' c' → leaves_in c.phase ≡ false
+      → LeadsUnder does begins acts pending coming gone s (line_of c) s' (line_of c')
+  leads_hears room s c s' c' h stays =
+      leads_calls does begins acts pending coming gone (feeds h.pieces ++ ending c.ended c'.ended) s (line_of c) s' (line_of c')
+      (record {
+        did = h.did;
+        came = subst (Consumes (coming c.stream) (coming c'.stream)) (sym (fed_pieces h.pieces c.ended c'.ended)) h.came;
+        heard = λ _. stays;
+        went = subst (λ n. Appends (gone c.stream) (gone c'.stream) (take n (pending c.session))) (sym (sent_pieces h.pieces c.ended c'.ended))
+            (subst (λ x. Appends (gone c.stream) x []) (sym h.unwritten) (Appends-nil (gone c.stream)));
+        leaves = ap leaves_in h.phase;
+      })
+
+  -- what goes out over a connection, as calls for its session
+  pub leads_tells : (s : S) (c : Line T C) (s' : S) (c' : Line T C) (counter next : ℕ)
+      → SendsOn does pending s c.session s' c'.session (gone c.stream) (gone c'.stream) counter next → coming c'.stream ≡ coming c.stream → c'.leaves ≡ c.leaves
+      → LeadsUnder does begins acts pending coming gone s c s' c'
+  leads_tells s c s' c' counter next sent unread leaves =
+      leads_calls does begins acts pending coming gone (sends sent.counts) s c s' c'
+      (record {
+        did = sent.did;
+        came = subst (Consumes (coming c.stream) (coming c'.stream)) (sym (fed_sends sent.counts)) (subst (λ x. Consumes (coming c.stream) x []) (sym unread) (Consumes-nil (coming c.stream)));
+        heard = λ some. absurd (some (fed_sends sent.counts));
+        went = subst (λ n. Appends (gone c.stream) (gone c'.stream) (take n (pending c.session))) (sym (sent_sends sent.counts)) sent.out.written;
+        leaves = leaves;
+      })
+
+  -- nothing is called, read or written
+  pub leads_still : (s : S) (c c' : Line T C) → Stays coming gone c c' → LeadsUnder does begins acts pending coming gone s c s c'
+  leads_still s c c' stays =
+      leads_calls does begins acts pending coming gone [] s c s c'
+      (record {
+        did = (refl, stays.session);
+        came = subst (λ x. Consumes (coming c.stream) x []) (sym stays.unread) (Consumes-nil (coming c.stream));
+        heard = λ some. absurd (some refl);
+        went = subst (λ x. Appends (gone c.stream) x []) (sym stays.unwritten) (Appends-nil (gone c.stream));
+        leaves = stays.leaves;
+      })
+
+  -- one call that neither reads nor writes
+  pub leads_call : (deed : Deed) (s : S) (c : Line T C) (s' : S) (c' : Line T C) → does s c.session deed s' c'.session → fed_in (deed ∷ []) ≡ [] → sent_in (deed ∷ []) ≡ 0
+      → c'.stream ≡ c.stream → c'.leaves ≡ c.leaves → LeadsUnder does begins acts pending coming gone s c s' c'
+  leads_call deed s c s' c' did unfed unsent stream leaves =
+      leads_calls does begins acts pending coming gone (deed ∷ []) s c s' c'
+      (record {
+        did = (s', c'.session, did, (refl, refl));
+        came = subst (Consumes (coming c.stream) (coming c'.stream)) (sym unfed) (subst (λ x. Consumes (coming c.stream) (coming x) []) (sym stream) (Consumes-nil (coming c.stream)));
+        heard = λ some. absurd (some unfed);
+        went = subst (λ n. Appends (gone c.stream) (gone c'.stream) (take n (pending c.session))) (sym unsent)
+            (subst (λ x. Appends (gone c.stream) (gone x) []) (sym stream) (Appends-nil (gone c.stream)));
+        leaves = leaves;
+      })
+
+  -- what leads on for one connection leads on for the table in which it stands
+  pub leads_table : (key : ℕ) (s : S) (c : Line T C) (s' : S) (c' : Line T C) (old new : ℕ → Option (Line T C)) → LeadsUnder does begins acts pending coming gone s c s' c'
+      → old key ≡ Some c → AreSame new (with_line key (Some c') old) → LeadsOn does begins acts pending coming gone s old s' new
+  leads_table key s c s' c' old new under here after first begun leads =
+      leads_same does begins acts pending coming gone s' (with_line key (Some c') old) new after first begun
+      (under key old first begun (leads_same does begins acts pending coming gone s old (with_line key (Some c) old) (with_same key (Some c) old here) first begun leads))
+
+  -- nothing is called, read or written of what stands under a key
+  pub leads_stays : (key : ℕ) (s : S) (old new : ℕ → Option (Line T C)) → StaysUnder coming gone key old new → LeadsOn does begins acts pending coming gone s old s new
+  leads_stays key s old new (inl same) = leads_same does begins acts pending coming gone s old new same
+  leads_stays key s old new (inr stays) = leads_table key s stays.0 s stays.1 old new (leads_still s stays.0 stays.1 stays.3) stays.2 stays.4
+
+  -- a connection more
+  pub leads_came : (key : ℕ) (s s' : S) (c : Line T C) (old new : ℕ → Option (Line T C)) → begins s c.session s' → c.leaves ≡ false → old key ≡ None
+      → AreSame new (with_line key (Some c) old) → LeadsOn does begins acts pending coming gone s old s' new
+  leads_came key s s' c old new begun stays free after = leads_more does begins acts pending coming gone (Came key) s old s' new (c, free, begun, stays, after)
+
+  -- one that is turned away
+  pub leads_away : (s : S) (t : T) (s' : S) (old new : ℕ → Option (Line T C)) → begins s t s' → AreSame new old → LeadsOn does begins acts pending coming gone s old s' new
+  leads_away s t s' old new begun same = leads_more does begins acts pending coming gone TurnedAway s old s' new ((t, begun), same)
+
+-- ---- what is thrown away
+
+leaves_here : (phase : Phase) → phase ≢ Open → leaves_in phase ≡ true
+leaves_here Open stays = absurd (stays refl)
+leaves_here (Leaving end) stays = refl
+
+module _ {T C : Type 0} (coming gone : C → Option (List ℕ)) where
+  -- nothing was thrown away yet
+  pub throws_none : (c : Connection T C) → c.phase ≢ Open → Throws coming gone [] (line_of c) (line_of c)
+  throws_none c stays = record { session = refl; came = Consumes-nil (coming c.stream); unwritten = refl; leaves = leaves_here c.phase stays }
+
+  -- what one read more brought is thrown away too
+  pub throws_more : (bytes more : List ℕ) (a b c : Line T C) → Throws coming gone bytes a b → c.session ≡ b.session
+      → Consumes (coming b.stream) (coming c.stream) more → gone c.stream ≡ gone b.stream → c.leaves ≡ true → (all : List ℕ) × Throws coming gone all a c
+  throws_more bytes more a b c h session came unwritten leaves = (
+    bytes ++ more,
+    record {
+      session = session ∙ h.session;
+      came = Consumes-trans (coming a.stream) (coming b.stream) (coming c.stream) bytes more h.came came;
+      unwritten = unwritten ∙ h.unwritten;
+      leaves = leaves;
+    },
+  )
+
+  -- what is thrown away behind a change in which nothing came or went
+  pub throws_behind : (bytes : List ℕ) (a b c : Line T C) → b.session ≡ a.session → coming b.stream ≡ coming a.stream → gone b.stream ≡ gone a.stream
+      → Throws coming gone bytes b c → Throws coming gone bytes a c
+  throws_behind bytes a b c session unread unwritten h = record {
+    session = h.session ∙ session;
+    came = subst (λ x. Consumes x (coming c.stream) bytes) unread h.came;
+    unwritten = h.unwritten ∙ unwritten;
+    leaves = h.leaves;
+  }
+
+-- ---- tables
+
+here_or_there : (k key : ℕ) → (k ≡ key) ⊎ (k ≢ key)
+here_or_there k key = grind (arith, nat_tests)
+
+module _ {T C : Type 0} where
+  -- a table in which this stands under one key, and the others are as they were
+  pub lines_with : (old new : Slab (Connection T C)) (key : ℕ) (line : Option (Connection T C)) → get new key ≡ line → KeepsOthers key old new
+      → AreSame (lines new) (with_line key (option_map line_of line) (lines old))
+  lines_with old new key line here others =
+      same_with key (option_map line_of line) (lines old) (lines new) (ap (option_map line_of) here) (λ other away. ap (option_map line_of) (others other away))
+
+  -- one is closed
+  pub closes_one : (old new : Slab (Connection T C)) (key : ℕ) → Updates old new key None → Closes (lines old) (lines new)
+  closes_one old new key updates other = elim (here_or_there other key) [
+    | inl e ↦ inr (ap (λ k. option_map line_of (get new k)) e ∙ ap (option_map line_of) updates.changed)
+    | inr away ↦ inl (ap (option_map line_of) (updates.others other away))
+  ]
+
+  -- and others behind it
+  pub closes_on : (a b c : ℕ → Option (Line T C)) → Closes a b → Closes b c → Closes a c
+  closes_on a b c first more key = elim (more key) [
+    | inl p ↦ elim (first key) [
+      | inl q ↦ inl (p ∙ q)
+      | inr q ↦ inr (p ∙ q)
+    ]
+    | inr p ↦ inr p
+  ]
+
+  -- none is closed
+  pub closes_none : (a : ℕ → Option (Line T C)) → Closes a a
+  closes_none a key = inl refl
+
+-- a connection that is the same to its service
+line_same : {T C : Type 0} (a b : Connection T C) → b.session ≡ a.session → b.stream ≡ a.stream → b.phase ≡ a.phase → line_of a ≡ line_of b
+line_same a b session stream phase =
+    subst (λ x. line_of a ≡ record { session = x; stream = b.stream; leaves = leaves_in b.phase }) (sym session)
+    (subst (λ y. line_of a ≡ record { session = a.session; stream = y; leaves = leaves_in b.phase }) (sym stream)
+    (subst (λ z. line_of a ≡ record { session = a.session; stream = a.stream; leaves = leaves_in z }) (sym phase) refl))
+
+module _ {S T C : Type 0} (does : S → T → Deed → S → T → Type 0) (begins : S → T → S → Type 0) (acts : S → S → Type 0)
+    (pending : T → List ℕ) (coming gone : C → Option (List ℕ)) where
+  -- what leads on for a connection, also where it is the same to its service
+  pub under_same : (s : S) (c : Line T C) (s' : S) (a b : Connection T C) → b.session ≡ a.session → b.stream ≡ a.stream → b.phase ≡ a.phase
+      → LeadsUnder does begins acts pending coming gone s c s' (line_of a) → LeadsUnder does begins acts pending coming gone s c s' (line_of b)
+  under_same s c s' a b session stream phase under = subst (λ l. LeadsUnder does begins acts pending coming gone s c s' l) (line_same a b session stream phase) under
+
+  -- what leads on for the connection under a key, for the table
+  pub leads_written : (key : ℕ) (s s' : S) (table : Slab (Connection T C)) (c c' : Connection T C) (new : Slab (Connection T C)) → new ≡ with_value table key c'
+      → Some c ≡ get table key → LeadsUnder does begins acts pending coming gone s (line_of c) s' (line_of c')
+      → LeadsOn does begins acts pending coming gone s (lines table) s' (lines new)
+  leads_written key s s' table c c' new is here under =
+      let updates = Updates-with_value table key c' (subst (λ x. IsSome x) here refl) in
+      subst (λ t. LeadsOn does begins acts pending coming gone s (lines table) s' (lines t)) (sym is)
+      (leads_table does begins acts pending coming gone key s (line_of c) s' (line_of c') (lines table) (lines (with_value table key c')) under
+      (ap (option_map line_of) (sym here)) (lines_with table (with_value table key c') key (Some c') updates.changed updates.others))
+
+  -- one call for no session more
+  pub leads_act : (s s' : S) (t : ℕ → Option (Line T C)) → acts s s' → LeadsOn does begins acts pending coming gone s t s' t
+  leads_act s s' t act = leads_acts does begins acts pending coming gone s s' t (acts_once acts s s' act)

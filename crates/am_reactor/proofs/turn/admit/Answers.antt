@@ -1,0 +1,19 @@
+use Rattle.std.proofs.Common.{Some, ap, option_map, subst, sym}
+use Rattle.am_reactor.specs.History.{leaves_in, line_of, lines}
+use Rattle.am_reactor.proofs.Histories.{leads_act, leads_away, leads_came, lines_with}
+use Rattle.am_reactor.proofs.turn.admit.Goals as goal
+
+pub returns-in-Ok : goal.returns-in-Ok
+returns-in-Ok g c first begun leads =
+    let made = c.new-connection in
+    let inserted = c.in-Ok.ensures.inserted in
+    c.enter.ensures first begun
+    (leads_came _ _ _ _ _ _ c.in-Ok.key c.make_room.new.service c.begin-session.new.self (line_of made.result) (lines c.make_room.new.reactor.connections.table) _
+    (subst (λ x. g.S.Service.begins c.make_room.new.service x c.begin-session.new.self) (sym made.ensures.session) c.begin-session.ensures) (ap leaves_in made.ensures.stays)
+    (ap (option_map line_of) c.in-Ok.ensures.was_free) (lines_with c.make_room.new.reactor.connections.table c.insert.new.self.table c.in-Ok.key (Some made.result) inserted.changed inserted.others) first begun
+    (c.make_room.ensures first begun leads))
+
+pub returns-in-Err : goal.returns-in-Err
+returns-in-Err g c first begun leads =
+    leads_act _ _ _ _ _ _ _ _ _ c.accept_failed.ensures first begun (leads_away _ _ _ _ _ _ _ _ _ _ _ c.begin-session.ensures (λ key. ap (option_map line_of) (c.in-Err.ensures.unchanged key)) first begun
+    (c.make_room.ensures first begun leads))

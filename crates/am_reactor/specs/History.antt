@@ -1,0 +1,139 @@
+-- What a loop did, call by call.
+use Rattle.std.specs.Prelude.{◌≡◌, ◌⊎◌, ◌≢◌, ◌==◌, ℕ, zero, suc, ◌+◌, Bool, true, false, List, [], ◌∷◌, ◌++◌, take, Option, None, Some, option_map, if◌then◌else◌}
+use Rattle.std.specs.Io.KnownBytes.{Appends, Consumes}
+use Rattle.slab.specs.Slab.{Slab, get}
+use Rattle.am_reactor.specs.declared.connection.Connection.{Connection}
+use Rattle.am_reactor.specs.declared.connection.Phase.{Phase}
+use Rattle.am_reactor.specs.declared.connection.Phase.TheVariants.{Open, Leaving}
+use Rattle.am_reactor.specs.Deeds.{Deed, Did}
+use Rattle.am_reactor.specs.Deeds.Deed.{Fed, Sent}
+
+-- what a connection is to its service: a session, what that goes over, and whether it is let go
+pub record Line (T C : Type 0) : Type 0 where
+  pub session : T
+  pub stream : C
+  pub leaves : Bool
+
+-- a connection in this phase is let go
+abbrev pub leaves_in : Phase → Bool
+leaves_in Open = false
+leaves_in (Leaving end) = true
+
+-- what a connection is to its service
+abbrev pub line_of : {T C : Type 0} → Connection T C → Line T C
+line_of connection = record { session = connection.session; stream = connection.stream; leaves = leaves_in connection.phase }
+
+-- what stands under each key
+abbrev pub lines : {T C : Type 0} → Slab (Connection T C) → ℕ → Option (Line T C)
+lines table key = option_map line_of (get table key)
+
+-- nothing under any key
+abbrev pub no_lines : {T C : Type 0} → ℕ → Option (Line T C)
+no_lines key = None
+
+-- this under one key, and the others as they are
+abbrev pub with_line : {T C : Type 0} → ℕ → Option (Line T C) → (ℕ → Option (Line T C)) → ℕ → Option (Line T C)
+with_line key line old other = if other == key then line else old other
+
+-- two of these are the same under each key
+abbrev pub AreSame : {T C : Type 0} → (ℕ → Option (Line T C)) → (ℕ → Option (Line T C)) → Type 0
+AreSame new old = (key : ℕ) → new key ≡ old key
+
+-- some connections are closed, and the others are as they were
+abbrev pub Closes : {T C : Type 0} → (ℕ → Option (Line T C)) → (ℕ → Option (Line T C)) → Type 0
+Closes old new = (key : ℕ) → (new key ≡ old key) ⊎ (new key ≡ None)
+
+-- a connection is let go, and what comes of it is thrown away
+pub record Throws {T C : Type 0} (coming gone : C → Option (List ℕ)) (bytes : List ℕ) (line line' : Line T C) : Type 0 where
+  pub session : line'.session ≡ line.session
+  pub came : Consumes (coming line.stream) (coming line'.stream) bytes
+  pub unwritten : gone line'.stream ≡ gone line.stream
+  pub leaves : line'.leaves ≡ true
+
+-- nothing came or went over a connection, for the same session
+pub record Stays {T C : Type 0} (coming gone : C → Option (List ℕ)) (line line' : Line T C) : Type 0 where
+  pub session : line'.session ≡ line.session
+  pub unread : coming line'.stream ≡ coming line.stream
+  pub unwritten : gone line'.stream ≡ gone line.stream
+  pub leaves : line'.leaves ≡ line.leaves
+
+-- so it is for the connection under a key, where there is one, and the others are as they were
+abbrev pub StaysUnder : {T C : Type 0} → (C → Option (List ℕ)) → (C → Option (List ℕ)) → ℕ → (ℕ → Option (Line T C)) → (ℕ → Option (Line T C)) → Type 0
+StaysUnder {T} {C} coming gone key old new =
+    AreSame new old ⊎ ((line : Line T C) × (line' : Line T C) × (old key ≡ Some line) × Stays coming gone line line' × AreSame new (with_line key (Some line') old))
+
+-- all the bytes that calls feed
+abbrev pub fed_in : List Deed → List ℕ
+fed_in [] = []
+fed_in (Fed piece ∷ deeds) = piece ++ fed_in deeds
+fed_in (_ ∷ deeds) = fed_in deeds
+
+-- how many bytes went out by calls
+abbrev pub sent_in : List Deed → ℕ
+sent_in [] = 0
+sent_in (Sent count ∷ deeds) = count + sent_in deeds
+sent_in (_ ∷ deeds) = sent_in deeds
+
+-- What happens in a loop: a connection comes, under a key that is free, or is turned away, for which there is no place; calls for the session under a key, one after the other; bytes
+-- come of a connection that is let go, and are thrown away; connections are closed; and calls that are for no session.
+pub data Happening : Type 0 where
+  Came : ℕ → Happening
+  TurnedAway : Happening
+  Called : ℕ → List Deed → Happening
+  Thrown : ℕ → List ℕ → Happening
+  Closed : Happening
+  Acted : ℕ → Happening
+
+-- so many calls that are for no session, one after the other
+abbrev pub Acts : {S : Type 0} → (S → S → Type 0) → ℕ → S → S → Type 0
+Acts acts zero service service' = service' ≡ service
+Acts {S} acts (suc count) service service' = (next : S) × acts service next × Acts acts count next service'
+
+-- what such calls lead to leads on
+abbrev pub ActsOn : {S : Type 0} → (S → S → Type 0) → S → S → Type 0
+ActsOn {S} acts service service' = (first : S) → ((count : ℕ) × Acts acts count first service) → (count : ℕ) × Acts acts count first service'
+
+module _ {S T C : Type 0} (does : S → T → Deed → S → T → Type 0) (begins : S → T → S → Type 0) (acts : S → S → Type 0)
+    (pending : T → List ℕ) (coming gone : C → Option (List ℕ)) where
+  -- Calls are made for the session of a connection: what they feed came over its own stream, which isn't let go, and what they tell as
+  -- sent went out over it, the first bytes that waited.
+  pub record Calls (deeds : List Deed) (service : S) (line : Line T C) (service' : S) (line' : Line T C) : Type 0 where
+    pub did : Did does service line.session deeds service' line'.session
+    pub came : Consumes (coming line.stream) (coming line'.stream) (fed_in deeds)
+    pub heard : fed_in deeds ≢ [] → line.leaves ≡ false
+    pub went : Appends (gone line.stream) (gone line'.stream) (take (sent_in deeds) (pending line.session))
+    pub leaves : line'.leaves ≡ line.leaves
+
+  -- what a happening makes of a service and of the connections
+  abbrev pub Makes : S → (ℕ → Option (Line T C)) → Happening → S → (ℕ → Option (Line T C)) → Type 0
+  Makes service old (Came key) service' new =
+      (line : Line T C) × (old key ≡ None) × begins service line.session service' × (line.leaves ≡ false) × AreSame new (with_line key (Some line) old)
+  Makes service old TurnedAway service' new = ((session : T) × begins service session service') × AreSame new old
+  Makes service old (Called key deeds) service' new =
+      (line : Line T C) × (line' : Line T C) × (old key ≡ Some line) × Calls deeds service line service' line' × AreSame new (with_line key (Some line') old)
+  Makes service old (Thrown key bytes) service' new =
+      (line : Line T C) × (line' : Line T C) × (old key ≡ Some line) × Throws coming gone bytes line line' × (service' ≡ service)
+      × AreSame new (with_line key (Some line') old)
+  Makes service old Closed service' new = (service' ≡ service) × Closes old new
+  Makes service old (Acted count) service' new = Acts acts count service service' × AreSame new old
+
+  -- what happens, one after the other
+  abbrev pub Happens : S → (ℕ → Option (Line T C)) → List Happening → S → (ℕ → Option (Line T C)) → Type 0
+  Happens service old [] service' new = (service' ≡ service) × AreSame new old
+  Happens service old (happening ∷ happenings) service' new =
+      (next : S) × (mid : ℕ → Option (Line T C)) × Makes service old happening next mid × Happens next mid happenings service' new
+
+  -- happenings lead from here to there
+  pub record Leads (service : S) (old : ℕ → Option (Line T C)) (service' : S) (new : ℕ → Option (Line T C)) : Type 0 where
+    pub happenings : List Happening
+    pub happens : Happens service old happenings service' new
+
+  -- wherever the one was led to from, happenings lead on to the other
+  abbrev pub LeadsOn : S → (ℕ → Option (Line T C)) → S → (ℕ → Option (Line T C)) → Type 0
+  LeadsOn service old service' new =
+      (first : S) (begun : ℕ → Option (Line T C)) → Leads first begun service old → Leads first begun service' new
+
+  -- so they do where just one connection is looked at, under whichever key
+  abbrev pub LeadsUnder : S → Line T C → S → Line T C → Type 0
+  LeadsUnder service line service' line' =
+      (key : ℕ) (others : ℕ → Option (Line T C)) → LeadsOn service (with_line key (Some line) others) service' (with_line key (Some line') others)

@@ -1,0 +1,94 @@
+//! Why a configuration or a step is refused.
+
+ghost use Rattle.std.specs.Prelude.{◌≡◌};
+
+use am_gossip::FrameError;
+use am_version_order::Moment;
+use am_wire::WireError;
+use std::alloc::{AllocError, AllocFailed};
+use thiserror::Error;
+
+/// Why names make no configuration: the first of these that applies, in their order.
+#[derive(Clone, Copy, Debug, PartialEq, Eq, Error)]
+pub enum ConfigError {
+    #[error("a member has no name")]
+    EmptyName,
+    /// Over 255 bytes.
+    #[error("a member's name is too long")]
+    LongName,
+    #[error("two members have one name")]
+    SameName,
+    #[error("out of memory")]
+    Memory,
+}
+
+impl From<AllocError> for ConfigError {
+    ghost use Rattle.am_refusals.specs.declared.error.ConfigError.TheVariants.{Memory};
+
+    ghost from_gives = { λ _ e. e ≡ Memory };
+
+    fn from(_e: AllocError) -> ConfigError {
+        ConfigError::Memory
+    }
+}
+
+impl<T: Drop> From<AllocFailed<T>> for ConfigError {
+    ghost use Rattle.am_refusals.specs.declared.error.ConfigError.TheVariants.{Memory};
+
+    ghost from_gives = { λ _ e. e ≡ Memory };
+
+    fn from(_e: AllocFailed<T>) -> ConfigError {
+        ConfigError::Memory
+    }
+}
+
+/// Why a step is refused: the first of these that applies, in their order.
+#[derive(Clone, Copy, Debug, PartialEq, Eq, Error)]
+pub enum StepError {
+    /// The moment is before that of the last event.
+    #[error("the moment is before the last one")]
+    MomentBack { last: Moment },
+    /// The event names a place that is no member's, or the own one.
+    #[error("no such peer")]
+    UnknownPeer,
+    /// A fault in the rows of a frame, of which none is taken; or the entry of a notification is too large.
+    #[error("{0}")]
+    Frame(FrameError),
+    /// The first `taken` versions of the event were taken, and its moment counts. Nothing is sent.
+    #[error("out of memory")]
+    Memory { taken: usize },
+}
+
+impl From<AllocError> for StepError {
+    ghost use Rattle.am_refusals.specs.declared.error.StepError.TheVariants.{Memory};
+
+    ghost from_gives = { λ _ e. e ≡ Memory 0 };
+
+    fn from(_e: AllocError) -> StepError {
+        StepError::Memory { taken: 0 }
+    }
+}
+
+/// A fault in a row of a frame.
+impl From<WireError> for StepError {
+    ghost use Rattle.am_refusals.specs.Refusals.{step_fault};
+
+    ghost from_gives = { λ given e. e ≡ step_fault given };
+
+    fn from(e: WireError) -> StepError {
+        match e {
+            WireError::Memory => StepError::Memory { taken: 0 },
+            fault => StepError::Frame(FrameError::Wire(fault)),
+        }
+    }
+}
+
+impl<T: Drop> From<AllocFailed<T>> for StepError {
+    ghost use Rattle.am_refusals.specs.declared.error.StepError.TheVariants.{Memory};
+
+    ghost from_gives = { λ _ e. e ≡ Memory 0 };
+
+    fn from(_e: AllocFailed<T>) -> StepError {
+        StepError::Memory { taken: 0 }
+    }
+}

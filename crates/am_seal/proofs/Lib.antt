@@ -1,0 +1,3 @@
+pub mod Walked
+mod Joined
+mod Cuts

@@ -1,0 +1,3 @@
+pub mod Macs
+pub mod Seals
+pub mod Openings

@@ -1,0 +1,12 @@
+//! What a member tells of itself beside what it counts: its options, the process, and the lines of its start.
+#![tactic(auto)]
+
+mod options;
+mod process;
+mod started;
+mod times;
+
+pub use options::options_text;
+pub use process::Process;
+pub use started::Started;
+pub use times::report;

@@ -1,0 +1,215 @@
+//! The files of a member that keeps logs, written anew while it serves: a stage in a turn of the loop, one file at a time.
+
+use crate::host::Host;
+use crate::upkeep::{Upkeep, sooner};
+use am_disk::FileFault;
+use am_faults::Fault;
+use am_files::{Compaction, compact};
+use am_nflog::LogKey;
+use am_wire::Text;
+use std::mem;
+use std::time::{Duration, Instant};
+
+/// After how many milliseconds a file is begun again at the earliest, where it wasn't written anew.
+const AGAIN_AFTER: u64 = 1_000;
+
+/// Whether a file is to be written anew.
+#[derive(Clone, Copy)]
+struct Want {
+    is_wanted: bool,
+    /// Before this it isn't begun, since that failed.
+    not_before: Option<Instant>,
+}
+
+/// What is written anew now.
+#[derive(Drop)]
+enum Work {
+    Nothing,
+    Silences(Compaction<Text>),
+    Log(Compaction<LogKey>),
+}
+
+/// Which files are to be written anew, and which one is.
+#[derive(Drop)]
+pub struct Compacting {
+    silences: Want,
+    log: Want,
+    work: Work,
+}
+
+impl Want {
+    /// It isn't wanted.
+    fn none() -> Want {
+        Want {
+            is_wanted: false,
+            not_before: None,
+        }
+    }
+
+    /// How long it is until it is to be begun, where it is wanted.
+    fn left(&self, now: Instant) -> Option<Duration> {
+        if !self.is_wanted {
+            return None;
+        }
+        match self.not_before {
+            Some(moment) => Some(moment.saturating_duration_since(now)),
+            None => Some(Duration::ZERO),
+        }
+    }
+
+    /// Whether it is to be begun. Then it is wanted no more.
+    fn begins(&mut self, now: Instant) -> bool {
+        let begins = self.left(now) == Some(Duration::ZERO);
+        if begins {
+            self.is_wanted = false;
+        }
+        begins
+    }
+
+    /// It failed: it is wanted again, and not before a second is over.
+    fn fails(&mut self, now: Instant) {
+        self.is_wanted = true;
+        self.not_before = now.checked_add(Duration::from_millis(AGAIN_AFTER));
+    }
+}
+
+impl Compacting {
+    /// Nothing is written anew, or wanted.
+    pub fn new() -> Compacting {
+        Compacting {
+            silences: Want::none(),
+            log: Want::none(),
+            work: Work::Nothing,
+        }
+    }
+
+    /// This is written anew from now on.
+    fn go_on(&mut self, work: Work) {
+        self.work = work;
+    }
+
+    /// How long it is until something is to be done.
+    fn left(&self, now: Instant) -> Option<Duration> {
+        match self.work {
+            Work::Nothing => sooner(self.silences.left(now), self.log.left(now)),
+            Work::Silences(_) | Work::Log(_) => Some(Duration::ZERO),
+        }
+    }
+}
+
+impl<R: Host> Upkeep<'_, R> {
+    /// Has both files written anew.
+    pub(crate) fn want_both(&mut self) {
+        self.compacting.silences.is_wanted = true;
+        self.compacting.log.is_wanted = true;
+        self.is_changed = false;
+    }
+
+    /// Has each file written anew whose log has outgrown it.
+    pub(crate) fn want_outgrown(&mut self) {
+        self.compacting.silences.is_wanted |= self.silences.is_outgrown();
+        self.compacting.log.is_wanted |= self.log.is_outgrown();
+    }
+
+    /// No file is written anew any more, since both are saved.
+    pub(crate) fn give_up_compaction(&mut self) {
+        match self.compacting.work {
+            Work::Nothing => {}
+            Work::Silences(_) => self.silences.drop_new(self.rt),
+            Work::Log(_) => self.log.drop_new(self.rt),
+        }
+        self.compacting = Compacting::new();
+    }
+
+    /// Does a stage of what is written anew, if the logs lack nothing, and answers how long it is until the next one.
+    pub fn compact(&mut self, now: Instant) -> Option<Duration> {
+        if self.keeping.is_behind() {
+            self.give_up_compaction();
+            return None;
+        }
+        match mem::replace(&mut self.compacting.work, Work::Nothing) {
+            Work::Nothing => self.begin_compaction(now),
+            Work::Silences(left) => self.compact_silences(left, now),
+            Work::Log(left) => self.compact_log(left, now),
+        }
+        self.compacting.left(now)
+    }
+
+    /// Begins to write a file anew that is wanted: the silences first.
+    fn begin_compaction(&mut self, now: Instant) {
+        if self.compacting.silences.begins(now) {
+            self.begin_silences(now);
+        } else if self.compacting.log.begins(now) {
+            self.begin_log(now);
+        }
+    }
+
+    fn begin_silences(&mut self, now: Instant) {
+        self.count_save_begun(true);
+        let most = self.options.most_bytes;
+        match self
+            .silences
+            .part_logs(self.rt, self.instance.silences(), most)
+        {
+            Ok(bytes) => {
+                self.room.is_counted(bytes);
+                self.compacting.go_on(Work::Silences(Compaction::new()));
+            }
+            Err(fault) => self.fail_silences(fault, now),
+        }
+    }
+
+    fn begin_log(&mut self, now: Instant) {
+        self.count_save_begun(false);
+        let most = self.options.most_bytes;
+        match self.log.part_logs(self.rt, self.instance.log(), most) {
+            Ok(_) => self.compacting.go_on(Work::Log(Compaction::new())),
+            Err(fault) => self.fail_log(fault, now),
+        }
+    }
+
+    fn compact_silences(&mut self, left: Compaction<Text>, now: Instant) {
+        let most = self.options.most_bytes;
+        let held = self.instance.silences();
+        match compact(self.rt, &mut self.silences, left, held, most) {
+            Ok(Some(left)) => self.compacting.go_on(Work::Silences(left)),
+            Ok(None) => self.count_save(true, true),
+            Err(fault) => self.fail_silences(fault, now),
+        }
+    }
+
+    fn compact_log(&mut self, left: Compaction<LogKey>, now: Instant) {
+        let most = self.options.most_bytes;
+        let held = self.instance.log();
+        match compact(self.rt, &mut self.log, left, held, most) {
+            Ok(Some(left)) => self.compacting.go_on(Work::Log(left)),
+            Ok(None) => self.count_save(false, true),
+            Err(fault) => self.fail_log(fault, now),
+        }
+    }
+
+    /// Tells why the silences aren't written anew.
+    fn fail_silences(&mut self, fault: FileFault, now: Instant) {
+        self.compacting.silences.fails(now);
+        self.count_save(true, false);
+        let is_trusted = self.silences.is_trusted();
+        self.fail(Fault::Silences(fault), is_trusted);
+    }
+
+    /// Tells why the log isn't written anew.
+    fn fail_log(&mut self, fault: FileFault, now: Instant) {
+        self.compacting.log.fails(now);
+        self.count_save(false, false);
+        let is_trusted = self.log.is_trusted();
+        self.fail(Fault::Log(fault), is_trusted);
+    }
+
+    /// Tells why a file isn't written anew. Where its log isn't trusted any more, that lacks what comes.
+    fn fail(&mut self, fault: Fault, is_trusted: bool) {
+        self.is_changed = true;
+        self.tell(fault);
+        if !is_trusted {
+            self.keeping.lose();
+        }
+    }
+}

@@ -1,0 +1,92 @@
+//! What a member counts of frames, links and saves.
+
+use crate::host::Host;
+use crate::upkeep::Upkeep;
+use am_figures::{Cause, Kind, Step};
+use am_gossip::Frame;
+use am_instance::Place;
+use am_reactor::LinkFault;
+use std::rt::Clock;
+use std::time::{Duration, Instant};
+
+/// What a frame is counted as.
+fn kind_of_frame(frame: &Frame) -> Kind {
+    match frame {
+        Frame::Delta(_) => Kind::Update,
+        Frame::Push(_) | Frame::Pull(_) => Kind::FullState,
+        Frame::Tick => Kind::Tick,
+    }
+}
+
+/// The step that a frame is taken by, where it is one.
+fn step_of_frame(frame: &Frame) -> Option<Step> {
+    match frame {
+        Frame::Delta(_) => Some(Step::Delta),
+        Frame::Push(_) | Frame::Pull(_) => Some(Step::State),
+        Frame::Tick => None,
+    }
+}
+
+/// What a fault of a link is counted as.
+fn cause_of(fault: LinkFault) -> Cause {
+    match fault {
+        LinkFault::Connect(_) | LinkFault::NoPeer => Cause::Connect,
+        LinkFault::Write { .. } => Cause::Write,
+        LinkFault::Time { .. } => Cause::Time,
+        LinkFault::Full => Cause::Full,
+        LinkFault::Memory => Cause::Memory,
+    }
+}
+
+/// What the clock says, as the time since 1970; 0 where it can't be read.
+pub fn since_1970<C: Clock>(clock: &C) -> Duration {
+    clock.since_1970().unwrap_or(Duration::ZERO)
+}
+
+impl<R: Host> Upkeep<'_, R> {
+    /// Counts the frames of a peer.
+    pub fn count_frames(&mut self, place: Place, frames: &[Frame]) {
+        let count = frames.len() as u64;
+        self.figures
+            .heard
+            .take(place as usize, count, since_1970(self.rt));
+        for frame in frames {
+            self.figures.take(kind_of_frame(frame));
+            if let Some(step) = step_of_frame(frame) {
+                self.figures.step(step, 1);
+            }
+        }
+    }
+
+    /// Counts frames that are handed to the link of a peer.
+    pub(crate) fn count_handed(&mut self, place: Place, frames: &[Frame]) {
+        self.figures
+            .heard
+            .hand_on(place as usize, frames.len() as u64);
+        for frame in frames {
+            self.figures.send(kind_of_frame(frame));
+        }
+    }
+
+    /// Counts that what waited for a peer is lost.
+    pub fn count_lost(&mut self, peer: usize, fault: LinkFault) {
+        self.figures.heard.lose(peer, cause_of(fault));
+    }
+
+    /// Counts a save that was made now, or failed.
+    pub(crate) fn count_save(&mut self, of_silences: bool, is_done: bool) {
+        if is_done {
+            let now = Instant::now(self.rt).ok();
+            let since_1970 = since_1970(self.rt);
+            self.figures.end_save(of_silences, now, since_1970);
+        } else {
+            self.figures.fail_save(of_silences);
+        }
+    }
+
+    /// Counts that a save begins.
+    pub(crate) fn count_save_begun(&mut self, of_silences: bool) {
+        let now = Instant::now(self.rt).ok();
+        self.figures.begin_save(of_silences, now);
+    }
+}

@@ -1,0 +1,21 @@
+//! What a member does with what it holds: steps of its own, its files and logs, the lines that it prints, what it counts, and the
+//! frames that wait for peers.
+#![tactic(auto)]
+
+mod compaction;
+mod counting;
+mod host;
+mod keeping;
+mod loading;
+mod logging;
+mod room;
+mod saving;
+mod sending;
+mod upkeep;
+
+pub use counting::since_1970;
+pub use host::Host;
+pub use keeping::{DISK, Keeping};
+pub use room::Room;
+pub use sending::lock_of;
+pub use upkeep::{Upkeep, sooner};

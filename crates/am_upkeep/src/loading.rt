@@ -1,0 +1,168 @@
+//! What a member holds at its start.
+
+use crate::compaction::Compacting;
+use crate::counting::since_1970;
+use crate::host::Host;
+use crate::keeping::{DISK, Keeping};
+use crate::room::Room;
+use crate::upkeep::Upkeep;
+use am_address::Peer;
+use am_faults::Fault;
+use am_figures::Figures;
+use am_files::{OpenedState, StateFile, open_state};
+use am_instance::{Config, ConfigError, Instance};
+use am_jobs::Options;
+use am_lines::{Lines, Watch};
+use am_nflog::MeshEntry;
+use am_peers::next_moment;
+use am_secret::{Secret, read_secret};
+use am_silence::MeshSilence;
+use am_version_order::Moment;
+use am_wire::Text;
+use std::alloc::{AllocError, Global};
+
+/// What a member holds, and the files that hold it.
+#[derive(Drop)]
+struct Loaded {
+    instance: Instance,
+    silences: StateFile,
+    log: StateFile,
+}
+
+/// The names of the members, and how long things are kept.
+fn config(alloc: Global, options: &Options<'_>) -> Result<Config, Fault> {
+    let Ok(name) = Text::copied(alloc, options.name) else {
+        return Err(Fault::Config(ConfigError::Memory));
+    };
+    let Ok(peers) = names(alloc, &options.peers, options.keeps_log) else {
+        return Err(Fault::Config(ConfigError::Memory));
+    };
+    Ok(Config::new(alloc, name, peers, options.retention, options.peer_timeout)?)
+}
+
+/// The names of peers, and of the disk where logs are kept.
+fn names(alloc: Global, peers: &[Peer<'_>], keeps_log: bool) -> Result<Vec<Text>, AllocError> {
+    let mut names = Vec::with_capacity(alloc, peers.len())?;
+    if keeps_log {
+        names.push(Text::copied(alloc, DISK)?)?;
+    }
+    for peer in peers {
+        names.push(Text::copied(alloc, peer.name)?)?;
+    }
+    Ok(names)
+}
+
+/// The instance that holds what its files hold, and the files of the silences and of the log.
+fn load<R: Host>(rt: &R, config: Config, options: &Options<'_>) -> Result<Loaded, Fault> {
+    let most = options.most_bytes;
+    let silences = match open_state(rt, options.silences, most, options.keeps_log) {
+        Ok(opened) => opened,
+        Err(fault) => return Err(Fault::Silences(fault)),
+    };
+    let log = match open_state(rt, options.log, most, options.keeps_log) {
+        Ok(opened) => opened,
+        Err(fault) => return Err(Fault::Log(fault)),
+    };
+    let now = next_moment(rt, Moment::LEAST);
+    Ok(loaded_of(config, silences, log, now))
+}
+
+/// An instance that starts with what was opened, and its files.
+fn loaded_of(
+    config: Config,
+    silences: OpenedState<MeshSilence>,
+    log: OpenedState<MeshEntry>,
+    now: Moment,
+) -> Loaded {
+    let OpenedState { file, held } = silences;
+    let OpenedState {
+        file: log_file,
+        held: entries,
+    } = log;
+    Loaded {
+        instance: Instance::start(config, held, entries, now),
+        silences: file,
+        log: log_file,
+    }
+}
+
+/// The secret of the members, where they have one. It is told where others may read it.
+fn secret<R: Host>(rt: &R, options: &Options<'_>) -> Result<Option<Secret>, Fault> {
+    let Some(path) = options.secret else {
+        return Ok(None);
+    };
+    match read_secret(rt, path) {
+        Ok(secret) => {
+            if secret.is_open {
+                let _ = eprintln!(rt;
+                    "am_tool: warning: others than its owner and its group may read or write the file of --secret"
+                );
+            }
+            Ok(Some(secret))
+        }
+        Err(fault) => Err(Fault::Secret(fault)),
+    }
+}
+
+/// What a member prints by and counts by, before anything comes.
+fn empty<R: Host>(
+    rt: &R,
+    config: &Config,
+    options: &Options<'_>,
+) -> Result<(Figures, Lines), AllocError> {
+    let figures = Figures::new(rt.alloc(), config.members().len(), since_1970(rt))?;
+    let lines = Lines::new(rt.alloc(), rt, options.lines)?;
+    Ok((figures, lines))
+}
+
+/// The member that holds what was loaded.
+fn upkeep_of<'a, R: Host>(
+    rt: &'a R,
+    options: &'a Options<'a>,
+    secret: Option<Secret>,
+    loaded: Loaded,
+    figures: Figures,
+    lines: Lines,
+) -> Upkeep<'a, R> {
+    let Loaded {
+        instance,
+        silences,
+        log,
+    } = loaded;
+    let room = Room::of(instance.silences(), options.most_bytes);
+    let keeping = Keeping::new(instance.config().place_named(DISK));
+    let is_changed = silences.owes_save() || log.owes_save();
+    Upkeep {
+        rt,
+        options,
+        instance,
+        secret,
+        silences,
+        log,
+        room,
+        keeping,
+        compacting: Compacting::new(),
+        queue: Vec::new(rt.alloc()),
+        lines,
+        watch: Watch::new(),
+        figures,
+        is_changed,
+    }
+}
+
+impl<'a, R: Host> Upkeep<'a, R> {
+    /// A member that holds what its files hold.
+    ///
+    /// # Errors
+    ///
+    /// The first [`Fault`] of names, secret, memory, silences, log.
+    pub fn load(rt: &'a R, options: &'a Options<'a>) -> Result<Upkeep<'a, R>, Fault> {
+        let config = config(rt.alloc(), options)?;
+        let secret = secret(rt, options)?;
+        let Ok((figures, lines)) = empty(rt, &config, options) else {
+            return Err(Fault::Config(ConfigError::Memory));
+        };
+        let loaded = load(rt, config, options)?;
+        Ok(upkeep_of(rt, options, secret, loaded, figures, lines))
+    }
+}

@@ -1,0 +1,91 @@
+//! How much room is left for silences.
+
+use crate::host::Host;
+use crate::upkeep::Upkeep;
+use am_merge::Held;
+use am_snapshot::row_length_within;
+use am_version_order::Version;
+use std::time::{Duration, Instant};
+
+/// By how many bytes a silence may grow where it ends. Posts leave room for that.
+const FOR_AN_END: u64 = 64;
+
+/// After how many milliseconds the row is counted anew at the earliest.
+const COUNT_EVERY: u64 = 1_000;
+
+/// How many bytes the row of the silences may have, and how many it has at the most.
+#[derive(Clone, Copy)]
+pub struct Room {
+    most: u32,
+    /// How many bytes it had when it was last counted.
+    counted: u64,
+    /// How many bytes have come since: it has grown by no more.
+    come: u64,
+    /// Before this it isn't counted anew.
+    next_count: Option<Instant>,
+}
+
+impl Room {
+    /// For these silences, whose row may have so many bytes.
+    pub fn of<V: Version>(silences: &Held<V>, most: u32) -> Room {
+        let mut room = Room {
+            most,
+            counted: 0,
+            come: 0,
+            next_count: None,
+        };
+        room.count(silences);
+        room
+    }
+
+    /// Counts the row, which takes no memory.
+    pub fn count<V: Version>(&mut self, silences: &Held<V>) {
+        self.is_counted(row_length_within(silences, self.most).unwrap_or(u64::MAX));
+    }
+
+    /// The row has so many bytes.
+    pub fn is_counted(&mut self, bytes: u64) {
+        self.counted = bytes;
+        self.come = 0;
+    }
+
+    /// So many bytes came.
+    pub fn add(&mut self, bytes: u64) {
+        self.come = self.come.saturating_add(bytes);
+    }
+
+    /// Whether there is room for so many bytes of a post, and for the ends of so many silences and of its own.
+    pub fn holds(&self, post: u64, silences: usize) -> bool {
+        let ends = FOR_AN_END.saturating_mul((silences as u64).saturating_add(1));
+        let had = self.counted.saturating_add(self.come);
+        had.saturating_add(post).saturating_add(ends) <= u64::from(self.most)
+    }
+
+    /// Whether the row may be counted anew. If so, it may not again before a second is over.
+    pub fn is_count_due(&mut self, now: Instant) -> bool {
+        if let Some(next) = self.next_count
+            && now < next
+        {
+            return false;
+        }
+        self.next_count = now.checked_add(Duration::from_millis(COUNT_EVERY));
+        true
+    }
+}
+
+impl<R: Host> Upkeep<'_, R> {
+    /// Whether there is room for so many bytes of a post. Where it doesn't look so, the silences are counted anew, once a
+    /// second.
+    pub fn has_room(&mut self, post: u64) -> bool {
+        let silences = self.instance.silences();
+        if self.room.holds(post, silences.len()) {
+            return true;
+        }
+        if let Ok(now) = Instant::now(self.rt)
+            && self.room.is_count_due(now)
+        {
+            self.room.count(silences);
+        }
+        self.room.holds(post, silences.len())
+    }
+}

@@ -1,0 +1,79 @@
+//! The frames that wait for peers.
+
+use crate::host::Host;
+use crate::upkeep::Upkeep;
+use am_faults::Fault;
+use am_gossip::Frame;
+use am_instance::Place;
+use am_jobs::Options;
+use am_peers::{Parted, frames_text, part_frames};
+use am_reactor::Outgoing;
+use am_seal::{Lock, sealed_text};
+use am_secret::Secret;
+
+/// What members of a cluster know one another by: the secret, where they have one, and the name of this one.
+pub fn lock_of<'a>(options: &Options<'a>, secret: &'a Option<Secret>) -> Option<Lock<'a>> {
+    match secret {
+        Some(secret) => Some(Lock {
+            secret: secret.bytes.as_slice(),
+            name: options.name,
+        }),
+        None => None,
+    }
+}
+
+impl<R: Host> Upkeep<'_, R> {
+    /// The bytes of frames for a peer, sealed where members have a secret. Where there is no memory for them there are none.
+    fn bytes_for(&self, peer: Place, frames: &[Frame]) -> Option<Vec<u8>> {
+        let alloc = self.rt.alloc();
+        let Some(lock) = lock_of(self.options, &self.secret) else {
+            return frames_text(alloc, frames).ok();
+        };
+        let name = self.instance.config().members().get(peer as usize)?;
+        sealed_text(alloc, lock, name.as_str(), frames).ok()
+    }
+
+    /// Has frames wait to be handed out.
+    pub(crate) fn queue_frames(&mut self, frames: Vec<(Place, Frame)>) {
+        let mut frames = self.log_frames(frames);
+        if self.queue.append(&mut frames).is_err() {
+            self.tell(Fault::UnsentMemory(frames.len()));
+        }
+    }
+
+    /// Whether no frame waits.
+    pub fn sends_nothing(&self) -> bool {
+        self.queue.is_empty()
+    }
+
+    /// The frames that wait for the peer of the first of them, as they go out.
+    pub fn next_outgoing(&mut self) -> Option<Outgoing> {
+        let place = self.queue.first()?.0;
+        let alloc = self.rt.alloc();
+        let frames = std::mem::replace(&mut self.queue, Vec::new(alloc));
+        let count = frames.len();
+        let Ok(Parted { own, others }) = part_frames(alloc, place, frames) else {
+            self.tell(Fault::UnsentMemory(count));
+            return None;
+        };
+        self.queue = others;
+        let bytes = self.text_of(place, &own)?;
+        let peer = place as usize;
+        Some(Outgoing { peer, bytes })
+    }
+
+    /// The text of frames for a peer. Where there is none, they are told unsent.
+    pub fn text_of(&mut self, peer: Place, frames: &[Frame]) -> Option<Vec<u8>> {
+        match self.bytes_for(peer, frames) {
+            Some(bytes) => {
+                self.count_handed(peer, frames);
+                Some(bytes)
+            }
+            None => {
+                self.figures.unsent(frames.len(), 0);
+                self.tell_of(Some(peer), Fault::UnsentMemory(frames.len()));
+                None
+            }
+        }
+    }
+}

@@ -1,0 +1,158 @@
+//! A member without those who connect to it.
+
+use crate::compaction::Compacting;
+use crate::host::Host;
+use crate::keeping::Keeping;
+use crate::room::Room;
+use am_faults::Fault;
+use am_figures::Figures;
+use am_files::StateFile;
+use am_gossip::Frame;
+use am_instance::{Event, Instance, Outbox, Place, Unsent};
+use am_jobs::Options;
+use am_lines::{Lines, Told, Watch};
+use am_peers::{Fault as ConnectionFault, next_moment};
+use am_secret::Secret;
+use std::rt::Clock;
+use std::time::{Duration, Instant};
+
+/// What a member holds, its files, and what it prints and counts.
+#[derive(Drop)]
+pub struct Upkeep<'a, R> {
+    pub rt: &'a R,
+    pub options: &'a Options<'a>,
+    pub instance: Instance,
+    /// The secret of the members, where they have one.
+    pub secret: Option<Secret>,
+    /// The file of the silences.
+    pub(crate) silences: StateFile,
+    /// The file of the notification log.
+    pub(crate) log: StateFile,
+    /// How much room is left for silences.
+    pub room: Room,
+    /// What is to be in the logs, where they are kept.
+    pub keeping: Keeping,
+    /// Which files are written anew while it serves.
+    pub(crate) compacting: Compacting,
+    /// The frames that wait to be handed out, each with the place of its peer.
+    pub(crate) queue: Vec<(Place, Frame)>,
+    /// The faults that it printed.
+    pub lines: Lines,
+    pub(crate) watch: Watch,
+    /// What it counts.
+    pub figures: Figures,
+    /// Something may have changed since the last save, or since one was begun.
+    pub is_changed: bool,
+}
+
+/// The shorter one of two times, where there are such.
+pub fn sooner(one: Option<Duration>, other: Option<Duration>) -> Option<Duration> {
+    match (one, other) {
+        (Some(one), Some(other)) => Some(one.min(other)),
+        (one, None) => one,
+        (None, other) => other,
+    }
+}
+
+impl<R: Host> Upkeep<'_, R> {
+    /// Prints a fault.
+    pub fn tell(&mut self, fault: Fault) {
+        self.tell_of(None, fault);
+    }
+
+    /// Prints a fault that is about a peer, if its place is known.
+    pub fn tell_of(&mut self, peer: Option<Place>, fault: Fault) {
+        let members = self.instance.config().members();
+        self.lines.tell(self.rt, members, Told { fault, peer });
+    }
+
+    /// Prints how many lines were left out of each kind.
+    pub fn settle_lines(&mut self) {
+        let members = self.instance.config().members();
+        self.lines.settle_all(self.rt, members);
+    }
+
+    /// Prints how many lines were left out of each kind for which that is due.
+    pub fn settle_due_lines(&mut self, now: Instant) {
+        let members = self.instance.config().members();
+        self.lines.settle(self.rt, members, now);
+    }
+
+    /// Prints how many bytes were cut off from the logs, where some were.
+    pub fn tell_torn(&mut self) {
+        let silences = self.silences.torn();
+        if silences > 0 {
+            self.tell(Fault::SilencesTorn(silences));
+        }
+        let log = self.log.torn();
+        if log > 0 {
+            self.tell(Fault::LogTorn(log));
+        }
+    }
+
+    /// The place of the peer that greeted with this name, if one did.
+    pub fn place_of(&self, name: Option<&str>) -> Option<Place> {
+        let config = self.instance.config();
+        let place = config.place_named(name?)?;
+        if place == config.place() {
+            None
+        } else {
+            Some(place)
+        }
+    }
+
+    /// Prints how many frames are not sent.
+    fn tell_unsent(&mut self, unsent: Unsent) {
+        if unsent.memory > 0 {
+            self.tell(Fault::UnsentMemory(unsent.memory));
+        }
+        if unsent.limit > 0 {
+            self.tell(Fault::UnsentLimit(unsent.limit));
+        }
+    }
+
+    /// What follows the steps of a connection, perhaps of a peer, and why no more is heard of it.
+    pub fn follow(&mut self, peer: Option<Place>, outbox: Outbox, fault: Option<ConnectionFault>) {
+        if let Some(fault) = fault {
+            self.tell_of(peer, Fault::Connection(fault));
+        }
+        self.follow_step(outbox);
+    }
+
+    /// What follows steps: their frames go out.
+    pub fn follow_step(&mut self, outbox: Outbox) {
+        let Outbox { frames, unsent } = outbox;
+        if unsent.memory > 0 || unsent.limit > 0 {
+            self.keeping.lose();
+        }
+        self.figures.unsent(unsent.memory, unsent.limit);
+        self.tell_unsent(unsent);
+        self.queue_frames(frames);
+    }
+
+    /// Makes a step by itself, and answers whether it was made.
+    pub(crate) fn step(&mut self, event: Event) -> bool {
+        let now = next_moment(self.rt, self.instance.last());
+        match self.instance.step(event, now) {
+            Ok(outcome) => {
+                let (_, outbox) = outcome.into_parts();
+                self.follow_step(outbox);
+                true
+            }
+            Err(error) => {
+                self.tell(Fault::Connection(ConnectionFault::Step(error)));
+                false
+            }
+        }
+    }
+
+    /// Tells where the clock is behind the moment of the last event, and where it is no more.
+    pub fn look_at_clock(&mut self, now: Instant) {
+        let Ok(since_1970) = self.rt.since_1970() else {
+            return;
+        };
+        if let Some(fault) = self.watch.look(since_1970, self.instance.last(), now) {
+            self.tell(fault);
+        }
+    }
+}

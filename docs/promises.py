@@ -1,0 +1,132 @@
+#!/usr/bin/env python3
+"""Prints docs/PROOFS.md: the promises that stand beside clauses, and what is only tested or trusted.
+
+    docs/promises.py [--write]
+
+A promise is a comment right above a clause of a contract in crates/*/src, in the words of a user:
+
+    // PROMISE: A saved file is the row of the whole map.
+    ensures row { .. }
+
+It may go on in further comment lines. `--write` writes the page.
+"""
+
+import glob
+import os
+import re
+import sys
+
+TOP = os.path.dirname(os.path.dirname(os.path.abspath(__file__)))
+
+OWNER = re.compile(r"impl\b(?:<.*?>(?= ))? (?:.* for )?&?(?:'\w+ )?(\w+)|(?:pub )?trait (\w+)")
+FUNCTION = re.compile(r"( *)(?:pub(?:\([a-z]+\))? )?(?:final )?(?:const )?fn (\w+)")
+CLAUSE = re.compile(r" *(?:ensures|requires)(?: (\w+))? \{")
+PROMISE = re.compile(r" *// PROMISE: (.*)")
+COMMENT = re.compile(r" *// (.*)")
+
+# The crates of each part, in the order of the page.
+PARTS = {
+    "Replicas": ["am_collect", "am_refusals", "am_instance", "am_runs", "am_cluster", "am_client"],
+    "Members, from bytes to bytes": [
+        "am_http", "am_silence_json", "am_api_silences", "am_decision_json", "am_api_decisions", "am_api_status", "am_metrics",
+        "am_figures", "am_gossip", "am_seal", "am_gate", "am_address", "am_secret", "am_peers", "am_member", "am_reactor", "am_living",
+        "am_dialogue", "am_upkeep", "am_self", "am_daemon",
+    ],
+    "Files, comparing and mending": ["am_snapshot", "am_told", "am_lzw", "am_memberlist", "am_mend", "am_commands", "am_disk", "am_journal", "am_files"],
+    "Rules": ["am_version_order", "am_merge", "am_silence", "am_nflog", "am_dedup", "am_alert_hash", "am_matcher", "am_wire", "am_streams"],
+    "Schedules": ["am_schedule", "am_steps", "am_replay", "am_picture", "am_player"],
+}  # fmt: skip
+
+HEAD = """# What is proved
+
+Every function is proved safe: it returns on every input, without undefined behaviour. Beyond that each row is a promise, and the clause of the contract that carries it. docs/promises.py writes this page from the comments beside these clauses. A *law* is a function that does nothing; its clauses hold for all values. [MODEL](MODEL.md) has the words.
+
+- **Memory.** A call that allocates may answer `Memory` instead.
+- **Bytes.** Clauses on readers and writers speak of known bytes, of slices and vectors, not of sockets or files.
+- **Calm** is a premise, not a gift: a replica that is cut off for longer than the retention can lose it.
+"""
+
+TAIL = """## Only tested
+
+- **Definitions** mean what people want: [cases/](CASES.md), worked by hand.
+- **The loop** is fair, keeps deadlines, closes the right connection and counts unfinished bytes: tests/duties.py, tests/edges.py. The program's own service isn't proved to be a `Living` one, whose calls are the turns of a life. Members under faults of network, process and disk: tests/chaos.py.
+- **`--log`**: a reply and its frames wait for the log, so that members with logs are durable: tests/disk.py kills members at any call to their disk, and finds ones that don't sync.
+- **A member's turns, figures, readiness and first pull**, and that it gives each step its moment: tests/turns.py, tests/operations.py, tests/three_members.py, tests/machines.py.
+- **Pages** go out, and once if nothing fails: tests/pages.py; beside real Alertmanagers tests/real_shims.py, on request.
+- **Command lines, servers, logs that are read, pictures' layout, the page for people**: tests/command_line.py, live_sources.py, log_sources.py, gossip.py, pictures.py, page.py (with chromium).
+- **Refused memory and hostile input**: tests/refused_memory.py, tests/fuzz.py, am_tests (128 MiB, random runs).
+- **Real replicas** of prometheus-alertmanager 0.25.0: tests/real_replicas.py, on request. By hand: `amtool` adds, queries, updates and expires at a member, and Alertmanager loads a member's files.
+
+## Trusted
+
+The toolchain, the C library, the statements of the kit's crates, the disk, and that nobody makes an HMAC without its key. Nobody promises that memory lasts or a frame arrives. No contract says
+
+- that `Memory` is answered only if an allocation was refused, or `Read` only if a read failed;
+- which patterns `regex` finds too big, or which ones are compiled before a step;
+- that an unfinished head of over 64 fields is refused at once;
+- that `SystemDisk` and `LogFile` make the calls that they note, and that bytes outside of a write stay;
+- how long an answer takes.
+
+[wrong/README](../wrong/README.md) lists the wrong bodies that the contracts refuse, and those that they let through.
+"""
+
+
+def marks_of(path):
+    """The promises of a source: the function, the clause's name and the text of each."""
+    owner, function, text = "", "", None
+    with open(path, encoding="utf-8") as file:
+        for number, line in enumerate(file, 1):
+            if line.startswith("}"):
+                owner = ""
+            if found := OWNER.match(line):
+                owner = found[1] or found[2]
+            if found := FUNCTION.match(line):
+                function = f"{owner}::{found[2]}" if found[1] and owner else found[2]
+            if found := PROMISE.match(line):
+                text = found[1]
+            elif text is not None and (found := COMMENT.match(line)):
+                text += f" {found[1]}"
+            elif text is not None:
+                clause = CLAUSE.match(line)
+                if not clause:
+                    sys.exit(f"{path}:{number}: a promise stands above no clause")
+                yield function, clause[1], text
+                text = None
+
+
+def promises():
+    """The promises of each crate that has some."""
+    found = {}
+    for path in sorted(glob.glob(f"{TOP}/crates/*/src/**/*.rt", recursive=True)):
+        crate = os.path.relpath(path, f"{TOP}/crates").split("/")[0]
+        found.setdefault(crate, []).extend(marks_of(path))
+    return {crate: marks for crate, marks in found.items() if marks}
+
+
+def row(crate, function, clause, text):
+    name = f"`{crate}::{function}`"
+    return f"{name}, {clause} | {text}" if clause else f"{name} | {text}"
+
+
+def page():
+    found = promises()
+    if lacking := set(found) - {crate for crates in PARTS.values() for crate in crates}:
+        sys.exit(f"docs/promises.py has no part for {sorted(lacking)}")
+    lines = [HEAD]
+    for part, crates in PARTS.items():
+        rows = [row(crate, *mark) for crate in crates for mark in found.get(crate, [])]
+        lines += [f"## {part}\n", "Call, clause | Promise\n---|---", *rows, ""]
+    return "\n".join([*lines, TAIL])
+
+
+def main():
+    made = page()
+    if sys.argv[1:] == ["--write"]:
+        with open(f"{TOP}/docs/PROOFS.md", "w", encoding="utf-8") as file:
+            file.write(made)
+    else:
+        print(made, end="")
+
+
+if __name__ == "__main__":
+    main()

@@ -1,0 +1,382 @@
+#!/usr/bin/env python3
+"""Runs members of the built am_tool at several addresses, with and without a secret, as members on several machines have them.
+
+    tests/machines.py [PROGRAM]
+
+PROGRAM is crates/am_tool/out/am_tool if it isn't given; ./am_tool and rt ci build it. The machines are aliases of loopback,
+127.0.0.2 and so on, and ::1. The seals of frames are made here anew, by Python's hmac. Prints each case that fails, and at the end
+how many passed. What is wanted is written by hand, from docs/FORMATS.md and docs/MEMBERS.md.
+"""
+
+import hashlib
+import hmac
+import os
+import re
+import socket
+import sys
+import tempfile
+import threading
+import time
+
+import members
+from members import ALL_LINES, PATIENCE, eventually, free_ports, parted, received, run
+from tally import check, compare, finish, try_each
+from wire import PULL, PUSH, TICK, delimited, delta, field, frame, greeting, timestamp
+
+TITLE = "members at several addresses"
+
+# Secrets, and whom they are of.
+SECRET, ANOTHER = b"sixteen bytes or more of it", b"sixteen bytes of another one"
+
+# A post, and what stands in a list for it.
+POST = b"""{"matchers":[{"name":"job","value":"db","isRegex":false,"isEqual":true}],"startsAt":"2024-01-01T00:00:00Z",
+"endsAt":"2124-01-01T00:00:00Z","createdBy":"me","comment":"COMMENT"}"""
+
+
+def version():
+    """A version of a silence that is live for long."""
+    start, end = timestamp(1_700_000_000), timestamp(4_000_000_000)
+    matcher = field(2, b"job") + field(3, b"db")
+    silence = field(1, b"x") + field(2, matcher) + field(3, start) + field(4, end) + field(5, start) + field(8, b"me") + field(9, b"of b")
+    return field(1, silence) + field(2, timestamp(4_000_432_000))
+
+
+class Member(members.Member):
+    """A member at an address."""
+
+    def __init__(self, name, address, port, peers, folder, options=()):
+        super().__init__(name, port, peers, folder, [*ALL_LINES, *options])
+        self.address = address
+        self.words[self.words.index("--listen") + 1] = word(address, port)
+
+    def send(self, *pieces, close=True, at=None):
+        return sent(at or (self.address, self.port), *pieces, close=close)
+
+    def ask(self, method, path, body=b"", host=None, at=None):
+        host = host or word(self.address, self.port)
+        head = f"{method} {path} HTTP/1.1\r\nHost: {host}\r\nContent-Length: {len(body)}\r\n\r\n"
+        return parted(self.send(head.encode() + body, close=False, at=at))
+
+    def post(self, comment):
+        return self.ask("POST", "/api/v2/silences", POST.replace(b"COMMENT", comment.encode()))[0]
+
+    def comments(self):
+        return sorted(silence["comment"] for silence in self.listed() or [])
+
+    def told(self, words):
+        """Whether it has printed a line of these words."""
+        return eventually(lambda: words in self.lines)
+
+    def told_of(self, words, peer):
+        """Whether it has printed a line of these words about a peer."""
+        return eventually(lambda: any(line.startswith(f"{words}: ") and f" (peer {peer}, " in line for line in self.whole_lines))
+
+    def taken(self):
+        """How many frames of peers it has taken, by its figures."""
+        text = self.ask("GET", "/metrics")[1].decode()
+        return sum(float(found) for found in re.findall(r"^maityrunga_frames_taken_total\{.*\} (\S+)$", text, re.M))
+
+
+def word(address, port):
+    """An address and a port as a word of the command line."""
+    return f"[{address}]:{port}" if ":" in address else f"{address}:{port}"
+
+
+def sent(at, *pieces, close=True):
+    """What comes back for bytes that are sent on a new connection, until it ends."""
+    with socket.create_connection(at, timeout=PATIENCE) as stream:
+        stream.setsockopt(socket.IPPROTO_TCP, socket.TCP_NODELAY, 1)
+        try:
+            for piece in pieces:
+                stream.sendall(piece)
+            if close:
+                stream.shutdown(socket.SHUT_WR)
+        except OSError:
+            pass
+        return received(stream)
+
+
+def sealed(secret, sender, addressee, text):
+    """A frame behind its sum and its length."""
+    names = b"".join(len(name).to_bytes(8, "big") + name for name in (sender.encode(), addressee.encode()))
+    sum_of = hmac.new(secret, names + text, hashlib.sha256).digest()
+    return sum_of + len(text).to_bytes(4, "big") + text
+
+
+def connection(secret, sender, addressee, *frames):
+    """All bytes of a sealed connection."""
+    return b"\1" + greeting(sender) + b"".join(sealed(secret, sender, addressee, text) for text in frames)
+
+
+def written(path, data, mode=0o600):
+    with open(path, "wb") as file:
+        file.write(data)
+    os.chmod(path, mode)
+    return path
+
+
+def started(*all_of):
+    for member in all_of:
+        check(f"{member.name} listens", member.start(), member.lines)
+    return all_of
+
+
+def stop(*all_of):
+    for member in all_of:
+        member.kill()
+
+
+def who_hears_whom(folder):
+    """Two with a secret, one without and one with another."""
+    secret, another = written(f"{folder}/secret", SECRET + b"\n"), written(f"{folder}/another", ANOTHER)
+    ports = free_ports(4)
+    places = dict(zip("abcd", zip(["127.0.0.2", "127.0.0.3", "::1", "127.0.0.4"], ports)))
+    options = {"a": ["--secret", secret], "b": ["--secret", secret], "c": [], "d": ["--secret", another]}
+
+    def member(name):
+        peers = [(peer, word(*place)) for peer, place in places.items() if peer != name]
+        return Member(name, *places[name], peers, folder, options[name])
+
+    a, b, c, d = started(*[member(name) for name in "abcd"])
+    compare("who listens", a.lines[0], f"am_tool: a listens on 127.0.0.2:{ports[0]}, peers b=127.0.0.3:{ports[1]} "
+            f"c=[::1]:{ports[2]} d=127.0.0.4:{ports[3]}; loaded 0 silences, 0 entries")
+    compare("a takes a post", a.post("of a"), 200)
+    check("b hears a", eventually(lambda: b.comments() == ["of a"]), b.lines)
+    check("c tells of a", c.told("am_tool: Frame Kind"), c.lines)
+    check("d tells of a", d.told_of("am_tool: Seal Sum", "a"), d.whole_lines)
+    compare("b takes a post", b.post("of b"), 200)
+    check("a hears b", eventually(lambda: a.comments() == ["of a", "of b"]), a.lines)
+    compare("c takes a post", c.post("of c"), 200)
+    check("a tells of c", a.told("am_tool: Seal Missing"), a.lines)
+    check("b tells of c", b.told("am_tool: Seal Missing"), b.lines)
+    check("d tells of c", d.told("am_tool: Seal Missing"), d.lines)
+    compare("d takes a post", d.post("of d"), 200)
+    check("a tells of d", a.told_of("am_tool: Seal Sum", "d"), a.whole_lines)
+    check("b tells of d", b.told_of("am_tool: Seal Sum", "d"), b.whole_lines)
+    compare("what each shows", [member.comments() for member in (a, b, c, d)], [["of a", "of b"]] * 2 + [["of c"], ["of d"]])
+    compare("what c tells", set(c.lines[1:]), {"am_tool: Frame Kind"})
+    compare("what b tells", set(b.lines[1:]), {"am_tool: Seal Missing", "am_tool: Seal Sum"})
+    stop(a, b, c, d)
+
+
+def guarded(folder, name="a", peers=("b", "c"), options=()):
+    """A member with a secret, whose peers aren't there."""
+    secret = written(f"{folder}/secret", SECRET)
+    port, *others = free_ports(1 + len(peers))
+    at = [(peer, word("127.0.0.9", other)) for peer, other in zip(peers, others)]
+    return started(Member(name, "127.0.0.2", port, at, folder, ["--secret", secret, *options]))[0]
+
+
+def frames_of_each_kind():
+    """A frame of each kind, that brings a silence where it brings something."""
+    part = field(1, field(1, b"sil") + field(2, delimited(version())))
+    return {"Delta": delta("sil", version()), "Push": frame(PUSH, part), "Pull": frame(PULL, part), "Tick": TICK}
+
+
+def each_byte_counts(folder):
+    """Of a connection with a frame of each kind each byte is changed in turn: nothing of it is taken, and each is told."""
+    for kind, text in frames_of_each_kind().items():
+        place = f"{folder}/{kind}"
+        os.mkdir(place)
+        a = guarded(place)
+        whole = connection(SECRET, "b", "a", text)
+        for at in range(len(whole)):
+            changed = bytearray(whole)
+            changed[at] ^= 0x80 if at % 2 else 1
+            before = len(a.lines)
+            a.send(bytes(changed))
+            check(f"{kind} with byte {at} changed is told", eventually(lambda: len(a.lines) > before, 10), a.lines[-1])
+        compare(f"what is told of a {kind}", {line for line in a.lines[1:] if " Connect " not in line} - {
+            "am_tool: Frame Kind", "am_tool: Frame Length", "am_tool: Frame Wire NotUtf8 0", "am_tool: UnknownName",
+            "am_tool: Seal Missing", "am_tool: Seal Sum", "am_tool: Seal Length", "am_tool: Seal Cut"}, set())
+        compare(f"nothing is taken of a changed {kind}", (a.taken(), a.listed()), (0, []))
+        a.send(whole)
+        check(f"the {kind} itself is taken", eventually(lambda: a.taken() == 1), a.lines[-1])
+        compare(f"what a {kind} brings", len(a.listed()), 0 if kind == "Tick" else 1)
+        stop(a)
+
+
+def other_names(folder):
+    """A sum is of the sender's name and of the addressee's; names don't run into one another."""
+    a = guarded(folder, peers=("b", "c", "ab", "bb"))
+    text = delta("sil", version())
+    for sender, addressee, greets in [("b", "c", "b"), ("b", "", "b"), ("c", "a", "b"), ("a", "b", "b"), ("", "ba", "b"), ("ba", "", "b")]:
+        before = len(a.lines)
+        a.send(b"\1" + greeting(greets) + sealed(SECRET, sender, addressee, text))
+        check(f"a frame from {sender!r} to {addressee!r}", eventually(lambda: "am_tool: Seal Sum" in a.lines[before:]), a.lines)
+    compare("nothing is taken", (a.taken(), a.listed()), (0, []))
+    right = sealed(SECRET, "b", "a", text)
+    for sums in [right[:16] + bytes(16), bytes(16) + right[16:32], bytes(32)]:
+        before = len(a.lines)
+        a.send(b"\1" + greeting("b") + sums + right[32:])
+        check("a sum of which half is right", eventually(lambda: "am_tool: Seal Sum" in a.lines[before:]), a.lines)
+    a.send(b"\1" + greeting("b") + sealed(SECRET, "b", "a", TICK + TICK))
+    check("two frames behind one sum", a.told("am_tool: Seal Text"), a.lines)
+    a.send(b"\1" + greeting("b") + sealed(SECRET, "b", "a", TICK)[:36] + b"")
+    check("a frame that is cut", a.told("am_tool: Seal Cut"), a.lines)
+    a.send(b"\1" + greeting("b") + bytes(32) + b"\xff" * 4)
+    check("a length over the limit", a.told("am_tool: Seal Length"), a.lines)
+    a.send(greeting("b") + text)
+    check("a frame without a seal", a.told("am_tool: Seal Missing"), a.lines)
+    compare("nothing is taken then", (a.taken(), a.listed()), (0, []))
+    a.send(connection(SECRET, "e", "a", text))
+    check("a stranger that has the secret", a.told("am_tool: UnknownName"), a.lines)
+    a.send(*[bytes([byte]) for byte in connection(SECRET, "b", "a", TICK, text)])
+    check("a connection byte by byte", eventually(lambda: len(a.listed()) == 1), a.lines)
+    stop(a)
+
+
+def repeats(folder):
+    """What a member sent is recorded and sent again: it changes nothing."""
+    recorded, recorder = [], socket.create_server(("127.0.0.7", 0))
+
+    def record():
+        while recorder.fileno() >= 0:
+            try:
+                stream, _ = recorder.accept()
+            except OSError:
+                return
+            with stream:
+                recorded.append(received(stream))
+
+    threading.Thread(target=record, daemon=True).start()
+    secret = written(f"{folder}/secret", SECRET)
+    [port] = free_ports(1)
+    peers = [("a", word("127.0.0.7", recorder.getsockname()[1]))]
+    b = started(Member("b", "127.0.0.3", port, peers, folder, ["--secret", secret, "--pull-every", "1"]))[0]
+    for number in range(3):
+        compare("b takes a post", b.post(f"post {number}"), 200)
+        time.sleep(0.4)
+    check("b has sent all", eventually(lambda: len(recorded) >= 5), recorded)
+    stop(b)
+    a = guarded(folder, peers=("b",))
+    for data in recorded:
+        check("a recorded connection is sealed", data.startswith(b"\1\0\1b"), data[:8])
+        a.send(data)
+    check("a has what b sent", eventually(lambda: a.comments() == ["post 0", "post 1", "post 2"]), a.lines)
+    shown, taken = a.ask("GET", "/api/v2/silences"), a.taken()
+    for data in [*recorded, *reversed(recorded), *recorded]:
+        a.send(data)
+    check("the repeats are frames too", eventually(lambda: a.taken() >= 3 * taken), (taken, a.taken()))
+    compare("repeats change nothing", a.ask("GET", "/api/v2/silences"), shown)
+    compare("repeats are no faults", [line for line in a.lines[1:] if " Connect " not in line], [])
+    stop(a)
+    recorder.close()
+
+
+def a_listener_for_frames(folder):
+    """With --peers-listen frames are heard there alone, and requests at --listen alone."""
+    [port, at, peer] = free_ports(3)
+    secret = written(f"{folder}/secret", SECRET)
+    for options in [["--secret", secret], []]:
+        place = f"{folder}/{len(options)}"
+        os.mkdir(place)
+        words = ["--peers-listen", word("127.0.0.3", at), *options]
+        a = started(Member("a", "127.0.0.2", port, [("b", peer)], place, words))[0]
+        compare("both are told", a.lines[0].partition(", peers")[0],
+                f"am_tool: a listens on 127.0.0.2:{port} and for frames on 127.0.0.3:{at}")
+        text = delta("sil", version())
+        data = connection(SECRET, "b", "a", text) if options else greeting("b") + text
+        a.send(data)
+        check("frames at --listen", a.told("am_tool: Door Frames"), a.lines)
+        reply = a.ask("GET", "/api/v2/silences", at=("127.0.0.3", at))
+        check("a request at --peers-listen", a.told("am_tool: Door Requests"), a.lines)
+        compare("it gets no reply", reply, (None, b""))
+        compare("nothing is taken", a.listed(), [])
+        a.send(data, at=("127.0.0.3", at))
+        check("frames at --peers-listen", eventually(lambda: len(a.listed()) == 1), a.lines)
+        status = a.ask("GET", "/api/v2/status")[1].decode()
+        check("the status has the addresses", f'"address":"127.0.0.3:{at}","name":"a"' in status, status)
+        check("and not the secret", SECRET.decode() not in status, status)
+        stop(a)
+
+
+def open_to_all(folder):
+    """At an address that isn't loopback's frames are refused without a secret, but where that is wanted."""
+    [port, peer] = free_ports(2)
+    text = greeting("b") + delta("sil", version())
+    for name, options, hears in [("shut", [], False), ("open", ["--open-peers"], True)]:
+        place = f"{folder}/{name}"
+        os.mkdir(place)
+        a = started(Member("a", "0.0.0.0", port, [("b", peer)], place, options))[0]
+        a.send(text, at=("127.0.0.5", port))
+        if hears:
+            check("frames are heard", eventually(lambda: len(a.listed()) == 1), a.lines)
+        else:
+            check("frames are refused", a.told("am_tool: Door Frames"), a.lines)
+            compare("and nothing is taken", parted(a.send(b"GET /api/v2/silences HTTP/1.0\r\n\r\n", close=False)), (200, b"[]"))
+        stop(a)
+
+
+def hosts(folder):
+    """A member is asked under its own address."""
+    [port, peer] = free_ports(2)
+    for address, own, foreign in [("127.0.0.2", "127.0.0.2", "127.0.0.3"), ("::1", "[::1]", "[::2]")]:
+        place = f"{folder}/{len(address)}"
+        os.mkdir(place)
+        a = started(Member("a", address, port, [("b", peer)], place))[0]
+        for host, wanted in [(own, 200), (f"{own}:{port}", 200), ("localhost", 200), (foreign, 403), (f"{foreign}:{port}", 403),
+                             ("[", 403), ("[]", 403), ("", 403)]:
+            compare(f"at {address} asked under {host!r}", a.ask("GET", "/api/v2/silences", host=host or " ")[0], wanted)
+        stop(a)
+
+
+def words_that_are_refused(folder):
+    """What is wrong in the words, and in the file of the secret."""
+    names = {"short": b"fifteen bytes..", "fifteen": b"fifteen bytes..\n", "long": bytes(4097), "longer": bytes(5000), "least": bytes(16),
+             "most": bytes(4096), "ended": bytes(4096) + b"\n"}
+    for name, data in names.items():
+        written(f"{folder}/{name}", data)
+    own = ["instance", "--name", "a", "--sil", f"{folder}/a.sil", "--nfl", f"{folder}/a.nfl"]
+    listen = "error: invalid value for '--listen <ADDRESS:PORT>'"
+    at_peers = "error: invalid value for '--peers-listen <ADDRESS:PORT>'"
+    [port] = free_ports(1)
+    for words, status, begins in [
+        (["--listen", "127.0.0.1"], 2, listen),
+        (["--listen", "10.0.0.1:0"], 2, listen),
+        (["--listen", "10.0.0.1:65536"], 2, listen),
+        (["--listen", "::1:9093"], 2, listen),
+        (["--listen", "[::1]"], 2, listen),
+        (["--listen", "localhost:9093"], 2, listen),
+        (["--listen", ":9093"], 2, listen),
+        (["--listen", "9093", "--peers-listen", "10.0.0.1"], 2, at_peers),
+        (["--listen", "9093", "--peers-listen", "0.0.0.0:9094"], 2, "error: '--peers-listen <ADDRESS:PORT>' at an address"),
+        (["--listen", "9093", "--secret", "x", "--open-peers"], 2, "error: '--open-peers' says"),
+        (["--listen", "9093", "--peer", "b=10.0.0.1"], 2, "am_tool: Peer"),
+        (["--listen", "9093", "--peer", "b=[::1]:0"], 2, "am_tool: Peer"),
+        (["--listen", "9093", "--secret", f"{folder}/none"], 3, "am_tool: Secret File NotFound"),
+        (["--listen", "9093", "--secret", folder], 3, "am_tool: Secret "),
+        (["--listen", "9093", "--secret", f"{folder}/short"], 1, "am_tool: Secret Short"),
+        (["--listen", "9093", "--secret", f"{folder}/fifteen"], 1, "am_tool: Secret Short"),
+        (["--listen", "9093", "--secret", f"{folder}/long"], 1, "am_tool: Secret Long"),
+        (["--listen", "9093", "--secret", f"{folder}/longer"], 1, "am_tool: Secret Long"),
+        (["--listen", f"192.0.2.1:{port}"], 3, f"am_tool: Listen AddrNotAvailable 192.0.2.1:{port}"),
+        (["--listen", str(port), "--peers-listen", str(port)], 3, f"am_tool: Listen AddrInUse {port}"),
+    ]:
+        found, output, error = run([*own, *words])
+        compare(f"the status of {words}", found, status)
+        check(f"the line of {words}", error.startswith(begins), error)
+    for name in ["least", "most", "ended"]:
+        a = Member("a", "127.0.0.2", port, [], folder, ["--secret", f"{folder}/{name}"])
+        started(a)
+        stop(a)
+    os.chmod(f"{folder}/least", 0o604)
+    a = Member("a", "127.0.0.2", port, [], folder, ["--secret", f"{folder}/least"])
+    a.start()
+    compare("a secret that all may read", a.lines[0],
+            "am_tool: warning: others than its owner and its group may read or write the file of --secret")
+    stop(a)
+    help_text = run(["instance", "--help"])[1].decode()
+    check("help has three machines", "--peers-listen 10.0.0.1:9094" in help_text, help_text)
+
+
+def main():
+    members.choose(TITLE, sys.argv[1:])
+    with tempfile.TemporaryDirectory() as folder:
+        try_each([who_hears_whom, each_byte_counts, other_names, repeats, a_listener_for_frames, open_to_all, hosts,
+                  words_that_are_refused], folder)
+    finish(TITLE)
+
+
+if __name__ == "__main__":
+    main()
