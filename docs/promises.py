@@ -50,12 +50,13 @@ TAIL = """## Only tested
 
 - **Definitions** mean what people want: [cases/](CASES.md), worked by hand.
 - **The loop** is fair, keeps deadlines, closes the right connection and counts unfinished bytes: tests/duties.py, tests/edges.py. The program's own service isn't proved to be a `Living` one, whose calls are the turns of a life. Members under faults of network, process and disk: tests/chaos.py.
-- **`--log`**: a reply and its frames wait for the log, so that members with logs are durable: tests/disk.py kills members at any call to their disk, and finds ones that don't sync.
+- **`--log`**: a reply and its frames wait for the log, so that members with logs are durable: tests/disk.py.
 - **A member's turns, figures, readiness and first pull**, and that it gives each step its moment: tests/turns.py, tests/operations.py, tests/three_members.py, tests/machines.py.
 - **Pages** go out, and once if nothing fails: tests/pages.py; beside real Alertmanagers tests/real_shims.py, on request.
 - **Command lines, servers, logs that are read, pictures' layout, the page for people**: tests/command_line.py, live_sources.py, log_sources.py, gossip.py, pictures.py, page.py (with chromium).
+- **That a member's connections pass its gate, that what is sealed opens, and that `push` sends just the lacking rows**: tests/machines.py, tests/gossip.py.
 - **Refused memory and hostile input**: tests/refused_memory.py, tests/fuzz.py, am_tests (128 MiB, random runs).
-- **Real replicas** of prometheus-alertmanager 0.25.0: tests/real_replicas.py, on request. By hand: `amtool` adds, queries, updates and expires at a member, and Alertmanager loads a member's files.
+- **Real replicas** of prometheus-alertmanager 0.25.0: tests/real_replicas.py, on request.
 
 ## Trusted
 

@@ -30,7 +30,7 @@ pub fn lacked<'a, V: Version>(
     held: &Held<V>,
     all: &'a Held<V>,
 ) -> Result<Vec<&'a V>, AllocError>
-    // PROMISE: A push sends exactly the versions that are greater than the replica's, or missing there.
+    // PROMISE: A replica lacks exactly the versions that are greater than its own, or missing there.
     ensures { IfOk result (λ found. map version_of found.items ≡ lacked V.seen V.Key.cmp held.now all.now) }
 {
     let mut found = Vec::new(alloc);
