@@ -26,7 +26,7 @@ PROGRAM = f"{TOP}/crates/am_tool/out/am_tool"
 # What a check takes at most, in bytes of memory; only a program that links all takes more.
 NEEDED = 4 << 30
 
-# How many seconds of processor the proof of a crate takes for each thousand lines, by bench/processors.py.
+# How many seconds of processor the proof of a crate takes for each thousand lines, by `bench/run.py processors`.
 PACES = {
     "am_version_order": 41, "am_streams": 165, "am_wire": 48, "am_schedule": 82, "am_silence": 55, "am_silence_json": 63,
     "am_nflog": 52, "am_gossip": 51, "am_merge": 86, "am_collect": 99, "am_runs": 51, "am_dedup": 59, "am_matcher": 69,
@@ -36,7 +36,7 @@ PACES = {
     "am_dialogue": 75, "am_lines": 60, "am_alert_hash": 55, "am_jobs": 45, "am_commands": 130, "am_player": 90,
     "am_metrics": 105, "am_figures": 85, "am_api_status": 30, "am_refusals": 100, "am_peers": 85, "am_upkeep": 120,
     "am_self": 140, "am_lzw": 90, "am_memberlist": 80, "am_mend": 80, "am_seal": 80, "am_gate": 80, "am_address": 100,
-    "am_secret": 100,
+    "am_secret": 100, "am_beside": 110, "am_living": 300, "am_attendant": 150,
 }  # fmt: skip
 # That of a crate which was not measured.
 PACE = 90

@@ -1,15 +1,17 @@
-"""Builds the programs of bench/programs over the repository's crates, each in a folder of its own."""
-import argparse
+"""Builds the programs that are measured: am_tool, those of bench/programs over the repository's crates, and plain ones of Rust."""
 import os
 import shutil
 import subprocess
-import sys
-import tempfile
-
-TOP = os.path.dirname(os.path.dirname(os.path.abspath(__file__)))
-sys.path.insert(0, TOP)
 
 import build
+from build import PROGRAM, TOP
+
+
+def am_tool():
+    """Where am_tool is, which is built where it isn't."""
+    if not os.path.exists(PROGRAM):
+        subprocess.run([os.path.join(TOP, "am_tool"), "build"], check=True, stdout=subprocess.DEVNULL)
+    return PROGRAM
 
 
 def ours(name, folder):
@@ -35,30 +37,3 @@ def plain(name, folder):
     built = os.path.join(folder, name)
     subprocess.run(["rustc", "-C", "opt-level=3", "-o", built, os.path.join(TOP, "bench", name + ".rs")], check=True)
     return built
-
-
-def rows(program, rounds):
-    """The lines that a program prints, each `WORDS NANOSECONDS ANSWER`, with the least time of the rounds."""
-    least = {}
-    for _ in range(rounds):
-        for line in subprocess.run([program], check=True, stdout=subprocess.PIPE, text=True).stdout.splitlines():
-            *words, nanoseconds, answer = line.split()
-            key = (" ".join(words), answer)
-            least[key] = min(least.get(key, int(nanoseconds)), int(nanoseconds))
-    return least
-
-
-def rounds_wanted(description, default):
-    """How often each program is run, by the command line."""
-    words = argparse.ArgumentParser(description=description, formatter_class=argparse.RawDescriptionHelpFormatter)
-    words.add_argument("--rounds", type=int, default=default)
-    return words.parse_args().rounds
-
-
-def beside(name, yardstick, rounds):
-    """The rows of a program of ours and of a plain one, which have to give the same answers."""
-    with tempfile.TemporaryDirectory() as folder:
-        mine, other = rows(ours(name, folder), rounds), rows(plain(yardstick, folder), rounds)
-    if mine.keys() != other.keys():
-        raise SystemExit("the answers differ: %s and %s" % (mine.keys(), other.keys()))
-    return mine, other

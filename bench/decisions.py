@@ -1,7 +1,5 @@
 """What `decide` takes at a running member, beside a post of a silence in the same run.
 
-    python3 bench/decisions.py [--rounds N] [--held N] [PROGRAM]
-
 A member holds N silences and N entries of the log (10,000 by default), and is asked without other clients, and then beside 4 that
 read the list of all silences in a loop. Requests of each row come by turns with posts of a silence, N rounds (1,000 by default),
 each on a new connection, since a member serves one request of a connection; turns aren't waited for. Told are the median and
@@ -12,7 +10,6 @@ have patterns for both. Told are the microseconds of each alert, and of a GET of
 again, the 99th part and the most.
 """
 
-import argparse
 import contextlib
 import functools
 import json
@@ -23,6 +20,7 @@ import time
 
 import serve
 
+OPTIONS = {"--rounds": 1000, "--held": 10_000, "PROGRAM": serve.PROGRAM}
 READERS = 4
 
 # The alerts of a message, and what its group is called: entries and silences are those of bench/serve.py.
@@ -101,13 +99,8 @@ def readers(port, count):
         it.join()
 
 
-def main():
-    words = argparse.ArgumentParser(description=__doc__, formatter_class=argparse.RawDescriptionHelpFormatter)
-    words.add_argument("--rounds", type=int, default=1000)
-    words.add_argument("--held", type=int, default=10_000)
-    words.add_argument("program", nargs="?", default=serve.PROGRAM)
-    words = words.parse_args()
-    start = functools.partial(serve.ours, program=words.program)
+def run(words):
+    start = functools.partial(serve.ours, program=words.PROGRAM)
     print("%-44s %18s %18s %14s" % ("in the middle / 99th part", "decide, us", "post, us", "ratio"))
     for count in (0, READERS):
         for title, (group, alerts) in MESSAGES.items():
@@ -123,7 +116,3 @@ def main():
                 serve.ask(port, "POST", "/api/v2/silences", dear(number, is_pattern))
             each, part, most = beside_dear(port)
         print("%-44s %18.1f %18s" % (title, each, f"{part:.0f} / {most:.0f}"), flush=True)
-
-
-if __name__ == "__main__":
-    main()

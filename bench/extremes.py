@@ -1,31 +1,26 @@
 """Folds the dearest inputs that are let in: time and peak memory, beside a plain program.
 
-    python3 bench/extremes.py [--rounds N] [--mebibytes N]
-
 Distinct silences of 40 bytes in rising and in falling order of their keys, one silence of empty matchers, and one log
 entry of packed hashes, each of so many MiB (64, the most, by default). For each: the least user and system time in
 seconds and the peak memory in MiB of am_tool and of the plain program, the ratio of times, and how many times the
 input the peak of am_tool is.
 """
-import argparse
 import os
 import tempfile
 
+import building
+import measuring
 import rows
-from run import build_ours, build_plain, measure
+from lib.wire import delimited, field
 
+OPTIONS = {"--rounds": 3, "--mebibytes": 64}
 LINE = "%-22s %9s %10s %9s %7s %12s %11s %11s"
-
-
-def whole(payload):
-    """A row of one message."""
-    return rows.varint(len(payload)) + payload
 
 
 def silence(matchers):
     """A version of a silence with these matchers; its moments are all the beginning of 1970."""
-    body = rows.field(1, b"id") + matchers + rows.field(3, b"") + rows.field(4, b"") + rows.field(5, b"")
-    return whole(rows.field(1, body) + rows.field(2, b""))
+    body = field(1, b"id") + matchers + field(3, b"") + field(4, b"") + field(5, b"")
+    return delimited(field(1, body) + field(2, b""))
 
 
 def matchers(size):
@@ -33,8 +28,8 @@ def matchers(size):
 
 
 def hashes(size):
-    key = rows.field(1, b"key") + rows.field(2, b"") + rows.field(5, b"")
-    return whole(rows.field(1, key + rows.field(6, b"\x01" * (size - 64))) + rows.field(2, b""))
+    key = field(1, b"key") + field(2, b"") + field(5, b"")
+    return delimited(field(1, key + field(6, b"\x01" * (size - 64))) + field(2, b""))
 
 
 def inputs(size):
@@ -44,23 +39,17 @@ def inputs(size):
     yield "packed hashes", "nfl", lambda out: open(out, "wb").write(hashes(size))
 
 
-def main():
-    p = argparse.ArgumentParser(description=__doc__, formatter_class=argparse.RawDescriptionHelpFormatter)
-    p.add_argument("--rounds", type=int, default=3)
-    p.add_argument("--mebibytes", type=int, default=64)
-    a = p.parse_args()
+def run(a):
     size = a.mebibytes * 2 ** 20
+    ours = building.am_tool()
     print(LINE % ("input", "MiB", "am_tool s", "plain s", "ratio", "am_tool MiB", "plain MiB", "of input"))
     with tempfile.TemporaryDirectory() as folder:
-        plain = build_plain(folder)
+        plain = building.plain("plain_fold", folder)
         source, *targets = (os.path.join(folder, x) for x in ("row", "ours", "theirs"))
         for name, state, write in inputs(size):
             write(source)
             read = os.path.getsize(source)
-            (t, u), (m, n) = measure([build_ours(state), [plain, state]], source, targets, a.rounds)
+            commands = [[ours, "fold", "--state", state, "--now", "0"], [plain, state]]
+            (t, u), (m, n) = measuring.measure(commands, source, targets, a.rounds)
             print(LINE % (name, "%.1f" % (read / 2 ** 20), "%.2f" % t, "%.2f" % u, "%.2f" % (t / u), "%.0f" % (m / 2 ** 20),
                           "%.0f" % (n / 2 ** 20), "%.1f" % (m / read)), flush=True)
-
-
-if __name__ == "__main__":
-    main()

@@ -1,7 +1,4 @@
-#!/usr/bin/env python3
 """Lists how many seconds each function of a crate took to prove, the dearest first.
-
-    bench/functions.py CRATE [COUNT]
 
 The last check of the crate has to be one from nothing, by one process: remove crates/CRATE/out/incremental, and run
 `rt check --jobs 1` or `rt lib --jobs 1` there. A check keeps a file in out/incremental for each part of a proof as it is
@@ -12,9 +9,10 @@ proved as a function, too: `Destruct.drop`.
 
 import collections
 import os
-import sys
 
-TOP = os.path.dirname(os.path.dirname(os.path.abspath(__file__)))
+from building import TOP
+
+OPTIONS = {"CRATE": None, "COUNT": 30}
 
 
 def parts_of(folder):
@@ -34,22 +32,13 @@ def function_of(name):
     return ".".join(words) or "all that is of no function"
 
 
-def main():
-    if len(sys.argv) not in (2, 3):
-        print(__doc__, file=sys.stderr)
-        return 2
-    found = parts_of(f"{TOP}/crates/{sys.argv[1]}/out/incremental")
+def run(given):
+    found = parts_of(f"{TOP}/crates/{given.CRATE}/out/incremental")
     if not found:
-        print(f"{sys.argv[1]}: no check kept anything", file=sys.stderr)
-        return 1
+        raise SystemExit(f"{given.CRATE}: no check kept anything")
     seconds = collections.Counter()
     for (before, _), (time, name) in zip(found, found[1:]):
         seconds[function_of(name)] += time - before
     print(f"{found[-1][0] - found[0][0]:8.1f}  all")
-    for name, spent in seconds.most_common(int(sys.argv[2]) if len(sys.argv) > 2 else 30):
+    for name, spent in seconds.most_common(given.COUNT):
         print(f"{spent:8.1f}  {name}")
-    return 0
-
-
-if __name__ == "__main__":
-    sys.exit(main())

@@ -1,7 +1,5 @@
 """What a member with `--log` takes: for posts, for posts beside a save, and for a start over a file and its log.
 
-    python3 bench/logs.py [--before PROGRAM] [--only PART ..] [--silences N] [--seconds S] [--every S] [--rounds N]
-
 `posts` is `log` of bench/serve.py: of clients side by side, with a log and without, beside a real Alertmanager where it is there.
 
 `saves`: one client posts for S seconds, 20 by default, to a member that holds N silences, 100,000 by default, and as many
@@ -12,34 +10,30 @@ and 20 ms before and behind that, in which versions are counted, and the directo
 
 `starts`: seconds from the start of the process to the line that says that it listens, over a file of N silences; over the same
 and a log of N others, in any order, of one in each batch, as one client makes them, and of 16; and over a file of all; and how
-often the first and the last go into those between. Least of the rounds, 5 by default.
+often the first and the last go into those between. Least of the rounds, 5 by default. Identifiers are random UUIDs of version 4,
+as members draw them: those that share their first bytes, as `serve.py` counts them up, make an index compare whole keys.
 
 `--before` adds a column of an earlier am_tool. Measure on a machine that does nothing else.
 """
 
-import argparse
 import bisect
 import contextlib
-import functools
 import gc
 import multiprocessing
 import os
 import random
-import shutil
 import subprocess
 import sys
 import tempfile
 import time
+import uuid
 
 import serve
+from lib.wire import block
 from serve import ask, beside, free_port, posted, running, silence
 
-TOP = os.path.dirname(os.path.dirname(os.path.abspath(__file__)))
-sys.path.insert(0, f"{TOP}/tests")
-
-from wire import block
-
 PARTS = ["posts", "saves", "starts"]
+OPTIONS = {"--before": None, "--only": PARTS, "--silences": 100_000, "--seconds": 20.0, "--every": 2, "--rounds": 5}
 
 # What stands there while a save goes on.
 SAVING = [f"{file}.{kind}" for file in ("silences", "nflog") for kind in ("new", "log.old")]
@@ -156,7 +150,8 @@ def make_state(folder, rows, log=()):
 def make_states(folder, count):
     """Makes a folder for each state over which a start is measured. Answers how many silences each has, by its title."""
     draw, now = random.Random(1), int(time.time())
-    rows = [silence(number, now) for number in range(2 * count)]
+    keys = [str(uuid.UUID(int=draw.getrandbits(128), version=4)) for _ in range(2 * count)]
+    rows = [row for _, row in sorted((key, silence(number, now, key)) for number, key in enumerate(keys))]
     numbers = draw.sample(range(2 * count), 2 * count)
     file, others = [rows[it] for it in sorted(numbers[:count])], [rows[it] for it in numbers[count:]]
     alone, whole = f"a file of {count}", f"a file of {2 * count}"
@@ -201,16 +196,7 @@ def starts(start, count, rounds):
     return told
 
 
-def main():
-    words = argparse.ArgumentParser(description=__doc__, formatter_class=argparse.RawDescriptionHelpFormatter)
-    words.add_argument("--before")
-    words.add_argument("--only", nargs="+", choices=PARTS, default=PARTS)
-    words.add_argument("--silences", type=int, default=100_000)
-    words.add_argument("--seconds", type=float, default=20)
-    words.add_argument("--every", type=int, default=2)
-    words.add_argument("--rounds", type=int, default=5)
-    words = words.parse_args()
-
+def run(words):
     def saves_of(start):
         return beside_saves(start, words.silences, words.seconds, words.every)
 
@@ -223,7 +209,3 @@ def main():
         beside(saves_of, words.before, has_other=False)
     if "starts" in words.only:
         beside(starts_of, words.before, has_other=False)
-
-
-if __name__ == "__main__":
-    main()

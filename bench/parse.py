@@ -1,12 +1,9 @@
 """The time of parsing schedules of growing size, beside a plain program that parts the same lines.
 
-    python3 bench/parse.py [--mebibytes N ..] [--kinds KIND ..] [--rounds N]
-
 A kind of text for each thing that could take more than its share: many labels, one `from` that names a long version
 again and again, one `mutes` of many pairs, lists of hashes, short lines. Nanoseconds for each byte are to stay where
 they are when a text grows.
 """
-import argparse
 import random
 import subprocess
 import tempfile
@@ -45,6 +42,7 @@ def frames(size, r):
 
 
 KINDS = {"labels": labels, "one_from": one_from, "one_mutes": one_mutes, "hashes": hashes, "frames": frames}
+OPTIONS = {"--mebibytes": [4, 8, 16], "--kinds": list(KINDS), "--rounds": 3}
 
 
 def least(program, text, rounds):
@@ -53,12 +51,7 @@ def least(program, text, rounds):
     return min(int(run[0]) for run in runs), int(runs[0][1])
 
 
-def main():
-    words = argparse.ArgumentParser(description=__doc__, formatter_class=argparse.RawDescriptionHelpFormatter)
-    words.add_argument("--mebibytes", type=int, nargs="+", default=[4, 8, 16])
-    words.add_argument("--kinds", nargs="+", default=list(KINDS))
-    words.add_argument("--rounds", type=int, default=3)
-    a = words.parse_args()
+def run(a):
     with tempfile.TemporaryDirectory() as folder:
         ours, plain = building.ours("time_parse", folder), building.plain("plain_parse", folder)
         print("%-10s %5s %9s %9s %8s %8s" % ("kind", "MiB", "lines", "ms", "ns/byte", "ratio"))
@@ -69,7 +62,3 @@ def main():
                 if lines != counted:
                     raise SystemExit("%d lines, and not %d" % (lines, counted))
                 print("%-10s %5d %9d %9.1f %8.1f %8.2f" % (kind, mebibytes, lines, took / 1e6, took / len(text), took / other))
-
-
-if __name__ == "__main__":
-    main()

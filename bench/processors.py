@@ -1,7 +1,4 @@
-#!/usr/bin/env python3
 """Runs the gate, and makes a table of the processor seconds that each crate takes.
-
-    bench/processors.py TABLE [COMMAND ..]
 
 COMMAND is `rt ci` if it isn't given; what it prints is passed on, and its exit status is the script's. The table
 is written to the file TABLE in Markdown. The gate's own log has no times, so the provers that it starts are looked
@@ -11,9 +8,9 @@ that checks a copy with a must-fail edit as its edits. Measure on a machine that
 
 import os
 import subprocess
-import sys
 import time
 
+OPTIONS = {"TABLE": None, "COMMAND": ["rt", "ci"]}
 KINDS = ["proof", "tests", "edits"]
 TICKS = os.sysconf("SC_CLK_TCK")
 PAUSE = 0.5
@@ -98,15 +95,8 @@ def lines_of(table):
     yield "| all | " + " | ".join(f"{total[kind]:,.0f}" for kind in KINDS) + f" | {sum(total.values()):,.0f} |"
 
 
-def main():
-    if len(sys.argv) < 2:
-        print(__doc__, file=sys.stderr)
-        return 2
-    status, table = measure(sys.argv[2:] or ["rt", "ci"])
-    with open(sys.argv[1], "w", encoding="utf-8") as file:
+def run(given):
+    status, table = measure(given.COMMAND or OPTIONS["COMMAND"])
+    with open(given.TABLE, "w", encoding="utf-8") as file:
         file.writelines(f"{line}\n" for line in lines_of(table))
     return status
-
-
-if __name__ == "__main__":
-    sys.exit(main())

@@ -1,7 +1,5 @@
 """Plays schedules of three members by am_tool, with and without a `timely` at the end.
 
-    python3 bench/replay.py [--rounds N] [--counts N ..] [--held N ..] [--write COUNT]
-
 A schedule is blocks of twelve lines: a silence is posted at one member and delivered to the two others, one of which shows
 what it holds and one of which says what mutes an alert; the frames are lost, and all members collect once it has expired. So
 there are few silences and few frames at any time, and what grows is the record of the run. For each count of lines: the least
@@ -9,13 +7,14 @@ user and system time of the rounds, the two kinds taken in turn, in microseconds
 before. Then, for each number of silences that one member holds: the time of their posts, in microseconds a line, and what each
 line more costs that changes nothing. `--write` prints a schedule instead. am_tool is built by `./am_tool build` where it isn't.
 """
-import argparse
 import os
 import sys
 import tempfile
 
-import run
+import building
+from measuring import seconds
 
+OPTIONS = {"--rounds": 3, "--counts": [1000, 10000, 100000], "--held": [1000, 16000, 64000], "--write": 0}
 LINE = "%9s %12s %7s %12s %7s"
 HEAD = ("lines", "us a line", "growth", "with timely", "growth")
 HELD_LINE = "%9s %12s %12s"
@@ -67,22 +66,16 @@ def measure_held(command, folder, held, rounds):
     for source, more in zip(sources, (0, MORE)):
         with open(source, "w") as f:
             f.writelines(line + "\n" for line in held_lines(held, more))
-    times = zip(*([run.seconds(command, source, os.devnull) for source in sources] for _ in range(rounds)))
+    times = zip(*([seconds(command, source, os.devnull) for source in sources] for _ in range(rounds)))
     posts, whole = map(min, times)
     return posts / held * 1e6, (whole - posts) / MORE * 1e6
 
 
-def main():
-    p = argparse.ArgumentParser(description=__doc__, formatter_class=argparse.RawDescriptionHelpFormatter)
-    p.add_argument("--rounds", type=int, default=3)
-    p.add_argument("--counts", type=int, nargs="+", default=[1000, 10000, 100000])
-    p.add_argument("--held", type=int, nargs="*", default=[1000, 16000, 64000])
-    p.add_argument("--write", type=int, metavar="COUNT", help="print a schedule of so many lines, and measure nothing")
-    a = p.parse_args()
+def run(a):
     if a.write:
         sys.stdout.writelines(line + "\n" for line in lines_of(a.write, True))
         return
-    command = run.build_ours()[:1] + ["replay"]
+    command = [building.am_tool(), "replay"]
     last = [None, None]
     print(LINE % HEAD)
     with tempfile.TemporaryDirectory() as folder:
@@ -90,7 +83,7 @@ def main():
         for count in a.counts:
             for is_asked, source in enumerate(sources):
                 write(count, is_asked, source)
-            rounds = [[run.seconds(command, source, os.devnull) for source in sources] for _ in range(a.rounds)]
+            rounds = [[seconds(command, source, os.devnull) for source in sources] for _ in range(a.rounds)]
             took = [min(times) / count * 1e6 for times in zip(*rounds)]
             growth = ["" if before is None else "%.2f" % (now / before) for now, before in zip(took, last)]
             print(LINE % (count, "%.2f" % took[0], growth[0], "%.2f" % took[1], growth[1]), flush=True)
@@ -98,7 +91,3 @@ def main():
         print(HELD_LINE % HELD_HEAD)
         for held in a.held:
             print(HELD_LINE % (held, *("%.2f" % it for it in measure_held(command, folder, held, a.rounds))), flush=True)
-
-
-if __name__ == "__main__":
-    main()

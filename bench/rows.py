@@ -1,33 +1,11 @@
-"""Rows of synthetic versions, for the benchmarks.
-
-    python3 rows.py sil|nfl COUNT KEYS OUT [--order random|rising|falling] [--seed N]
-
-Writes COUNT versions of KEYS keys, silences or log entries of about 190 bytes each, in mixed order or in rising or
-falling order of their keys. A silence has two EQUAL matchers, and one in ten a REGEXP matcher beside them. The
-hand-written encoder here is for speed.
-"""
-import argparse
+"""Rows of synthetic versions, silences or log entries of about 190 bytes each. A silence has two EQUAL matchers, and one in ten
+a REGEXP matcher beside them."""
 import random
 
+from lib.wire import delimited, field, timestamp, varint
+
 NOW = 1_800_000_000
-ORDERS = ("random", "rising", "falling")
-
-
-def varint(n):
-    out = bytearray()
-    while n > 127:
-        out.append(n & 127 | 128)
-        n >>= 7
-    out.append(n)
-    return bytes(out)
-
-
-def field(number, payload):
-    return bytes((number << 3 | 2,)) + varint(len(payload)) + payload
-
-
-def timestamp(seconds, nanos):
-    return b"\x08" + varint(seconds) + (b"\x10" + varint(nanos) if nanos else b"")
+ORDERS = ["random", "rising", "falling"]
 
 
 def identifier(r):
@@ -62,8 +40,9 @@ def entry(r, key, i, wave):
     return field(1, body) + field(2, timestamp(NOW + 86400 + i % 1000, 0))
 
 
-def write(state, count, keys, out, order="random", seed=1):
-    r = random.Random(seed)
+def write(state, count, keys, out, order="random"):
+    """Writes versions of so many keys, in mixed order or in rising or falling order of these."""
+    r = random.Random(1)
     names, message = (identifier, silence) if state == "sil" else (group_key, entry)
     ids = [names(r) for _ in range(keys)]
     both = [(i % keys, i // keys) for i in range(count)]
@@ -73,8 +52,7 @@ def write(state, count, keys, out, order="random", seed=1):
         both.sort(key=lambda x: (ids[x[0]], x[1]), reverse=order == "falling")
     with open(out, "wb", buffering=1 << 20) as f:
         for i, wave in both:
-            text = message(r, ids[i], i, wave)
-            f.write(varint(len(text)) + text)
+            f.write(delimited(message(r, ids[i], i, wave)))
 
 
 def write_small(out, limit, falling):
@@ -83,9 +61,7 @@ def write_small(out, limit, falling):
     tail = field(2, b"")
 
     def row(i):
-        body = field(1, b"%027x" % i) + stamps
-        text = field(1, body) + tail
-        return varint(len(text)) + text
+        return delimited(field(1, field(1, b"%027x" % i) + stamps) + tail)
 
     size = len(row(0))
     count = limit // size
@@ -93,15 +69,3 @@ def write_small(out, limit, falling):
         for i in range(count - 1, -1, -1) if falling else range(count):
             f.write(row(i))
     return count
-
-
-if __name__ == "__main__":
-    p = argparse.ArgumentParser(description=__doc__, formatter_class=argparse.RawDescriptionHelpFormatter)
-    p.add_argument("state", choices=("sil", "nfl"))
-    p.add_argument("count", type=int)
-    p.add_argument("keys", type=int)
-    p.add_argument("out")
-    p.add_argument("--order", choices=ORDERS, default="random")
-    p.add_argument("--seed", type=int, default=1)
-    a = p.parse_args()
-    write(a.state, a.count, a.keys, a.out, a.order, a.seed)

@@ -1,7 +1,5 @@
 """What a running member takes, beside a real Alertmanager in the same run.
 
-    python3 bench/serve.py [--rounds N] [--silences N] [--before PROGRAM] [--only PART ..]
-
 `alone`: both load the same files of N silences and N entries of the log (100,000 by default), and then files of 1,000
 and of 10,000 silences. Told are: the time from the start until the first request is answered, the resident memory then;
 a list of all, a list with a filter that one passes, one silence, and a post, each on a new connection: the least time of
@@ -33,7 +31,6 @@ are asked for at once: only good replies count. `--before` adds a column of an e
 many clients ask at once. The requests of a row end after 20 seconds: one that isn't answered then has the time until then.
 """
 
-import argparse
 import contextlib
 import functools
 import json
@@ -49,11 +46,10 @@ import tempfile
 import threading
 import time
 
-from rows import field, timestamp, varint
+from building import PROGRAM
+from lib.alertmanagers import ALERTMANAGER
+from lib.wire import delimited, field, timestamp, varint
 
-TOP = os.path.dirname(os.path.dirname(os.path.abspath(__file__)))
-PROGRAM = f"{TOP}/crates/am_tool/out/am_tool"
-ALERTMANAGER = shutil.which("prometheus-alertmanager")
 CONFIG = "route:\n  receiver: none\nreceivers:\n- name: none\n"
 
 # How long anything is waited for, in seconds; how long the requests of a row may take beside many clients; and how long
@@ -73,27 +69,24 @@ def identifier(number):
 ONE = f"/api/v2/silence/{identifier(7)}"
 
 PARTS = ["alone", "crowd", "readers", "frozen", "saves", "log", "load", "spread"]
+OPTIONS = {"--rounds": 50, "--silences": 100_000, "--before": None, "--only": PARTS}
 
 
-def silence(number, now):
-    """A silence of job `job-N`, from an hour ago to one hour hence."""
+def silence(number, now, key=None):
+    """A silence of job `job-N`, from an hour ago to one hour hence, with this identifier or that of its number."""
     matcher = field(2, b"job") + field(3, b"job-%d" % number)
-    inner = field(1, identifier(number).encode()) + field(2, matcher)
-    inner += field(3, timestamp(now - 3600, 0)) + field(4, timestamp(now + 3600, 0)) + field(5, timestamp(now - 3600, 0))
+    inner = field(1, (key or identifier(number)).encode()) + field(2, matcher)
+    inner += field(3, timestamp(now - 3600)) + field(4, timestamp(now + 3600)) + field(5, timestamp(now - 3600))
     inner += field(8, b"somebody") + field(9, b"a comment of some length on why it is silenced")
-    return delimited(field(1, inner) + field(2, timestamp(now + 400_000, 0)))
+    return delimited(field(1, inner) + field(2, timestamp(now + 400_000)))
 
 
 def entry(number, now):
     """An entry of a group at the receiver `team`, in which one alert fires."""
     receiver = field(1, b"team") + field(2, b"email")
-    inner = field(1, b"{}:{job=\"job-%d\"}" % number) + field(2, receiver) + field(5, timestamp(now - 60, 0))
+    inner = field(1, b"{}:{job=\"job-%d\"}" % number) + field(2, receiver) + field(5, timestamp(now - 60))
     inner += field(6, varint(number + 1))
-    return delimited(field(1, inner) + field(2, timestamp(now + 400_000, 0)))
-
-
-def delimited(message):
-    return varint(len(message)) + message
+    return delimited(field(1, inner) + field(2, timestamp(now + 400_000)))
 
 
 def free_port():
@@ -451,13 +444,7 @@ def alone(silences, rounds):
             print("%-34s %12.2f %s" % (f"{count}: {name}", value, ratio), flush=True)
 
 
-def main():
-    words = argparse.ArgumentParser(description=__doc__, formatter_class=argparse.RawDescriptionHelpFormatter)
-    words.add_argument("--rounds", type=int, default=50)
-    words.add_argument("--silences", type=int, default=100_000)
-    words.add_argument("--before")
-    words.add_argument("--only", nargs="+", choices=PARTS, default=PARTS)
-    words = words.parse_args()
+def run(words):
     if "alone" in words.only:
         alone(words.silences, words.rounds)
     for part in (crowd, readers, log):
@@ -470,7 +457,3 @@ def main():
         beside(load, words.before)
     if "spread" in words.only:
         print("from a post until both others show it, ms: %.2f in the middle, %.2f at most" % spread(words.rounds))
-
-
-if __name__ == "__main__":
-    main()

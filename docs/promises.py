@@ -29,10 +29,10 @@ PARTS = {
     "Replicas": ["am_collect", "am_refusals", "am_instance", "am_runs", "am_cluster", "am_client"],
     "Members, from bytes to bytes": [
         "am_http", "am_silence_json", "am_api_silences", "am_decision_json", "am_api_decisions", "am_api_status", "am_metrics",
-        "am_figures", "am_gossip", "am_seal", "am_gate", "am_address", "am_secret", "am_peers", "am_member", "am_reactor", "am_living",
+        "am_figures", "am_gossip", "am_seal", "am_gate", "am_address", "am_secret", "am_peers", "am_member", "am_reactor", "am_living", "am_attendant",
         "am_dialogue", "am_upkeep", "am_self", "am_daemon",
     ],
-    "Files, comparing and mending": ["am_snapshot", "am_told", "am_lzw", "am_memberlist", "am_mend", "am_commands", "am_disk", "am_journal", "am_files"],
+    "Files, comparing and mending": ["am_snapshot", "am_told", "am_lzw", "am_memberlist", "am_mend", "am_beside", "am_commands", "am_disk", "am_journal", "am_files"],
     "Rules": ["am_version_order", "am_merge", "am_silence", "am_nflog", "am_dedup", "am_alert_hash", "am_matcher", "am_wire", "am_streams"],
     "Schedules": ["am_schedule", "am_steps", "am_replay", "am_picture", "am_player"],
 }  # fmt: skip
@@ -49,12 +49,12 @@ Every function is proved safe: it returns on every input, without undefined beha
 TAIL = """## Only tested
 
 - **Definitions** mean what people want: [cases/](CASES.md), worked by hand.
-- **The loop** is fair, keeps deadlines, closes the right connection and counts unfinished bytes: tests/duties.py, tests/edges.py. The program's own service isn't proved to be a `Living` one, whose calls are the turns of a life. Members under faults of network, process and disk: tests/chaos.py.
+- **The loop** is fair, keeps deadlines, closes the right connection and counts unfinished bytes: tests/upkeep.py, tests/edges.py. Members under faults of network, process and disk: tests/chaos.py.
 - **`--log`**: a reply and its frames wait for the log, so that members with logs are durable: tests/disk.py.
 - **A member's turns, figures, readiness and first pull**, and that it gives each step its moment: tests/turns.py, tests/operations.py, tests/three_members.py, tests/machines.py.
 - **Pages** go out, and once if nothing fails: tests/pages.py; beside real Alertmanagers tests/real_shims.py, on request.
 - **Command lines, servers, logs that are read, pictures' layout, the page for people**: tests/command_line.py, live_sources.py, log_sources.py, gossip.py, pictures.py, page.py (with chromium).
-- **That a member's connections pass its gate, that what is sealed opens, and that `push` sends just the lacking rows**: tests/machines.py, tests/gossip.py.
+- **That a member's gate knows its secret, that what is sealed opens and comes of the bytes that were fed, that the reply of a turn is what goes out, that `push` sends just the lacking rows, and that a member beside Alertmanagers asks and tells them**: tests/machines.py, tests/gossip.py, tests/beside.py.
 - **Refused memory and hostile input**: tests/refused_memory.py, tests/fuzz.py, am_tests (128 MiB, random runs).
 - **Real replicas** of prometheus-alertmanager 0.25.0: tests/real_replicas.py, on request.
 

@@ -18,9 +18,9 @@ import subprocess
 import sys
 import tempfile
 
-from lines import bare, words_in
-from tally import compare, count, finish, give_up
-from versions import row, unescaped
+from lib.error_lines import bare, words_in
+from lib.tally import compare, count, finish, give_up
+from lib.versions import row, unescaped
 
 TOP = os.path.dirname(os.path.dirname(os.path.abspath(__file__)))
 

@@ -25,7 +25,6 @@ was away may bring back what others forgot. `--seed` repeats what is drawn at ra
 Nothing leaves 127.0.0.1. Prints each case that fails, and at the end how many passed.
 """
 
-import argparse
 import base64
 import collections
 import contextlib
@@ -36,18 +35,19 @@ import resource
 import shutil
 import signal
 import socket
-import sys
 import tempfile
 import threading
 import time
 
-import members
-from ledger import Ledger, milliseconds, now, shown, versions_of
-from lines import FLAWS
-from members import PATIENCE, free_ports, outcome, parted, received, run
-from proxies import WEATHERS, Proxy
-from tally import check, finish
-from wire import EMPTY_PUSH, TICK, delta, field, greeting, timestamp, varint
+from lib import members
+from lib.api import NOT_KEPT, NOT_READY, REFUSALS, moment, request
+from lib.error_lines import FLAWS
+from lib.ledger import Ledger, now, shown, versions_of
+from lib.members import LIMITED, PATIENCE, bytes_of, free_ports, outcome, parted, received, run
+from lib.proxies import WEATHERS, Proxy
+from lib.rounds import parser, rounds
+from lib.tally import attempt, check, finish
+from lib.wire import EMPTY_PUSH, TICK, delta, field, greeting, timestamp, varint
 
 NAMES = ["a", "b", "c"]
 STATES = {"sil": "silences", "nfl": "entries of the log"}
@@ -60,9 +60,6 @@ TIME_LIMIT, EVERY, FIRST = 2, 1, 3
 OPTIONS = ["--time-limit", str(TIME_LIMIT)]
 OPTIONS += [word for what in ("tick", "pull", "save") for word in (f"--{what}-every", str(EVERY))]
 AGAIN = ["--pull-first", "--pull-first-limit", str(FIRST)]
-
-# Signals that stop a member are blocked, as docs/MEMBERS.md has it, and too large files are a fault of the write.
-STARTED_BY = ["env", "--block-signal=TERM", "--block-signal=INT", "--ignore-signal=XFSZ"]
 
 # Freezes a process as soon as one of four files is there. (Python is too slow for that.)
 STOP_WITHIN = 'until [ -e "$2" ] || [ -e "$3" ] || [ -e "$4" ] || [ -e "$5" ]; do :; done; kill -STOP "$1"'
@@ -96,22 +93,8 @@ OPENINGS = [
     b"\0\1q\4\0",
 ]
 
-# The reply of a member that still waits for its first pull.
-NOT_READY = (503, b'"not ready"')
-
-# The reply of a member whose log takes nothing.
-NOT_KEPT = (500, b'"held, but not kept on disk"')
-
 # The reply to a page of another site.
 FOREIGN = (403, b'"foreign host"')
-
-# Replies that refuse a post, an update and an end for a cause that chaos may bring about.
-REFUSALS = [
-    (400, b'"end in the past"'),
-    (404, b'"silence not found"'),
-    (500, b'"silence already expired"'),
-    NOT_READY,
-]
 
 
 class Disk:
@@ -150,6 +133,8 @@ class Disk:
 class Member(members.Member):
     """A member that is meddled with, and what it surely holds while it lives."""
 
+    front = LIMITED
+
     def __init__(self, name, port, disk):
         super().__init__(name, port, [], disk.folder)
         self.disk, self.starts = disk, 0
@@ -163,7 +148,7 @@ class Member(members.Member):
         self.is_open, self.is_frozen, self.meddled, self.full_at = False, False, 0.0, 0.0
 
     def command(self):
-        return [*STARTED_BY, *super().command(), *["--log"] * self.keeps_log]
+        return [*super().command(), *["--log"] * self.keeps_log]
 
     def begin(self, keeps_log):
         """Starts it, with a log or without; whether it listens, having loaded what stands in its files and logs."""
@@ -190,11 +175,11 @@ class Member(members.Member):
 
     def file(self, state):
         """The versions in one of its files."""
-        return versions_of(state, content(self.path(state)))
+        return versions_of(state, bytes_of(self.path(state)) or b"")
 
     def stands(self, state):
         """The versions in one of its files and in the logs beside it."""
-        return versions_of(state, *(content(f"{self.path(state)}{it}") for it in ["", *(f".{log}" for log in LOGS)]))
+        return versions_of(state, *(bytes_of(f"{self.path(state)}{it}") or b"" for it in ["", *(f".{log}" for log in LOGS)]))
 
     def saving(self):
         """What stands there while one of its files is being written, or where it ended meanwhile."""
@@ -210,7 +195,6 @@ class Member(members.Member):
 
     def request(self, method, path, body=b""):
         """The status and the body of a reply; no status where it is not known what came of it, 0 where nothing did."""
-        head = f"{method} {path} HTTP/1.1\r\nHost: localhost\r\nContent-Length: {len(body)}\r\n\r\n"
         generation = self.generation
         try:
             stream = socket.create_connection(("127.0.0.1", self.port), timeout=REPLY)
@@ -218,7 +202,7 @@ class Member(members.Member):
             return 0, b""
         try:
             with stream:
-                stream.sendall(head.encode() + body)
+                stream.sendall(request(method, path, body))
                 status, body = parted(received(stream))
         except OSError:
             return None, b""
@@ -349,19 +333,6 @@ class Client:
         for it in kept:
             if not it.is_passed_by(versions.get(it.key)) and not self.ledger.is_forgotten(it.ends):
                 self.round.complain("kept", f"{member.name} doesn't show {it}")
-
-
-def content(path):
-    """What a file holds: nothing where there is none."""
-    with contextlib.suppress(FileNotFoundError), open(path, "rb") as file:
-        return file.read()
-    return b""
-
-
-def moment(milliseconds_since_1970):
-    """A moment as API v2 writes it."""
-    seconds, rest = divmod(milliseconds_since_1970, 1000)
-    return time.strftime("%Y-%m-%dT%H:%M:%S", time.gmtime(seconds)) + f".{rest:03}Z"
 
 
 class Meddler:
@@ -620,10 +591,9 @@ class Round:
             stream.recv(1)
 
     def page(self, _, member):
-        begun, body = time.monotonic(), b'{"comment": "of a page"}'
-        head = f"POST /api/v2/silences HTTP/1.1\r\nHost: pages.example\r\nContent-Length: {len(body)}\r\n\r\n"
+        begun, post = time.monotonic(), request("POST", "/api/v2/silences", b'{"comment": "of a page"}', "pages.example")
         with socket.create_connection(("127.0.0.1", member.port), timeout=TIME_LIMIT) as stream:
-            stream.sendall(head.encode() + body)
+            stream.sendall(post)
             reply = parted(received(stream))
         if member.is_let_alone(begun) and reply != FOREIGN:
             self.complain("pages", f"{member.name}: {reply}")
@@ -761,51 +731,32 @@ def entry(group, updated):
 def play(seed, seconds):
     """One round."""
     print(f"chaos: seed {seed}, {seconds} seconds, kept for {RETENTIONS[seed % 2]} seconds", flush=True)
-    with tempfile.TemporaryDirectory() as top:
-        one = Round(seed, top)
-        try:
+    with tempfile.TemporaryDirectory() as top, contextlib.closing(Round(seed, top)) as one:
+        with attempt("the round", one.complaints):
             one.run(seconds)
             one.heal()
             one.judge()
             one.tell()
-        except Exception as error:  # a round that can't go on is a case that fails
-            check("the round", False, f"{error!r} {dict(one.complaints)}")
-        finally:
-            one.close()
 
 
 def find_lost_logs(seed):
     """A round of members whose logs are gone when they start again, which has to be found."""
     print(f"chaos: seed {seed}, logs are gone at each start", flush=True)
-    with tempfile.TemporaryDirectory() as top:
-        one = Round(seed, top, is_robbed=True)
-        try:
-            one.run(FOUND_WITHIN)
-        finally:
-            one.close()
+    with tempfile.TemporaryDirectory() as top, contextlib.closing(Round(seed, top, is_robbed=True)) as one:
+        one.run(FOUND_WITHIN)
     found = one.complaints["kept"]
     check("a lost log is found", found, dict(one.complaints))
     print(f"  {[*found, 'not found'][0]}", flush=True)
 
 
-def stop(*_):
-    """Ends this script, so that it leaves nothing behind."""
-    signal.signal(signal.SIGTERM, signal.SIG_IGN)
-    sys.exit(1)
-
-
 def main():
-    words = argparse.ArgumentParser(description=__doc__, formatter_class=argparse.RawDescriptionHelpFormatter)
-    words.add_argument("--seed", type=int, default=1)
-    words.add_argument("--seconds", type=int, default=20)
+    words = parser(__doc__, 20)
     words.add_argument("--ignore", choices=["log"])
     words.add_argument("program", nargs="*")
     words = words.parse_args()
     members.choose("chaos", words.program)
-    signal.signal(signal.SIGTERM, stop)
-    rounds = 0 if words.ignore else max(2, -(-words.seconds // ROUND))
-    for number in range(rounds):
-        play(words.seed + number, words.seconds // rounds)
+    for seed, seconds in [] if words.ignore else rounds(words, ROUND):
+        play(seed, seconds)
     find_lost_logs(words.seed)
     finish("chaos")
 

@@ -16,10 +16,10 @@ import signal
 import sys
 import tempfile
 
-import members
-from members import choose, run
-from samples import ENTRY, FIRST, ORDERS, ORDERS_OUTPUT, RESTARTED, RESTARTED_OUTPUT, SECOND
-from tally import compare, finish
+from lib import members
+from lib.members import choose, run
+from lib.samples import ENTRY, FIRST, ORDERS, ORDERS_OUTPUT, RESTARTED, RESTARTED_OUTPUT, SECOND
+from lib.tally import compare, finish
 
 # Versions of two keys.
 TWO_KEYS = SECOND + SECOND.replace(b"\x01a", b"\x01b")
@@ -191,6 +191,7 @@ Options:
       --peers-listen <ADDRESS:PORT>  The address at which it listens for the frames of peers, and for nothing else; --listen then hears no frames
       --secret <FILE>                The file of a secret that all members have, 16 to 4096 bytes: frames go out sealed by it, and others are refused
       --open-peers                   Hears frames without --secret also at an address that other machines reach: whoever reaches it can change silences
+      --gossip <NAME=ADDRESS:PORT>   An Alertmanager beside which it runs, and the address of its gossip (--cluster.listen-address), or its port alone on 127.0.0.1: each holds what the other does; any number of times, each by a name of its own
       --host <NAME>                  A name by which it is asked beside 127.0.0.1, localhost and the address of --listen, as that of a proxy; any number of times. Under any other it answers 403, and so it does the page of another site
       --sil <FILE>                   The file of the silences; where there is none, it holds none
       --nfl <FILE>                   The file of the notification log; where there is none, it is empty
@@ -206,8 +207,9 @@ Options:
       --tick-every <S>               Ticks by itself every so many seconds, 1 to 999999999: drops what has expired, and saves both files
       --pull-every <S>               Asks each peer for all it has every so many seconds, 1 to 999999999, and says at the start which spread and flight time that keeps
       --save-every <S>               Saves both files every so many seconds, 1 to 999999999, where something may have changed
+      --gossip-every <S>             Asks each --gossip for all it has every so many seconds, 1 to 999999999, and gives back what it lacks; new versions go to it at once [default: 60]
       --log                          Keeps a log beside each file, and has all it takes there, on the disk, before it is answered or sent on
-      --pull-first                   Answers no request, and no peer that asks for all, before a peer has sent all it has
+      --pull-first                   Answers no request, and no peer that asks for all, before a peer or a --gossip has sent all it has
       --pull-first-limit <S>         For how many seconds --pull-first waits at the most, 1 to 999999999 [default: 30]
       --stop-at-input-end            Saves both files and ends where standard input ends
       --least-repeat <S>             The smallest repeat interval in seconds, 1 to 999999999: warns where --pull-every asks for more
@@ -221,6 +223,8 @@ Three machines, a on 10.0.0.1, b on 10.0.0.2 and c on 10.0.0.3, each with the sa
   head -c 32 /dev/urandom | base64 > members.secret && chmod 600 members.secret
   am_tool instance --name a --listen 127.0.0.1:9093 --peers-listen 10.0.0.1:9094 --secret members.secret \
     --peer b=10.0.0.2:9094 --peer c=10.0.0.3:9094 --sil a.sil --nfl a.nfl --tick-every 60 --pull-every 60 --pull-first
+Beside an Alertmanager that gossips on port 9094 of this machine:
+  am_tool instance --name a --listen 9101 --gossip am=9094 --sil a.sil --nfl a.nfl --tick-every 60 --save-every 5
 A Tick is a greeting with a peer's name and the bytes 4 and 0, sent to the port; for a peer b:
   printf '\0\1b\4\0' >/dev/tcp/127.0.0.1/PORT
 """

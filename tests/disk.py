@@ -5,7 +5,7 @@
 
 PROGRAM is crates/am_tool/out/am_tool if it isn't given; ./am_tool and rt ci build it. tests/disk.c stands between a member
 and its disk, and kills it at a call that is drawn, while silences are posted, updated and ended and frames bring versions.
-Then its directory is left as it is, as where the process alone died, or as tests/power.py draws what a failure of the power
+Then its directory is left as it is, as where the process alone died, or as tests/lib/power_failures.py draws what a failure of the power
 leaves; several are drawn of a kill, and over each the member starts. It starts again until it was killed K times.
 
 A save has ended where the member went on: it began the next save, ended with status 0, or answered what it was asked behind
@@ -34,18 +34,15 @@ import os
 import random
 import re
 import socket
-import sys
 import tempfile
 import time
 
-import members
-import power
-import versions
-from chaos import REFUSALS, moment
-from ledger import Ledger, now, shown, versions_of
-from members import PATIENCE, free_ports, silent_peer
-from tally import check, count, finish
-from wire import TICK, delta, greeting
+from lib import members, power_failures, versions
+from lib.api import REFUSALS, moment
+from lib.ledger import Ledger, now, shown, versions_of
+from lib.members import PATIENCE, free_ports, silent_peer
+from lib.tally import check, count, finish
+from lib.wire import TICK, batches, delta, greeting
 
 # The kills of one seed; how many seeds are tried at once; and within how many kills a wrong member has to be found.
 LIFE, LANES, FOUND_WITHIN = 10, 5, 40
@@ -120,17 +117,6 @@ class Saves:
         return any(row.content == content for row in self.rows[self.ended :])
 
 
-def batches(log):
-    """What a log has, as docs/FORMATS.md says: the batches of its whole blocks."""
-    at = 0
-    while len(log) >= at + 9 and log[at] == 1:
-        end = at + 9 + int.from_bytes(log[at + 1 : at + 9], "little")
-        if end > len(log):
-            return
-        yield log[at + 9 : end]
-        at = end
-
-
 class Member(members.Member):
     """A member over the library, and what it acknowledged: when, and what."""
 
@@ -160,7 +146,7 @@ class Life:
         self.ignored, self.is_by_answers, self.keeps_log = ignored, is_by_answers or keeps_log, keeps_log
         self.state, self.calls = f"{folder}/state", f"{folder}/calls"
         os.mkdir(self.state)
-        self.directory = power.Directory(self.state)
+        self.directory = power_failures.Directory(self.state)
         # what it is asked for, the silences that were made of late, and what was ever answered, each with when it was
         self.ledger, self.keys, self.answered = Ledger(1000 * RETENTION), [], []
         # silences that were brought whose ends are kept briefly: those that last, those whose end was taken of late, and when, and
@@ -196,7 +182,7 @@ class Life:
             self.look(member, loaded)
             self.work(member)
         status = member.end()
-        calls = list(power.calls_of(self.calls))
+        calls = list(power_failures.calls_of(self.calls))
         os.remove(self.calls)
         is_killed = bool(calls) and calls[-1].kind == "end"
         if (status, is_killed) not in [(-9, True), (0, False)] or member.faults():
@@ -408,7 +394,7 @@ class Life:
         left = {name: file.left(self.draw) for name, file in self.directory.left(self.draw).items()}
         for saves in self.saves.values():
             self.judge_left(saves, left.get(saves.name), call)
-        if self.keeps_log and not self.complaints and (call.kind in power.NAMING or self.draw.random() < SHARE):
+        if self.keeps_log and not self.complaints and (call.kind in power_failures.NAMING or self.draw.random() < SHARE):
             self.judge_logs(left, call)
 
     def judge_logs(self, left, call):

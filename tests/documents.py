@@ -1,14 +1,14 @@
 #!/usr/bin/env python3
 """Runs the commands of README.md and of the pages of docs/ that operators read, and checks all pages, so that none goes stale.
 
-    tests/documents.py [PROGRAM]
+    tests/documents.py [--write | PROGRAM]
 
-PROGRAM is crates/am_tool/out/am_tool if it isn't given. A block below a line `<!--run-->` is given to bash, and has to end
+PROGRAM is crates/am_tool/out/am_tool if it isn't given; `--write` writes the files of samples/. A block below a line `<!--run-->` is given to bash, and has to end
 with status 0; one below `<!--prints-->` is what the block before it printed, and one below `<!--prints among others-->`
 are lines of that, in this order. The blocks of a document are run one after the other in one folder, where the files stand
 that the documents speak of. Status 5 of `am_tool diff`, that something differs, is none here, and `am_tool build` builds
 nothing. The ports of members are free ones. Blocks with curl or amtool are left out where these are not there. Each command of
-README.md has to stand in a block that is run, and samples/ has to be what tests/samples.py writes. Each block of Rust in
+README.md has to stand in a block that is run, and samples/ has to be what tests/lib/samples.py has. Each block of Rust in
 docs/library/ has to stand in a source of crates/, whose crates the gate proves, and docs/PROOFS.md has to be what
 docs/promises.py makes. Each page has a budget of words, and links to what is there; no carrier, a word for every sense, is
 more frequent in it than once in a hundred words. The last line says how many passed.
@@ -25,11 +25,11 @@ import sys
 import tempfile
 import time
 
-import members
-from members import TOP, free_ports
-from samples import REPLICAS, sample
-from tally import check, compare, count, finish
-from versions import row
+from lib import members
+from lib.members import TOP, bytes_of, free_ports, write
+from lib.samples import REPLICAS, sample
+from lib.tally import check, compare, count, finish
+from lib.versions import row
 
 DOCUMENTS = ["README.md", "docs/MEND.md", "docs/MEMBERS.md"]
 
@@ -110,8 +110,7 @@ def test_every_command():
 
 def test_samples():
     for replica in REPLICAS:
-        with open(f"{TOP}/samples/{replica}.sil", "rb") as file:
-            compare(f"samples/{replica}.sil", file.read(), sample(replica))
+        compare(f"samples/{replica}.sil", bytes_of(f"{TOP}/samples/{replica}.sil"), sample(replica))
 
 
 def prepare(folder):
@@ -119,8 +118,7 @@ def prepare(folder):
     for place, replica in enumerate(REPLICAS, 1):
         os.mkdir(f"{folder}/am{place}")
         for file, data in (("silences", sample(replica)), ("nflog", row("nfl", LOG[replica]))):
-            with open(f"{folder}/am{place}/{file}", "wb") as out:
-                out.write(data)
+            write(f"{folder}/am{place}/{file}", data)
     os.mkdir(f"{folder}/docs")
     for name in ("samples", "docs/pictures"):
         os.symlink(f"{TOP}/{name}", f"{folder}/{name}")
@@ -261,6 +259,10 @@ def test_pages():
 
 
 def main():
+    if sys.argv[1:] == ["--write"]:
+        for replica in REPLICAS:
+            write(f"{TOP}/samples/{replica}.sil", sample(replica))
+        return
     members.choose("documents", sys.argv[1:])
     test_every_command()
     test_samples()

@@ -7,7 +7,7 @@ PROGRAM is crates/am_tool/out/am_tool if it isn't given. A last save fails, a di
 one file, a stop and the time limit come while nothing is answered yet, the clock goes ahead and comes back, links and what is
 no file stand in a file's place, faults and silent clients come by the hundred and the thousand, pages of other sites ask,
 frames ask for more than is good for anybody, requests have many patterns, and states are full, or of over 64 MiB.
-tests/system.c stands between a member and the C library. What is wanted is written by hand, from docs/FORMATS.md and
+tests/lib/system.c stands between a member and the C library. What is wanted is written by hand, from docs/FORMATS.md and
 docs/MEMBERS.md.
 """
 
@@ -26,18 +26,14 @@ import time
 from concurrent.futures import ThreadPoolExecutor
 from urllib.parse import quote
 
-import members
-import versions
-from members import ALL_LINES, PATIENCE, STRANGER, TOLD_OF_STRANGER, Member, eventually, free_ports, parted, received, run
-from tally import check, compare, finish, try_each
-from wire import EMPTY_PUSH, PULL, PUSH, TICK, delimited, delta, field, frame, greeting, items, number_at, varint
-
-# Words in front of a member's that have it see SIGTERM and SIGINT.
-BLOCKED = ["env", "--block-signal=TERM", "--block-signal=INT"]
+from lib import members, versions
+from lib.api import NOT_KEPT, NOT_READY, request, silence
+from lib.members import ALL_LINES, LIMITED, PATIENCE, STRANGER, TOLD_OF_STRANGER, Stoppable
+from lib.members import asked, begun, bytes_of, eventually, free_ports, parted, received, run, write
+from lib.tally import check, compare, finish, try_each
+from lib.wire import EMPTY_PUSH, PULL, PUSH, TICK, delimited, delta, field, frame, greeting, items, number_at, varint
 
 ONE_FILE = "error: '--sil <FILE>' and '--nfl <FILE>' name one file"
-
-NOT_READY = (503, b'"not ready"')
 
 # How many clients say nothing, and in how many seconds others are answered beside them.
 CROWD, SOON = 5000, 0.1
@@ -46,22 +42,6 @@ CROWD, SOON = 5000, 0.1
 ONE_TURN = 0.25
 
 library = None
-
-
-class Stoppable(Member):
-    """A member that stops by SIGTERM."""
-
-    def command(self):
-        return [*BLOCKED, *super().command()]
-
-    def stop(self):
-        self.process.send_signal(signal.SIGTERM)
-        return self.end()
-
-
-def begun(member):
-    check(f"{member.name} listens", member.start(), member.lines)
-    return member
 
 
 def alone(name, folder, options=(), **how):
@@ -73,27 +53,8 @@ def under_library(**values):
     return {"env": {**os.environ, "LD_PRELOAD": library, **values}}
 
 
-def silence(value, now):
-    """What is posted: a silence for two hours from now on."""
-    moment = lambda seconds: time.strftime("%Y-%m-%dT%H:%M:%SZ", time.gmtime(seconds))
-    matcher = {"name": "job", "value": value, "isRegex": False}
-    times = {"startsAt": moment(now), "endsAt": moment(now + 7200)}
-    return {"matchers": [matcher], **times, "createdBy": "me", "comment": value}
-
-
 def post(member, value, ahead=0):
-    return member.ask("POST", "/api/v2/silences", json.dumps(silence(value, time.time() + ahead)).encode())
-
-
-def bytes_of(path):
-    with contextlib.suppress(FileNotFoundError), open(path, "rb") as file:
-        return file.read()
-    return None
-
-
-def write(path, data):
-    with open(path, "wb") as file:
-        file.write(data)
+    return member.post(silence(value, starts=ahead))
 
 
 def words(sil, nfl, port=1, name="m"):
@@ -246,19 +207,8 @@ def waits(name, folder, options):
     return begun(Stoppable(name, port, [("p", nobody)], folder, how))
 
 
-def asked(member, data):
-    """A connection on which something is asked."""
-    stream = socket.create_connection(("127.0.0.1", member.port), timeout=PATIENCE)
-    stream.sendall(data)
-    return stream
-
-
-def request(method, path, body=b""):
-    return f"{method} {path} HTTP/1.1\r\ncontent-length: {len(body)}\r\n\r\n".encode() + body
-
-
 def requests():
-    body = json.dumps(silence("x", time.time())).encode()
+    body = json.dumps(silence("x")).encode()
     return [request("GET", "/api/v2/silences"), request("POST", "/api/v2/silences", body), request("GET", "/nowhere")]
 
 
@@ -334,20 +284,14 @@ def test_clock(folder):
 # The name that stands for the disk among the members of one that keeps logs.
 DISK = "\U0010ffff" * 8
 
-NOT_KEPT = (500, b'"held, but not kept on disk"')
-
 
 class Logging(Stoppable):
     """A member that keeps logs, and that a limit of its files doesn't end."""
 
-    def command(self):
-        return ["env", "--ignore-signal=XFSZ", *super().command()]
+    front = LIMITED
 
     def limit_files(self, size):
         resource.prlimit(self.process.pid, resource.RLIMIT_FSIZE, (size, resource.RLIM_INFINITY))
-
-    def comments(self):
-        return sorted(it["comment"] for it in self.listed())
 
 
 def test_log(folder):
@@ -552,7 +496,7 @@ def test_foreign(folder):
     for fields, wanted in FIELDS:
         fields = [field.replace("PORT", str(member.port)) for field in fields]
         compare(f"a list with {fields}", asks(member, fields), (200, b"[]") if wanted is True else wanted)
-    body = json.dumps(silence("x", time.time())).encode()
+    body = json.dumps(silence("x")).encode()
     page = ["Host: evil.example", "Content-Type: text/plain"]
     compare("a page that posts", asks(member, page, "POST /api/v2/silences", body), FOREIGN_HOST)
     compare("in pieces", asks(member, page, "POST /api/v2/silences", body, 40), FOREIGN_HOST)
@@ -580,7 +524,7 @@ def test_hosts(folder):
 
 
 def peak(member):
-    """The most memory that a member had so far, in MB."""
+    """How many MiB of memory a member has had at most."""
     with open(f"/proc/{member.process.pid}/status", encoding="ascii") as file:
         return int(re.search(r"VmHWM:\s+(\d+)", file.read()).group(1)) / 1024
 
@@ -712,10 +656,6 @@ def with_peer(name, folder, options=()):
     return begun(Stoppable(name, port, [("p", nobody)], folder, options))
 
 
-def comments(member):
-    return sorted(it["comment"] for it in member.listed() or [])
-
-
 def told(member, word):
     """How many lines of a word a member has printed or counted."""
     counted = re.compile(rf"am_tool: \.\. and (\d+) more like {word}\b.*")
@@ -737,7 +677,7 @@ def test_silent_crowd(folder):
             deltas.append(seconds)
         check("a list is soon there", sorted(lists)[1] <= SOON, lists)
         check("and so is a Delta", sorted(deltas)[1] <= SOON, deltas)
-        compare("all came", comments(member), ["x", "y", "z"])
+        compare("all came", member.comments(), ["x", "y", "z"])
     compare("the stop", member.stop(), 0)
     count = told(member, "Crowded")
     check("each client that was let go is told", CROWD - 300 <= count <= CROWD, count)
@@ -784,7 +724,7 @@ def unfinished(count):
 def test_unfinished(folder):
     """What isn't finished has a limit, and the connection that has most of it is closed."""
     member = with_peer("u", folder, ["--most-unfinished", "1000000", "--time-limit", "60"])
-    posted = request("POST", "/api/v2/silences", json.dumps(silence("x", time.time())).encode())
+    posted = request("POST", "/api/v2/silences", json.dumps(silence("x")).encode())
     with contextlib.ExitStack() as stack:
         begin = lambda data: stack.enter_context(asked(member, data))
         small, post, large = begin(unfinished(300_000)), begin(posted[:-1]), begin(unfinished(500_000))
@@ -823,18 +763,12 @@ def heavy(number):
 def with_patterns(patterns):
     """What is posted, with these patterns and as few other bytes as it can have."""
     matchers = [{"name": "j", "value": it, "isRegex": True} for it in patterns]
-    return json.dumps({**silence("x", time.time()), "matchers": matchers}, separators=(",", ":")).encode()
+    return json.dumps(silence("x", matchers=matchers), separators=(",", ":")).encode()
 
 
 def filtered(patterns):
     """The target of a list with these patterns as filters."""
     return "/api/v2/silences?" + "&".join("filter=" + quote(f'j=~"{it}"') for it in patterns)
-
-
-def most_memory(member):
-    """How many MiB of memory a member has had at most."""
-    with open(f"/proc/{member.process.pid}/status", encoding="ascii") as file:
-        return next(int(line.split()[1]) for line in file if line.startswith("VmHWM:")) / 1024
 
 
 def beside(member, data):
@@ -857,7 +791,7 @@ def test_patterns(folder):
         compare("a post with patterns", member.ask("POST", "/api/v2/silences", with_patterns(few))[0], 200)
     status, body = member.ask("GET", filtered(["c..", "c..", r"c\.."]))
     compare("a list by patterns", (status, len(json.loads(body))), (200, 1))
-    before = most_memory(member)
+    before = peak(member)
     largest = with_patterns(map(heavy, range(19_900)))
     check("many patterns fit into a body", 1_000_000 < len(largest) <= 1_048_576, len(largest))
     for name, data, refusal in [
@@ -870,7 +804,7 @@ def test_patterns(folder):
         check(f"nobody waits for long beside {name}", max(seconds) <= ONE_TURN, seconds)
     same = filtered([r"\pL{150}"] * 200)
     compare("a list with one pattern in 200 filters", member.ask("GET", same), (200, b"[]"))
-    grown = most_memory(member) - before
+    grown = peak(member) - before
     check("memory grows by at most 200 MiB", grown <= 200, grown)
     compare("a stop", (member.stop(), member.lines[1:]), (0, []))
 
@@ -883,11 +817,11 @@ FULL = (500, b'"state too large"')
 
 def put(member, value):
     """What comes of a post that has 1,000 bytes to say."""
-    return member.ask("POST", "/api/v2/silences", body_saying(value))
+    return member.post(saying(value))
 
 
-def body_saying(value):
-    return json.dumps({**silence(value, time.time()), "comment": value.ljust(1000, ".")}).encode()
+def saying(value):
+    return silence(value, value.ljust(1000, "."))
 
 
 def ids(member):
@@ -936,7 +870,7 @@ def test_full(folder):
     compare("a start with just as many", ids(member), held)
     compare("where no post fits", put(member, "more"), FULL)
     compare("the stop", (member.stop(), bytes_of(member.sil)), (0, saved))
-    wanted = len(saved) + len(body_saying("more")) + 512 + 64 * (count + 1)
+    wanted = len(saved) + len(json.dumps(saying("more"))) + 512 + 64 * (count + 1)
     for limit, reply in (wanted - 1, FULL[0]), (wanted, 200):
         member = again(member, folder, limit)
         compare(f"a post with room of {limit - wanted}", put(member, "more")[0], reply)

@@ -19,11 +19,10 @@ import random
 import re
 import tempfile
 
-import members
-import tally
-from members import LANES, run
-from samples import silence_of_job
-from wire import TICK, delimited, field, frame, varint
+from lib import members, tally
+from lib.members import LANES, run
+from lib.samples import silence_of_job
+from lib.wire import TICK, delimited, field, frame, varint
 
 # How many inputs of each kind a round has.
 COUNTS = {"rows": 2400, "logs": 400, "schedules": 800, "words": 400, "requests": 2400, "frames": 1600}

@@ -15,11 +15,11 @@ import sys
 import tempfile
 import threading
 
-import members
-from members import Member, free_ports, run
-from samples import silence_of_job
-from tally import check, compare, finish
-from versions import row
+from lib import members
+from lib.members import Member, free_ports, run
+from lib.samples import silence_of_job
+from lib.tally import check, compare, finish
+from lib.versions import row
 
 # The moment of each comparison, in nanoseconds.
 NOW = "50000000000"

@@ -14,11 +14,11 @@ import subprocess
 import sys
 import tempfile
 
-import members
-from members import Member, eventually, free_ports, run
-from samples import ENTRY, FIRST, SECOND, silence_of_job
-from tally import check, compare, finish, try_each
-from versions import row
+from lib import members
+from lib.members import Member, eventually, free_ports, run, write
+from lib.samples import ENTRY, FIRST, SECOND, silence_of_job
+from lib.tally import check, compare, finish, try_each
+from lib.versions import row
 
 # How many silences are posted to a member while its files are read, and how long their comments are, so that its log outgrows
 # its file and 1 MiB.
@@ -39,11 +39,6 @@ def kept_row(name, comment=""):
     return row("sil", f"{name} job=x 10..253402300799 updated 10 expires 253402300799 by me saying {comment}")
 
 
-def write(path, data):
-    with open(path, "wb") as file:
-        file.write(data)
-
-
 def content(folder):
     """The files of a folder, with their bytes."""
     found = {}
@@ -55,15 +50,12 @@ def content(folder):
 
 def begun(name, folder, options=(), peers=()):
     os.makedirs(folder, exist_ok=True)
-    member = Member(name, free_ports(1)[0], peers, folder, ["--log", *options])
-    check(f"{name} listens", member.start(), member.lines)
-    return member
+    return members.begun(Member(name, free_ports(1)[0], peers, folder, ["--log", *options]))
 
 
 def post(member, comment):
     """Posts a silence, and gives its identifier."""
-    body = json.dumps({**silence_of_job("db"), "comment": comment}).encode()
-    status, reply = member.ask("POST", "/api/v2/silences", body)
+    status, reply = member.post({**silence_of_job("db"), "comment": comment})
     compare(f"the post {comment[:9]}", status, 200)
     return json.loads(reply)["silenceID"]
 

@@ -18,19 +18,16 @@ import tempfile
 import threading
 import time
 
-import members
-from members import ALL_LINES, PATIENCE, eventually, free_ports, parted, received, run
-from tally import check, compare, finish, try_each
-from wire import PULL, PUSH, TICK, delimited, delta, field, frame, greeting, timestamp
+from lib import members
+from lib.api import request, silence
+from lib.members import ALL_LINES, begun, eventually, free_ports, parted, received, run, sent, write
+from lib.tally import check, compare, finish, try_each
+from lib.wire import PULL, PUSH, TICK, delimited, delta, field, frame, greeting, timestamp
 
 TITLE = "members at several addresses"
 
 # Secrets, and whom they are of.
 SECRET, ANOTHER = b"sixteen bytes or more of it", b"sixteen bytes of another one"
-
-# A post, and what stands in a list for it.
-POST = b"""{"matchers":[{"name":"job","value":"db","isRegex":false,"isEqual":true}],"startsAt":"2024-01-01T00:00:00Z",
-"endsAt":"2124-01-01T00:00:00Z","createdBy":"me","comment":"COMMENT"}"""
 
 
 def version():
@@ -54,14 +51,11 @@ class Member(members.Member):
 
     def ask(self, method, path, body=b"", host=None, at=None):
         host = host or word(self.address, self.port)
-        head = f"{method} {path} HTTP/1.1\r\nHost: {host}\r\nContent-Length: {len(body)}\r\n\r\n"
-        return parted(self.send(head.encode() + body, close=False, at=at))
+        return parted(self.send(request(method, path, body, host), close=False, at=at))
 
-    def post(self, comment):
-        return self.ask("POST", "/api/v2/silences", POST.replace(b"COMMENT", comment.encode()))[0]
-
-    def comments(self):
-        return sorted(silence["comment"] for silence in self.listed() or [])
+    def say(self, comment):
+        """The status of the reply to a post with a comment."""
+        return self.post(silence("db", comment))[0]
 
     def told(self, words):
         """Whether it has printed a line of these words."""
@@ -82,20 +76,6 @@ def word(address, port):
     return f"[{address}]:{port}" if ":" in address else f"{address}:{port}"
 
 
-def sent(at, *pieces, close=True):
-    """What comes back for bytes that are sent on a new connection, until it ends."""
-    with socket.create_connection(at, timeout=PATIENCE) as stream:
-        stream.setsockopt(socket.IPPROTO_TCP, socket.TCP_NODELAY, 1)
-        try:
-            for piece in pieces:
-                stream.sendall(piece)
-            if close:
-                stream.shutdown(socket.SHUT_WR)
-        except OSError:
-            pass
-        return received(stream)
-
-
 def sealed(secret, sender, addressee, text):
     """A frame behind its sum and its length."""
     names = b"".join(len(name).to_bytes(8, "big") + name for name in (sender.encode(), addressee.encode()))
@@ -109,16 +89,9 @@ def connection(secret, sender, addressee, *frames):
 
 
 def written(path, data, mode=0o600):
-    with open(path, "wb") as file:
-        file.write(data)
+    write(path, data)
     os.chmod(path, mode)
     return path
-
-
-def started(*all_of):
-    for member in all_of:
-        check(f"{member.name} listens", member.start(), member.lines)
-    return all_of
 
 
 def stop(*all_of):
@@ -137,20 +110,20 @@ def who_hears_whom(folder):
         peers = [(peer, word(*place)) for peer, place in places.items() if peer != name]
         return Member(name, *places[name], peers, folder, options[name])
 
-    a, b, c, d = started(*[member(name) for name in "abcd"])
+    a, b, c, d = [begun(it) for it in [member(name) for name in "abcd"]]
     compare("who listens", a.lines[0], f"am_tool: a listens on 127.0.0.2:{ports[0]}, peers b=127.0.0.3:{ports[1]} "
             f"c=[::1]:{ports[2]} d=127.0.0.4:{ports[3]}; loaded 0 silences, 0 entries")
-    compare("a takes a post", a.post("of a"), 200)
+    compare("a takes a post", a.say("of a"), 200)
     check("b hears a", eventually(lambda: b.comments() == ["of a"]), b.lines)
     check("c tells of a", c.told("am_tool: Frame Kind"), c.lines)
     check("d tells of a", d.told_of("am_tool: Seal Sum", "a"), d.whole_lines)
-    compare("b takes a post", b.post("of b"), 200)
+    compare("b takes a post", b.say("of b"), 200)
     check("a hears b", eventually(lambda: a.comments() == ["of a", "of b"]), a.lines)
-    compare("c takes a post", c.post("of c"), 200)
+    compare("c takes a post", c.say("of c"), 200)
     check("a tells of c", a.told("am_tool: Seal Missing"), a.lines)
     check("b tells of c", b.told("am_tool: Seal Missing"), b.lines)
     check("d tells of c", d.told("am_tool: Seal Missing"), d.lines)
-    compare("d takes a post", d.post("of d"), 200)
+    compare("d takes a post", d.say("of d"), 200)
     check("a tells of d", a.told_of("am_tool: Seal Sum", "d"), a.whole_lines)
     check("b tells of d", b.told_of("am_tool: Seal Sum", "d"), b.whole_lines)
     compare("what each shows", [member.comments() for member in (a, b, c, d)], [["of a", "of b"]] * 2 + [["of c"], ["of d"]])
@@ -164,7 +137,7 @@ def guarded(folder, name="a", peers=("b", "c"), options=()):
     secret = written(f"{folder}/secret", SECRET)
     port, *others = free_ports(1 + len(peers))
     at = [(peer, word("127.0.0.9", other)) for peer, other in zip(peers, others)]
-    return started(Member(name, "127.0.0.2", port, at, folder, ["--secret", secret, *options]))[0]
+    return begun(Member(name, "127.0.0.2", port, at, folder, ["--secret", secret, *options]))
 
 
 def frames_of_each_kind():
@@ -243,9 +216,9 @@ def repeats(folder):
     secret = written(f"{folder}/secret", SECRET)
     [port] = free_ports(1)
     peers = [("a", word("127.0.0.7", recorder.getsockname()[1]))]
-    b = started(Member("b", "127.0.0.3", port, peers, folder, ["--secret", secret, "--pull-every", "1"]))[0]
+    b = begun(Member("b", "127.0.0.3", port, peers, folder, ["--secret", secret, "--pull-every", "1"]))
     for number in range(3):
-        compare("b takes a post", b.post(f"post {number}"), 200)
+        compare("b takes a post", b.say(f"post {number}"), 200)
         time.sleep(0.4)
     check("b has sent all", eventually(lambda: len(recorded) >= 5), recorded)
     stop(b)
@@ -272,7 +245,7 @@ def a_listener_for_frames(folder):
         place = f"{folder}/{len(options)}"
         os.mkdir(place)
         words = ["--peers-listen", word("127.0.0.3", at), *options]
-        a = started(Member("a", "127.0.0.2", port, [("b", peer)], place, words))[0]
+        a = begun(Member("a", "127.0.0.2", port, [("b", peer)], place, words))
         compare("both are told", a.lines[0].partition(", peers")[0],
                 f"am_tool: a listens on 127.0.0.2:{port} and for frames on 127.0.0.3:{at}")
         text = delta("sil", version())
@@ -298,7 +271,7 @@ def open_to_all(folder):
     for name, options, hears in [("shut", [], False), ("open", ["--open-peers"], True)]:
         place = f"{folder}/{name}"
         os.mkdir(place)
-        a = started(Member("a", "0.0.0.0", port, [("b", peer)], place, options))[0]
+        a = begun(Member("a", "0.0.0.0", port, [("b", peer)], place, options))
         a.send(text, at=("127.0.0.5", port))
         if hears:
             check("frames are heard", eventually(lambda: len(a.listed()) == 1), a.lines)
@@ -314,7 +287,7 @@ def hosts(folder):
     for address, own, foreign in [("127.0.0.2", "127.0.0.2", "127.0.0.3"), ("::1", "[::1]", "[::2]")]:
         place = f"{folder}/{len(address)}"
         os.mkdir(place)
-        a = started(Member("a", address, port, [("b", peer)], place))[0]
+        a = begun(Member("a", address, port, [("b", peer)], place))
         for host, wanted in [(own, 200), (f"{own}:{port}", 200), ("localhost", 200), (foreign, 403), (f"{foreign}:{port}", 403),
                              ("[", 403), ("[]", 403), ("", 403)]:
             compare(f"at {address} asked under {host!r}", a.ask("GET", "/api/v2/silences", host=host or " ")[0], wanted)
@@ -358,7 +331,7 @@ def words_that_are_refused(folder):
         check(f"the line of {words}", error.startswith(begins), error)
     for name in ["least", "most", "ended"]:
         a = Member("a", "127.0.0.2", port, [], folder, ["--secret", f"{folder}/{name}"])
-        started(a)
+        begun(a)
         stop(a)
     os.chmod(f"{folder}/least", 0o604)
     a = Member("a", "127.0.0.2", port, [], folder, ["--secret", f"{folder}/least"])

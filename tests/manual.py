@@ -13,9 +13,9 @@ import shutil
 import subprocess
 import sys
 
-import members
-from members import TOP, run
-from tally import check, compare, finish
+from lib import members
+from lib.members import TOP, run
+from lib.tally import check, compare, finish
 
 PAGE = f"{TOP}/docs/am_tool.1"
 

@@ -23,11 +23,11 @@ import tempfile
 import time
 
 import machines
-import members
-from machines import ANOTHER, SECRET, connection, started, stop, written
-from members import PATIENCE, TOP, eventually
-from tally import check, compare, finish, try_each
-from wire import delta
+from lib import members
+from lib.members import PATIENCE, TOP, begun, eventually
+from lib.tally import check, compare, finish, try_each
+from lib.wire import delta
+from machines import ANOTHER, SECRET, connection, stop, written
 
 # Where machines hear requests, at port 9093, and where members hear frames: b at the same port.
 AT = {"a": "10.77.0.1", "b": "10.77.0.2", "c": "10.77.0.3", "d": "10.77.0.4"}
@@ -97,7 +97,7 @@ class Member(machines.Member):
 @contextlib.contextmanager
 def three(folder):
     secret = written(f"{folder}/secret", SECRET)
-    of = started(*[Member(name, folder, ["--secret", secret, "--log", "--pull-first"]) for name in FRAMES])
+    of = [begun(Member(name, folder, ["--secret", secret, "--log", "--pull-first"])) for name in FRAMES]
     try:
         check("all are ready", eventually(lambda: [member.listed() for member in of] == [[]] * 3))
         yield of
@@ -119,7 +119,7 @@ def changes(folder, within=PULL_EVERY + TIME_LIMIT):
         page = ("POST", "/v1/decide?wait=false", file.read())
     reason = lambda member: json.loads(member.ask(*page)[1])["reason"]
     with three(folder) as (a, b, c):
-        compare("posts", [member.post(f"of {member.name}") for member in (a, b, c)], [200] * 3)
+        compare("posts", [member.say(f"of {member.name}") for member in (a, b, c)], [200] * 3)
         agree("posts", (a, b, c), within, {"of a": "active", "of b": "active", "of c": "active"})
         compare("ends", (b.ends("of a"), a.ends("of c")), (200, 200))
         old = {"of a": "expired", "of b": "active", "of c": "expired"}
@@ -127,21 +127,21 @@ def changes(folder, within=PULL_EVERY + TIME_LIMIT):
         done(f"ip -n {SWITCH} link set dev c down")
         place, notice = len(a.whole_lines), a.ask(*page)[1]
         compare("a notification is logged", a.ask("POST", "/v1/notified", notice), (200, b'{"logged":true}'))
-        compare("changes without c", (a.post("without c"), b.ends("of b")), (200, 200))
+        compare("changes without c", (a.say("without c"), b.ends("of b")), (200, 200))
         new = {**old, "of b": "expired", "without c": "active"}
         agree("two of three", (a, b), within, new)
         check("b skips the page", eventually(lambda: reason(b) == "Skip", within), b.lines)
         lost = lambda: re.search(r"(Connect|Send Write) .* \(peer c, ", "\n".join(a.whole_lines[place:]))
         check("a tells that c isn't reached", eventually(lost), a.whole_lines)
-        compare("c has heard nothing, and takes a post", (c.states(), reason(c), c.post("alone")), (old, "First", 200))
+        compare("c has heard nothing, and takes a post", (c.states(), reason(c), c.say("alone")), (old, "First", 200))
         done(f"ip -n {SWITCH} link set dev c up")
         agree("one that was cut off", (a, b, c), within, {**new, "alone": "active"})
         check("c skips the page", eventually(lambda: reason(c) == "Skip", within), c.lines)
         b.kill()
-        compare("changes without b", (a.post("without b"), c.ends("alone")), (200, 200))
+        compare("changes without b", (a.say("without b"), c.ends("alone")), (200, 200))
         new.update({"alone": "expired", "without b": "active"})
         agree("two that are left", (a, c), within, new)
-        started(b)
+        begun(b)
         check("b starts from its files", b.lines[0].endswith("; loaded 5 silences, 1 entries"), b.lines)
         check("what b shows first is new", eventually(b.states) == new, b.lines)
         agree("one that was killed", (a, b, c), within, new)
@@ -168,7 +168,7 @@ def strangers(folder):
     """Without the secret a machine is refused by all, and nothing of it is shown."""
     text, d = delta("sil", machines.version()), Member("d", folder)
     with three(folder) as of:
-        compare("d takes a post", [each.post("of d") for each in started(d)], [200])
+        compare("d takes a post", [each.say("of d") for each in [begun(d)]], [200])
         for member, peer in zip(of, "baa"):
             check(f"{member.name} refuses d", member.told("am_tool: Seal Missing"), member.lines)
             d.send(connection(ANOTHER, peer, member.name, text), at=FRAMES[member.name])

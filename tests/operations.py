@@ -21,15 +21,12 @@ import sys
 import tempfile
 import time
 
-import members
 import page_source
-import versions
-from members import TOP, Member, eventually, free_ports, outcome, run
-from tally import check, compare, finish, try_each
-from wire import EMPTY_PUSH, delimited, delta, greeting
-
-# Words in front of a member's that have it see SIGTERM.
-BLOCKED = ["env", "--block-signal=TERM", "--block-signal=INT"]
+from lib import members, versions
+from lib.api import silence
+from lib.members import TOP, Member, Stoppable, begun, eventually, free_ports, outcome, run
+from lib.tally import check, compare, finish, try_each
+from lib.wire import EMPTY_PUSH, delimited, delta, greeting
 
 PATHS = ["/", "/-/healthy", "/-/ready", "/api/v2/status", "/api/v2/receivers", "/metrics"]
 
@@ -142,22 +139,6 @@ def documented():
     return sorted(re.findall(r"^`([a-z_]+)[`{]", table, re.M))
 
 
-def moment(seconds):
-    return time.strftime("%Y-%m-%dT%H:%M:%SZ", time.gmtime(seconds))
-
-
-def silence(value, hours=1):
-    now = time.time()
-    matcher = {"name": "job", "value": value, "isRegex": False, "isEqual": True}
-    return json.dumps({
-        "matchers": [matcher], "startsAt": moment(now), "endsAt": moment(now + 3600 * hours), "createdBy": "me", "comment": value,
-    }).encode()  # fmt: skip
-
-
-def post(member, body):
-    return member.ask("POST", "/api/v2/silences", body)[0]
-
-
 # ---- the calls
 
 
@@ -226,7 +207,7 @@ def test_status(folder):
         "--name a", f"--listen {port}", f"--peer b={peer}", f'--peer c"\\={other}', "--host am.example",
         f"--sil {member.sil}", f"--nfl {member.nfl}", "--retention 3600", "--peer-timeout 15", "--time-limit 5",
         "--at-once 256", "--waiting 128", "--most-unfinished 134217728", "--most-bytes 1073741824", "--lines-a-second 10",
-        "--tick-every 60", "--log", "--pull-first-limit 30", "",
+        "--tick-every 60", "--gossip-every 60", "--log", "--pull-first-limit 30", "",
     ])  # fmt: skip
     if shutil.which("amtool"):
         url = f"--alertmanager.url=http://127.0.0.1:{port}"
@@ -272,9 +253,7 @@ def test_first_pull(folder):
 def test_stop(folder):
     """Once it is told to stop nobody is told that it is ready."""
     (port,) = free_ports(1)
-    member = Member("a", port, [], folder)
-    member.command = lambda: [*BLOCKED, members.program, *member.words]
-    member.start()
+    member = begun(Stoppable("a", port, [], folder))
     compare("it is ready", raw(member, "GET", "/-/ready")[1], b"OK")
     member.process.send_signal(signal.SIGTERM)
     compare("it ends", member.end(), 0)
@@ -316,8 +295,8 @@ def test_counts(folder):
     member = Member("a", ports["a"], [("b", ports["b"])], folder, ["--tick-every", "1"])
     member.start()
     before = figures(member)
-    compare("three posts", [post(member, silence(f"v{at}")) for at in range(3)], [200] * 3)
-    compare("a bad post", post(member, b"{"), 400)
+    compare("three posts", [member.post(silence(f"v{at}"))[0] for at in range(3)], [200] * 3)
+    compare("a bad post", member.ask("POST", "/api/v2/silences", b"{")[0], 400)
     member.ask("GET", "/api/v2/silences")
     for path in ("/none", "/other?x=1", "/api/v2/silence/x/y"):
         member.ask("GET", path)
@@ -374,7 +353,7 @@ def test_saves(folder):
     os.mkdir(f"{folder}/there")
     member = Member("a", port, [], f"{folder}/there", ["--save-every", "1", "--tick-every", "1"])
     member.start()
-    post(member, silence("x"))
+    member.post(silence("x"))
     found = eventually(lambda: (it := figures(member)).get("maityrunga_saves_total", state="sil") and it)
     done = found.get("maityrunga_last_save_timestamp_seconds", state="sil")
     check("a save is done", abs(done - time.time()) < members.PATIENCE, done)
@@ -382,7 +361,7 @@ def test_saves(folder):
     check("ticks", found.get("maityrunga_steps_total", event="tick") > 0)
     compare("no save failed", found.get("maityrunga_saves_failed_total", state="sil"), 0)
     os.rename(f"{folder}/there", f"{folder}/gone")
-    post(member, silence("y"))
+    member.post(silence("y"))
     failed = eventually(lambda: figures(member).get("maityrunga_saves_failed_total", state="sil"))
     check("a save fails", failed > 0, failed)
     member.kill()
@@ -393,7 +372,7 @@ def test_log(folder):
     (port,) = free_ports(1)
     member = Member("a", port, [], folder, ["--log", "--save-every", "1"])
     member.start()
-    post(member, silence("x"))
+    member.post(silence("x"))
     both = lambda it: all(it.get("maityrunga_saves_total", state=state) for state in ("sil", "nfl"))
     check("both are saved", eventually(lambda: both(figures(member))))
     member.kill()

@@ -18,11 +18,11 @@ import sys
 import tempfile
 import time
 
-import browser
-import members
-from members import Member, eventually, free_ports
-from tally import check, compare, finish, try_each
-from versions import row
+from lib import browser, members
+from lib.api import silence
+from lib.members import Member, begun, eventually, free_ports, peers_of
+from lib.tally import check, compare, finish, try_each
+from lib.versions import row
 
 # What the head of the page forbids, but for the hashes.
 POLICY = (
@@ -81,25 +81,14 @@ FAINT = """
 """
 
 
-def silence(value, comment="by a test", seconds=7200, starts=0, **more):
-    moment = lambda offset: time.strftime("%Y-%m-%dT%H:%M:%SZ", time.gmtime(time.time() + offset))
-    matcher = {"name": "job", "value": value, "isRegex": False, "isEqual": True}
-    times = {"startsAt": moment(starts), "endsAt": moment(starts + seconds)}
-    return {"matchers": [matcher], **times, "createdBy": "ann", "comment": comment, **more}
-
-
 def post(member, posted):
-    status, body = member.ask("POST", "/api/v2/silences", json.dumps(posted).encode())
+    status, body = member.post(posted)
     compare(f"a post of {posted['comment']}", status, 200)
     return json.loads(body)["silenceID"]
 
 
 def pair(folder, options=()):
-    ports = dict(zip("ab", free_ports(2)))
-    both = [Member(name, ports[name], [(n, ports[n]) for n in "ab" if n != name], folder, options) for name in "ab"]
-    for member in both:
-        check(f"{member.name} listens", member.start(), member.lines)
-    return both
+    return [begun(it) for it in peers_of("ab", folder, options)]
 
 
 def url_of(member, place=""):

@@ -26,7 +26,6 @@ repeats what is drawn at random, and not what comes of it. Nothing leaves 127.0.
 how many passed.
 """
 
-import argparse
 import base64
 import collections
 import contextlib
@@ -38,14 +37,15 @@ import tempfile
 import threading
 import time
 
-import members
-from chaos import STARTED_BY, stop
-from incidents import ALL_TURNS, GROUP_WAIT, INTERVAL, LATE, LATE_CALLER, NAMES, NEED, NO_CAUSE, PAIRS, SLOW, SLOW_MACHINE
-from incidents import APART, TURN, TURNS
-from incidents import Clock, Content, Judge, Page, Plan, Surroundings, Trouble, Troubles, tell
-from members import PATIENCE, eventually, free_ports, parted, received
-from proxies import Proxy
-from tally import check, compare, finish
+from lib import members
+from lib.api import request
+from lib.incidents import ALL_TURNS, GROUP_WAIT, INTERVAL, LATE, LATE_CALLER, NAMES, NEED, NO_CAUSE, PAIRS, SLOW, SLOW_MACHINE
+from lib.incidents import APART, TURN, TURNS
+from lib.incidents import Clock, Content, Judge, Page, Plan, Surroundings, Trouble, Troubles, tell
+from lib.members import LIMITED, PATIENCE, eventually, free_ports, parted, received
+from lib.proxies import Proxy
+from lib.rounds import parser, rounds
+from lib.tally import attempt, check, compare, finish
 
 # How long a connection may last, how often members do each thing, and how long they wait for a first Pull: in seconds.
 TIME_LIMIT, EVERY, FIRST = 2, 1, 3
@@ -72,12 +72,11 @@ UNAVAILABLE, CROWDED = 503, b'"too many wait"'
 class Member(members.Member):
     """A member that is meddled with: the number of its start counts up."""
 
+    front = LIMITED
+
     def __init__(self, *place):
         super().__init__(*place)
         self.generation = 0
-
-    def command(self):
-        return [*STARTED_BY, *super().command()]
 
     def begin(self, over):
         """Starts it, and waits until it answers; whether it listens."""
@@ -90,13 +89,12 @@ class Member(members.Member):
 
     def request(self, method, target, body=b"", limit=REPLY, streams=None):
         """The status and the body of a reply; no status where none comes. The connection is among the streams meanwhile."""
-        head = f"{method} {target} HTTP/1.1\r\nHost: localhost\r\nContent-Length: {len(body)}\r\n\r\n"
         streams = set() if streams is None else streams
         try:
             with socket.create_connection(("127.0.0.1", self.port), timeout=limit) as stream:
                 streams.add(stream)
                 try:
-                    stream.sendall(head.encode() + body)
+                    stream.sendall(request(method, target, body))
                     return parted(received(stream))
                 finally:
                     streams.discard(stream)
@@ -456,31 +454,23 @@ def try_judge():
 def play(seed, seconds, counts, causes, ignored=None):
     """One round."""
     print(f"pages: seed {seed}, {seconds} seconds{', with --log' * (seed % 2)}", flush=True)
-    with tempfile.TemporaryDirectory() as folder:
-        one = Round(seed, seconds, folder, ignored)
-        try:
+    with tempfile.TemporaryDirectory() as folder, contextlib.closing(Round(seed, seconds, folder, ignored)) as one:
+        with attempt("the round", one.complaints):
             one.run()
             one.judge(counts, causes)
             one.tell()
-        except Exception as error:  # a round that can't go on is a case that fails
-            check("the round", False, f"{error!r} {dict(one.complaints)}")
-        finally:
-            one.close()
 
 
 def main():
-    words = argparse.ArgumentParser(description=__doc__, formatter_class=argparse.RawDescriptionHelpFormatter)
-    words.add_argument("--seed", type=int, default=1)
-    words.add_argument("--seconds", type=int, default=60)
+    words = parser(__doc__, 60)
     words.add_argument("--ignore", choices=FOUND)
     words.add_argument("program", nargs="*")
     words = words.parse_args()
     members.choose("pages", words.program)
-    signal.signal(signal.SIGTERM, stop)
     try_judge()
-    rounds, counts, causes = max(2, -(-words.seconds // ROUND)), collections.Counter(), collections.Counter()
-    for number in range(rounds):
-        play(words.seed + number, words.seconds // rounds, counts, causes, words.ignore)
+    counts, causes = collections.Counter(), collections.Counter()
+    for seed, seconds in rounds(words, ROUND):
+        play(seed, seconds, counts, causes, words.ignore)
     tell(counts, causes)
     finish("pages")
 

@@ -16,8 +16,8 @@ import sys
 import tempfile
 import xml.etree.ElementTree as ElementTree
 
-from members import TOP, choose, run
-from tally import check, compare, finish
+from lib.members import TOP, choose, run
+from lib.tally import check, compare, finish
 
 PICTURES = f"{TOP}/docs/pictures"
 SCHEDULES = f"{TOP}/cases/replay"

@@ -1,29 +1,31 @@
 #!/usr/bin/env python3
 """Compares, reads and mends replicas of a real Alertmanager while they run, by the built am_tool and their own gossip.
 
-    tests/real_gossip.py [PROGRAM]
+    tests/real_gossip.py [--seconds N] [PROGRAM]
 
 PROGRAM is crates/am_tool/out/am_tool if it isn't given; ./am_tool and rt ci build it. The replicas are three of Debian's
 prometheus-alertmanager on loopback, which can't reach one another; where it isn't installed nothing is tried. Each has silences and
 has notified an alert. What they tell by gossip has to be what they write as they end. Then they are mended: pulled, folded, and
 each pushed what it lacks. All hold the same then, an ended silence is ended everywhere, and an alert that one has notified isn't
-notified again by another. No replica comes to know of a further one. It takes a minute or so. Prints each case that fails, and
-at the end how many passed.
+notified again by another. No replica comes to know of a further one. At last a member runs beside three others: for N seconds,
+and once each at the least, they are killed in turn and lose their data, and come back with all silences and entries, from the
+member alone. It takes two minutes or so, and N seconds. Prints each case that fails, and at the end how many passed.
 """
 
-import http.server
+import argparse
 import json
+import os
+import shutil
 import sys
 import tempfile
-import threading
 import time
 import urllib.request
 
-import members
-from members import PATIENCE, eventually, run
-from real_replicas import ALERTMANAGER, CONFIG, FILES, Replica, content, diff, end, files, start, stop
-from tally import check, compare, count, finish
-from three_members import silence
+from lib import members
+from lib.alertmanagers import FILES, Replica, diff, end, files, must_be_installed, receiver, start, stop, three
+from lib.api import silence
+from lib.members import PATIENCE, Member, bytes_of, eventually, free_ports, run
+from lib.tally import check, compare, finish
 
 TITLE = "real gossip"
 
@@ -32,17 +34,21 @@ class Alone(Replica):
     """A replica that has no peers, and the receiver of what it notifies."""
 
     def __init__(self, name, top):
-        self.hook = http.server.ThreadingHTTPServer(("127.0.0.1", 0), Hook)
-        self.hook.notified = []
-        threading.Thread(target=self.hook.serve_forever, daemon=True).start()
         config = f"{top}/{name}.yml"
-        with open(config, "w", encoding="utf-8") as file:
-            file.write(CONFIG.format(self.hook.server_address[1]))
+        self.hook = receiver(config)
         super().__init__(name, top, config)
 
     def start(self, web, own, peers):
-        self.word = f"gossip://127.0.0.1:{own}"
+        self.own, self.word = own, f"gossip://127.0.0.1:{own}"
         super().start(web, own, peers)
+
+    def lose_all(self):
+        """Is killed, loses its data, and starts again."""
+        self.process.kill()
+        self.process.wait(PATIENCE)
+        shutil.rmtree(self.folder)
+        os.mkdir(self.folder)
+        self.start(self.web, self.own, [])
 
     def alert(self, name):
         labels = {"alertname": name, "job": "web"}
@@ -61,19 +67,7 @@ class Alone(Replica):
         return sorted(it for it in lines if it.startswith(wanted))
 
     def log(self):
-        return content(f"{self.folder}/log").decode()
-
-
-class Hook(http.server.BaseHTTPRequestHandler):
-    """Takes what is notified."""
-
-    def do_POST(self):
-        self.server.notified.append(self.rfile.read(int(self.headers["Content-Length"])))
-        self.send_response(200)
-        self.end_headers()
-
-    def log_message(self, *words):
-        pass
+        return bytes_of(f"{self.folder}/log").decode()
 
 
 def words_of(replicas):
@@ -122,7 +116,7 @@ def test_same_as_files(three):
         check(f"{state} differs", told[state][0] == 5 and told[state][1], told[state])
         compare(f"{state}, by gossip and by files", told[state], diff(state, files(three, state), "--held"))
         for it in three:
-            compare(f"the {state} of {it.name}", rows[it.name, state], folded([content(files(three, state)[it.name])], state))
+            compare(f"the {state} of {it.name}", rows[it.name, state], folded([bytes_of(files(three, state)[it.name])], state))
 
 
 def test_mended(three, keys):
@@ -168,27 +162,83 @@ def test_ends_alike(three):
     compare("nfl of all files", (status, len(lines), others, error), (5, 2, [["greatest", "b"], ["missing", "a,c"]], ""))
 
 
-def main():
-    if ALERTMANAGER is None:
-        print(f"{TITLE}: prometheus-alertmanager is not here, so nothing is tried: 0 passed, 0 failed")
-        return
-    members.choose(TITLE, sys.argv[1:])
-    with tempfile.TemporaryDirectory() as top:
-        three = [Alone(name, top) for name in "abc"]
+def held(replica, state):
+    """What a replica tells, as a row; none where it isn't reached."""
+    status, output, _ = run(["pull", "--state", state, replica.word])
+    return output if status == 0 else None
+
+
+def all_hold(three, member):
+    """Whether all hold the same silences and entries, as many as the member does."""
+    rows = [[held(it, state) for it in three] for state in FILES]
+    return all(None not in it and len(set(it)) == 1 for it in rows) and len(three[0].listed()) == len(member.listed() or [])
+
+
+def test_beside(top, seconds):
+    """Beside a member each replica has what the others have, and comes back with all, whoever loses its data."""
+    with three(lambda name: Alone(name, top)) as replicas:
+        start(*([it] for it in replicas))
+        words = [word for it in replicas for word in ("--gossip", f"{it.name}={it.own}")]
+        member = Member("m", free_ports(1)[0], [], top, [*words, "--gossip-every", "2", "--tick-every", "60", "--log"])
         try:
-            keys = drift(three)
-            test_same_as_files(three)
-            test_mended(three, keys)
-            test_not_again(three)
-            test_ends_alike(three)
-        except Exception as error:  # what can't go on is a case that fails
-            print(f"the replicas: {error!r}", flush=True)
-            count(False)
+            check("the member listens", member.start(), member.lines)
+            make_known(replicas, member)
+            lose_in_turn(replicas, member, time.monotonic() + seconds)
+            faults = [it for it in member.lines[1:] if not it.startswith(("am_tool: Connect ", "am_tool: Send "))]
+            compare("no fault but of those that were away", faults, [])
         finally:
-            for replica in three:
-                if replica.process is not None:
-                    replica.process.kill()
-                    replica.process.wait()
+            member.process.kill()
+
+
+def make_known(replicas, member):
+    """Each makes a silence and notifies an alert, and all hold all of it."""
+    for it in replicas:
+        it.post(it.name, f"made at {it.name}")
+        it.alert(f"Down{it.name}")
+        check(f"{it.name} notifies", eventually(it.names), it.folder)
+    all_listed = lambda: len(replicas[0].listed()) == 3 and all_hold(replicas, member)
+    check("all hold all", eventually(all_listed), [it.listed() for it in replicas])
+    compare("and all entries", [len(show(held(it, "nfl"))) for it in replicas], [3, 3, 3])
+
+
+def show(row):
+    status, output, _ = run(["show", "--state", "nfl"], input=row)
+    return output.splitlines() if status == 0 else []
+
+
+def lose_in_turn(three, member, end):
+    """Each loses all once, and again until then; meanwhile silences are made."""
+    rounds = 0
+    while rounds < len(three) or time.monotonic() < end:
+        it, other = three[rounds % 3], three[(rounds + 1) % 3]
+        wanted = len(member.listed())
+        it.lose_all()
+        begun = time.monotonic()
+        back = eventually(lambda: len(it.listed()) == wanted and all_hold(three, member))
+        check(f"{it.name} comes back with all, round {rounds}", back, (wanted, it.listed(), member.lines))
+        print(f"round {rounds}: {it.name} has {wanted} silences again after {time.monotonic() - begun:.1f} s", flush=True)
+        other.post(f"r{rounds}", "made meanwhile")
+        check("a new one is everywhere", eventually(lambda: len(it.listed()) == wanted + 1 and all_hold(three, member)), it.listed())
+        rounds += 1
+    compare("none notifies again what another has", sorted(name for it in three for name in it.names()), sorted(f"Down{it.name}" for it in three))
+
+
+def main():
+    parser = argparse.ArgumentParser()
+    parser.add_argument("--seconds", type=int, default=0)
+    parser.add_argument("program", nargs="*")
+    options = parser.parse_args()
+    must_be_installed(TITLE)
+    members.choose(TITLE, options.program)
+    with tempfile.TemporaryDirectory() as top:
+        with three(lambda name: Alone(name, top)) as all_of:
+            keys = drift(all_of)
+            test_same_as_files(all_of)
+            test_mended(all_of, keys)
+            test_not_again(all_of)
+            test_ends_alike(all_of)
+        os.mkdir(f"{top}/beside")
+        test_beside(f"{top}/beside", options.seconds)
     finish(TITLE)
 
 

@@ -11,14 +11,12 @@ times are those of tests/pages.py, as far as there are flags for them. Nothing i
 paged, to stand beside that of tests/pages.py.
 """
 
-import argparse
 import collections
 import contextlib
 import http.server
 import json
 import os
 import random
-import shutil
 import signal
 import socket
 import subprocess
@@ -27,16 +25,17 @@ import threading
 import time
 import urllib.request
 
-from chaos import moment, stop
-from incidents import ALL_TURNS, GROUP_WAIT, INTERVAL, NAMES, NEED, TURN
-from incidents import Clock, Content, Judge, Page, Plan, Surroundings, Troubles, tell
-from members import PATIENCE, eventually, free_ports
+from lib.alertmanagers import ALERTMANAGER, must_be_installed
+from lib.api import moment
+from lib.incidents import ALL_TURNS, GROUP_WAIT, INTERVAL, NAMES, NEED, TURN
+from lib.incidents import Clock, Content, Judge, Page, Plan, Surroundings, Troubles, tell
+from lib.members import PATIENCE, eventually, free_ports
+from lib.proxies import WEATHERS, reset
+from lib.rounds import parser, rounds
+from lib.tally import check, finish
 from pages import FIRST, LONGEST, ROUND
-from proxies import WEATHERS, reset
-from tally import check, finish
 
 TITLE = "real pages"
-ALERTMANAGER = shutil.which("prometheus-alertmanager")
 
 CONFIG = """
 route:
@@ -366,35 +365,25 @@ class Round(Surroundings):
 def play(seed, seconds, counts, causes):
     """One round."""
     print(f"{TITLE}: seed {seed}, {seconds} seconds", flush=True)
-    with tempfile.TemporaryDirectory() as folder:
-        one = Round(seed, seconds, folder)
-        try:
-            one.run()
-            # whose turn it is stands in no order that is known here
-            judge = Judge(one.plan, one.pages, one.troubles, LONGEST, dict.fromkeys(NAMES, max(NEED.values())))
-            judge.judge()
-            counts.update(judge.counts)
-            causes.update(judge.causes)
-            check("this script makes no mistake", not one.faults, one.faults[:3])
-            for kind in ("lost", "muted"):
-                for it in getattr(judge, kind):
-                    print(f"  {kind}: {it}", flush=True)
-        finally:
-            one.close()
+    with tempfile.TemporaryDirectory() as folder, contextlib.closing(Round(seed, seconds, folder)) as one:
+        one.run()
+        # whose turn it is stands in no order that is known here
+        judge = Judge(one.plan, one.pages, one.troubles, LONGEST, dict.fromkeys(NAMES, max(NEED.values())))
+        judge.judge()
+        counts.update(judge.counts)
+        causes.update(judge.causes)
+        check("this script makes no mistake", not one.faults, one.faults[:3])
+        for kind in ("lost", "muted"):
+            for it in getattr(judge, kind):
+                print(f"  {kind}: {it}", flush=True)
 
 
 def main():
-    words = argparse.ArgumentParser(description=__doc__, formatter_class=argparse.RawDescriptionHelpFormatter)
-    words.add_argument("--seed", type=int, default=1)
-    words.add_argument("--seconds", type=int, default=60)
-    words = words.parse_args()
-    if ALERTMANAGER is None:
-        print(f"{TITLE}: prometheus-alertmanager is not here, so nothing is tried: 0 passed, 0 failed")
-        return
-    signal.signal(signal.SIGTERM, stop)
-    rounds, counts, causes = max(2, -(-words.seconds // ROUND)), collections.Counter(), collections.Counter()
-    for number in range(rounds):
-        play(words.seed + number, words.seconds // rounds, counts, causes)
+    words = parser(__doc__, 60).parse_args()
+    must_be_installed(TITLE)
+    counts, causes = collections.Counter(), collections.Counter()
+    for seed, seconds in rounds(words, ROUND):
+        play(seed, seconds, counts, causes)
     tell(counts, causes)
     finish(TITLE)
 

@@ -11,122 +11,22 @@ minutes or so. Prints each case that fails, and at the end how many passed.
 """
 
 import datetime
-import http.server
-import json
-import os
 import re
 import shutil
-import subprocess
 import sys
 import tempfile
-import threading
 import time
-import urllib.request
 
-import members
-from members import PATIENCE, eventually, free_ports, run
-from tally import check, compare, count, finish
-from three_members import silence
+from lib import members
+from lib.alertmanagers import FILES, RETENTION, Replica, diff, end, files, must_be_installed, receiver, start, stop, three
+from lib.api import silence
+from lib.members import bytes_of, eventually, run, write
+from lib.tally import check, compare, finish
 
 TITLE = "real replicas"
-ALERTMANAGER, AMTOOL = shutil.which("prometheus-alertmanager"), shutil.which("amtool")
-FILES = {"sil": "silences", "nfl": "nflog"}
 
-# For how many hours a silence is kept after its end, and how many of them are told in nanoseconds.
-RETENTION = 120
+# An hour in nanoseconds.
 HOUR = 3600 * 10**9
-
-CONFIG = """
-route: {{receiver: hook, group_by: [alertname], group_wait: 1s, group_interval: 1s, repeat_interval: 4h}}
-receivers: [{{name: hook, webhook_configs: [{{url: "http://127.0.0.1:{}/"}}]}}]
-"""
-
-
-class Replica:
-    """A replica and the folder in which it keeps its files."""
-
-    def __init__(self, name, top, config):
-        self.name, self.config, self.folder, self.process = name, config, f"{top}/{name}", None
-        os.mkdir(self.folder)
-
-    def start(self, web, own, peers):
-        """Starts it with its port for people, its own port for peers and those of its peers."""
-        self.web = web
-        words = [ALERTMANAGER, f"--config.file={self.config}", f"--storage.path={self.folder}"]
-        words += [f"--web.listen-address=127.0.0.1:{web}", f"--cluster.listen-address=127.0.0.1:{own}"]
-        words += [f"--data.retention={RETENTION}h", "--cluster.peer-timeout=1s", *(f"--cluster.peer=127.0.0.1:{it}" for it in peers)]
-        with open(f"{self.folder}/log", "ab") as log:
-            self.process = subprocess.Popen(words, stdin=subprocess.DEVNULL, stdout=log, stderr=log)
-
-    def ask(self, method, path, value=None):
-        """What is answered in JSON; None where it isn't reached or refuses."""
-        data = None if value is None else json.dumps(value).encode()
-        url = f"http://127.0.0.1:{self.web}/api/v2/{path}"
-        request = urllib.request.Request(url, data, {"Content-Type": "application/json"}, method=method)
-        try:
-            with urllib.request.urlopen(request, timeout=PATIENCE) as reply:
-                return json.loads(reply.read() or b"true")
-        except (OSError, ValueError):
-            return None
-
-    def is_ready(self, size):
-        """Whether it has settled among so many replicas, itself counted."""
-        cluster = (self.ask("GET", "status") or {}).get("cluster", {})
-        return cluster.get("status") == "ready" and len(cluster.get("peers") or []) == size
-
-    def listed(self):
-        """The silences that it shows, by identifier."""
-        return {it["id"]: it for it in self.ask("GET", "silences") or []}
-
-    def post(self, value, comment):
-        return (self.ask("POST", "silences", silence(value, comment)) or {}).get("silenceID", "")
-
-    def change(self, key, comment):
-        """Gives a silence another comment, which updates it in place."""
-        posted = {name: it for name, it in self.listed()[key].items() if name not in ("status", "updatedAt")}
-        compare(f"{self.name} changes it", self.ask("POST", "silences", {**posted, "comment": comment}), {"silenceID": key})
-
-    def end(self):
-        """Its status, once it has ended, as it is asked to."""
-        try:
-            return self.process.wait(PATIENCE)
-        except subprocess.TimeoutExpired:
-            self.process.kill()
-            return self.process.wait(PATIENCE)
-
-
-class Hook(http.server.BaseHTTPRequestHandler):
-    """Takes what is notified."""
-
-    notified = []
-
-    def do_POST(self):
-        self.notified.append(self.rfile.read(int(self.headers["Content-Length"])))
-        self.send_response(200)
-        self.end_headers()
-
-    def log_message(self, *words):
-        pass
-
-
-def start(*clusters):
-    """Starts replicas, each beside the others of its cluster, and waits until all have settled."""
-    ports = free_ports(2 * sum(map(len, clusters)))
-    for replicas in clusters:
-        own = {replica: ports.pop() for replica in replicas}
-        for replica in replicas:
-            replica.start(ports.pop(), own[replica], [own[it] for it in replicas if it is not replica])
-    for replicas in clusters:
-        for replica in replicas:
-            check(f"{replica.name} is ready", eventually(lambda: replica.is_ready(len(replicas))), replica.folder)
-
-
-def stop(replicas):
-    """Ends replicas, which writes their files."""
-    for replica in replicas:
-        replica.process.terminate()
-    for replica in replicas:
-        compare(f"{replica.name} ends", replica.end(), 0)
 
 
 def same(replicas, keys):
@@ -134,17 +34,6 @@ def same(replicas, keys):
     shown = lambda: [it.listed() for it in replicas]
     alike = lambda found: all(it == found[0] for it in found) and sorted(found[0]) == sorted(keys)
     check("they show the same", eventually(lambda: alike(shown())), shown())
-
-
-def diff(state, sources, *words):
-    """The status, the lines and the errors of a diff of files by their names."""
-    sources = [f"{name}={path}" for name, path in sources.items()]
-    status, output, error = run(["diff", "--state", state, *words, *sources])
-    return status, output.decode().splitlines(), error
-
-
-def files(replicas, state):
-    return {it.name: f"{it.folder}/{FILES[state]}" for it in replicas}
 
 
 def servers(replicas):
@@ -155,18 +44,12 @@ def nothing(title, state, sources, *words):
     compare(title, diff(state, sources, *words), (0, [], ""))
 
 
-def content(path):
-    with open(path, "rb") as file:
-        return file.read()
-
-
 def fold(replicas, state, path):
     """Writes the fold of the files of replicas to a file."""
-    whole = b"".join(content(it) for it in files(replicas, state).values())
+    whole = b"".join(bytes_of(it) for it in files(replicas, state).values())
     status, output, error = run(["fold", "--state", state, "--now", "0"], input=whole)
     compare("a fold", (status, error), (0, ""))
-    with open(path, "wb") as file:
-        file.write(output)
+    write(path, output)
 
 
 def line(silence, relation, names, state=None, by=None):
@@ -195,7 +78,7 @@ def test_together(three):
     return keys
 
 
-def drift(three, keys):
+def drift(three, keys, hook):
     """Changes what c doesn't hear of, and at c what the others don't; answers what a and c then show, and what is told of all."""
     a, b, c = three
     start([a, b], [c])
@@ -207,7 +90,7 @@ def drift(three, keys):
     compare("c ends the other one", c.ask("DELETE", f"silence/{keys['both']}"), True)
     alert = {"labels": {"alertname": "Down", "job": "web"}, "startsAt": silence("web")["startsAt"]}
     compare("a is told of an alert", a.ask("POST", "alerts", [alert]), True)
-    check("a notifies", eventually(lambda: Hook.notified), Hook.notified)
+    check("a notifies", eventually(lambda: hook.notified), hook.notified)
     same([a, b], [key for name, key in keys.items() if name != "lonely"])
     same([c], [key for name, key in keys.items() if name != "new"])
     # (no call of the API tells whether b has the entry)
@@ -217,34 +100,24 @@ def drift(three, keys):
     return shown
 
 
-def end(replica, key):
-    """Ends a silence, by amtool where it is there."""
-    if AMTOOL is None:
-        compare(f"{replica.name} ends it", replica.ask("DELETE", f"silence/{key}"), True)
-        return
-    words = [AMTOOL, f"--alertmanager.url=http://127.0.0.1:{replica.web}", "silence", "expire", key]
-    compare(f"{replica.name} ends it by amtool", members.outcome(words)[::2], (0, ""))
-
-
-def told(keys, here, there, ended):
-    """The lines of what differs between a and b here and c there, where what has ended is told in this state."""
+def told(keys, here, there):
+    """The lines of what differs between a and b here and c there."""
     lines = {
-        "ended": [line(there["ended"], "greatest", "c", ended), line(here["ended"], "behind", "a,b", by="update")],
+        "ended": [line(there["ended"], "greatest", "c"), line(here["ended"], "behind", "a,b", by="update")],
         "changed": [line(here["changed"], "greatest", "a,b"), line(there["changed"], "behind", "c", by="update")],
-        "both": [line(there["both"], "greatest", "c", ended), line(here["both"], "behind", "a,b", by="update")],
+        "both": [line(there["both"], "greatest", "c"), line(here["both"], "behind", "a,b", by="update")],
         "new": [line(here["new"], "greatest", "a,b"), line(here["new"], "missing", "c")],
         "lonely": [line(there["lonely"], "greatest", "c"), line(there["lonely"], "missing", "a,b")],
     }
     return [it for name in sorted(lines, key=keys.get) for it in lines[name]]
 
 
-def test_apart(three, keys):
+def test_apart(three, keys, hook):
     """What was changed while c was on its own is told, and nothing else."""
-    at_a, at_c, asked = drift(three, keys)
+    at_a, at_c, asked = drift(three, keys, hook)
     here, there = ({name: shown.get(key) for name, key in keys.items()} for shown in (at_a, at_c))
-    # what has ended counts no longer where servers are asked
-    compare("servers, c on its own", asked, (5, told(keys, here, there, "gone"), ""))
-    lines = told(keys, here, there, "expired")
+    lines = told(keys, here, there)
+    compare("servers, c on its own", asked, (5, lines, ""))
     silences = files(three, "sil")
     compare("silences, c on its own", diff("sil", silences), (5, lines, ""))
     compare("all that is held of them", diff("sil", silences, "--held"), (5, lines, ""))
@@ -280,9 +153,8 @@ def test_again(three, keys, top):
 def test_by_hand(three, keys, top):
     """A change without a later update is told by its bytes, also once replicas have met; the fold mends it."""
     a, b, c = three
-    before = content(f"{b.folder}/silences")
-    with open(f"{b.folder}/silences", "wb") as file:
-        file.write(before.replace(b"kept on all", b"kept on one"))
+    before = bytes_of(f"{b.folder}/silences")
+    write(f"{b.folder}/silences", before.replace(b"kept on all", b"kept on one"))
     start(three)
     shown = b.listed()[keys["kept"]]
     compare("b shows it", shown["comment"], "kept on one")
@@ -301,29 +173,15 @@ def test_by_hand(three, keys, top):
 
 
 def main():
-    if ALERTMANAGER is None:
-        print(f"{TITLE}: prometheus-alertmanager is not here, so nothing is tried: 0 passed, 0 failed")
-        return
+    must_be_installed(TITLE)
     members.choose(TITLE, sys.argv[1:])
-    hook = http.server.ThreadingHTTPServer(("127.0.0.1", 0), Hook)
-    threading.Thread(target=hook.serve_forever, daemon=True).start()
     with tempfile.TemporaryDirectory() as top:
-        with open(f"{top}/config.yml", "w", encoding="utf-8") as config:
-            config.write(CONFIG.format(hook.server_address[1]))
-        three = [Replica(name, top, config.name) for name in "abc"]
-        try:
-            keys = test_together(three)
-            test_apart(three, keys)
-            test_again(three, keys, top)
-            test_by_hand(three, keys, top)
-        except Exception as error:  # what can't go on is a case that fails
-            print(f"the replicas: {error!r}", flush=True)
-            count(False)
-        finally:
-            for replica in three:
-                if replica.process is not None:
-                    replica.process.kill()
-                    replica.process.wait()
+        hook = receiver(f"{top}/config.yml")
+        with three(lambda name: Replica(name, top, f"{top}/config.yml")) as all_of:
+            keys = test_together(all_of)
+            test_apart(all_of, keys, hook)
+            test_again(all_of, keys, top)
+            test_by_hand(all_of, keys, top)
     finish(TITLE)
 
 

@@ -13,20 +13,19 @@ fails, and at the end how many passed.
 import contextlib
 import json
 import os
-import shutil
 import subprocess
 import sys
 import tempfile
 import time
 import urllib.request
 
-import members
-from chaos import moment
-from members import PATIENCE, TOP, Member, eventually, free_ports
-from tally import check, compare, count, finish
+from lib import members
+from lib.alertmanagers import ALERTMANAGER, must_be_installed
+from lib.api import moment
+from lib.members import PATIENCE, TOP, Member, eventually, free_ports
+from lib.tally import attempt, check, compare, finish
 
 TITLE = "real shims"
-ALERTMANAGER = shutil.which("prometheus-alertmanager")
 NAMES = ["a", "b", "c"]
 
 # How long a member waits for each one before it, and from when on nothing more is paged, in seconds.
@@ -157,20 +156,16 @@ def test_killed_behind_a_page(three):
 
 
 def main():
-    if ALERTMANAGER is None:
-        print(f"{TITLE}: prometheus-alertmanager is not here, so nothing is tried: 0 passed, 0 failed")
-        return
+    must_be_installed(TITLE)
     members.choose(TITLE, sys.argv[1:])
     with tempfile.TemporaryDirectory() as folder:
         three = Three(folder)
         try:
-            for it in three.sites.values():
-                it.start()
-            for test in (test_once, test_first_away, test_killed_in_its_turn, test_killed_behind_a_page):
-                test(three)
-        except Exception as error:  # what can't go on is a case that fails
-            print(f"the sites: {error!r}", flush=True)
-            count(False)
+            with attempt("the sites"):
+                for it in three.sites.values():
+                    it.start()
+                for test in (test_once, test_first_away, test_killed_in_its_turn, test_killed_behind_a_page):
+                    test(three)
         finally:
             for it in three.sites.values():
                 it.stop()

@@ -16,9 +16,9 @@ import sys
 import tempfile
 import urllib.request
 
-import members
-from members import Member, eventually, free_ports
-from tally import check, finish, try_each
+from lib import members
+from lib.members import Member, eventually, free_ports
+from lib.tally import check, finish, try_each
 
 SCRAPES = """\
 global: {{scrape_interval: 1s}}

@@ -25,11 +25,12 @@ import sys
 import tempfile
 
 import cases as cases_of
-import members
-from members import LANES, TOP, Member, free_ports, outcome, parted, run, silent_peer
-from samples import ENTRY, FIRST, ORDERS, ORDERS_OUTPUT, RESTARTED, RESTARTED_OUTPUT, SECOND, SETTLED, SETTLED_OUTPUT, silence_of_job
-from tally import count, finish
-from wire import EMPTY_PUSH, TICK, delta, field, greeting, timestamp
+from lib import members
+from lib.api import request
+from lib.members import LANES, TOP, Member, bytes_of, free_ports, outcome, parted, run, silent_peer
+from lib.samples import ENTRY, FIRST, ORDERS, ORDERS_OUTPUT, RESTARTED, RESTARTED_OUTPUT, SECOND, SETTLED, SETTLED_OUTPUT, silence_of_job
+from lib.tally import count, finish
+from lib.wire import EMPTY_PUSH, TICK, delta, field, greeting, timestamp
 
 # What is on standard error where memory ran out.
 MEMORY = "am_tool: Memory\n"
@@ -386,20 +387,8 @@ def test_jobs(lanes, folder):
 # ---- a member
 
 
-def request(method, path, body=b""):
-    return f"{method} {path} HTTP/1.1\r\ncontent-length: {len(body)}\r\n\r\n".encode() + body
-
-
 def post(value):
     return request("POST", "/api/v2/silences", json.dumps(silence_of_job(value)).encode())
-
-
-def bytes_of(path):
-    try:
-        with open(path, "rb") as file:
-            return file.read()
-    except FileNotFoundError:
-        return None
 
 
 def member_under(library, folder, peer):

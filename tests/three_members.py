@@ -24,11 +24,12 @@ import tempfile
 import threading
 import time
 
-import members
-from members import PATIENCE, eventually, free_ports, outcome, parted, received, run
-from samples import FIRST
-from tally import check, compare, finish, try_each
-from wire import EMPTY_PUSH, TICK, delta, field, greeting, timestamp, varint
+from lib import members
+from lib.api import silence
+from lib.members import PATIENCE, eventually, free_ports, outcome, parted, received, run
+from lib.samples import FIRST
+from lib.tally import check, compare, finish, try_each
+from lib.wire import EMPTY_PUSH, TICK, delta, field, greeting, timestamp, varint
 
 # The names of the members.
 NAMES = ["a", "b", "c"]
@@ -65,30 +66,11 @@ class Member(members.Member):
     def frames(self, sender, *frames):
         return self.send(greeting(sender) + b"".join(frames))
 
-    def post(self, silence):
-        status, body = self.ask("POST", "/api/v2/silences", json.dumps(silence).encode())
-        return status, json.loads(body) if body else None
-
     def saved(self, state):
         """What stands in one of its files, as `show` prints it."""
         with open(self.sil if state == "sil" else self.nfl, "rb") as file:
             status, output, error = run(["show", "--state", state, "--now", str(time.time_ns())], stdin=file)
         return status, output.decode(), error
-
-
-def moment(offset):
-    """A moment so many seconds from now, as API v2 writes it."""
-    return time.strftime("%Y-%m-%dT%H:%M:%S.000Z", time.gmtime(time.time() + offset))
-
-
-def silence(value, comment="by a test", hours=2):
-    return {
-        "matchers": [{"name": "job", "value": value, "isRegex": False, "isEqual": True}],
-        "startsAt": moment(0),
-        "endsAt": moment(3600 * hours),
-        "createdBy": "three_members.py",
-        "comment": comment,
-    }
 
 
 def values(silences):
@@ -97,10 +79,7 @@ def values(silences):
 
 
 def trio(folder, options=()):
-    ports = dict(zip(NAMES, free_ports(3)))
-    return [
-        Member(name, ports[name], [(n, ports[n]) for n in NAMES if n != name], folder, options) for name in NAMES
-    ]
+    return members.peers_of(NAMES, folder, options, Member)
 
 
 # ---- three members
@@ -116,7 +95,7 @@ def test_three_members(folder):
 
     for value in ("x", "y", "z"):
         status, answer = a.post(silence(value))
-        compare(f"a post of {value}", (status, list(answer or {})), (200, ["silenceID"]))
+        compare(f"a post of {value}", (status, list(json.loads(answer or b"{}"))), (200, ["silenceID"]))
     shown = [("x", "active"), ("y", "active"), ("z", "active")]
     for member in three:
         check(f"{member.name} lists them", eventually(lambda: values(member.listed()) == shown), member.lines)

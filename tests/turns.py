@@ -16,9 +16,10 @@ import sys
 import tempfile
 import time
 
-import members
-from members import PATIENCE, Member, eventually, free_ports, parted, received
-from tally import check, compare, finish, try_each
+from lib import members
+from lib.api import request, silence
+from lib.members import PATIENCE, Stoppable, begun, eventually, free_ports, parted, received
+from lib.tally import check, compare, finish, try_each
 
 # The time for which members wait for one another, in seconds.
 TURN = 2
@@ -27,20 +28,11 @@ TURN = 2
 MOST_BODY = 1_048_576
 
 
-class Stoppable(Member):
-    """A member that stops by SIGTERM."""
-
-    def command(self):
-        return ["env", "--block-signal=TERM", "--block-signal=INT", *super().command()]
-
-
 def member(name, folder, options=(), before=("a",)):
     """A member behind others, which aren't there; it has begun."""
     ports = free_ports(1 + len(before))
     peers = list(zip(before, ports[1:]))
-    made = Stoppable(name, ports[0], peers, folder, ["--peer-timeout", str(TURN), *options])
-    check(f"{name} listens", made.start(), made.lines)
-    return made
+    return begun(Stoppable(name, ports[0], peers, folder, ["--peer-timeout", str(TURN), *options]))
 
 
 def message(key, *alerts, status="firing"):
@@ -49,15 +41,9 @@ def message(key, *alerts, status="firing"):
     return json.dumps({"version": "4", "receiver": "team", "groupKey": key, "alerts": listed}).encode()
 
 
-def request(method, path, body=b""):
-    return f"{method} {path} HTTP/1.1\r\nHost: localhost\r\nContent-Length: {len(body)}\r\n\r\n".encode() + body
-
-
 def asked(of, path, body):
     """A connection on which a decision is asked for."""
-    stream = socket.create_connection(("127.0.0.1", of.port), timeout=PATIENCE)
-    stream.sendall(request("POST", path, body))
-    return stream
+    return members.asked(of, request("POST", path, body))
 
 
 def answered(stream):
@@ -75,11 +61,7 @@ def decided(reply):
 
 def post(of, name, is_pattern=False):
     """Posts a silence of all alerts of a name, or of a pattern; its status."""
-    moment = lambda seconds: time.strftime("%Y-%m-%dT%H:%M:%SZ", time.gmtime(seconds))
-    matcher = {"name": "alertname", "value": name, "isRegex": is_pattern}
-    times = {"startsAt": moment(time.time()), "endsAt": moment(time.time() + 3600)}
-    body = {"matchers": [matcher], **times, "createdBy": "me", "comment": "x"}
-    return of.ask("POST", "/api/v2/silences", json.dumps(body).encode())[0]
+    return of.post(silence(name, matchers=[{"name": "alertname", "value": name, "isRegex": is_pattern}]))[0]
 
 
 def test_turn(folder):
@@ -201,13 +183,13 @@ def test_dear(folder):
     for number in range(300):
         post(of, f".*x{number}y.*", True)
     body = message("dear", *(f"{number:03}" + "n" * 1000 for number in range(900)))
-    begun, waited = time.monotonic(), []
+    first, waited = time.monotonic(), []
     stream = asked(of, "/v1/decide?wait=false", body)
     while not select.select([stream], [], [], 0)[0]:
         start = time.monotonic()
         compare("beside it", of.ask("GET", "/api/v2/silence/x")[0], 404)
         waited.append(time.monotonic() - start)
-    whole = time.monotonic() - begun
+    whole = time.monotonic() - first
     compare("it is answered", decided(answered(stream)), (200, True, "First"))
     waited.sort()
     check("nobody waits for a tenth of it", len(waited) > 20 and 10 * waited[-3] < whole, (whole, waited[-5:]))

@@ -1,11 +1,11 @@
 #!/usr/bin/env python3
 """Tries the wrong bodies of wrong/ and must-fail/ in batches: the prover must refuse each, by a clause of its function.
 
-    tests/wrong_bodies.py [--named] [CRATE ..]
+    tests/wrong_bodies.py [--named] [CRATE | CRATE/NAME ..]
 
-Of these crates, or of all that have some, the edits wrong/CRATE/*.edit are tried; with --named those of
-crates/CRATE/must-fail/ too, which `rt ci` tries one by one. An edit is in the form of must-fail's. Since an edit of a
-body leaves the contracts as they are, many functions are wrong in one check: a batch has one edit a function.
+Of these crates, or of all that have some, the edits of wrong/CRATE.edits are tried, or the one of a name; with --named those of
+crates/CRATE/must-fail/ too, which `rt ci` tries one by one. An edit is in the form of must-fail's, behind a line `== NAME`. Since
+an edit of a body leaves the contracts as they are, many functions are wrong in one check: a batch has one edit a function.
 The check is `rt check` in the crate's folder of a copy of the repository, over what earlier checks kept in out/ of that crate
 and of those that it stands on: run `rt check` in crates/CRATE first.
 
@@ -20,6 +20,7 @@ Of each edit one of these is told:
 The last line is 'wrong bodies: N passed, M failed'.
 """
 
+import glob
 import os
 import re
 import shutil
@@ -28,7 +29,7 @@ import sys
 import tempfile
 import time
 
-from tally import count, finish
+from lib.tally import count, finish
 
 TOP = os.path.dirname(os.path.dirname(os.path.abspath(__file__)))
 PARTS = ["src", "specs", "proofs"]
@@ -43,21 +44,20 @@ OPEN = re.compile(r"^fn (\S+): (.*)")
 class Edit:
     """A wrong body: its crate, its name, the changes of one file each, and what it says of its clause."""
 
-    def __init__(self, crate, path):
-        self.crate, self.name = crate, os.path.basename(path)[: -len(".edit")]
-        self.changes, self.said = [], []
-        file = old = None
-        with open(path, encoding="utf-8") as lines:
-            for line in lines:
-                line = line.rstrip("\n")
-                if line.startswith("file: "):
-                    file = line[len("file: ") :].strip()
-                elif line.startswith("old: "):
-                    old = line[len("old: ") :]
-                elif line.startswith("new:"):
-                    self.changes.append((file, old, line[len("new: ") :]))
-                elif line.startswith("# "):
-                    self.said.append(line[2:])
+    def __init__(self, crate, name):
+        self.crate, self.name = crate, name
+        self.changes, self.said, self.file, self.old = [], [], None, None
+
+    def take(self, line):
+        """Takes one of its lines."""
+        if line.startswith("file: "):
+            self.file = line[len("file: ") :].strip()
+        elif line.startswith("old: "):
+            self.old = line[len("old: ") :]
+        elif line.startswith("new:"):
+            self.changes.append((self.file, self.old, line[len("new: ") :]))
+        elif line.startswith("# "):
+            self.said.append(line[2:])
 
     def apply(self, texts):
         """The texts with the edit made, or None where it can't be."""
@@ -328,17 +328,31 @@ def try_batch(room, crate, batch, texts):
         tell(batch[0], False, f"not tried: {first[:200]}")
 
 
-def edits_of(crate, is_named):
-    folders = [f"{TOP}/wrong/{crate}"] + [f"{TOP}/crates/{crate}/must-fail"] * is_named
-    found = []
-    for folder in folders:
-        if os.path.isdir(folder):
-            found += [Edit(crate, f"{folder}/{it}") for it in sorted(os.listdir(folder)) if it.endswith(".edit")]
+def read_edits(crate, path, name=None):
+    """The edits of a file: the one of a name, or those behind lines with their names."""
+    found = [] if name is None else [Edit(crate, name)]
+    with open(path, encoding="utf-8") as lines:
+        for line in lines:
+            if line.startswith("== "):
+                found.append(Edit(crate, line[3:].strip()))
+            else:
+                found[-1].take(line.rstrip("\n"))
     return found
 
 
-def try_crate(room, crate, is_named):
-    edits, texts = edits_of(crate, is_named), sources(crate)
+def edits_of(word, is_named):
+    """The edits of a crate, or the one that a word `CRATE/NAME` names."""
+    crate, _, name = word.partition("/")
+    found, path = [], f"{TOP}/wrong/{crate}.edits"
+    if os.path.exists(path):
+        found += read_edits(crate, path)
+    for it in sorted(glob.glob(f"{TOP}/crates/{crate}/must-fail/*.edit")) if is_named else []:
+        found += read_edits(crate, it, os.path.basename(it)[: -len(".edit")])
+    return [it for it in found if name in ("", it.name)]
+
+
+def try_crate(room, crate, edits):
+    texts = sources(crate)
     made, bad = batches(edits, texts)
     copy_kept(room, crate)
     for edit in bad:
@@ -361,7 +375,7 @@ def main():
     with tempfile.TemporaryDirectory(prefix="wrong-bodies-") as room:
         copy_repository(room)
         for crate in crates:
-            try_crate(room, crate, is_named)
+            try_crate(room, crate.partition("/")[0], edits_of(crate, is_named or "/" in crate))
     return finish("wrong bodies")
 
 

@@ -2,7 +2,9 @@
 #![tactic(auto)]
 
 mod address;
+mod beside;
 mod peer;
 
 pub use address::{AddressWord, address_of, is_loopback};
+pub use beside::{name_beside, shown_name};
 pub use peer::{Peer, peer_of};

@@ -1,6 +1,6 @@
 -- What is known of the step of an instance, for writing it down.
-use Rattle.std.proofs.Common.{◌≡◌, ◌⊎◌, inl, inr, ℕ, Bool, true, false, cond, eqb, ltb, List, [], Result, Ok, Err, refl, sym, subst, length, not, IfOk, ◌<◌, ◌∙◌}
-use Rattle.std.specs.Prelude.{All, Contains, IfSome, None}
+use Rattle.std.proofs.Common.{◌≡◌, ◌⊎◌, inl, inr, arith, ℕ, Bool, true, false, cond, eqb, ltb, List, [], Result, Ok, Err, refl, sym, subst, length, not, IfOk, ◌<◌, ◌∙◌}
+use Rattle.std.specs.Prelude.{All, Contains, IfSome, None, ◌≤◌}
 use Rattle.std.proofs.lemmas.List.Elements.{All-nil, All-weaker, All-contains, All-contains_itself}
 use Rattle.std.proofs.lemmas.Bool.{and_parts, eqb-false, ltb-true, not-true}
 use Rattle.std.proofs.lemmas.Bool.Decides.{eqb_tells}
@@ -19,7 +19,7 @@ use Rattle.am_instance.specs.Deliveries.{first_fault, rows_in, parts_of}
 use Rattle.am_instance.specs.Laws.{HasMaps}
 use Rattle.am_instance.specs.Replies.{IsNothing}
 use Rattle.am_instance.specs.InstanceStates.{InstanceState}
-use Rattle.am_instance.specs.Steps.{brought, delivers, fault_of}
+use Rattle.am_instance.specs.Steps.{IsAccepted, brought, delivers}
 use Rattle.am_instance.specs.OneStep.{IsStep}
 use Rattle.am_runs.specs.declared.step.Source.{Source}
 use Rattle.am_runs.specs.Steps.{RunStep}
@@ -32,17 +32,17 @@ use Rattle.am_cluster.specs.declared.error.ClusterError.{ClusterError}
 use Rattle.am_cluster.specs.declared.recording.Kind.TheVariants as kinds
 use Rattle.am_cluster.specs.Events.{IsTold, drops}
 use Rattle.am_cluster.specs.declared.writing.Entry.{Entry}
-use Rattle.am_cluster.specs.Recording.{CanBeNext, IsNoFault, brings_or_makes}
+use Rattle.am_cluster.specs.Recording.{CanBeNext, IsNoRefusal, brings_or_makes}
 use Rattle.am_cluster.specs.Ties.{CanFly}
 
--- an event that has no fault isn't refused for one
-pub no_fault : (before stand : InstanceState) (event : Event) (now : ℕ) (answer : Result Outcome StepError) → ((settings : Settings) → fault_of settings now event ≡ None) →
-    IsStep before event now answer stand → IsNoFault answer
-no_fault before stand event now (Ok outcome) sound step = tt
-no_fault before stand event now (Err (MomentBack last)) sound step = tt
-no_fault before stand event now (Err UnknownPeer) sound step = tt
-no_fault before stand event now (Err (Memory taken)) sound step = tt
-no_fault before stand event now (Err (FrameFault fault)) sound step = absurd (let is = sym (sound before.config) ∙ step.refused.2 in cc)
+-- an event against which no cause stands isn't refused, memory aside
+pub not_refused : (before stand : InstanceState) (event : Event) (now : ℕ) (answer : Result Outcome StepError) → IsAccepted before event now →
+    IsStep before event now answer stand → IsNoRefusal answer
+not_refused before stand event now (Ok outcome) accepted step = tt
+not_refused before stand event now (Err (MomentBack last)) accepted step = let less : now < before.last = step.refused.1 in let forward : before.last ≤ now = accepted.forward in absurd (omega arith)
+not_refused before stand event now (Err UnknownPeer) accepted step = absurd (let known = sym accepted.known ∙ step.refused.1 in cc)
+not_refused before stand event now (Err (Memory taken)) accepted step = tt
+not_refused before stand event now (Err (FrameFault fault)) accepted step = absurd (let is = sym accepted.sound ∙ step.refused.2 in cc)
 
 -- what holds of every outcome holds of the answer
 pub on_ok : (P : Outcome → Type 0) (before stand : InstanceState) (event : Event) (now : ℕ) (answer : Result Outcome StepError) →
@@ -100,8 +100,8 @@ pub told_frames : (source : Source) (P : ℕ × Frame → Type 0) (answer : Resu
     IfOk answer (λ outcome. All P outcome.frames.items) → IsTold source answer frames result → All P frames
 told_frames source P (Ok outcome) frames (Ok reply) all told = subst (All P) (sym told.1) (all_flown P (drops source) outcome.frames.items all)
 told_frames source P (Ok outcome) frames (Err e) all told = subst (All P) (sym told.1) (All-nil P)
-told_frames source P (Err (MomentBack last)) frames (Err e) all told = subst (All P) (sym told.1) (All-nil P)
-told_frames source P (Err UnknownPeer) frames (Err e) all told = subst (All P) (sym told.1) (All-nil P)
+told_frames source P (Err (MomentBack last)) frames (Err e) all told = absurd told
+told_frames source P (Err UnknownPeer) frames (Err e) all told = absurd told
 told_frames source P (Err (Memory taken)) frames (Err e) all told = subst (All P) (sym told.1) (All-nil P)
 told_frames source P (Err (FrameFault fault)) frames (Err e) all told = absurd told
 told_frames source P (Err (MomentBack last)) frames (Ok reply) all told = absurd told
@@ -112,8 +112,8 @@ told_frames source P (Err (FrameFault fault)) frames (Ok reply) all told = absur
 pub told_flying : (source : Source) (answer : Result Outcome StepError) (frames : List (ℕ × Frame)) (result : Result Reply ClusterError) → IsTold source answer frames result → AreInFlight answer frames
 told_flying source (Ok outcome) frames (Ok reply) told = all_or_none (drops source) frames outcome.frames.items told.1
 told_flying source (Ok outcome) frames (Err e) told = inr told.1
-told_flying source (Err (MomentBack last)) frames (Err e) told = told.1
-told_flying source (Err UnknownPeer) frames (Err e) told = told.1
+told_flying source (Err (MomentBack last)) frames (Err e) told = absurd told
+told_flying source (Err UnknownPeer) frames (Err e) told = absurd told
 told_flying source (Err (Memory taken)) frames (Err e) told = told.1
 told_flying source (Err (FrameFault fault)) frames (Err e) told = absurd told
 told_flying source (Err (MomentBack last)) frames (Ok reply) told = absurd told

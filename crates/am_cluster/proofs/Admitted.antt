@@ -1,5 +1,5 @@
 -- When a settle is let in, and what is written down where it isn't.
-use Rattle.std.proofs.Common.{◌≡◌, ℕ, zero, suc, ◌+◌, ◌<◌, ◌≤◌, Bool, true, false, cond, eqb, ltb, List, [], ◌∷◌, ◌++◌, Some, Result, Ok, Err, refl, sym, ap, ◌∙◌, subst, slice_get, length, map, arith, append_assoc, append-nil, inl, inr}
+use Rattle.std.proofs.Common.{◌≡◌, ℕ, zero, suc, ◌+◌, ◌-◌, max, length-append, ◌<◌, ◌≤◌, Bool, true, false, cond, eqb, ltb, List, [], ◌∷◌, ◌++◌, Some, Result, Ok, Err, refl, sym, ap, ◌∙◌, subst, slice_get, length, map, arith, append_assoc, append-nil, inl, inr}
 use Rattle.std.specs.Prelude.{Any, filter}
 use Rattle.std.specs.List.{range_with_len}
 use Rattle.std.proofs.lemmas.Bool.{eqb-true, lt-ltb}
@@ -15,8 +15,8 @@ use Rattle.am_cluster.specs.Accounts.{Account}
 use Rattle.am_cluster.specs.declared.flight.Flight.{Flight}
 use Rattle.am_cluster.specs.declared.error.SettleError.{SettleError}
 use Rattle.am_cluster.specs.declared.error.SettleError.TheVariants as errors
-use Rattle.am_cluster.specs.Worlds.{Replica, World, replica_at, written}
-use Rattle.am_cluster.specs.Settling.{AreCutShort, AreTurns, CanSettle, HasBacks, HasLate, HasStopped, IsAdmitted, IsRefusedAsBack, IsRefusedAsStopped, IsSettle, Turn, all_turns, begun, is_late, late_places, with_backs}
+use Rattle.am_cluster.specs.Worlds.{Replica, World, replica_at, with_room, written}
+use Rattle.am_cluster.specs.Settling.{AreCutShort, AreTurns, CanSettle, HasBacks, HasLate, HasStopped, IsAdmitted, IsSettle, IsUnbegun, Turn, all_turns, begun, is_late, late_places, with_backs}
 use Rattle.am_cluster.specs.Ties.{IsWorld}
 use Rattle.am_cluster.proofs.Goes.{goes_on_idle}
 use Rattle.am_cluster.proofs.Lived.{last_told, same_world}
@@ -35,15 +35,16 @@ module _ {X : Type 0} where
       ∙ (member_of-push members q steps (Back place now) ∙ same_where _ (member_of members q steps)))
 
 one_more : (w : World) (place : ℕ) (places : List ℕ) (now line : ℕ) → with_backs (written w (Back place now) (Back place now) line) places now line ≡ with_backs w (place ∷ places) now line
-one_more w place places now line = same_world w.replicas w.replicas _ _ _ _ _ _ w.flights refl
+one_more w place places now line = same_world w.replicas w.replicas _ _ _ _ _ _ w.flights _ _ refl
     (append_assoc w.silences (Back place now ∷ []) (map (λ p. Back p now) places))
     (append_assoc w.log (Back place now ∷ []) (map (λ p. Back p now) places))
     (append_assoc w.lines (line ∷ []) (map (λ p. line) places))
+    (omega arith)
 
 pub world_marked : (w : World) (places : List ℕ) (now line : ℕ) → IsWorld w → IsWorld (with_backs w places now line)
 world_marked w [] now line is = subst IsWorld (sym nothing) is where
   nothing : with_backs w [] now line ≡ w
-  nothing = same_world w.replicas w.replicas (w.silences ++ []) w.silences (w.log ++ []) w.log (w.lines ++ []) w.lines w.flights refl (append-nil w.silences) (append-nil w.log) (append-nil w.lines)
+  nothing = same_world w.replicas w.replicas (w.silences ++ []) w.silences (w.log ++ []) w.log (w.lines ++ []) w.lines w.flights (w.room - 0) w.room refl (append-nil w.silences) (append-nil w.log) (append-nil w.lines) (omega arith)
 world_marked w (place ∷ places) now line is = subst IsWorld (one_more w place places now line)
     (world_marked (written w (Back place now) (Back place now) line) places now line (goes_on_idle w (Back place now) (Back place now) line (λ m. refl) (λ m. refl) is))
 
@@ -75,7 +76,7 @@ module _ (replicas : List Replica) (now place : ℕ) (r : Replica) (found : slic
 
 -- none of them is told yet
 pub none_marked : (account : Account) (now line : ℕ) → HasBacks account [] now line account
-none_marked account now line = record { members = refl; silences = sym (append-nil account.silences); log = sym (append-nil account.log); lines = sym (append-nil account.lines) }
+none_marked account now line = record { members = refl; silences = sym (append-nil account.silences); log = sym (append-nil account.log); lines = sym (append-nil account.lines); room = omega arith }
 
 -- one that isn't late is passed over
 pub none_more : (old new : Account) (places more : List ℕ) (now line : ℕ) → HasBacks old places now line new → more ≡ places → HasBacks old more now line new
@@ -83,13 +84,14 @@ none_more old new places more now line first same = subst (λ ps. HasBacks old p
 
 -- one more of them is told
 pub one_marked : (old between new : Account) (places more : List ℕ) (place now line : ℕ) → HasBacks old places now line between → more ≡ places ++ place ∷ [] →
-    new.members ≡ between.members → new.silences ≡ between.silences ++ Back place now ∷ [] → new.log ≡ between.log ++ Back place now ∷ [] → new.lines ≡ between.lines ++ line ∷ [] →
+    new.members ≡ between.members → new.silences ≡ between.silences ++ Back place now ∷ [] → new.log ≡ between.log ++ Back place now ∷ [] → new.lines ≡ between.lines ++ line ∷ [] → new.room ≡ between.room - 1 →
     HasBacks old more now line new
-one_marked old between new places more place now line first more_is members silences log lines = subst (λ ps. HasBacks old ps now line new) (sym more_is) (record {
+one_marked old between new places more place now line first more_is members silences log lines room = subst (λ ps. HasBacks old ps now line new) (sym more_is) (record {
   members = members ∙ first.members;
   silences = silences ∙ (ap (λ x. x ++ Back place now ∷ []) first.silences ∙ (append_assoc old.silences (map (λ p. Back p now) places) (Back place now ∷ []) ∙ ap (λ x. old.silences ++ x) (sym (map_push (λ p. Back p now) places place))));
   log = log ∙ (ap (λ x. x ++ Back place now ∷ []) first.log ∙ (append_assoc old.log (map (λ p. Back p now) places) (Back place now ∷ []) ∙ ap (λ x. old.log ++ x) (sym (map_push (λ p. Back p now) places place))));
   lines = lines ∙ (ap (λ x. x ++ line ∷ []) first.lines ∙ (append_assoc old.lines (map (λ p. line) places) (line ∷ []) ∙ ap (λ x. old.lines ++ x) (sym (map_push (λ p. line) places place))));
+  room = (let before : between.room ≡ old.room - length places = first.room in let more_are : length (places ++ place ∷ []) ≡ length places + 1 = length-append places (place ∷ []) in omega arith);
 })
 
 -- it can be told
@@ -130,17 +132,18 @@ lasts_told w seen account is same members silences place replica found =
     last_told w place replica account.members account.silences is (subst (λ rs. slice_get rs place ≡ Some replica) same found) members silences
 
 -- the world after the late members were told
-pub marked_world : (rs seen : List Replica) (first room new : Account) (fs : List Flight) (now line : ℕ) → seen ≡ rs → room.silences ≡ first.silences → room.log ≡ first.log → room.lines ≡ first.lines →
-    HasBacks room (late_places seen now) now line new →
-    ◌≡◌ {A = World} (record { replicas = rs; silences = new.silences; log = new.log; lines = new.lines; flights = fs })
-    (with_backs (record { replicas = rs; silences = first.silences; log = first.log; lines = first.lines; flights = fs }) (late_places rs now) now line)
-marked_world rs seen first room new fs now line same silences log lines backs =
-    subst (λ xs. ◌≡◌ {A = World} (record { replicas = rs; silences = new.silences; log = new.log; lines = new.lines; flights = fs })
-    (with_backs (record { replicas = rs; silences = first.silences; log = first.log; lines = first.lines; flights = fs }) (late_places xs now) now line)) same
-    (same_world rs rs new.silences _ new.log _ new.lines _ fs refl
+pub marked_world : (rs seen : List Replica) (first roomy new : Account) (fs : List Flight) (now line : ℕ) → seen ≡ rs → roomy.silences ≡ first.silences → roomy.log ≡ first.log → roomy.lines ≡ first.lines →
+    roomy.room ≡ max first.room (length rs) → HasBacks roomy (late_places seen now) now line new →
+    ◌≡◌ {A = World} (record { replicas = rs; silences = new.silences; log = new.log; lines = new.lines; flights = fs; room = new.room })
+    (with_backs (with_room (record { replicas = rs; silences = first.silences; log = first.log; lines = first.lines; flights = fs; room = first.room }) (length rs)) (late_places rs now) now line)
+marked_world rs seen first roomy new fs now line same silences log lines room backs =
+    subst (λ xs. ◌≡◌ {A = World} (record { replicas = rs; silences = new.silences; log = new.log; lines = new.lines; flights = fs; room = new.room })
+    (with_backs (with_room (record { replicas = rs; silences = first.silences; log = first.log; lines = first.lines; flights = fs; room = first.room }) (length rs)) (late_places xs now) now line)) same
+    (same_world rs rs new.silences _ new.log _ new.lines _ fs new.room _ refl
     (backs.silences ∙ ap (λ x. x ++ map (λ p. Back p now) (late_places seen now)) silences)
     (backs.log ∙ ap (λ x. x ++ map (λ p. Back p now) (late_places seen now)) log)
-    (backs.lines ∙ ap (λ x. x ++ map (λ p. line) (late_places seen now)) lines))
+    (backs.lines ∙ ap (λ x. x ++ map (λ p. line) (late_places seen now)) lines)
+    (backs.room ∙ ap (λ n. n - length (late_places seen now)) room))
 
 -- ---- a settle begins
 
@@ -161,23 +164,30 @@ begun_alone : (rs : List Replica) (w : World) (now line : ℕ) → eqb (length r
 begun_alone [] w now line none = refl
 begun_alone (r ∷ rs) w now line none = absurd (let some : length (r ∷ rs) ≡ 0 = eqb-true (length (r ∷ rs)) 0 none in omega (arith, some))
 
-module _ (w v n : World) (now line : ℕ) (rs others : List Replica) (same : w ≡ v) (are : rs ≡ w.replicas) (too : others ≡ w.replicas) where
-  pub refused_as_stopped : HasStopped rs → n ≡ written w (Refused now) (Refused now) line → IsRefusedAsStopped v now line n
-  refused_as_stopped stopped is = subst (λ u. IsRefusedAsStopped u now line n) same (subst HasStopped are stopped, is)
+module _ (w n : World) (now line : ℕ) (run : ¬ HasStopped w.replicas) (none_late : ¬ HasLate now w.replicas) where
+  let_in : n ≡ begun w.replicas w now line → CanSettle w now × (n ≡ begun w.replicas w now line)
+  let_in is = (can_settle w now run none_late, is)
 
-  pub refused_as_back : ¬ HasStopped rs → HasLate now others → n ≡ with_backs w (late_places w.replicas now) now line → IsRefusedAsBack v now line n
-  refused_as_back run late is =
-      subst (λ u. IsRefusedAsBack u now line n) same (subst (λ xs. ¬ HasStopped xs) are run, subst (HasLate now) too late, is)
+  pub let_in_with_members : eqb (length w.replicas) 0 ≡ false → n ≡ w → CanSettle w now × (n ≡ begun w.replicas w now line)
+  let_in_with_members some is = let_in (is ∙ sym (begun_with_members w.replicas w now line some))
 
-  let_in : ¬ HasStopped rs → ¬ HasLate now others → n ≡ begun w.replicas w now line → CanSettle v now × (n ≡ begun v.replicas v now line)
-  let_in run none_late is =
-      (subst (λ u. CanSettle u now) same (can_settle w now (subst (λ xs. ¬ HasStopped xs) are run) (subst (λ xs. ¬ HasLate now xs) too none_late)), is ∙ ap (λ u. begun u.replicas u now line) same)
+  pub let_in_alone : eqb (length w.replicas) 0 ≡ true → n ≡ written w (Refused now) (Refused now) line → CanSettle w now × (n ≡ begun w.replicas w now line)
+  let_in_alone none is = let_in (is ∙ sym (begun_alone w.replicas w now line none))
 
-  pub let_in_with_members : ¬ HasStopped rs → ¬ HasLate now others → eqb (length w.replicas) 0 ≡ false → n ≡ w → CanSettle v now × (n ≡ begun v.replicas v now line)
-  let_in_with_members run none_late some is = let_in run none_late (is ∙ sym (begun_with_members w.replicas w now line some))
+-- there was no room for what is written down of it
+some_member : (n m : ℕ) → m ≡ 0 → m < max 1 n
+some_member zero m none = omega arith
+some_member (suc n) m none = omega arith
 
-  pub let_in_alone : ¬ HasStopped rs → ¬ HasLate now others → eqb (length w.replicas) 0 ≡ true → n ≡ written w (Refused now) (Refused now) line → CanSettle v now × (n ≡ begun v.replicas v now line)
-  let_in_alone run none_late none is = let_in run none_late (is ∙ sym (begun_alone w.replicas w now line none))
+below_all : (n m : ℕ) → m < n → m < max 1 n
+below_all zero m less = omega arith
+below_all (suc n) m less = omega arith
+
+pub unbegun_without : (old new : World) → new ≡ old → old.room ≡ 0 → IsUnbegun old new
+unbegun_without old new same none = record { world = same; without_room = some_member (length old.replicas) old.room none }
+
+pub unbegun_late : (old new : World) → new ≡ old → old.room < length old.replicas → IsUnbegun old new
+unbegun_late old new same less = record { world = same; without_room = below_all (length old.replicas) old.room less }
 
 -- ---- the settle
 

@@ -1,6 +1,6 @@
 -- What an answered step was.
-use Rattle.std.proofs.Common.{◌≡◌, ◌⊎◌, inl, inr, ◌∙◌, ◌<◌, ◌≤◌, ℕ, Bool, true, false, List, [], Some, None, Option, Result, Ok, Err, ap, refl, sym, subst, length, slice_get}
-use Rattle.std.specs.Prelude.{Contains, option_and_then, position, if◌then◌else◌}
+use Rattle.std.proofs.Common.{◌≡◌, ◌⊎◌, inl, inr, ◌∙◌, ◌<◌, ◌≤◌, ℕ, Bool, true, false, List, [], Some, None, Option, Result, Ok, Err, ap, refl, sym, subst, length}
+use Rattle.std.specs.Prelude.{MatchOption, option_and_then, if◌then◌else◌}
 use Rattle.std.specs.Str.{bytes_eq}
 use Rattle.std.proofs.lemmas.List.Quantifiers.{position-Some}
 use Rattle.am_gossip.specs.declared.frame.Frame.{Frame}
@@ -12,12 +12,10 @@ use Rattle.am_instance.specs.Steps.{collects}
 use Rattle.am_refusals.specs.declared.error.StepError.{StepError}
 use Rattle.am_refusals.specs.declared.error.StepError.TheVariants as step_errors
 use Rattle.am_instance.specs.declared.event.Event.{Event}
-use Rattle.am_instance.specs.declared.event.Event.TheVariants as events
 use Rattle.am_instance.specs.declared.reply.Made.{Made}
 use Rattle.am_instance.specs.declared.reply.Outcome.{Outcome}
 use Rattle.am_instance.specs.declared.reply.Reply.{Reply}
 use Rattle.am_runs.specs.declared.step.Source.{Source}
-use Rattle.am_runs.specs.declared.step.Source.TheVariants.{Arrived, Made as MadeHere}
 use Rattle.am_runs.specs.Steps.{RunStep, moment}
 use Rattle.am_runs.specs.Steps.RunStep.{Started}
 use Rattle.am_schedule.specs.declared.step.Action.{Action}
@@ -30,10 +28,15 @@ use Rattle.am_steps.specs.Events.{asked_by}
 use Rattle.am_steps.specs.Recorded.{event_step}
 use Rattle.am_cluster.specs.Answered.{Asks, GoesOnBy, Replies, moment_of}
 use Rattle.am_cluster.specs.declared.error.ClusterError.{ClusterError}
-use Rattle.am_cluster.specs.Delivering.{IsDelivery}
-use Rattle.am_cluster.specs.Events.{HasHappened, IsEvent, IsTold}
+use Rattle.am_cluster.specs.declared.error.ClusterError.TheVariants as errors
+use Rattle.am_cluster.specs.declared.journal.mark.Mark.{Mark}
+use Rattle.am_cluster.specs.declared.journal.mark.Mark.TheVariants as marks
+use Rattle.am_cluster.specs.Delivering.{IsDelivery, delivery}
+use Rattle.am_cluster.specs.Doing.{IsCarriedOut, IsDone, quiet}
+use Rattle.am_cluster.specs.Events.{HasHappened, IsTold}
+use Rattle.am_cluster.specs.Refusals.{IsRefused, IsUnmade, mark_of, refused_anyway}
 use Rattle.am_cluster.specs.Lives.{IsStart, OfMember}
-use Rattle.am_cluster.specs.Steps.{AtNamed, IsAsked, IsDone, IsStepped, place_in, quiet}
+use Rattle.am_cluster.specs.Steps.{AtNamed, IsStepped, place_in}
 use Rattle.am_cluster.specs.Ties.{IsWorld}
 use Rattle.am_cluster.specs.Worlds.{Replica, World, replica_at}
 use Rattle.am_cluster.proofs.Places.{set_length}
@@ -64,13 +67,11 @@ event_moment state place now source e (Err (step_errors.MomentBack last)) frames
 event_moment state place now source e (Err step_errors.UnknownPeer) frames = refl
 event_moment state place now source e (Err (step_errors.Frame fault)) frames = refl
 
-module _ (old new : World) (at line place : ℕ) (replica : Replica) (reply : Reply) where
-  -- an event that is answered has happened
-  pub event_happened : (e : Event) (source : Source) → IsEvent old place replica e source at line (Ok reply) new → HasHappened old place replica e source at line (Ok reply) new
-  event_happened e source (inl unmade) = absurd (let error = unmade.error in cc)
-  event_happened e source (inr (inl halted)) = absurd (let error = halted.error in cc)
-  event_happened e source (inr (inr has)) = has
+-- what is answered isn't refused
+never_refused : (old new : World) (line : ℕ) (reply : Reply) (cause : ClusterError) (mark : Mark) → IsRefused cause mark old line (Ok reply) new → ⊥
+never_refused old new line reply cause mark refused = elim refused.answer [ inl told ↦ absurd (let error = told.error in cc) | inr unmade ↦ absurd (let error = unmade.error in cc) ]
 
+module _ (old new : World) (at line place : ℕ) (replica : Replica) (reply : Reply) where
   happened_goes : (e : Event) (source : Source) → HasHappened old place replica e source at line (Ok reply) new → GoesOnBy old new at
   happened_goes e source has = record {
     goes = record {
@@ -95,40 +96,46 @@ module _ (old new : World) (at line place : ℕ) (replica : Replica) (reply : Re
   started_goes : (done : Result Unit ClusterError) → Ok reply ≡ quiet done → IsStart old place replica at line done new → GoesOnBy old new at
   started_goes (Ok u) e is = record {
     goes = record {
-      members = ap (λ w. length w.replicas) is.2 ∙ set_length old.replicas place _;
-      silences = record { step = Started place at; rest = []; parts = ap (λ w. w.silences) is.2; begins = refl };
-      log = record { step = Started place at; rest = []; parts = ap (λ w. w.log) is.2; begins = refl };
+      members = ap (λ w. length w.replicas) is ∙ set_length old.replicas place _;
+      silences = record { step = Started place at; rest = []; parts = ap (λ w. w.silences) is; begins = refl };
+      log = record { step = Started place at; rest = []; parts = ap (λ w. w.log) is; begins = refl };
     };
     silences = refl;
     log = refl;
   }
   started_goes (Err error) e is = absurd cc
 
-  asked_goes : (a : Asked) → IsAsked old place replica a at line (Ok reply) new → GoesOnBy old new at
-  asked_goes (asked.Event e source) is = happened_goes e source (event_happened e source is)
-  asked_goes asked.Start is = started_goes is.0 is.1 is.2
-  asked_goes asked.NoMember is = happened_goes (events.PullFrom (length old.replicas)) MadeHere (event_happened (events.PullFrom (length old.replicas)) MadeHere is)
+  does_go : (what : Asked) → IsCarriedOut old place replica what at line (Ok reply) new → GoesOnBy old new at
+  does_go (asked.Event e source) has = happened_goes e source has
+  does_go asked.Start is = started_goes is.0 is.1 is.2
+  does_go asked.NoMember never = absurd never
 
-  -- a member did what a line says, where that was answered
-  pub done_asked : (event : LineEvent) → IsDone old place replica event at line (Ok reply) new → IsAsked old place replica (asked_by replica.stand.config event) at line (Ok reply) new
-  done_asked event (inl unmade) = absurd (let error = unmade.error in cc)
-  done_asked event (inr is) = is
+  by_cause : (what : Asked) (o : Option ClusterError) →
+      MatchOption o (IsUnmade old (Ok reply) new ⊎ IsCarriedOut old place replica what at line (Ok reply) new) (λ cause. IsRefused cause (mark_of cause place at) old line (Ok reply) new) →
+      IsCarriedOut old place replica what at line (Ok reply) new
+  by_cause what None (inl unmade) = absurd (let error = unmade.error in cc)
+  by_cause what None (inr does) = does
+  by_cause what (Some cause) refused = absurd (never_refused old new line reply cause (mark_of cause place at) refused)
+
+  -- what was asked of a member was carried out, where that was answered
+  pub done_answered : (what : Asked) → IsDone old place replica what at line (Ok reply) new → IsCarriedOut old place replica what at line (Ok reply) new
+  done_answered what done = by_cause what (refused_anyway replica what at) done
 
 module _ (old new : World) (is : IsWorld old) (at line : ℕ) (reply : Reply) where
-  by_place : (name : List ℕ) (event : LineEvent) (o : Option ℕ) → place_in old name ≡ o → AtNamed old o at line (λ p r. IsDone old p r event at line (Ok reply) new) (Ok reply) new → GoesOnBy old new at
-  by_place name event None named (inl unmade) = absurd (let error = unmade.error in cc)
-  by_place name event None named (inr refused) = absurd (let told = refused.told in cc)
+  by_place : (name : List ℕ) (event : LineEvent) (o : Option ℕ) → place_in old name ≡ o →
+      AtNamed old o at line (λ p r. IsDone old p r (asked_by r.stand.config event) at line (Ok reply) new) (Ok reply) new → GoesOnBy old new at
+  by_place name event None named refused = absurd (never_refused old new line reply errors.UnknownPeer (marks.Refused at) refused)
   by_place name event (Some place) named done =
       let there = named_there old is name place named in
-      asked_goes old new at line place there.0 reply (asked_by there.0.stand.config event) (done_asked old new at line place there.0 reply event (done there.0 there.1))
+      let what = asked_by there.0.stand.config event in
+      does_go old new at line place there.0 reply what (done_answered old new at line place there.0 reply what (done there.0 there.1))
 
   by_number : (number : ℕ) → IsDelivery old number at line (Ok reply) new → GoesOnBy old new at
-  by_number number (inl unmade) = absurd (let error = unmade.error in cc)
-  by_number number (inr (inl refused)) = absurd (let told = refused.1.told in cc)
-  by_number number (inr (inr del)) =
+  by_number number (inl refused) = absurd (never_refused old new line reply errors.NoFrame (marks.Refused at) refused.1)
+  by_number number (inr del) =
       let there = got old.replicas del.flight.addressee (is.flights del.flight del.there).addressee in
-      let e = events.Frame del.flight.sender del.flight.frame in
-      happened_goes old new at line del.flight.addressee there.0 reply e (Arrived del.index) (event_happened old new at line del.flight.addressee there.0 reply e (Arrived del.index) (del.event there.0 there.1))
+      let what = delivery del.flight del.index in
+      does_go old new at line del.flight.addressee there.0 reply what (done_answered old new at line del.flight.addressee there.0 reply what (del.done there.0 there.1))
 
   pub step_goes : (action : Action) → moment_of action ≡ Some at → IsStepped old action line (Ok reply) new → GoesOnBy old new at
   step_goes (actions.Event now name event) same stepped =
@@ -153,9 +160,9 @@ pub step_replies : (old new : World) (action : Action) (now line place : ℕ) (r
     Asks old action place replica e now → IsStepped old action line (Ok reply) new → Replies replica e now reply
 step_replies old new action now line place replica e reply asks stepped =
     let here = subst (λ a. IsStepped old a line (Ok reply) new) asks.says stepped in
-    let at_place : OfMember old place (λ r. IsDone old place r asks.line now line (Ok reply) new) =
-    subst (λ o. AtNamed old o now line (λ p r. IsDone old p r asks.line now line (Ok reply) new) (Ok reply) new) asks.named here in
-    let has = event_happened old new now line place replica reply e asks.source
-    (subst (λ a. IsAsked old place replica a now line (Ok reply) new) asks.asked (done_asked old new now line place replica reply asks.line (at_place replica asks.found))) in
+    let at_place : OfMember old place (λ r. IsDone old place r (asked_by r.stand.config asks.line) now line (Ok reply) new) =
+    subst (λ o. AtNamed old o now line (λ p r. IsDone old p r (asked_by r.stand.config asks.line) now line (Ok reply) new) (Ok reply) new) asks.named here in
+    let done = done_answered old new now line place replica reply (asked_by replica.stand.config asks.line) (at_place replica asks.found) in
+    let has : HasHappened old place replica e asks.source now line (Ok reply) new = subst (λ a. IsCarriedOut old place replica a now line (Ok reply) new) asks.asked done in
     let said = reply_of replica.stand has.stand e now asks.source has.answer has.frames reply has.step has.told in
     record { runs = has.runs; past = said.2; made = said.0; is = said.1 }

@@ -37,10 +37,10 @@ born_names : (replicas : List Replica) (q : ℕ) (replica : Replica) (settings :
 born_names [] q replica settings there each = absurd cc
 born_names (first ∷ others) q replica settings there each = sym (ap (λ r. r.stand.config.members) (each 0 first refl))
 
-born_member : (replicas : List Replica) (q : ℕ) (settings : Settings) → ltb q (length replicas) ≡ true → length settings.members ≡ length replicas →
+born_member : (replicas : List Replica) (q room : ℕ) (settings : Settings) → ltb q (length replicas) ≡ true → length settings.members ≡ length replicas →
     settings.members ≡ names_of (slice_get replicas 0) →
-    IsMember (record { replicas = replicas; silences = []; log = []; lines = []; flights = [] }) q (newborn settings q)
-born_member replicas q settings inside members names = record {
+    IsMember (record { replicas = replicas; silences = []; log = []; lines = []; flights = []; room = room }) q (newborn settings q)
+born_member replicas q room settings inside members names = record {
   silences = born_tied silence_state (length replicas) q inside;
   log = born_tied log_state (length replicas) q inside;
   place = refl;
@@ -48,20 +48,20 @@ born_member replicas q settings inside members names = record {
   names = names;
 }
 
-born_here : (replicas : List Replica) → AreUnborn replicas → IsWorld (record { replicas = replicas; silences = []; log = []; lines = []; flights = [] })
-born_here replicas are = record {
+born_here : (replicas : List Replica) (room : ℕ) → AreUnborn replicas → IsWorld (record { replicas = replicas; silences = []; log = []; lines = []; flights = []; room = room })
+born_here replicas room are = record {
   members = λ q replica there.
-      subst (IsMember (record { replicas = replicas; silences = []; log = []; lines = []; flights = [] }) q) (sym (are.2 q replica there))
-      (born_member replicas q are.0 (got_within replicas q replica there) are.1 (born_names replicas q replica are.0 there are.2));
+      subst (IsMember (record { replicas = replicas; silences = []; log = []; lines = []; flights = []; room = room }) q) (sym (are.2 q replica there))
+      (born_member replicas q room are.0 (got_within replicas q replica there) are.1 (born_names replicas q replica are.0 there are.2));
   flights = λ flight there. absurd (nothing flight there);
   numbers = tt;
 } where
   nothing : (flight : Flight) → Contains [] flight → ⊥
   nothing flight there = omega (arith, there.1)
 
-pub world_born : (replicas : List Replica) (ss : List (RunStep Mesh)) (ls : List (RunStep LogMesh)) (ns : List ℕ) (fs : List Flight) → AreUnborn replicas → ss ≡ [] → ls ≡ [] → ns ≡ [] → fs ≡ [] →
-    IsWorld (record { replicas = replicas; silences = ss; log = ls; lines = ns; flights = fs })
-world_born replicas ss ls ns fs are no_s no_l no_n no_f = rw (no_s, no_l, no_n, no_f) (born_here replicas are)
+pub world_born : (replicas : List Replica) (ss : List (RunStep Mesh)) (ls : List (RunStep LogMesh)) (ns : List ℕ) (fs : List Flight) (room : ℕ) → AreUnborn replicas → ss ≡ [] → ls ≡ [] → ns ≡ [] → fs ≡ [] →
+    IsWorld (record { replicas = replicas; silences = ss; log = ls; lines = ns; flights = fs; room = room })
+world_born replicas ss ls ns fs room are no_s no_l no_n no_f = rw (no_s, no_l, no_n, no_f) (born_here replicas room are)
 
 replica_is : (s t : InstanceState) (a b : Bool) (xs ys : List Mesh) (us vs : List LogMesh) → s ≡ t → a ≡ b → xs ≡ ys → us ≡ vs →
     ◌≡◌ {A = Replica} (record { stand = s; runs = a; saved_silences = xs; saved_log = us }) (record { stand = t; runs = b; saved_silences = ys; saved_log = vs })

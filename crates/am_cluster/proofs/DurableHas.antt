@@ -1,5 +1,5 @@
 -- What came live to a durable member it has, whatever it was started from.
-use Rattle.std.proofs.Common.{◌≡◌, ◌⊎◌, inl, inr, ℕ, ◌+◌, ◌<◌, ◌≤◌, Bool, true, false, ◌||◌, cond, eqb, ltb, List, [], ◌∷◌, ◌++◌, Option, Some, None, refl, sym, ap, ◌∙◌, subst, arith, append_assoc, append-nil}
+use Rattle.std.proofs.Common.{◌≡◌, inl, inr, ℕ, ◌+◌, ◌<◌, ◌≤◌, Bool, true, false, ◌||◌, cond, eqb, ltb, List, [], ◌∷◌, ◌++◌, Option, Some, None, refl, sym, ap, ◌∙◌, subst, arith, append_assoc, append-nil}
 use Rattle.std.specs.Prelude.{Contains, All, IfSome}
 use Rattle.std.specs.List.{list_any}
 use Rattle.std.specs.declared.cmp.Ordering.{Ordering}
@@ -11,7 +11,7 @@ use Rattle.am_version_order.proofs.Ranks.{below-updated, tied}
 use Rattle.am_collect.specs.Events.{taken}
 use Rattle.am_runs.specs.Members.{Member, stepped, member_after, member_from, member_of, set_of}
 use Rattle.am_runs.specs.Runs.{IsPossible, IsRun}
-use Rattle.am_runs.specs.Steps.{RunStep, EachStep, delivered_by, delivered_in, moment}
+use Rattle.am_runs.specs.Steps.{RunStep, delivered_by, delivered_in, moment}
 use Rattle.am_runs.specs.Steps.RunStep.{Took, Ticked, Back, Refused, Saved, Stopped, Started}
 use Rattle.am_runs.specs.Timely.{HasCaughtUp, IsSpread, IsTimely}
 use Rattle.am_runs.specs.Uptimes.{saves, starts}

@@ -1,11 +1,11 @@
 -- What durable members show, and what of them is told of one run of a cluster.
-use Rattle.std.proofs.Common.{◌≡◌, ◌≢◌, ℕ, ◌<◌, Bool, true, false, List, [], ◌∷◌, ◌++◌, Option, Some, None, append-nil, refl, sym, ◌∙◌, subst, length}
+use Rattle.std.proofs.Common.{◌≡◌, ℕ, ◌<◌, Bool, true, false, List, [], Option, Some, None, append-nil, refl, sym, ◌∙◌, subst, length}
 use Rattle.std.specs.Prelude.{Contains}
 use Rattle.std.specs.declared.cmp.Ordering.{Ordering}
 use Rattle.std.proofs.lemmas.Bool.{false≢true}
 use Rattle.am_version_order.specs.Versions.{Version, is_below}
 use Rattle.am_version_order.proofs.Ranks.{below_itself, below_up, tied}
-use Rattle.am_merge.specs.Views.{IsBest, IsInView, IsViewAt}
+use Rattle.am_merge.specs.Views.{IsViewAt}
 use Rattle.am_merge.proofs.Keys.{IsKeyOrder}
 use Rattle.am_runs.specs.Timely.{HasCaughtUp}
 use Rattle.am_runs.proofs.Agrees.{best_of}

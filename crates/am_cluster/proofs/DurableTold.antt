@@ -1,5 +1,5 @@
 -- The test of a durable member answers as the definition says.
-use Rattle.std.proofs.Common.{◌≡◌, ◌↔◌, ◌⊎◌, inl, inr, ℕ, Bool, true, false, not, ◌&&◌, ◌||◌, eqb, ltb, List, [], ◌∷◌, ◌++◌, refl, sym, ap, ◌∙◌, subst, append_assoc, append-nil}
+use Rattle.std.proofs.Common.{◌≡◌, ◌↔◌, ◌⊎◌, inl, inr, ℕ, Bool, true, false, not, ◌&&◌, ◌||◌, eqb, List, [], ◌∷◌, ◌++◌, refl, sym, ap, ◌∙◌, subst, append_assoc, append-nil}
 use Rattle.std.specs.List.{list_any}
 use Rattle.std.proofs.lemmas.Bool.{and_from, and_parts, false≢true, ltb-true, lt-ltb, or_cases, or_left, or_right}
 use Rattle.std.proofs.lemmas.List.Folds.{Any-from_list_any, list_any-append, list_any_at}
@@ -8,7 +8,7 @@ use Rattle.am_runs.specs.Steps.{RunStep, EachStep}
 use Rattle.am_runs.specs.Steps.RunStep.{Took, Ticked, Back, Refused, Saved, Stopped, Started}
 use Rattle.am_runs.specs.Uptimes.{saves, starts}
 use Rattle.am_runs.proofs.Cuts.{each_cons, each_nil, each_rest, each_weaker, never_empty}
-use Rattle.am_cluster.specs.Durable.{BringsLive, CameLive, IsDurable, IsSaved}
+use Rattle.am_cluster.specs.Durable.{BringsLive, IsDurable, IsSaved}
 use Rattle.am_cluster.specs.DurableTests.{brings_live, durable_from, saved_after}
 
 saved_of : (start saved : Bool) → not (start && not saved) ≡ true → start ≡ true → saved ≡ true

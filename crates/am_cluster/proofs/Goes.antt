@@ -9,9 +9,10 @@ use Rattle.am_runs.specs.Steps.{RunStep, flights_by, flights_of, is_at}
 use Rattle.am_runs.specs.Members.{Member, stepped, member_of}
 use Rattle.am_steps.specs.BothStates.{StateOf, log_state, silence_state}
 use Rattle.am_steps.specs.Contents.{carries}
+use Rattle.am_steps.specs.Recorded.{HasGoneThrough}
 use Rattle.am_cluster.specs.declared.flight.Flight.{Flight}
 use Rattle.am_cluster.specs.Worlds.{Replica, World, replica_at, with_replica, written}
-use Rattle.am_cluster.specs.Ties.{IsTied, IsMember, IsFlying, IsWorld, WasSent, names_of}
+use Rattle.am_cluster.specs.Ties.{IsTied, IsMember, IsFlying, IsWorld, WasHandedOut, WasSent, names_of}
 use Rattle.am_cluster.proofs.Places.{got_before, got_set, got_other, set_length, some_is}
 use Rattle.am_cluster.proofs.Tied.{tied_elsewhere, tied_idle}
 
@@ -21,35 +22,38 @@ got_behind [] ys n y e = ap (slice_get ys) (omega arith) ∙ e
 got_behind (x ∷ xs) ys n y e = let more : length (x ∷ xs) + n ≡ suc (length xs + n) = omega arith in ap (slice_get ((x ∷ xs) ++ ys)) more ∙ got_behind xs ys n y e
 
 -- a frame that was sent stands at its place among all that were
-pub sent_there : {K X : Type 0} (state : StateOf K X) (steps : List (RunStep X)) (index : ℕ) (flight : Flight) → WasSent state steps index flight →
+pub sent_there : {K X : Type 0} (state : StateOf K X) (members : ℕ) (steps : List (RunStep X)) (index : ℕ) (flight : Flight) (handed : WasHandedOut flight) → WasSent state members steps index flight handed →
     slice_get (flights_of steps) index ≡ Some (record { sent = flight.sent; versions = state.versions_in (carries flight.frame) })
-sent_there state steps index flight was =
+sent_there state members steps index flight handed was =
     ap (λ ss. slice_get (flights_of ss) index) was.parts
     ∙ (ap (λ fs. slice_get fs index) (flat_map-append flights_by was.before (was.step ∷ was.rest))
     ∙ (ap (λ n. slice_get (flights_of was.before ++ (flights_by was.step ++ flights_of was.rest)) n) was.index_is
-    ∙ got_behind (flights_of was.before) (flights_by was.step ++ flights_of was.rest) was.nth _ (got_before (flights_by was.step) (flights_of was.rest) was.nth _ was.sent)))
+    ∙ got_behind (flights_of was.before) (flights_by was.step ++ flights_of was.rest) handed.nth _ (got_before (flights_by was.step) (flights_of was.rest) handed.nth _ was.sent)))
 
 -- a frame that flew still does after a step more
-still_sent : {K X : Type 0} (state : StateOf K X) (steps : List (RunStep X)) (s : RunStep X) (index : ℕ) (flight : Flight) → WasSent state steps index flight → WasSent state (steps ++ s ∷ []) index flight
-still_sent state steps s index flight was = record {
+still_sent : {K X : Type 0} (state : StateOf K X) (members more : ℕ) (same : more ≡ members) (steps : List (RunStep X)) (s : RunStep X) (index : ℕ) (flight : Flight) (handed : WasHandedOut flight) →
+    WasSent state members steps index flight handed → WasSent state more (steps ++ s ∷ []) index flight handed
+still_sent state members more same steps s index flight handed was = record {
   before = was.before;
   step = was.step;
   rest = was.rest ++ s ∷ [];
   parts = ap (λ ss. ss ++ s ∷ []) was.parts ∙ append_assoc was.before (was.step ∷ was.rest) (s ∷ []);
+  stood = subst (λ n. HasGoneThrough state (member_of n flight.sender was.before).past (state.kept handed.stand)) (sym same) was.stood;
+  is = was.is;
   own = was.own;
-  nth = was.nth;
   index_is = was.index_is;
   sent = was.sent;
 }
 
 module _ (old : World) (s : RunStep Mesh) (l : RunStep LogMesh) (line : ℕ) where
   pub still_flying : (replicas : List Replica) (flight : Flight) → length replicas ≡ length old.replicas → IsFlying old flight →
-      IsFlying (record old { replicas = replicas; silences = old.silences ++ s ∷ []; log = old.log ++ l ∷ []; lines = old.lines ++ line ∷ [] }) flight
+      IsFlying (written (record old { replicas = replicas }) s l line) flight
   still_flying replicas flight same f = record {
     index = f.index;
     number = f.number;
-    silences = still_sent silence_state old.silences s f.index flight f.silences;
-    log = still_sent log_state old.log l f.index flight f.log;
+    handed = f.handed;
+    silences = still_sent silence_state (length old.replicas) (length replicas) same old.silences s f.index flight f.handed f.silences;
+    log = still_sent log_state (length old.replicas) (length replicas) same old.log l f.index flight f.handed f.log;
     sound = f.sound;
     addressee = subst (λ n. flight.addressee < n) (sym same) f.addressee;
     sender = subst (λ n. flight.sender < n) (sym same) f.sender;

@@ -29,7 +29,7 @@ use Rattle.am_cluster.specs.declared.flight.Flight.{Flight}
 use Rattle.am_cluster.specs.Worlds.{Replica, World, replica_at, sent_on, with_replica, written}
 use Rattle.am_cluster.specs.BothRuns.{RunOf, log_run, silence_run}
 use Rattle.am_cluster.specs.Events.{with_stand}
-use Rattle.am_cluster.specs.Ties.{CanFly, IsTied, IsTiedIn, IsFlying, IsWorld, AreAscending, WasSent, member_in}
+use Rattle.am_cluster.specs.Ties.{CanFly, IsTied, IsTiedIn, IsFlying, IsWorld, AreAscending, WasHandedOut, WasSent, member_in}
 use Rattle.am_cluster.proofs.Goes.{goes_on_at, sent_there}
 use Rattle.am_cluster.proofs.Lived.{elsewhere}
 use Rattle.am_cluster.proofs.Places.{own_place, set_length}
@@ -70,31 +70,76 @@ sends_own state place now source event (Ok outcome) frames nth f flying there = 
   by false = own_place place
 sends_own state place now source event (Err e) frames nth f flying there = absurd (let none = ap (λ fs. slice_get fs nth) flying in cc)
 
+-- an instance that stands at a place made a step at a moment, which hands out these frames
+pub record HandsOut (place now : ℕ) (frames : List (ℕ × Frame)) : Type 0 where
+  pub stand : InstanceState
+  pub event : Event
+  pub source : Source
+  pub answer : Result Outcome StepError
+  pub after : InstanceState
+  pub step : IsStep stand event now answer after
+  pub own_place : stand.config.place ≡ place
+  pub flying : AreInFlight answer frames
+
+-- an answer with frames that fly is an outcome, of which they are all frames
+answered_with : (answer : Result Outcome StepError) (frames : List (ℕ × Frame)) (nth : ℕ) (frame : ℕ × Frame) → AreInFlight answer frames → slice_get frames nth ≡ Some frame →
+    (outcome : Outcome) × (answer ≡ Ok outcome) × (frames ≡ outcome.frames.items)
+answered_with (Ok outcome) frames nth frame (inl all) there = (outcome, refl, all)
+answered_with (Ok outcome) frames nth frame (inr none) there = absurd (let nothing = ap (λ fs. slice_get fs nth) none in cc)
+answered_with (Err e) frames nth frame none there = absurd (let nothing = ap (λ fs. slice_get fs nth) none in cc)
+
+-- one of them goes to its addressee
+handed_out : (place now number nth : ℕ) (frames : List (ℕ × Frame)) (frame : ℕ × Frame) (hands : HandsOut place now frames) → slice_get frames nth ≡ Some frame →
+    WasHandedOut (record { number = number; sender = place; addressee = frame.0; sent = now; frame = frame.1 })
+handed_out place now number nth frames frame hands there =
+    let found = answered_with hands.answer frames nth frame hands.flying there in record {
+      stand = hands.stand;
+      event = hands.event;
+      source = hands.source;
+      outcome = found.0;
+      after = hands.after;
+      step = subst (λ a. IsStep hands.stand hands.event now a hands.after) found.1 hands.step;
+      own_place = hands.own_place;
+      nth = nth;
+      to_addressee = ap (λ fs. slice_get fs nth) (sym found.2) ∙ there;
+    }
+
 -- one of the runs goes on with a step of the member at a place, which sends these frames
-pub record Sends {K X : Type 0} (run : RunOf K X) (w new : World) (place now : ℕ) (frames : List (ℕ × Frame)) : Type 0 where
+pub record Sends {K X : Type 0} (run : RunOf K X) (w new : World) (place now : ℕ) (frames : List (ℕ × Frame)) (hands : HandsOut place now frames) : Type 0 where
   pub step : RunStep X
   pub parts : run.steps new ≡ run.steps w ++ step ∷ []
+  pub members : length new.replicas ≡ length w.replicas
+  pub stood : HasGoneThrough run.state (member_in run w place).past (run.state.kept hands.stand)
+  pub is : step ≡ event_step run.state place now hands.source hands.event hands.answer frames
   pub own : (nth : ℕ) (frame : ℕ × Frame) → slice_get frames nth ≡ Some frame → is_at place step ≡ true
   pub flights : flights_by step ≡ flights_in run.state now frames
 
 -- in one of the runs, what is sent now is sent behind what was sent before
-sent_behind : {K X : Type 0} (run : RunOf K X) (w new : World) (place now count nth : ℕ) (frames : List (ℕ × Frame)) (frame : ℕ × Frame) → Sends run w new place now frames → count ≡ length (flights_of (run.steps w)) →
-    slice_get frames nth ≡ Some frame → WasSent run.state (run.steps new) (count + nth) (record { number = (count + nth) + 1; sender = place; addressee = frame.0; sent = now; frame = frame.1 })
-sent_behind run w new place now count nth frames frame sends same there = record {
+sent_behind : {K X : Type 0} (run : RunOf K X) (w new : World) (place now count nth : ℕ) (frames : List (ℕ × Frame)) (frame : ℕ × Frame) (hands : HandsOut place now frames) →
+    Sends run w new place now frames hands → count ≡ length (flights_of (run.steps w)) → (there : slice_get frames nth ≡ Some frame) →
+    WasSent run.state (length new.replicas) (run.steps new) (count + nth) (record { number = (count + nth) + 1; sender = place; addressee = frame.0; sent = now; frame = frame.1 })
+    (handed_out place now ((count + nth) + 1) nth frames frame hands there)
+unfolding handed_out
+sent_behind run w new place now count nth frames frame hands sends same there = record {
   before = run.steps w;
   step = sends.step;
   rest = [];
   parts = sends.parts;
+  stood = subst (λ n. HasGoneThrough run.state (member_of n place (run.steps w)).past (run.state.kept hands.stand)) (sym sends.members) sends.stood;
+  is =
+      let found = answered_with hands.answer frames nth frame hands.flying there in
+      sends.is
+      ∙ (ap (λ a. event_step run.state place now hands.source hands.event a frames) found.1
+      ∙ ap (λ fs. event_step run.state place now hands.source hands.event (Ok found.0) fs) found.2);
   own = sends.own nth frame there;
-  nth = nth;
   index_is = ap (λ n. n + nth) same;
   sent = ap (λ fs. slice_get fs nth) sends.flights
       ∙ (slice_get-map (λ f. record { sent = now; versions = run.state.versions_in (carries f.1) }) frames nth ∙ ap (option_map (λ f. record { sent = now; versions = run.state.versions_in (carries f.1) })) there);
 }
 
-module _ (w new : World) (place now : ℕ) (frames : List (ℕ × Frame)) where
+module _ (w new : World) (place now : ℕ) (frames : List (ℕ × Frame)) (hands : HandsOut place now frames) where
   -- what is sent now flies behind what was sent before
-  flies : Sends silence_run w new place now frames → Sends log_run w new place now frames →
+  flies : Sends silence_run w new place now frames hands → Sends log_run w new place now frames hands →
       length (flights_of w.silences) ≡ length (flights_of w.log) → length new.replicas ≡ length w.replicas → place < length w.replicas → All (CanFly (length w.replicas) place) frames →
       (flight : Flight) → FliesAs (length (flights_of w.silences)) place now frames flight → IsFlying new flight
   flies silences log same members inside can flight fl =
@@ -102,8 +147,9 @@ module _ (w new : World) (place now : ℕ) (frames : List (ℕ × Frame)) where
       subst (IsFlying new) (sym fl.is) (record {
         index = length (flights_of w.silences) + fl.nth;
         number = refl;
-        silences = sent_behind silence_run w new place now (length (flights_of w.silences)) fl.nth frames fl.frame silences refl fl.there;
-        log = sent_behind log_run w new place now (length (flights_of w.silences)) fl.nth frames fl.frame log same fl.there;
+        handed = handed_out place now ((length (flights_of w.silences) + fl.nth) + 1) fl.nth frames fl.frame hands fl.there;
+        silences = sent_behind silence_run w new place now (length (flights_of w.silences)) fl.nth frames fl.frame hands silences refl fl.there;
+        log = sent_behind log_run w new place now (length (flights_of w.silences)) fl.nth frames fl.frame hands log same fl.there;
         sound = good.no_fault;
         addressee = subst (λ n. fl.frame.0 < n) (sym members) good.addressee;
         sender = subst (λ n. place < n) (sym members) inside;
@@ -144,14 +190,14 @@ ascend_behind count (f ∷ old) more below over first second = (
 -- ---- the whole
 
 numbered_below : (w : World) (flight : Flight) → IsFlying w flight → flight.number ≤ length (flights_of w.silences)
-numbered_below w flight is = let inside : is.index < length (flights_of w.silences) = slice_get_within (flights_of w.silences) is.index _ (sent_there silence_state w.silences is.index flight is.silences) in let number : flight.number ≡ is.index + 1 = is.number in omega arith
+numbered_below w flight is = let inside : is.index < length (flights_of w.silences) = slice_get_within (flights_of w.silences) is.index _ (sent_there silence_state (length w.replicas) w.silences is.index flight is.handed is.silences) in let number : flight.number ≡ is.index + 1 = is.number in omega arith
 
 -- a cluster whose members hang together, and frames that are sent on
-pub sent_world : (w new : World) (place now : ℕ) (frames : List (ℕ × Frame)) → IsWorld w → IsWorld new → new.flights ≡ w.flights →
-    Sends silence_run w new place now frames → Sends log_run w new place now frames →
+pub sent_world : (w new : World) (place now : ℕ) (frames : List (ℕ × Frame)) (hands : HandsOut place now frames) → IsWorld w → IsWorld new → new.flights ≡ w.flights →
+    Sends silence_run w new place now frames hands → Sends log_run w new place now frames hands →
     length (flights_of w.silences) ≡ length (flights_of w.log) → length new.replicas ≡ length w.replicas → place < length w.replicas → All (CanFly (length w.replicas) place) frames →
     IsWorld (record new { flights = w.flights ++ sent_on (length (flights_of w.silences)) place now frames })
-sent_world w new place now frames was is kept silences log same members inside can = record {
+sent_world w new place now frames hands was is kept silences log same members inside can = record {
   members = λ q replica there. let m = is.members q replica there in record { silences = m.silences; log = m.log; place = m.place; members = m.members; names = m.names };
   flights = λ flight within. again flight (one flight (Contains-append_cases w.flights (sent_on (length (flights_of w.silences)) place now frames) flight within));
   numbers =
@@ -161,10 +207,10 @@ sent_world w new place now frames was is kept silences log same members inside c
 } where
   one : (flight : Flight) → Contains w.flights flight ⊎ Contains (sent_on (length (flights_of w.silences)) place now frames) flight → IsFlying new flight
   one flight (inl old) = is.flights flight (subst (λ fs. Contains fs flight) (sym kept) old)
-  one flight (inr fresh) = flies w new place now frames silences log same members inside can flight (sent_as (length (flights_of w.silences)) place now frames flight fresh)
+  one flight (inr fresh) = flies w new place now frames hands silences log same members inside can flight (sent_as (length (flights_of w.silences)) place now frames flight fresh)
 
   again : (flight : Flight) → IsFlying new flight → IsFlying (record new { flights = w.flights ++ sent_on (length (flights_of w.silences)) place now frames }) flight
-  again flight f = record { index = f.index; number = f.number; silences = f.silences; log = f.log; sound = f.sound; addressee = f.addressee; sender = f.sender; other = f.other }
+  again flight f = record { index = f.index; number = f.number; handed = f.handed; silences = f.silences; log = f.log; sound = f.sound; addressee = f.addressee; sender = f.sender; other = f.other }
 
 -- ---- a member's own event
 
@@ -236,11 +282,18 @@ module _ (w : World) (place : ℕ) (r : Replica) (stand : InstanceState) (event 
       step.config
 
   -- what it sends
-  sends_now : {K X : Type 0} (run : RunOf K X) (new : World) → run.steps new ≡ run.steps w ++ event_step run.state place now source event answer frames ∷ [] → IsStep r.stand event now answer stand → AreInFlight answer frames →
-      Sends run w new place now frames
-  sends_now run new parts step flying = record {
+  hands_now : IsStep r.stand event now answer stand → r.stand.config.place ≡ place → AreInFlight answer frames → HandsOut place now frames
+  hands_now step own flying = record { stand = r.stand; event = event; source = source; answer = answer; after = stand; step = step; own_place = own; flying = flying }
+
+  sends_now : {K X : Type 0} (run : RunOf K X) (new : World) → run.steps new ≡ run.steps w ++ event_step run.state place now source event answer frames ∷ [] → (step : IsStep r.stand event now answer stand) →
+      (own : r.stand.config.place ≡ place) (flying : AreInFlight answer frames) → length new.replicas ≡ length w.replicas → IsTiedIn run w place r → Sends run w new place now frames (hands_now step own flying)
+  unfolding hands_now
+  sends_now run new parts step own flying members tied = record {
     step = event_step run.state place now source event answer frames;
     parts = parts;
+    members = members;
+    stood = tied.held;
+    is = refl;
     own = λ nth frame there. sends_own run.state place now source event answer frames nth frame flying there;
     flights = sym (append-nil (flights_by (event_step run.state place now source event answer frames))) ∙ frames_are_flights run.state place now [] source r.stand stand event answer frames step flying;
   }
@@ -250,6 +303,8 @@ module _ (w : World) (place : ℕ) (r : Replica) (stand : InstanceState) (event 
       length (flights_of w.silences) ≡ length (flights_of w.log) → All (CanFly (length w.replicas) place) frames →
       IsWorld (record after_event { flights = w.flights ++ sent_on (length (flights_of w.silences)) place now frames })
   world_happened is found step flying same can =
-      sent_world w after_event place now frames is (world_stepped is found step) refl
-      (sends_now silence_run after_event refl step flying) (sends_now log_run after_event refl step flying)
+      let own = (is.members place r found).place in
+      let members = set_length w.replicas place (with_stand r stand) in
+      sent_world w after_event place now frames (hands_now step own flying) is (world_stepped is found step) refl
+      (sends_now silence_run after_event refl step own flying members (is.members place r found).silences) (sends_now log_run after_event refl step own flying members (is.members place r found).log)
       same (set_length w.replicas place (with_stand r stand)) (slice_get_within w.replicas place r found) can

@@ -24,3 +24,5 @@ pub mod DurableHas
 pub mod DurableShown
 pub mod DurableTold
 pub mod DurableWorked
+pub mod Refusing
+pub mod Extending

@@ -1,15 +1,16 @@
 -- A cluster after a member was saved, stopped or started.
-use Rattle.std.proofs.Common.{◌≡◌, ◌≢◌, inl, inr, ℕ, ◌<◌, ◌≤◌, arith, Bool, true, false, eqb, List, Some, refl, sym, ap, ◌∙◌, subst, slice_get, slice_index_or, length}
+use Rattle.std.proofs.Common.{◌≡◌, ◌≢◌, inl, inr, ℕ, zero, suc, ◌-◌, ◌<◌, ◌≤◌, max, arith, Bool, true, false, eqb, List, [], ◌∷◌, ◌++◌, Some, refl, sym, ap, ◌∙◌, subst, slice_get, slice_index_or, length}
 use Rattle.std.specs.Ordering.{is_lt, nat_cmp}
 use Rattle.std.proofs.lemmas.Bool.Decides.{eqb_tells, nat_tests}
 use Rattle.std.proofs.lemmas.Option.{slice_get-get_or}
 use Rattle.am_silence.specs.Mesh.{Mesh}
 use Rattle.am_nflog.specs.Mesh.{Mesh as LogMesh}
-use Rattle.am_instance.specs.InstanceStates.{kept_silences, kept_log}
+use Rattle.am_instance.specs.InstanceStates.{InstanceState, kept_silences, kept_log}
 use Rattle.am_runs.specs.Steps.{RunStep}
-use Rattle.am_runs.specs.Steps.RunStep.{Back, Saved, Stopped, Started}
+use Rattle.am_runs.specs.Steps.RunStep.{Saved, Stopped, Started}
 use Rattle.am_runs.specs.Members.{last_of, member_of}
 use Rattle.am_steps.specs.BothStates.{log_state, silence_state}
+use Rattle.am_cluster.specs.Accounts.{Account}
 use Rattle.am_cluster.specs.Worlds.{Replica, World, replica_at, with_replica, written}
 use Rattle.am_cluster.specs.declared.flight.Flight.{Flight}
 use Rattle.am_cluster.specs.Lives.{saved, stopped, started, OfMember}
@@ -55,10 +56,34 @@ module _ (w : World) (place : ℕ) (r : Replica) (line : ℕ) (is : IsWorld w) (
       (tied_here log_state (length w.replicas) place w.log (Started place now) true _ r.saved_log (own_place place) (tied_started log_state _ place now r.runs (kept_log r.stand) r.saved_log log_tied))
       refl
 
-pub same_world : (rs others : List Replica) (ss ss2 : List (RunStep Mesh)) (ls ls2 : List (RunStep LogMesh)) (ns ns2 : List ℕ) (fs : List Flight) →
-    rs ≡ others → ss ≡ ss2 → ls ≡ ls2 → ns ≡ ns2 →
-    ◌≡◌ {A = World} (record { replicas = rs; silences = ss; log = ls; lines = ns; flights = fs }) (record { replicas = others; silences = ss2; log = ls2; lines = ns2; flights = fs })
-same_world rs others ss ss2 ls ls2 ns ns2 fs a b c d = cc
+pub same_world : (rs others : List Replica) (ss ss2 : List (RunStep Mesh)) (ls ls2 : List (RunStep LogMesh)) (ns ns2 : List ℕ) (fs : List Flight) (m m2 : ℕ) →
+    rs ≡ others → ss ≡ ss2 → ls ≡ ls2 → ns ≡ ns2 → m ≡ m2 →
+    ◌≡◌ {A = World} (record { replicas = rs; silences = ss; log = ls; lines = ns; flights = fs; room = m }) (record { replicas = others; silences = ss2; log = ls2; lines = ns2; flights = fs; room = m2 })
+same_world rs others ss ss2 ls ls2 ns ns2 fs m m2 a b c d e = cc
+
+-- one step takes some of the room, which is made where there is none
+pub room_spent : (n : ℕ) → max n 1 - 1 ≡ n - 1
+room_spent zero = refl
+room_spent (suc n) = omega arith
+
+-- a cluster once room was made in its journal, and a step written down
+pub world_written : (rs others : List Replica) (fs : List Flight) (first roomy new : Account) (s : RunStep Mesh) (l : RunStep LogMesh) (line : ℕ) → rs ≡ others →
+    roomy.silences ≡ first.silences → roomy.log ≡ first.log → roomy.lines ≡ first.lines → roomy.room ≡ max first.room 1 →
+    new.silences ≡ roomy.silences ++ s ∷ [] → new.log ≡ roomy.log ++ l ∷ [] → new.lines ≡ roomy.lines ++ line ∷ [] → new.room ≡ roomy.room - 1 →
+    ◌≡◌ {A = World} (record { replicas = rs; silences = new.silences; log = new.log; lines = new.lines; flights = fs; room = new.room })
+    (written (record { replicas = others; silences = first.silences; log = first.log; lines = first.lines; flights = fs; room = first.room }) s l line)
+world_written rs others fs first roomy new s l line members silences log lines room more_silences more_log more_lines spent =
+    same_world rs others _ _ _ _ _ _ fs _ _ members
+    (more_silences ∙ ap (λ x. x ++ s ∷ []) silences) (more_log ∙ ap (λ x. x ++ l ∷ []) log) (more_lines ∙ ap (λ x. x ++ line ∷ []) lines)
+    (spent ∙ (ap (λ n. n - 1) room ∙ room_spent first.room))
+
+-- a member with another instance runs
+abbrev pub revive : Replica → InstanceState → Replica
+revive m stand = record m { stand = stand; runs = true }
+
+-- an instance with what was saved of a member makes it the one that was started
+pub started_with : (m r n : Replica) (stand : InstanceState) (now : ℕ) → m ≡ r → stand ≡ (started r now).stand → n ≡ revive m stand → n ≡ started r now
+started_with m r n stand now same is begun = begun ∙ (ap (λ x. revive x stand) same ∙ ap (revive r) is)
 
 -- what is said of the member that was read at a place is said of any that stands there
 pub for_replica : (P : World → Replica → Type 0) (w v : World) (place : ℕ) (r : Replica) → w ≡ v → replica_at w place ≡ Some r → P w r → OfMember v place (P v)
@@ -79,6 +104,9 @@ pub answered : (f : World → Replica → World) (w v n : World) (place : ℕ) (
     OfMember v place (λ replica. (replica.runs ≡ running) × (n ≡ f v replica))
 answered f w v n place r running same found runs is = for_replica (λ u replica. (replica.runs ≡ running) × (n ≡ f u replica)) w v place r same found (runs, is)
 
+pub changed : (f : World → Replica → World) (w v n : World) (place : ℕ) (r : Replica) → w ≡ v → replica_at w place ≡ Some r → n ≡ f w r → OfMember v place (λ replica. n ≡ f v replica)
+changed f w v n place r same found is = for_replica (λ u replica. n ≡ f u replica) w v place r same found is
+
 -- and the member's last moment is that of its run
 pub last_told : (w : World) (place : ℕ) (r : Replica) (n : ℕ) (ss : List (RunStep Mesh)) → IsWorld w → replica_at w place ≡ Some r → n ≡ length w.replicas → ss ≡ w.silences → r.stand.last ≡ last_of (member_of n place ss)
 last_told w place r n ss is found members silences =
@@ -92,14 +120,20 @@ told_less a b t is holds = let told : is_lt (nat_cmp a b) ≡ true = sym is ∙ 
 pub told_not : (a b : ℕ) (t : Bool) → t ≡ is_lt (nat_cmp a b) → t ≡ false → b ≤ a
 told_not a b t is fails = let told : is_lt (nat_cmp a b) ≡ false = sym is ∙ fails in grind (arith, nat_tests, told)
 
-module _ (w v n : World) (place : ℕ) (r : Replica) (now last line : ℕ) (same : w ≡ v) (found : replica_at w place ≡ Some r) (stopped_is : r.runs ≡ false) (last_is : last ≡ r.stand.last) where
-  pub refused_back : now < last → n ≡ written w (Back place now) (Back place now) line →
-      OfMember v place (λ replica. (replica.runs ≡ false) × (last ≡ replica.stand.last) × (now < last) × (n ≡ written v (Back place now) (Back place now) line))
-  refused_back less is =
-      for_replica (λ u replica. (replica.runs ≡ false) × (last ≡ replica.stand.last) × (now < last) × (n ≡ written u (Back place now) (Back place now) line)) w v place r same found (stopped_is, last_is, less, is)
-
-  pub started_at : last ≤ now → n ≡ written (with_replica w place (started r now)) (Started place now) (Started place now) line →
-      OfMember v place (λ replica. (replica.runs ≡ false) × (replica.stand.last ≤ now) × (n ≡ written (with_replica v place (started replica now)) (Started place now) (Started place now) line))
-  started_at forward is =
-      for_replica (λ u replica. (replica.runs ≡ false) × (replica.stand.last ≤ now) × (n ≡ written (with_replica u place (started replica now)) (Started place now) (Started place now) line)) w v place r same found
-      (stopped_is, subst (λ m. m ≤ now) last_is forward, is)
+-- room changes nothing else of a cluster
+pub roomy_world : (w : World) (n : ℕ) → IsWorld w → IsWorld (record w { room = n })
+roomy_world w n is = record {
+  members = λ q replica there. let m = is.members q replica there in record { silences = m.silences; log = m.log; place = m.place; members = m.members; names = m.names };
+  flights = λ flight there. let f = is.flights flight there in record {
+    index = f.index;
+    number = f.number;
+    handed = f.handed;
+    silences = f.silences;
+    log = f.log;
+    sound = f.sound;
+    addressee = f.addressee;
+    sender = f.sender;
+    other = f.other;
+  };
+  numbers = is.numbers;
+}

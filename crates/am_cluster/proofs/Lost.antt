@@ -86,6 +86,7 @@ module _ (w : World) (is : IsWorld w) (before : List Flight) (f : Flight) (after
     flights = λ flight there. let one = is.flights flight (subst (λ fs. Contains fs flight) (sym parts) (flew_before before f after flight there)) in record {
       index = one.index;
       number = one.number;
+      handed = one.handed;
       silences = one.silences;
       log = one.log;
       sound = one.sound;

@@ -1,5 +1,5 @@
 -- What is known of an answer is what writing it down asks for.
-use Rattle.std.proofs.Common.{◌≡◌, ◌⊎◌, inl, inr, ℕ, ◌+◌, ◌≤◌, Bool, true, false, cond, List, [], ◌∷◌, ◌++◌, Option, Some, None, Ok, Err, refl, sym, ap, ◌∙◌, subst, length, map, take, min, arith}
+use Rattle.std.proofs.Common.{◌≡◌, ◌⊎◌, inl, inr, ℕ, ◌+◌, ◌≤◌, Bool, true, false, cond, List, [], ◌∷◌, ◌++◌, Option, Some, None, Result, Ok, Err, append-nil, refl, sym, ap, ◌∙◌, subst, length, map, take, min, arith}
 use Rattle.std.proofs.lemmas.List.{length-append, length-map, length-take}
 use Rattle.am_nflog.specs.Mesh.{Mesh as LogMesh}
 use Rattle.am_gossip.specs.declared.frame.Frame.{Frame}
@@ -8,6 +8,7 @@ use Rattle.am_instance.specs.declared.event.Event.TheVariants as events
 use Rattle.am_refusals.specs.declared.error.StepError.TheVariants.{Memory}
 use Rattle.am_instance.specs.declared.reply.Made.{Made}
 use Rattle.am_instance.specs.declared.reply.Outcome.{Outcome}
+use Rattle.am_instance.specs.declared.reply.Reply.{Reply}
 use Rattle.am_instance.specs.Deliveries.{Delivery}
 use Rattle.am_instance.specs.Deliveries.Delivery.{OfSilence, OfEntry}
 use Rattle.am_instance.specs.Replies.{IsNothing, listed}
@@ -23,8 +24,11 @@ use Rattle.am_cluster.specs.declared.recording.Kind.{Kind}
 use Rattle.am_cluster.specs.declared.recording.Kind.TheVariants as kinds
 use Rattle.am_cluster.specs.declared.writing.Delivered.{Delivered}
 use Rattle.am_cluster.specs.declared.writing.Entry.{Entry}
-use Rattle.am_cluster.specs.Recording.{AreDelivered, CanRecord, brings_or_makes, kind_of}
-use Rattle.am_cluster.specs.Writing.{CanWrite}
+use Rattle.am_cluster.specs.declared.error.ClusterError.{ClusterError}
+use Rattle.am_cluster.specs.declared.flight.Flight.{Flight}
+use Rattle.am_cluster.specs.Events.{IsTold}
+use Rattle.am_cluster.specs.Recording.{AreDelivered, CanRecord, IsRecorded, brings_or_makes, kind_of}
+use Rattle.am_cluster.specs.Writing.{CanWrite, IsWritten}
 
 -- ---- the kind of an event
 
@@ -144,3 +148,22 @@ module _ (account : Account) (entry : Entry) (event : Event) (versions : List An
         subst (λ vs. IsPossibleForLog account.members account.log (Took entry.place entry.moment entry.source vs []))
         (sym (log ∙ ap (λ ds. entries_in (take taken ds)) came)) (can.log [] refl);
   }
+
+-- an event that was answered is written down without its frames
+pub recorded_alone : (old new : Account) (flights after : List Flight) (entry : Entry) (event : Event) (outcome : Outcome) (delivered : Delivered) (result : Result Reply ClusterError) →
+    collects event ≡ false → AreDelivered event outcome.made delivered → IsWritten old entry delivered [] new → after ≡ flights → IsTold entry.source (Ok outcome) [] result →
+    IsRecorded old flights entry event (Ok outcome) result new after
+recorded_alone old new flights after entry event outcome delivered result other are written same told = record {
+  frames = [];
+  told = told;
+  members = written.members;
+  silences = written.silences ∙ ap (λ s. old.silences ++ s ∷ [])
+      (ap (λ vs. Took entry.place entry.moment entry.source vs []) are.silences
+      ∙ ap (λ b. cond b (Ticked entry.place entry.moment) (Took entry.place entry.moment entry.source (silences_in (delivers event outcome.made)) [])) (sym other));
+  log = written.log ∙ ap (λ s. old.log ++ s ∷ [])
+      (ap (λ vs. Took entry.place entry.moment entry.source vs []) are.log
+      ∙ ap (λ b. cond b (Ticked entry.place entry.moment) (Took entry.place entry.moment entry.source (entries_in (delivers event outcome.made)) [])) (sym other));
+  lines = written.lines;
+  room = written.room;
+  flights_are = same ∙ sym (append-nil flights);
+}

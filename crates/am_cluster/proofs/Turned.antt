@@ -1,5 +1,5 @@
 -- Turns of a settle, one after the other.
-use Rattle.std.proofs.Common.{◌≡◌, ◌≢◌, ◌⊎◌, inl, inr, ℕ, zero, suc, ◌+◌, ◌<◌, ◌≤◌, Bool, true, false, cond, eqb, ltb, not, ◌&&◌, List, [], ◌∷◌, ◌++◌, Some, Result, Ok, Err, refl, sym, ap, ◌∙◌, subst, slice_get, length, set, map, arith, append_assoc}
+use Rattle.std.proofs.Common.{◌≡◌, ◌≢◌, ◌⊎◌, inl, inr, ℕ, zero, suc, ◌+◌, ◌<◌, ◌≤◌, Bool, true, false, cond, eqb, ltb, not, ◌&&◌, List, [], ◌∷◌, ◌++◌, Some, None, Result, Ok, Err, refl, sym, ap, ◌∙◌, subst, slice_get, length, set, map, arith, append_assoc}
 use Rattle.std.proofs.lemmas.Bool.{lt-ltb}
 use Rattle.std.proofs.lemmas.Bool.Decides.{eqb_tells}
 use Rattle.am_collect.specs.Events.{last_moment}
@@ -13,7 +13,8 @@ use Rattle.am_instance.specs.declared.reply.Outcome.{Outcome}
 use Rattle.am_instance.specs.declared.reply.Reply.{Reply}
 use Rattle.am_instance.specs.Deliveries.{Delivery, events_at, to_silences}
 use Rattle.am_instance.specs.InstanceStates.{InstanceState}
-use Rattle.am_instance.specs.Steps.{collects, delivers, knows_peer, peer_of}
+use Rattle.am_instance.specs.Configs.{Settings}
+use Rattle.am_instance.specs.Steps.{collects, delivers, fault_of, knows_peer, peer_of}
 use Rattle.am_instance.specs.OneStep.{IsStep}
 use Rattle.am_steps.proofs.States.{last_arrivals}
 use Rattle.am_runs.specs.declared.step.Source.{Source}
@@ -21,39 +22,35 @@ use Rattle.am_runs.specs.declared.step.Source.TheVariants.{Lent, Made}
 use Rattle.am_cluster.specs.declared.error.ClusterError.{ClusterError}
 use Rattle.am_cluster.specs.declared.error.ClusterError.TheVariants as errors
 use Rattle.am_cluster.specs.Worlds.{Replica, World, replica_at}
-use Rattle.am_cluster.specs.Events.{HasHappened, IsEvent, IsTold, with_stand}
+use Rattle.am_cluster.specs.Events.{CanHave, HasHappened, IsEvent, IsTold, with_stand}
 use Rattle.am_cluster.specs.Lives.{OfMember}
 use Rattle.std.specs.List.{range_with_len}
 use Rattle.std.proofs.lemmas.List.FromFn.{map-range_with_len_more}
 use Rattle.am_cluster.specs.declared.error.SettleError.{SettleError}
 use Rattle.am_cluster.specs.declared.error.SettleError.TheVariants as settle_errors
-use Rattle.am_cluster.specs.Settling.{AreCutShort, AreTurnsMade, AreTurns, CanSettle, IsMade, IsStopped, IsTakingOf, Turn, loan}
+use Rattle.am_cluster.specs.Settling.{AreCutShort, AreTurnsMade, AreTurns, CanLend, CanSettle, IsMade, IsStopped, Turn, loan}
 use Rattle.am_cluster.specs.Settling.Turn.{Collects, Takes}
 use Rattle.am_cluster.specs.Ties.{IsWorld}
 use Rattle.am_cluster.proofs.Places.{got_other, got_set, set_length, some_is}
 
--- ---- what an event answers where its moment comes, from a peer
+-- ---- what an event that a member can have answers
 
-pub memory_alone : (source : Source) (before after : InstanceState) (event : Event) (now : ℕ) (answer : Result Outcome StepError) (frames : List (ℕ × Frame)) (e : ClusterError) →
-    before.last ≤ now → knows_peer before.config (peer_of event) ≡ true → IsStep before event now answer after → IsTold source answer frames (Err e) → e ≡ errors.Memory
-memory_alone source before after event now (Ok outcome) frames e forward known step told = told.0
-memory_alone source before after event now (Err (MomentBack last)) frames e forward known step told = let back : now < before.last = step.refused.1 in absurd (omega arith)
-memory_alone source before after event now (Err UnknownPeer) frames e forward known step told = absurd (let unknown : knows_peer before.config (peer_of event) ≡ false = step.refused.1 in cc)
-memory_alone source before after event now (Err (Memory taken)) frames e forward known step told = told.0
-memory_alone source before after event now (Err (FrameFault fault)) frames e forward known step told = absurd told
+-- want of memory is all that is told of it
+memory_alone : (source : Source) (answer : Result Outcome StepError) (frames : List (ℕ × Frame)) (e : ClusterError) → IsTold source answer frames (Err e) → e ≡ errors.Memory
+memory_alone source (Ok outcome) frames e told = told.0
+memory_alone source (Err (Memory taken)) frames e told = told.0
+memory_alone source (Err (MomentBack last)) frames e told = absurd told
+memory_alone source (Err UnknownPeer) frames e told = absurd told
+memory_alone source (Err (FrameFault fault)) frames e told = absurd told
 
 module _ (old : World) (place : ℕ) (replica : Replica) (event : Event) (source : Source) (now line : ℕ) (new : World) where
   pub happened_with : (reply : Reply) → IsEvent old place replica event source now line (Ok reply) new → HasHappened old place replica event source now line (Ok reply) new
   happened_with reply (inl unmade) = absurd (let e = unmade.error in cc)
-  happened_with reply (inr (inl halted)) = absurd (let e = halted.error in cc)
-  happened_with reply (inr (inr happened)) = happened
+  happened_with reply (inr happened) = happened
 
-  stopped_by : (e : ClusterError) → replica.runs ≡ true → replica.stand.last ≤ now → knows_peer replica.stand.config (peer_of event) ≡ true → IsEvent old place replica event source now line (Err e) new →
-      (new ≡ old) ⊎ HasHappened old place replica event source now line (Err errors.Memory) new
-  stopped_by e runs forward known (inl unmade) = inl unmade.world
-  stopped_by e runs forward known (inr (inl halted)) = absurd (let stopped = halted.stopped in cc)
-  stopped_by e runs forward known (inr (inr h)) =
-      inr (subst (λ x. HasHappened old place replica event source now line (Err x) new) (memory_alone source replica.stand h.stand event now h.answer h.frames e forward known h.step h.told) h)
+  stopped_by : (e : ClusterError) → IsEvent old place replica event source now line (Err e) new → (new ≡ old) ⊎ HasHappened old place replica event source now line (Err errors.Memory) new
+  stopped_by e (inl unmade) = inl unmade.world
+  stopped_by e (inr h) = inr (subst (λ x. HasHappened old place replica event source now line (Err x) new) (memory_alone source h.answer h.frames e h.told) h)
 
 -- ---- one turn
 
@@ -74,36 +71,35 @@ module _ (old : World) (place now line : ℕ) (new : World) (within : place < le
       let here = got old.replicas place within in
       one_made old (Collects place) now line new (reply, (here.0, here.1, happened_with old place here.0 events.Tick Made now line new reply (event here.0 here.1)))
 
-  pub not_collected : (e : ClusterError) → CanSettle old now → OfMember old place (λ replica. IsEvent old place replica events.Tick Made now line (Err e) new) → AreCutShort old (Collects place ∷ []) now line new
-  not_collected e ready event =
+  pub not_collected : (e : ClusterError) → OfMember old place (λ replica. IsEvent old place replica events.Tick Made now line (Err e) new) → AreCutShort old (Collects place ∷ []) now line new
+  not_collected e event =
       let here = got old.replicas place within in
       one_stopped old (Collects place) now line new
-      (elim (stopped_by old place here.0 events.Tick Made now line new e (ready.runs place here.0 here.1) (ready.forward place here.0 here.1) refl (event here.0 here.1)) [ inl same ↦ inl same | inr h ↦ inr (here.0, here.1, h) ])
+      (elim (stopped_by old place here.0 events.Tick Made now line new e (event here.0 here.1)) [ inl same ↦ inl same | inr h ↦ inr (here.0, here.1, h) ])
 
 module _ (old : World) (borrower lender now line : ℕ) (new : World) (within : borrower < length old.replicas) (lender_within : lender < length old.replicas) where
-  pub took : (reply : Reply) → IsTakingOf old borrower lender now line (Ok reply) new → AreTurnsMade old (Takes borrower lender ∷ []) now line new
-  took reply event =
+  pub took : (reply : Reply) (event : Event) → OfMember old lender (λ lent. event ≡ loan lender lent.stand) → OfMember old lender (λ lent. CanLend lent.stand) →
+      OfMember old borrower (λ replica. IsEvent old borrower replica event (Lent lender) now line (Ok reply) new) → AreTurnsMade old (Takes borrower lender ∷ []) now line new
+  took reply event is can came =
       let here = got old.replicas borrower within in
       let there = got old.replicas lender lender_within in
       one_made old (Takes borrower lender) now line new
-      (elim (event there.0 there.1 here.0 here.1) [
-        | inl unmade ↦ absurd (let e = unmade.error in cc)
-        | inr does ↦ (reply, (here.0, there.0, here.1, there.1, does.0, happened_with old borrower here.0 (loan lender there.0.stand) (Lent lender) now line new reply does.1))
-      ])
+      (reply, (here.0, there.0, here.1, there.1, can there.0 there.1, subst (λ e. HasHappened old borrower here.0 e (Lent lender) now line (Ok reply) new) (is there.0 there.1) (happened_with old borrower here.0 event (Lent lender) now line new reply (came here.0 here.1))))
 
-  pub not_taken : (e : ClusterError) → CanSettle old now → ((replica : Replica) → replica_at old borrower ≡ Some replica → knows_peer replica.stand.config (Some lender) ≡ true) →
-      IsTakingOf old borrower lender now line (Err e) new → AreCutShort old (Takes borrower lender ∷ []) now line new
-  not_taken e ready known event =
+  pub not_taken : (e : ClusterError) (event : Event) → OfMember old lender (λ lent. event ≡ loan lender lent.stand) → OfMember old lender (λ lent. CanLend lent.stand) →
+      OfMember old borrower (λ replica. IsEvent old borrower replica event (Lent lender) now line (Err e) new) → AreCutShort old (Takes borrower lender ∷ []) now line new
+  not_taken e event is can came =
       let here = got old.replicas borrower within in
       let there = got old.replicas lender lender_within in
       one_stopped old (Takes borrower lender) now line new
-      (elim (event there.0 there.1 here.0 here.1) [
-        | inl unmade ↦ inl unmade.world
-        | inr does ↦ elim (stopped_by old borrower here.0 (loan lender there.0.stand) (Lent lender) now line new e (ready.runs borrower here.0 here.1) (ready.forward borrower here.0 here.1) (known here.0 here.1) does.1) [
-          | inl same ↦ inl same
-          | inr h ↦ inr (here.0, there.0, here.1, there.1, does.0, h)
-        ]
+      (elim (stopped_by old borrower here.0 event (Lent lender) now line new e (came here.0 here.1)) [
+        | inl same ↦ inl same
+        | inr h ↦ inr (here.0, there.0, here.1, there.1, can there.0 there.1, subst (λ x. HasHappened old borrower here.0 x (Lent lender) now line (Err errors.Memory) new) (is there.0 there.1) h)
       ])
+
+  -- nothing is lent
+  pub nothing_lent : new ≡ old → AreCutShort old (Takes borrower lender ∷ []) now line new
+  nothing_lent same = one_stopped old (Takes borrower lender) now line new (inl same)
 
 -- ---- turns, one after the other
 
@@ -204,6 +200,20 @@ peer_known w borrower lender replica is found within other =
 pub peer_seen : (w v : World) (borrower lender : ℕ) → w ≡ v → IsWorld w → lender < length v.replicas → borrower ≢ lender →
     (replica : Replica) → replica_at v borrower ≡ Some replica → knows_peer replica.stand.config (Some lender) ≡ true
 peer_seen w v borrower lender same is within other replica found = peer_known v borrower lender replica (subst IsWorld same is) found within other
+
+-- a member can have what is lent to it
+pub can_take : (w : World) (borrower lender now : ℕ) (event : Event) → lender < length w.replicas → CanSettle w now →
+    ((replica : Replica) → replica_at w borrower ≡ Some replica → knows_peer replica.stand.config (Some lender) ≡ true) → OfMember w lender (λ lent. event ≡ loan lender lent.stand) →
+    ((settings : Settings) (at : ℕ) → fault_of settings at event ≡ None) → OfMember w borrower (λ replica. CanHave replica event now)
+can_take w borrower lender now event within ready known is sound replica found =
+    let there = got w.replicas lender within in record {
+      runs = ready.runs borrower replica found;
+      accepted = record {
+        forward = ready.forward borrower replica found;
+        known = subst (λ e. knows_peer replica.stand.config (peer_of e) ≡ true) (sym (is there.0 there.1)) (known replica found);
+        sound = sound replica.stand.config now;
+      };
+    }
 
 -- ---- the turns of places, one after the other
 

@@ -1,12 +1,11 @@
 -- The step of a member's instance in the cluster, and how it is written down.
-use Rattle.std.specs.Prelude.{◌≡◌, ℕ, true, None, length, List, All, Result}
+use Rattle.std.specs.Prelude.{◌≡◌, ℕ, true, length, List, All, Result}
 use Rattle.am_instance.specs.declared.event.Event.{Event}
 use Rattle.am_refusals.specs.declared.error.StepError.{StepError}
 use Rattle.am_instance.specs.declared.reply.Outcome.{Outcome}
 use Rattle.am_instance.specs.declared.reply.Reply.{Reply}
-use Rattle.am_instance.specs.Configs.{Settings}
 use Rattle.am_instance.specs.InstanceStates.{InstanceState}
-use Rattle.am_instance.specs.Steps.{fault_of}
+use Rattle.am_instance.specs.Steps.{IsAccepted}
 use Rattle.am_instance.specs.OneStep.{IsStep}
 use Rattle.am_runs.specs.Members.{member_of}
 use Rattle.am_runs.specs.Steps.{RunStep}
@@ -26,11 +25,11 @@ pub record CanHappenIn {K X : Type 0} (state : StateOf K X) (members : ℕ) (ste
   pub gone : HasGoneThrough state (member_of members entry.place steps).past (state.kept stand)
   pub from : HasSource state members steps entry.moment event entry.source
 
--- both runs tell so, nothing in the event is at fault, and the instance knows its place
+-- both runs tell so, the instance refuses the event for no other cause than memory, and it knows its place
 pub record CanHappen (account : Account) (entry : Entry) (event : Event) (stand : InstanceState) : Type 0 where
   pub silences : CanHappenIn silence_state account.members account.silences entry event stand
   pub log : CanHappenIn log_state account.members account.log entry event stand
-  pub sound : (settings : Settings) → fault_of settings entry.moment event ≡ None
+  pub accepted : IsAccepted stand event entry.moment
   pub own_place : stand.config.place ≡ entry.place
   pub all_members : length stand.config.members ≡ account.members
 

@@ -1,35 +1,35 @@
 -- How a frame in flight is delivered.
-use Rattle.std.specs.Prelude.{◌≡◌, ◌⊎◌, ℕ, ◌+◌, Result, Err, Contains}
+use Rattle.std.specs.Prelude.{◌≡◌, ◌⊎◌, ℕ, ◌+◌, Some, Result, slice_get, Contains}
 use Rattle.am_instance.specs.declared.event.Event.TheVariants as events
 use Rattle.am_instance.specs.declared.reply.Reply.{Reply}
 use Rattle.am_runs.specs.declared.step.Source.TheVariants.{Arrived}
-use Rattle.am_runs.specs.Steps.RunStep.{Refused}
+use Rattle.am_steps.specs.declared.asked.Asked.{Asked}
+use Rattle.am_steps.specs.declared.asked.Asked.TheVariants as asked
 use Rattle.am_cluster.specs.declared.delivering.Arrival.{Arrival}
 use Rattle.am_cluster.specs.declared.error.ClusterError.{ClusterError}
 use Rattle.am_cluster.specs.declared.error.ClusterError.TheVariants as errors
 use Rattle.am_cluster.specs.declared.flight.Flight.{Flight}
-use Rattle.am_cluster.specs.Events.{IsEvent, IsUnmade}
+use Rattle.am_cluster.specs.declared.journal.mark.Mark.TheVariants as marks
+use Rattle.am_cluster.specs.Doing.{IsDone}
 use Rattle.am_cluster.specs.Lives.{OfMember}
 use Rattle.am_cluster.specs.Losing.{IsNoNumber}
+use Rattle.am_cluster.specs.Refusals.{IsRefused}
 use Rattle.am_cluster.specs.Ties.{IsFlying}
-use Rattle.am_cluster.specs.Worlds.{World, written}
+use Rattle.am_cluster.specs.Worlds.{World}
 
--- a copy of a frame in flight of this number, as it arrives
+-- a frame in flight of this number, as it is about to arrive
 pub record IsArrival (world : World) (number : ℕ) (arrival : Arrival) : Type 0 where
   pub flight : Flight
-  pub there : Contains world.flights flight
+  pub there : slice_get world.flights arrival.position ≡ Some flight
   pub bears : flight.number ≡ number
   pub flying : IsFlying world flight
   pub place_is : arrival.place ≡ flight.addressee
   pub sender_is : arrival.sender ≡ flight.sender
-  pub frame_is : arrival.frame ≡ flight.frame
   pub index_is : arrival.index ≡ flying.index
 
--- nothing happens to any member, and the moment is written down
-pub record IsRefused {A : Type 0} (error : ClusterError) (old : World) (now line : ℕ) (result : Result A ClusterError)
-    (new : World) : Type 0 where
-  pub told : result ≡ Err error
-  pub world : new ≡ written old (Refused now) (Refused now) line
+-- what the frame of this index asks of its addressee
+abbrev pub delivery : Flight → ℕ → Asked
+delivery flight index = asked.Event (events.Frame flight.sender flight.frame) (Arrived index)
 
 -- the frame of this number comes to its addressee, as an event there; it stays in flight
 pub record IsDelivered (old : World) (number now line : ℕ) (result : Result Reply ClusterError) (new : World) : Type 0 where
@@ -38,12 +38,10 @@ pub record IsDelivered (old : World) (number now line : ℕ) (result : Result Re
   pub bears : flight.number ≡ number
   pub index : ℕ
   pub index_is : flight.number ≡ index + 1
-  pub event : OfMember old flight.addressee
-      (λ replica. IsEvent old flight.addressee replica (events.Frame flight.sender flight.frame) (Arrived index) now line result new)
+  pub done : OfMember old flight.addressee (λ replica. IsDone old flight.addressee replica (delivery flight index) now line result new)
 
--- what came of delivering the frame of a number
+-- what came of delivering the frame of a number: where none in flight has it the step is refused
 abbrev pub IsDelivery : World → ℕ → ℕ → ℕ → Result Reply ClusterError → World → Type 0
 IsDelivery old number now line result new =
-    IsUnmade old result new
-    ⊎ (IsNoNumber old.flights number × IsRefused errors.NoFrame old now line result new)
+    (IsNoNumber old.flights number × IsRefused errors.NoFrame (marks.Refused now) old line result new)
     ⊎ IsDelivered old number now line result new

@@ -1,5 +1,5 @@
 -- What is said of durable members of a cluster.
-use Rattle.std.specs.Prelude.{◌≡◌, ◌++◌, ℕ, List, All, Contains, length}
+use Rattle.std.specs.Prelude.{◌≡◌, ◌++◌, ℕ, List, Contains, length}
 use Rattle.am_silence.specs.Mesh.{Mesh, mesh_version}
 use Rattle.am_nflog.specs.Mesh.{Mesh as LogMesh, mesh_version as entry_version}
 use Rattle.am_merge.specs.Views.{IsViewAt}

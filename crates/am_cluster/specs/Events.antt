@@ -1,20 +1,21 @@
 -- What an event of a member does to the cluster.
-use Rattle.std.specs.Prelude.{◌≡◌, ◌⊎◌, ℕ, Bool, true, false, List, [], Result, Ok, Err, if◌then◌else◌}
+use Rattle.std.specs.Prelude.{◌≡◌, ◌⊎◌, ℕ, ◌<◌, Bool, true, false, List, [], Result, Ok, Err, length, if◌then◌else◌}
 use Rattle.am_gossip.specs.declared.frame.Frame.{Frame}
 use Rattle.am_instance.specs.declared.event.Event.{Event}
 use Rattle.am_refusals.specs.declared.error.StepError.{StepError}
-use Rattle.am_refusals.specs.declared.error.StepError.TheVariants.{MomentBack, UnknownPeer, Memory}
+use Rattle.am_refusals.specs.declared.error.StepError.TheVariants.{Memory}
 use Rattle.am_instance.specs.declared.reply.Outcome.{Outcome}
 use Rattle.am_instance.specs.declared.reply.Reply.{Reply}
 use Rattle.am_instance.specs.InstanceStates.{InstanceState}
 use Rattle.am_instance.specs.OneStep.{IsStep}
+use Rattle.am_instance.specs.Steps.{IsAccepted}
 use Rattle.am_runs.specs.declared.step.Source.{Source}
 use Rattle.am_runs.specs.declared.step.Source.TheVariants.{Lent}
-use Rattle.am_runs.specs.Steps.RunStep.{Refused}
 use Rattle.am_steps.specs.BothStates.{log_state, silence_state}
 use Rattle.am_steps.specs.Recorded.{event_step}
 use Rattle.am_cluster.specs.declared.error.ClusterError.{ClusterError}
 use Rattle.am_cluster.specs.declared.error.ClusterError.TheVariants as errors
+use Rattle.am_cluster.specs.Refusals.{IsUnmade}
 use Rattle.am_cluster.specs.Worlds.{Replica, World, with_flights, with_replica, written}
 
 -- whether the frames that come out of a step are dropped: those of a member that takes the maps of another are
@@ -26,20 +27,28 @@ drops _ = false
 abbrev pub flown : Source → List (ℕ × Frame) → List (ℕ × Frame)
 flown source frames = if drops source then [] else frames
 
--- What the instance answered, as the cluster tells it, and the frames that fly then. Where a frame that is not dropped finds
--- no memory, none of them flies.
+-- a frame was to be sent, which found no memory, or may still find none to fly
+abbrev pub SendsFrames : Outcome → Type 0
+SendsFrames outcome = (0 < outcome.unsent.memory) ⊎ (0 < length outcome.frames.items)
+
+-- What the instance answered, as the cluster tells it, and the frames that fly then. Want of memory is told where a frame was to
+-- be sent and isn't dropped, and then none of them flies; or where the instance found no memory for all that was delivered.
 abbrev pub IsTold : Source → Result Outcome StepError → List (ℕ × Frame) → Result Reply ClusterError → Type 0
 IsTold source (Ok outcome) frames (Ok reply) =
     (reply ≡ outcome.reply) × (frames ≡ flown source outcome.frames.items) × (drops source ≡ false → outcome.unsent.memory ≡ 0)
-IsTold source (Ok outcome) frames (Err error) = (error ≡ errors.Memory) × (frames ≡ []) × (drops source ≡ false)
-IsTold source (Err (MomentBack last)) frames (Err error) = (error ≡ errors.MomentBack last) × (frames ≡ [])
-IsTold source (Err UnknownPeer) frames (Err error) = (error ≡ errors.UnknownPeer) × (frames ≡ [])
+IsTold source (Ok outcome) frames (Err error) =
+    (error ≡ errors.Memory) × (frames ≡ []) × (drops source ≡ false) × SendsFrames outcome
 IsTold source (Err (Memory taken)) frames (Err error) = (error ≡ errors.Memory) × (frames ≡ [])
 IsTold source _ _ _ = ⊥
 
 -- a member with another stand
 abbrev pub with_stand : Replica → InstanceState → Replica
 with_stand replica stand = record replica { stand = stand }
+
+-- a member runs, and no cause stands for which its instance refuses the event, memory aside
+pub record CanHave (replica : Replica) (event : Event) (now : ℕ) : Type 0 where
+  pub runs : replica.runs ≡ true
+  pub accepted : IsAccepted replica.stand event now
 
 -- the instance of a member that runs makes its step, which is written down, and its frames fly
 pub record HasHappened (old : World) (place : ℕ) (replica : Replica) (event : Event) (source : Source) (now line : ℕ)
@@ -54,18 +63,7 @@ pub record HasHappened (old : World) (place : ℕ) (replica : Replica) (event : 
       written (with_flights (with_replica old place (with_stand replica stand)) place now frames)
       (event_step silence_state place now source event answer frames) (event_step log_state place now source event answer frames) line
 
--- a stopped member does nothing, and the moment is written down
-pub record IsHalted (old : World) (replica : Replica) (now line : ℕ) (result : Result Reply ClusterError) (new : World) : Type 0 where
-  pub stopped : replica.runs ≡ false
-  pub error : result ≡ Err errors.Stopped
-  pub world : new ≡ written old (Refused now) (Refused now) line
-
--- there is no room for the step, and nothing has changed
-pub record IsUnmade {A : Type 0} (old : World) (result : Result A ClusterError) (new : World) : Type 0 where
-  pub error : result ≡ Err errors.Memory
-  pub world : new ≡ old
-
--- what came of an event at a member
+-- what came of an event that a member can have
 abbrev pub IsEvent : World → ℕ → Replica → Event → Source → ℕ → ℕ → Result Reply ClusterError → World → Type 0
 IsEvent old place replica event source now line result new =
-    IsUnmade old result new ⊎ IsHalted old replica now line result new ⊎ HasHappened old place replica event source now line result new
+    IsUnmade old result new ⊎ HasHappened old place replica event source now line result new

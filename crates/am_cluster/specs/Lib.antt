@@ -7,12 +7,14 @@ pub mod Worlds
 pub mod BothRuns
 pub mod Ties
 pub mod Beginnings
+pub mod Refusals
 pub mod Lives
 pub mod Events
 pub mod Writing
 pub mod Recording
 pub mod Acting
 pub mod Losing
+pub mod Doing
 pub mod Delivering
 pub mod Steps
 pub mod Settling

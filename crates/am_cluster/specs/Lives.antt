@@ -1,6 +1,6 @@
 -- How a member is saved, stopped and started.
-use Rattle.std.specs.Prelude.{◌≡◌, ℕ, ◌<◌, ◌≤◌, true, false, Some, Result, Ok, Err}
-use Rattle.am_runs.specs.Steps.RunStep.{Back, Refused, Saved, Stopped, Started}
+use Rattle.std.specs.Prelude.{◌≡◌, ℕ, ◌≤◌, true, false, Some, Result, Ok, Err}
+use Rattle.am_runs.specs.Steps.RunStep.{Saved, Stopped, Started}
 use Rattle.am_cluster.specs.declared.error.ClusterError.{ClusterError}
 use Rattle.am_cluster.specs.declared.error.ClusterError.TheVariants as errors
 use Rattle.am_cluster.specs.Worlds.{Replica, World, replica_at, with_replica, written}
@@ -18,30 +18,31 @@ abbrev pub started : Replica → ℕ → Replica
 started replica now =
     record replica { stand = record replica.stand { silences = replica.saved_silences; log = replica.saved_log; last = now }; runs = true }
 
--- what came of saving a member
+-- What came of saving a member. A stopped one is told as such, and want of memory only of one that runs; neither is written down.
 abbrev pub IsSave : World → ℕ → Replica → ℕ → Result Unit ClusterError → World → Type 0
 IsSave old place replica line (Ok _) new =
     (replica.runs ≡ true) × (new ≡ written (with_replica old place (saved replica)) (Saved place) (Saved place) line)
 IsSave old place replica line (Err errors.Stopped) new = (replica.runs ≡ false) × (new ≡ old)
-IsSave old place replica line (Err errors.Memory) new = new ≡ old
+IsSave old place replica line (Err errors.Memory) new = (replica.runs ≡ true) × (new ≡ old)
 IsSave old place replica line (Err _) new = ⊥
 
--- what came of stopping it
+-- What came of stopping it. Want of memory is told only where there was no room to write it down.
 abbrev pub IsStop : World → ℕ → Replica → ℕ → Result Unit ClusterError → World → Type 0
 IsStop old place replica line (Ok _) new =
     (replica.runs ≡ true) × (new ≡ written (with_replica old place (stopped replica)) (Stopped place) (Stopped place) line)
 IsStop old place replica line (Err errors.Stopped) new = (replica.runs ≡ false) × (new ≡ old)
-IsStop old place replica line (Err errors.Memory) new = new ≡ old
+IsStop old place replica line (Err errors.Memory) new = (replica.runs ≡ true) × (old.room ≡ 0) × (new ≡ old)
 IsStop old place replica line (Err _) new = ⊥
 
--- what came of starting it: a moment before its last one counts against it
+-- a stopped member can be started at a moment
+pub record CanBegin (replica : Replica) (now : ℕ) : Type 0 where
+  pub stopped : replica.runs ≡ false
+  pub forward : replica.stand.last ≤ now
+
+-- what came of starting one that can be
 abbrev pub IsStart : World → ℕ → Replica → ℕ → ℕ → Result Unit ClusterError → World → Type 0
 IsStart old place replica now line (Ok _) new =
-    (replica.runs ≡ false) × (replica.stand.last ≤ now)
-    × (new ≡ written (with_replica old place (started replica now)) (Started place now) (Started place now) line)
-IsStart old place replica now line (Err errors.Running) new = (replica.runs ≡ true) × (new ≡ written old (Refused now) (Refused now) line)
-IsStart old place replica now line (Err (errors.MomentBack last)) new =
-    (replica.runs ≡ false) × (last ≡ replica.stand.last) × (now < last) × (new ≡ written old (Back place now) (Back place now) line)
+    new ≡ written (with_replica old place (started replica now)) (Started place now) (Started place now) line
 IsStart old place replica now line (Err errors.Memory) new = new ≡ old
 IsStart old place replica now line (Err _) new = ⊥
 

@@ -1,5 +1,5 @@
 -- How the answer of an instance is written down.
-use Rattle.std.specs.Prelude.{◌≡◌, ℕ, ◌<◌, ◌≤◌, true, List, [], ◌∷◌, ◌++◌, length, map, Result, Err, IfOk, if◌then◌else◌}
+use Rattle.std.specs.Prelude.{◌≡◌, ℕ, ◌<◌, ◌≤◌, true, ◌-◌, List, [], ◌∷◌, ◌++◌, length, map, Result, Ok, Err, IfOk, if◌then◌else◌}
 use Rattle.am_gossip.specs.declared.frame.Frame.{Frame}
 use Rattle.am_instance.specs.declared.event.Event.{Event}
 use Rattle.am_instance.specs.declared.event.Event.TheVariants as events
@@ -37,10 +37,11 @@ brings_or_makes _ = kinds.Makes
 abbrev pub kind_of : Event → Kind
 kind_of event = if collects event then kinds.Collects else brings_or_makes event
 
--- no frame is at fault
-abbrev pub IsNoFault : Result Outcome StepError → Type 0
-IsNoFault (Err (step_errors.Frame fault)) = ⊥
-IsNoFault _ = Unit {0}
+-- an event was answered, or memory ran out
+abbrev pub IsNoRefusal : Result Outcome StepError → Type 0
+IsNoRefusal (Ok outcome) = Unit {0}
+IsNoRefusal (Err (step_errors.Memory taken)) = Unit {0}
+IsNoRefusal (Err _) = ⊥
 
 -- no versions yet, with room for so many
 pub record IsRoomFor (parted : Sorted) (count : ℕ) : Type 0 where
@@ -72,7 +73,7 @@ pub record CanRecord (account : Account) (entry : Entry) (event : Event) (versio
   pub spare_for_made : 3 ≤ account.spare
   pub silences : CanBeNext silence_state account.members account.silences entry event answer
   pub log : CanBeNext log_state account.members account.log entry event answer
-  pub sound : IsNoFault answer
+  pub not_refused : IsNoRefusal answer
   pub few : IfOk answer (λ outcome. length outcome.made.silences.items ≤ 2)
   pub idle : IfOk answer (λ outcome. collects event ≡ true → (outcome.frames.items ≡ []) × (outcome.unsent.memory ≡ 0))
   pub brings : IfOk answer (λ outcome. brings_or_makes event ≡ kinds.Brings → IsNothing outcome.made)
@@ -86,4 +87,5 @@ pub record IsRecorded (old : Account) (flights : List Flight) (entry : Entry) (e
   pub silences : new.silences ≡ old.silences ++ event_step silence_state entry.place entry.moment entry.source event answer frames ∷ []
   pub log : new.log ≡ old.log ++ event_step log_state entry.place entry.moment entry.source event answer frames ∷ []
   pub lines : new.lines ≡ old.lines ++ entry.line ∷ []
+  pub room : new.room ≡ old.room - 1
   pub flights_are : after ≡ flights ++ sent_on (length (flights_of old.silences)) entry.place entry.moment frames

@@ -1,5 +1,5 @@
 -- The bare sets of the members of a cluster.
-use Rattle.std.specs.Prelude.{◌≡◌, ◌≤◌, ◌++◌, ◌∷◌, ℕ, List, Some, length}
+use Rattle.std.specs.Prelude.{◌≡◌, ◌≤◌, ◌++◌, ◌∷◌, ℕ, List, Option, Some, All, length, map}
 use Rattle.am_silence.specs.Mesh.{Mesh}
 use Rattle.am_nflog.specs.Mesh.{Mesh as LogMesh}
 use Rattle.am_runs.specs.Members.{set_of}
@@ -39,3 +39,17 @@ pub record GoesOnAt (earlier later : World) (now : ℕ) : Type 0 where
   pub members : length later.replicas ≡ length earlier.replicas
   pub silences : GoesOnIn silence_run earlier later now
   pub log : GoesOnIn log_run earlier later now
+
+-- one of the runs goes on by steps that have this moment, or have none; or it stays as it is
+pub record ExtendsRun {K X : Type 0} (run : RunOf K X) (earlier later : World) (now : Option ℕ) : Type 0 where
+  pub more : List (RunStep X)
+  pub parts : run.steps later ≡ run.steps earlier ++ more
+  pub moments : All (λ step. moment step ≡ now) more
+
+-- Both do, by as many steps, each in this line; and there are as many members.
+pub record Extends (earlier later : World) (now : Option ℕ) (line : ℕ) : Type 0 where
+  pub members : length later.replicas ≡ length earlier.replicas
+  pub silences : ExtendsRun silence_run earlier later now
+  pub log : ExtendsRun log_run earlier later now
+  pub alike : length silences.more ≡ length log.more
+  pub lines : later.lines ≡ earlier.lines ++ map (λ step. line) silences.more

@@ -1,5 +1,5 @@
 -- How the members of a cluster settle: each collects, and then the first takes the maps of all others, and they take its.
-use Rattle.std.specs.Prelude.{◌≡◌, ◌⊎◌, ℕ, ◌-◌, ◌<◌, ◌≤◌, Bool, true, false, List, [], ◌∷◌, ◌++◌, map, filter, length}
+use Rattle.std.specs.Prelude.{◌≡◌, ◌⊎◌, ℕ, ◌-◌, ◌<◌, ◌≤◌, Bool, true, false, List, [], ◌∷◌, ◌++◌, map, filter, length, max}
 use Rattle.std.specs.Prelude.{nat_lt, slice_get, All, Any, Option, Some, None, Result, Ok, Err}
 use Rattle.std.specs.List.{range_with_len}
 use Rattle.am_gossip.specs.declared.frame.Frame.TheVariants as frames
@@ -25,9 +25,8 @@ use Rattle.am_cluster.specs.declared.error.ClusterError.{ClusterError}
 use Rattle.am_cluster.specs.declared.error.ClusterError.TheVariants as cluster_errors
 use Rattle.am_cluster.specs.declared.error.SettleError.{SettleError}
 use Rattle.am_cluster.specs.declared.error.SettleError.TheVariants as errors
-use Rattle.am_cluster.specs.Worlds.{Replica, World, replica_at, written}
-use Rattle.am_cluster.specs.Events.{HasHappened, IsEvent, IsUnmade}
-use Rattle.am_cluster.specs.Lives.{OfMember}
+use Rattle.am_cluster.specs.Worlds.{Replica, World, replica_at, with_room, written}
+use Rattle.am_cluster.specs.Events.{HasHappened}
 
 -- what comes to a member that takes the maps of the one at a place
 abbrev pub loan : ℕ → InstanceState → Event
@@ -41,13 +40,6 @@ pub record CanLend (stand : InstanceState) : Type 0 where
   pub log : All IsReadable (map OfEntry stand.log)
   pub silences_fit : length (row_text mesh_version stand.silences) ≤ most
   pub log_fit : length (row_text entry_version stand.log) ≤ most
-
--- What came of a member's taking the maps of another: they can be lent and come to it, or it found no memory. Where they can't
--- be lent, as a row of them would be too long, that is always answered.
-abbrev pub IsTakingOf : World → ℕ → ℕ → ℕ → ℕ → Result Reply ClusterError → World → Type 0
-IsTakingOf old borrower lender now line result new =
-    OfMember old lender (λ lent. OfMember old borrower (λ replica. IsUnmade old result new
-    ⊎ (CanLend lent.stand × IsEvent old borrower replica (loan lender lent.stand) (Lent lender) now line result new)))
 
 -- ---- the turns of a settle
 
@@ -140,6 +132,7 @@ with_backs world places now line = record world {
   silences = world.silences ++ map (λ place. Back place now) places;
   log = world.log ++ map (λ place. Back place now) places;
   lines = world.lines ++ map (λ place. line) places;
+  room = world.room - length places;
 }
 
 -- the same of a journal
@@ -148,15 +141,22 @@ pub record HasBacks (old : Account) (places : List ℕ) (now line : ℕ) (new : 
   pub silences : new.silences ≡ old.silences ++ map (λ place. Back place now) places
   pub log : new.log ≡ old.log ++ map (λ place. Back place now) places
   pub lines : new.lines ≡ old.lines ++ map (λ place. line) places
+  pub room : new.room ≡ old.room - length places
 
 -- nothing happens to any member, and the moment is written down
 abbrev pub IsRefusedAsStopped : World → ℕ → ℕ → World → Type 0
 IsRefusedAsStopped old now line new = HasStopped old.replicas × (new ≡ written old (Refused now) (Refused now) line)
 
--- nor does it here, but it counts against each member whose last moment is after this one
+-- nor does it here, but it counts against each member whose last moment is after this one, with room for one step of each member
 abbrev pub IsRefusedAsBack : World → ℕ → ℕ → World → Type 0
-IsRefusedAsBack old now line new =
-    (¬ HasStopped old.replicas) × HasLate now old.replicas × (new ≡ with_backs old (late_places old.replicas now) now line)
+IsRefusedAsBack old now line new = (¬ HasStopped old.replicas) × HasLate now old.replicas
+    × (new ≡ with_backs (with_room old (length old.replicas)) (late_places old.replicas now) now line)
+
+-- There was no memory to begin, and nothing has changed. A refusal is told instead wherever there was room for a step of each
+-- member, and so is a settle of none.
+pub record IsUnbegun (old new : World) : Type 0 where
+  pub world : new ≡ old
+  pub without_room : old.room < max 1 (length old.replicas)
 
 -- What a settle of these members is when it begins. Each turn is written down with its moment; where there is no member, and so
 -- no turn, the moment is written down alone.
@@ -169,7 +169,7 @@ abbrev pub IsAdmitted : World → ℕ → ℕ → Result Unit SettleError → Wo
 IsAdmitted old now line (Ok _) new = CanSettle old now × (new ≡ begun old.replicas old now line)
 IsAdmitted old now line (Err errors.Stopped) new = IsRefusedAsStopped old now line new
 IsAdmitted old now line (Err errors.MomentBack) new = IsRefusedAsBack old now line new
-IsAdmitted old now line (Err errors.Memory) new = new ≡ old
+IsAdmitted old now line (Err errors.Memory) new = IsUnbegun old new
 
 -- What came of a settle: all its turns; a refusal; or for want of memory, which a map with too long a row is told as too,
 -- nothing or the first turns alone.
@@ -179,7 +179,7 @@ IsSettle old now line (Ok _) new =
 IsSettle old now line (Err errors.Stopped) new = IsRefusedAsStopped old now line new
 IsSettle old now line (Err errors.MomentBack) new = IsRefusedAsBack old now line new
 IsSettle old now line (Err errors.Memory) new =
-    (new ≡ old) ⊎ (CanSettle old now × AreCutShort old (all_turns (length old.replicas)) now line new)
+    IsUnbegun old new ⊎ (CanSettle old now × AreCutShort old (all_turns (length old.replicas)) now line new)
 
 -- ---- what a settle leaves
 

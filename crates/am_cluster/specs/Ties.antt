@@ -1,16 +1,21 @@
 -- How a cluster hangs together: each member stands as its past says, and each frame in flight is one that a step sent.
 -- K is the type of keys, and X that of versions.
-use Rattle.std.specs.Prelude.{◌≡◌, ℕ, ◌+◌, ◌<◌, ◌==◌, Bool, true, false, List, [], ◌∷◌, ◌++◌, length, Option, Some, None, slice_get, Contains}
+use Rattle.std.specs.Prelude.{◌≡◌, ℕ, ◌+◌, ◌<◌, ◌==◌, Bool, true, false, List, [], ◌∷◌, ◌++◌, length, Option, Some, None, slice_get, Contains, Ok}
 use Rattle.std.specs.List.{AllByRecursion}
 use Rattle.am_merge.specs.Maps.{at}
 use Rattle.am_collect.specs.Kept.{Kept}
 use Rattle.am_gossip.specs.declared.frame.Frame.{Frame}
+use Rattle.am_instance.specs.declared.event.Event.{Event}
+use Rattle.am_instance.specs.declared.reply.Outcome.{Outcome}
 use Rattle.am_instance.specs.Deliveries.{first_fault, rows_in, parts_of}
+use Rattle.am_instance.specs.InstanceStates.{InstanceState}
+use Rattle.am_instance.specs.OneStep.{IsStep}
+use Rattle.am_runs.specs.declared.step.Source.{Source}
 use Rattle.am_runs.specs.Steps.{RunStep, flights_by, flights_of, is_at}
 use Rattle.am_runs.specs.Members.{Member, member_of, map_of}
 use Rattle.am_steps.specs.BothStates.{StateOf}
 use Rattle.am_steps.specs.Contents.{carries}
-use Rattle.am_steps.specs.Recorded.{HasGoneThrough}
+use Rattle.am_steps.specs.Recorded.{HasGoneThrough, event_step}
 use Rattle.am_cluster.specs.BothRuns.{RunOf, log_run, silence_run}
 use Rattle.am_cluster.specs.declared.flight.Flight.{Flight}
 use Rattle.am_cluster.specs.Worlds.{Replica, World, replica_at}
@@ -21,17 +26,32 @@ pub record IsTied {K X : Type 0} (state : StateOf K X) (member : Member X) (runn
   pub held : HasGoneThrough state member.past kept
   pub saved : (key : K) → at state.seen state.cmp copy key ≡ map_of state.seen state.cmp member.saved key
 
--- A frame was sent in a run, as the one of this place among all that ever were: by a step of its sender, at its moment, with its
--- versions.
-pub record WasSent {K X : Type 0} (state : StateOf K X) (steps : List (RunStep X)) (index : ℕ) (flight : Flight) : Type 0 where
+-- The step of an instance that handed out a frame to its addressee: the step of its sender, at its moment.
+pub record WasHandedOut (flight : Flight) : Type 0 where
+  pub stand : InstanceState
+  pub event : Event
+  pub source : Source
+  pub outcome : Outcome
+  pub after : InstanceState
+  pub step : IsStep stand event flight.sent (Ok outcome) after
+  pub own_place : stand.config.place ≡ flight.sender
+  pub nth : ℕ
+  pub to_addressee : slice_get outcome.frames.items nth ≡ Some (flight.addressee, flight.frame)
+
+-- A frame was sent in a run, as the one of this place among all that ever were: by that step of its sender, as it stood then, as
+-- one of its frames, with its versions.
+pub record WasSent {K X : Type 0} (state : StateOf K X) (members : ℕ) (steps : List (RunStep X)) (index : ℕ) (flight : Flight)
+    (handed : WasHandedOut flight) : Type 0 where
   pub before : List (RunStep X)
   pub step : RunStep X
   pub rest : List (RunStep X)
   pub parts : steps ≡ before ++ step ∷ rest
+  pub stood : HasGoneThrough state (member_of members flight.sender before).past (state.kept handed.stand)
+  pub is : step ≡ event_step state flight.sender flight.sent handed.source handed.event (Ok handed.outcome) handed.outcome.frames.items
   pub own : is_at flight.sender step ≡ true
-  pub nth : ℕ
-  pub index_is : index ≡ length (flights_of before) + nth
-  pub sent : slice_get (flights_by step) nth ≡ Some (record { sent = flight.sent; versions = state.versions_in (carries flight.frame) })
+  pub index_is : index ≡ length (flights_of before) + handed.nth
+  pub sent : slice_get (flights_by step) handed.nth
+      ≡ Some (record { sent = flight.sent; versions = state.versions_in (carries flight.frame) })
 
 module _ {K X : Type 0} (run : RunOf K X) where
   -- the member at a place, as a run of the cluster tells
@@ -43,8 +63,8 @@ module _ {K X : Type 0} (run : RunOf K X) where
   IsTiedIn world q replica = IsTied run.state (member_in world q) replica.runs (run.state.kept replica.stand) (run.saved replica)
 
   -- a frame was sent in that run
-  abbrev pub IsSentIn : World → ℕ → Flight → Type 0
-  IsSentIn world index flight = WasSent run.state (run.steps world) index flight
+  abbrev pub IsSentIn : World → ℕ → (flight : Flight) → WasHandedOut flight → Type 0
+  IsSentIn world index flight handed = WasSent run.state (length world.replicas) (run.steps world) index flight handed
 
 -- the names that a member knows, its own among them, in their order
 abbrev pub names_of : Option Replica → List (List ℕ)
@@ -63,12 +83,14 @@ pub record IsMember (world : World) (q : ℕ) (replica : Replica) : Type 0 where
   pub members : length replica.stand.config.members ≡ length world.replicas
   pub names : replica.stand.config.members ≡ names_in world
 
--- a frame in flight is one that a step sent, under its number among all that were ever sent, from one member to another
+-- A frame in flight is one that a step sent, under its number among all that were ever sent, from one member to another. Its
+-- sender is the one that made that step, and its addressee the one that the step sent it to.
 pub record IsFlying (world : World) (flight : Flight) : Type 0 where
   pub index : ℕ
   pub number : flight.number ≡ index + 1
-  pub silences : IsSentIn silence_run world index flight
-  pub log : IsSentIn log_run world index flight
+  pub handed : WasHandedOut flight
+  pub silences : IsSentIn silence_run world index flight handed
+  pub log : IsSentIn log_run world index flight handed
   pub sound : first_fault (rows_in (parts_of flight.frame)) ≡ None
   pub addressee : flight.addressee < length world.replicas
   pub sender : flight.sender < length world.replicas

@@ -1,5 +1,5 @@
 -- A cluster as contracts see it.
-use Rattle.std.specs.Prelude.{ℕ, ◌+◌, Bool, List, [], ◌∷◌, ◌++◌, length, set, Option, slice_get}
+use Rattle.std.specs.Prelude.{ℕ, ◌+◌, ◌-◌, max, Bool, List, [], ◌∷◌, ◌++◌, length, set, Option, slice_get}
 use Rattle.am_silence.specs.Mesh.{Mesh}
 use Rattle.am_nflog.specs.Mesh.{Mesh as LogMesh}
 use Rattle.am_gossip.specs.declared.frame.Frame.{Frame}
@@ -14,14 +14,15 @@ pub record Replica : Type 0 where
   pub saved_silences : List Mesh
   pub saved_log : List LogMesh
 
--- The members by their places; what every step so far was to the silences, and to the log, with its line; and the frames in
--- flight by their numbers.
+-- The members by their places; what every step so far was to the silences, and to the log, with its line; the frames in flight
+-- by their numbers; and for how many more steps there is room in the record.
 pub record World : Type 0 where
   pub replicas : List Replica
   pub silences : List (RunStep Mesh)
   pub log : List (RunStep LogMesh)
   pub lines : List ℕ
   pub flights : List Flight
+  pub room : ℕ
 
 -- the member at a place
 abbrev pub replica_at : World → ℕ → Option Replica
@@ -31,10 +32,18 @@ replica_at world place = slice_get world.replicas place
 abbrev pub sendings : World → ℕ
 sendings world = length (flights_of world.silences)
 
--- one step more is written down, with its line
+-- one step more is written down, with its line; it takes some of the room, if there is any
 abbrev pub written : World → RunStep Mesh → RunStep LogMesh → ℕ → World
-written world silences log line =
-    record world { silences = world.silences ++ silences ∷ []; log = world.log ++ log ∷ []; lines = world.lines ++ line ∷ [] }
+written world silences log line = record world {
+  silences = world.silences ++ silences ∷ [];
+  log = world.log ++ log ∷ [];
+  lines = world.lines ++ line ∷ [];
+  room = world.room - 1;
+}
+
+-- there is room for so many more steps
+abbrev pub with_room : World → ℕ → World
+with_room world steps = record world { room = max world.room steps }
 
 -- a member changes
 abbrev pub with_replica : World → ℕ → Replica → World

@@ -46,3 +46,4 @@ pub record IsWritten (old : Account) (entry : Entry) (versions : Delivered) (fra
   pub silences : new.silences ≡ old.silences ++ took_silences entry versions frames ∷ []
   pub log : new.log ≡ old.log ++ took_entries entry versions frames ∷ []
   pub lines : new.lines ≡ old.lines ++ entry.line ∷ []
+  pub room : new.room ≡ old.room - 1

@@ -1,6 +1,6 @@
 //! A cluster, and what can be asked of it.
 
-ghost use Rattle.std.specs.Prelude.{◌≡◌, ◌↔◌, ◌<◌, ℕ, [], Any, Err, IfOk, IsTrue, MatchOption, length, option_map};
+ghost use Rattle.std.specs.Prelude.{◌≡◌, ◌↔◌, ◌<◌, ℕ, [], Any, Err, IfOk, IsTrue, MatchOption, OnErr, OnOk, length, option_map};
 ghost use Rattle.std.specs.Option.{option_copied};
 ghost use Rattle.am_instance.specs.Configs.{HasTwice, IsEmptyName, IsLongName};
 ghost use Rattle.am_refusals.specs.declared.error.ConfigError.TheVariants as errors;
@@ -8,7 +8,7 @@ ghost use Rattle.am_cluster.specs.Reports.{AreTimely, IsCalmInBoth, IsLineOfFaul
 ghost use Rattle.am_cluster.specs.Clusters.{IsCluster};
 ghost use Rattle.am_cluster.specs.Beginnings.{AreNewborn, AreUnborn, newborns};
 ghost use Rattle.am_cluster.specs.DurableRuns.{IsDurableInBoth};
-ghost use Rattle.am_cluster.specs.Worlds.{replica_at};
+ghost use Rattle.am_cluster.specs.Worlds.{replica_at, with_room};
 
 use crate::flight::Flight;
 use crate::journal::{CalmReport, Journal};
@@ -21,7 +21,8 @@ use std::marker::Model;
 
 /// The members of a cluster, all that happened to them, and the frames in flight between them.
 ///
-/// Contracts see how each member stands, what each step so far was to the silences and to the log, and the frames.
+/// Contracts see how each member stands, what each step so far was to the silences and to the log, the frames, and for how
+/// many more steps there is room.
 pub struct Cluster {
     pub(crate) alloc: Global,
     pub(crate) members: Vec<Member>,
@@ -54,6 +55,7 @@ impl Model for Cluster {
       log = c.journal.log;
       lines = c.journal.lines;
       flights = c.flights.items;
+      room = c.journal.room;
     } };
 
     ghost invariant = { λ c. record {
@@ -64,6 +66,7 @@ impl Model for Cluster {
         log = c.journal.log;
         lines = c.journal.lines;
         flights = c.flights.items;
+        room = c.journal.room;
       });
     } };
 }
@@ -135,6 +138,20 @@ impl Cluster {
         ensures { IsCluster self.now }
     {
         self.journal.consistency();
+    }
+
+    /// Makes room for so many more steps, of which each that is written down takes one. While there is room no step that is to
+    /// be refused is told as want of memory.
+    ///
+    /// # Errors
+    ///
+    /// [`AllocError`] where memory runs out; nothing has changed then.
+    pub fn make_room(&mut self, steps: usize) -> Result<(), AllocError>
+        ensures room { OnOk result (self.new ≡ with_room self.old steps) }
+        ensures unchanged { OnErr result (self.new ≡ self.old) }
+        ensures without_room { OnErr result (self.old.room < steps) }
+    {
+        self.journal.make_room(steps, 0)
     }
 
     /// The frames in flight, by their numbers. It takes no memory.

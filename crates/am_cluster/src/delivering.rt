@@ -1,60 +1,73 @@
 //! How a frame in flight is delivered.
 
-ghost use Rattle.std.specs.Prelude.{◌≡◌, ◌⊎◌, IfOk, MatchOption};
-ghost use Rattle.am_runs.specs.Steps.RunStep.{Refused};
-ghost use Rattle.am_cluster.specs.declared.error.ClusterError.TheVariants as errors;
+ghost use Rattle.std.specs.Prelude.{◌≡◌, ◌<◌, IfOk, MatchOption, Some, length, slice_get};
+ghost use Rattle.am_instance.specs.declared.event.Event.TheVariants as events;
+ghost use Rattle.am_instance.specs.Configs.{is_peer};
+ghost use Rattle.am_cluster.specs.declared.flight.Flight.{Flight as Flown};
 ghost use Rattle.am_cluster.specs.Delivering.{IsArrival, IsDelivery};
-ghost use Rattle.am_cluster.specs.Worlds.{written};
+ghost use Rattle.am_cluster.specs.Lives.{OfMember};
 ghost use Rattle.am_cluster.specs.Losing.{IsNoNumber};
+ghost use Rattle.am_cluster.specs.Refusals.{event_refusal};
 
 use crate::cluster::Cluster;
 use crate::error::ClusterError;
 use crate::journal::Mark;
 use crate::losing::flight_numbered;
-use am_gossip::Frame;
+use crate::refusals::event_refusal;
 use am_instance::{Event, Place, Reply};
 use am_runs::Source;
 use am_version_order::Moment;
 use std::alloc::AllocError;
 
-/// A copy of a frame in flight, as it comes to its addressee.
-#[derive(Drop)]
+/// A frame in flight, as it is about to come to its addressee.
+#[derive(Clone, Copy)]
 struct Arrival {
     place: usize,
     sender: Place,
-    frame: Frame,
     /// The place of the frame, from 0, among all that were ever sent.
     index: usize,
+    /// Its place among those in flight.
+    position: usize,
 }
 
 impl Cluster {
-    /// A copy of the frame of a number, if it flies.
-    fn arrival(&self, number: u64) -> Result<Option<Arrival>, AllocError>
-        ensures { IfOk result (λ arrival. MatchOption arrival (IsNoNumber self.now.flights number) (IsArrival self.now number)) }
+    /// The frame of a number, if it flies. It takes no memory.
+    fn arrival(&self, number: u64) -> Option<Arrival>
+        ensures { MatchOption result (IsNoNumber self.now.flights number) (IsArrival self.now number) }
     {
-        let Some(place) = flight_numbered(&self.flights, number) else {
-            return Ok(None);
+        let Some(position) = flight_numbered(&self.flights, number) else {
+            return None;
         };
-        let flight = &self.flights[place];
-        let frame = flight.frame.try_clone(self.alloc)?;
-        Ok(Some(Arrival {
+        let flight = &self.flights[position];
+        Some(Arrival {
             place: flight.addressee as usize,
             sender: flight.sender,
-            frame,
             index: (flight.number - 1) as usize,
-        }))
+            position,
+        })
     }
 
-    /// Writes down a step that is refused to no member.
-    pub(crate) fn refuse(&mut self, error: ClusterError, now: Moment, line: u64) -> ClusterError
-        ensures { ((result ≡ errors.Memory) × (self.new ≡ self.old))
-            ⊎ ((result ≡ error) × (self.new ≡ written self.old (Refused now) (Refused now) line)) }
+    /// Why a frame is refused to the member at a place, if it is. It takes no memory.
+    fn arrival_refusal(&self, place: usize, sender: Place, now: Moment) -> Option<ClusterError>
+        requires { place < length self.now.replicas }
+        ensures { OfMember self.now place (λ replica. result ≡ event_refusal (is_peer replica.stand.config sender) replica now) }
     {
-        if self.journal.make_room(1, 0).is_err() {
-            return ClusterError::Memory;
-        }
-        self.journal.mark(Mark::Refused { now }, line);
-        error
+        let member = &self.members[place];
+        let known = member.instance.config().is_peer(sender);
+        event_refusal(member, known, now)
+    }
+
+    /// What arrives with a copy of the frame.
+    fn event_of(&self, arrival: &Arrival) -> Result<Event, AllocError>
+        requires { arrival.now.position < length self.now.flights }
+        ensures { IfOk result (λ event. (flight : Flown) → slice_get self.now.flights arrival.now.position ≡ Some flight →
+            event ≡ events.Frame arrival.now.sender flight.frame) }
+    {
+        let frame = self.flights[arrival.position].frame.try_clone(self.alloc)?;
+        Ok(Event::Frame {
+            sender: arrival.sender,
+            frame,
+        })
     }
 
     /// Delivers the frame of a number to its addressee. It stays in flight.
@@ -66,18 +79,14 @@ impl Cluster {
     ) -> Result<Reply, ClusterError>
         ensures { IsDelivery self.old number now line result self.new }
     {
-        match self.arrival(number)? {
-            Some(arrival) => {
-                let Arrival {
-                    place,
-                    sender,
-                    frame,
-                    index,
-                } = arrival;
-                let event = Event::Frame { sender, frame };
-                self.happen(place, event, Source::Arrived(index), now, line)
-            }
-            None => Err(self.refuse(ClusterError::NoFrame, now, line)),
+        let Some(arrival) = self.arrival(number) else {
+            return Err(self.refuse(ClusterError::NoFrame, Mark::Refused { now }, line));
+        };
+        let place = arrival.place;
+        if let Some(cause) = self.arrival_refusal(place, arrival.sender, now) {
+            return Err(self.refuse_at(place, cause, now, line));
         }
+        let event = self.event_of(&arrival)?;
+        self.happen(place, event, Source::Arrived(arrival.index), now, line)
     }
 }

@@ -7,7 +7,7 @@ use std::alloc::{AllocError, AllocFailed};
 use thiserror::Error;
 
 /// Why a step is refused: the first of these that applies, in their order, but for want of memory, which is also
-/// answered where there is no room to write the step down; then nothing has changed.
+/// answered where there was no room to write another one down; then nothing has changed.
 #[derive(Clone, Copy, Debug, PartialEq, Eq, Error)]
 pub enum ClusterError {
     #[error("no frame of this number is in flight")]
@@ -20,8 +20,8 @@ pub enum ClusterError {
     MomentBack { last: Moment },
     #[error("no such peer")]
     UnknownPeer,
-    /// There was no room to write the step down, and nothing changed; or what was delivered stands, and no frame of the
-    /// step flies.
+    /// The step wasn't made, and nothing changed; or what was delivered stands, and of the frames that it was to send none
+    /// flies.
     #[error("out of memory")]
     Memory,
 }

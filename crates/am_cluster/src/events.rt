@@ -1,24 +1,23 @@
 //! What an event does at a member, and to the cluster.
 
-ghost use Rattle.std.specs.Prelude.{◌≡◌, ◌<◌, ◌≤◌, None, All, IfOk, IfSome, length, map};
+ghost use Rattle.std.specs.Prelude.{◌≡◌, ◌<◌, ◌≤◌, All, IfOk, IfSome, length, map};
 ghost use Rattle.am_silence.specs.Mesh.{IsMesh};
 ghost use Rattle.am_nflog.specs.Mesh.{IsMesh as IsLogMesh};
-ghost use Rattle.am_instance.specs.Configs.{Settings};
 ghost use Rattle.am_instance.specs.Laws.{HasMaps};
 ghost use Rattle.am_instance.specs.OneStep.{IsStep};
-ghost use Rattle.am_instance.specs.Steps.{brought, fault_of};
+ghost use Rattle.am_instance.specs.Steps.{IsAccepted, brought};
 ghost use Rattle.am_steps.specs.BothStates.{log_state, silence_state};
 ghost use Rattle.am_steps.specs.Contents.{IsValue, delivery_of};
 ghost use Rattle.am_steps.specs.Recorded.{HasSource};
 ghost use Rattle.am_cluster.specs.Acting.{CanHappen, HasActed};
-ghost use Rattle.am_cluster.specs.Events.{IsEvent};
+ghost use Rattle.am_cluster.specs.Events.{CanHave, IsEvent};
 ghost use Rattle.am_cluster.specs.Lives.{OfMember};
-ghost use Rattle.am_cluster.specs.Recording.{ComesWith, IsNoFault, IsRoomFor};
+ghost use Rattle.am_cluster.specs.Recording.{ComesWith, IsNoRefusal, IsRoomFor};
 
 use crate::cluster::Cluster;
 use crate::error::ClusterError;
 use crate::flight::Flight;
-use crate::journal::{Journal, Mark};
+use crate::journal::Journal;
 use crate::recording::{Coming, kind_of, write_answer};
 use crate::writing::Entry;
 use am_instance::{Event, Instance, Outcome, Reply, StepError};
@@ -72,9 +71,9 @@ fn made_are_values(answer: &Result<Outcome, StepError>)
 
 /// The step of a member's instance, and what is known of what it made and holds then.
 fn step_of(instance: &mut Instance, event: Event, now: Moment) -> Result<Outcome, StepError>
-    requires { (settings : Settings) → fault_of settings now event ≡ None }
+    requires { IsAccepted instance.old event now }
     ensures step { IsStep instance.old event now result instance.new }
-    ensures no_fault { IsNoFault result }
+    ensures not_refused { IsNoRefusal result }
     ensures silences { IfOk result (λ outcome. All IsMesh outcome.made.silences.items) }
     ensures log { IfOk result (λ outcome. IfSome outcome.made.log IsLogMesh) }
     ensures held_silences { All IsMesh instance.new.silences }
@@ -115,7 +114,7 @@ fn act(
 }
 
 impl Cluster {
-    /// Has an event happen at the member at a place.
+    /// Has an event happen at the member at a place, which can have it.
     pub(crate) fn happen(
         &mut self,
         place: usize,
@@ -125,7 +124,7 @@ impl Cluster {
         line: u64,
     ) -> Result<Reply, ClusterError>
         requires within { place < length self.old.replicas }
-        requires sound { (settings : Settings) → fault_of settings now event ≡ None }
+        requires ready { OfMember self.old place (λ replica. CanHave replica event now) }
         requires silences { HasSource silence_state (length self.old.replicas) self.old.silences now event source }
         requires log { HasSource log_state (length self.old.replicas) self.old.log now event source }
         ensures { OfMember self.old place (λ replica. IsEvent self.old place replica event source now line result self.new) }
@@ -133,10 +132,6 @@ impl Cluster {
         self.journal.is_told_of_both();
         let coming = coming_with(self.alloc, &event)?;
         self.journal.make_room(1, coming.versions.len().max(3))?;
-        if !self.members[place].runs {
-            self.journal.mark(Mark::Refused { now }, line);
-            return Err(ClusterError::Stopped);
-        }
         let entry = Entry {
             place,
             moment: now,

@@ -1,6 +1,6 @@
 //! What happened in a cluster so far, told of the silences and of the log, with the line that each step was given.
 
-ghost use Rattle.std.specs.Prelude.{◌≡◌, ◌++◌, ℕ, [], ◌∷◌, ◌+◌, ◌<◌, ◌≤◌, length, IsTrue, ◌↔◌, MatchOption, OnOk, OnErr, All};
+ghost use Rattle.std.specs.Prelude.{◌≡◌, ◌++◌, ℕ, [], ◌∷◌, ◌+◌, ◌-◌, ◌<◌, ◌≤◌, length, max, IsTrue, ◌↔◌, MatchOption, OnOk, OnErr, All};
 ghost use Rattle.am_runs.specs.Members.{last_of, member_of};
 ghost use Rattle.am_runs.specs.Records.{step_of};
 ghost use Rattle.am_runs.specs.Steps.{delivered_by, delivered_in, flights_by, flights_of};
@@ -36,6 +36,8 @@ pub struct Journal {
     lines: Vec<u64>,
     // How many frames were ever sent.
     sendings: usize,
+    // For how many more steps there is room.
+    room: usize,
 }
 
 // (so that crates above cite one drop, and don't prove those of all that is inside)
@@ -46,12 +48,13 @@ impl Drop for Journal {
             log: _,
             lines: _,
             sendings: _,
+            room: _,
         } = self;
     }
 }
 
 impl Model for Journal {
-    ghost use Rattle.std.specs.Prelude.{◌≡◌, ◌-◌, length, min, vec_len, vec_capacity};
+    ghost use Rattle.std.specs.Prelude.{◌≡◌, ◌≤◌, ◌-◌, length, min, vec_len, vec_capacity};
     ghost use Rattle.am_runs.specs.Steps.{flights_of};
     ghost use Rattle.am_cluster.specs.Accounts.{Account};
     ghost use Rattle.am_cluster.specs.Twins.{AreTwins};
@@ -63,7 +66,7 @@ impl Model for Journal {
       silences = journal.silences.steps;
       log = journal.log.steps;
       lines = journal.lines.items;
-      room = min (min journal.silences.room journal.log.room) (vec_capacity journal.lines - vec_len journal.lines);
+      room = journal.room;
       spare = min journal.silences.spare journal.log.spare;
     } };
 
@@ -72,6 +75,9 @@ impl Model for Journal {
       twins : AreTwins journal.silences.steps journal.log.steps;
       lines : length journal.lines.items ≡ length journal.silences.steps;
       sendings : journal.sendings ≡ length (flights_of journal.silences.steps);
+      room_silences : journal.room ≤ journal.silences.room;
+      room_log : journal.room ≤ journal.log.room;
+      room_lines : journal.room ≤ vec_capacity journal.lines - vec_len journal.lines;
     } };
 }
 
@@ -88,6 +94,7 @@ impl Journal {
             log: Run::new(alloc, members),
             lines: Vec::new(alloc),
             sendings: 0,
+            room: 0,
         }
     }
 
@@ -104,24 +111,30 @@ impl Journal {
         self.log.consistency();
     }
 
-    /// Makes room for so many steps, which deliver at most so many versions in all, silences and entries together.
+    /// Makes room for so many steps, which deliver at most so many versions in all, silences and entries together. Room
+    /// that is there takes no memory.
     ///
     /// # Errors
     ///
-    /// [`AllocError`] where memory runs out. There is no less room then than before.
+    /// [`AllocError`] where memory runs out. There is as much room then as before.
     pub fn make_room(&mut self, steps: usize, versions: usize) -> Result<(), AllocError>
         ensures members { self.new.members ≡ self.old.members }
         ensures silences { self.new.silences ≡ self.old.silences }
         ensures log { self.new.log ≡ self.old.log }
         ensures lines { self.new.lines ≡ self.old.lines }
-        ensures room { OnOk result (steps ≤ self.new.room) }
+        ensures room { OnOk result (self.new.room ≡ max self.old.room steps) }
         ensures spare { OnOk result (versions ≤ self.new.spare) }
-        ensures kept_room { self.old.room ≤ self.new.room }
+        ensures kept_room { OnErr result (self.new.room ≡ self.old.room) }
         ensures kept_spare { self.old.spare ≤ self.new.spare }
+        ensures without_room { OnErr result (versions ≡ 0 → self.old.room < steps) }
     {
+        if versions == 0 && steps <= self.room {
+            return Ok(());
+        }
         self.silences.make_room(steps, versions)?;
         self.log.make_room(steps, versions)?;
         self.lines.reserve(steps)?;
+        self.room = self.room.max(steps);
         Ok(())
     }
 
@@ -153,11 +166,12 @@ impl Journal {
         ensures silences { self.new.silences ≡ self.old.silences ++ step_of silences ∷ [] }
         ensures log { self.new.log ≡ self.old.log ++ step_of log ∷ [] }
         ensures lines { self.new.lines ≡ self.old.lines ++ line ∷ [] }
-        ensures room { self.old.room ≤ self.new.room + 1 }
+        ensures room { self.new.room ≡ self.old.room - 1 }
         ensures spare { self.old.spare
             ≤ self.new.spare + (length (delivered_by (step_of silences)) + length (delivered_by (step_of log))) }
     {
         self.sendings += silences.sendings();
+        self.room -= 1;
         self.silences.append(silences);
         self.log.append(log);
         self.lines.push_reserved(line);
@@ -171,7 +185,7 @@ impl Journal {
         ensures silences { self.new.silences ≡ self.old.silences ++ step_of_mark mark ∷ [] }
         ensures log { self.new.log ≡ self.old.log ++ step_of_mark mark ∷ [] }
         ensures lines { self.new.lines ≡ self.old.lines ++ line ∷ [] }
-        ensures room { self.old.room ≤ self.new.room + 1 }
+        ensures room { self.new.room ≡ self.old.room - 1 }
         ensures spare { self.old.spare ≤ self.new.spare }
     {
         self.is_told_of_both();

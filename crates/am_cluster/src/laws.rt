@@ -6,7 +6,7 @@ mod first;
 mod later;
 mod shown;
 
-pub use answered::{answered_steps_go_on, answered_steps_reply};
+pub use answered::{answered_steps_go_on, answered_steps_reply, settles_go_on, steps_go_on};
 pub use durable::{
     durable_members_lose_nothing, durable_members_show_what_came,
     durable_runs_are_timely_by_what_came, timely_runs_bring_all_in_time, worked_restarts,

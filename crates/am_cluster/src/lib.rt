@@ -13,6 +13,7 @@ mod lives;
 mod losing;
 mod member;
 mod recording;
+mod refusals;
 mod sending;
 mod settle;
 mod steps;

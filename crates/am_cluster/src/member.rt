@@ -1,6 +1,6 @@
 //! A member of a cluster.
 
-ghost use Rattle.std.specs.Prelude.{◌≡◌, [], true, IfOk, OnOk, OnErr};
+ghost use Rattle.std.specs.Prelude.{◌≡◌, [], true, IfOk};
 ghost use Rattle.am_cluster.specs.Lives.{saved, started, stopped};
 
 use am_instance::{Config, Instance};
@@ -13,7 +13,7 @@ use std::marker::Model;
 
 /// Both maps of a member as they were saved.
 #[derive(Drop)]
-struct Copy {
+pub(crate) struct Copy {
     silences: Held<MeshSilence>,
     log: Held<MeshEntry>,
 }
@@ -39,17 +39,6 @@ impl Model for Member {
     } };
 }
 
-/// A copy of both maps of an instance.
-fn copy_of(instance: &Instance) -> Result<Copy, AllocError>
-    ensures silences { IfOk result (λ copy. copy.silences ≡ instance.now.silences) }
-    ensures log { IfOk result (λ copy. copy.log ≡ instance.now.log) }
-{
-    Ok(Copy {
-        silences: instance.silences().try_clone()?,
-        log: instance.log().try_clone()?,
-    })
-}
-
 impl Member {
     /// A member that runs, is empty, and of which nothing is saved. It takes no memory.
     pub fn new(alloc: Global, config: Config) -> Member
@@ -70,17 +59,28 @@ impl Member {
         }
     }
 
-    /// Keeps a copy of both maps in the place of the last one.
+    /// A copy of both maps.
     ///
     /// # Errors
     ///
-    /// [`AllocError`] where memory runs out; nothing changes then.
-    pub fn save(&mut self) -> Result<(), AllocError>
-        ensures saved { OnOk result (self.new ≡ saved self.old) }
-        ensures unchanged { OnErr result (self.new ≡ self.old) }
+    /// [`AllocError`] where memory runs out.
+    pub fn copy(&self) -> Result<Copy, AllocError>
+        ensures silences { IfOk result (λ copy. copy.silences ≡ self.now.stand.silences) }
+        ensures log { IfOk result (λ copy. copy.log ≡ self.now.stand.log) }
     {
-        self.saved = copy_of(&self.instance)?;
-        Ok(())
+        Ok(Copy {
+            silences: self.instance.silences().try_clone()?,
+            log: self.instance.log().try_clone()?,
+        })
+    }
+
+    /// Keeps a copy of both maps in the place of the last one.
+    pub fn keep(&mut self, copy: Copy)
+        requires silences { copy.silences ≡ self.old.stand.silences }
+        requires log { copy.log ≡ self.old.stand.log }
+        ensures { self.new ≡ saved self.old }
+    {
+        self.saved = copy;
     }
 
     /// Stops it.
@@ -90,20 +90,25 @@ impl Member {
         self.runs = false;
     }
 
-    /// Starts it from a copy of what was saved.
+    /// An instance with a copy of what was saved.
     ///
     /// # Errors
     ///
-    /// [`AllocError`] where memory runs out; nothing changes then.
-    pub fn start(&mut self, now: Moment) -> Result<(), AllocError>
-        ensures started { OnOk result (self.new ≡ started self.old now) }
-        ensures unchanged { OnErr result (self.new ≡ self.old) }
+    /// [`AllocError`] where memory runs out.
+    pub fn revived(&self, now: Moment) -> Result<Instance, AllocError>
+        ensures { IfOk result (λ instance. instance ≡ (started self.now now).stand) }
     {
         let config = self.instance.config().try_clone()?;
         let silences = self.saved.silences.try_clone()?;
         let log = self.saved.log.try_clone()?;
-        self.instance = Instance::start(config, silences, log, now);
+        Ok(Instance::start(config, silences, log, now))
+    }
+
+    /// Runs from here on with this instance.
+    pub fn begin(&mut self, instance: Instance)
+        ensures { self.new ≡ record self.old { stand = instance; runs = true } }
+    {
+        self.instance = instance;
         self.runs = true;
-        Ok(())
     }
 }

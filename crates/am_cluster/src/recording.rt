@@ -1,6 +1,6 @@
 //! How the answer of an instance is written down.
 
-ghost use Rattle.std.specs.Prelude.{◌≡◌, ◌++◌, ℕ, List, [], false, length, map, take, Ok, Err, OnErr, OnOk};
+ghost use Rattle.std.specs.Prelude.{◌≡◌, ◌⊎◌, ◌<◌, ◌++◌, ℕ, List, [], false, length, map, take, Ok, Err, OnErr, OnOk};
 ghost use Rattle.am_steps.specs.Contents.{delivery_of, entries_in, silences_in};
 ghost use Rattle.am_instance.specs.declared.event.Event.{Event};
 ghost use Rattle.am_instance.specs.Replies.{IsNothing, listed};
@@ -104,6 +104,7 @@ fn write_sent(
     ensures all { OnOk result (sent.1.memory ≡ 0) }
     ensures silent { OnErr result (IsWritten journal.old entry.now versions [] journal.new) }
     ensures grounded { OnErr result (flights.new.items ≡ flights.old.items) }
+    ensures some { OnErr result ((0 < sent.1.memory) ⊎ (0 < length sent.0.items)) }
 {
     let (frames, unsent) = sent;
     if unsent.memory > 0 {
@@ -185,7 +186,7 @@ fn write_outcome(
     Ok(reply)
 }
 
-/// Writes down an event that was refused.
+/// Writes down an event for which memory ran out.
 fn write_refusal(
     alloc: Global,
     journal: &mut Journal,
@@ -199,21 +200,14 @@ fn write_refusal(
         CanRecord journal.old entry.now event coming.versions.items (Err error) →
         IsRecorded journal.old flights entry.now event (Err error) (Err result) journal.new flights }
 {
-    let (place, now) = (entry.place, entry.moment);
     match error {
-        StepError::MomentBack { last } => {
-            journal.mark(Mark::Back { place, now }, entry.line);
-            ClusterError::MomentBack { last }
-        }
-        StepError::UnknownPeer => {
-            journal.mark(Mark::Refused { now }, entry.line);
-            ClusterError::UnknownPeer
-        }
         StepError::Memory { taken } => {
             let delivered = first_brought(coming.parted, coming.versions, taken);
             write_silent(alloc, journal, entry, delivered);
             ClusterError::Memory
         }
+        StepError::MomentBack { .. } => unreachable!(),
+        StepError::UnknownPeer => unreachable!(),
         StepError::Frame(_) => unreachable!(),
     }
 }

@@ -1,6 +1,6 @@
 //! How the members of a cluster settle.
 
-ghost use Rattle.std.specs.Prelude.{◌≡◌, ◌≢◌, [], ◌∷◌, ◌<◌, ◌≤◌, ◌↔◌, ℕ, None, Some, All, IsTrue, IfOk, OnOk, length, map, slice_get, true};
+ghost use Rattle.std.specs.Prelude.{◌≡◌, ◌≢◌, [], ◌∷◌, ◌<◌, ◌≤◌, ◌↔◌, ℕ, None, Some, All, IsTrue, IfOk, OnErr, OnOk, length, map, slice_get, true};
 ghost use Rattle.am_silence.specs.Mesh.{mesh_version};
 ghost use Rattle.am_nflog.specs.Mesh.{mesh_version as entry_version};
 ghost use Rattle.am_gossip.specs.declared.frame.Frame.TheVariants as frames;
@@ -18,17 +18,17 @@ ghost use Rattle.am_runs.specs.Members.{last_of, member_of};
 ghost use Rattle.am_steps.specs.Recorded.{HasSource};
 ghost use Rattle.am_cluster.specs.Lives.{OfMember};
 ghost use Rattle.am_cluster.specs.Settling.{AreTurns, CanLend, CanSettle, HasBacks, HasLate, HasSettled, HasStopped};
-ghost use Rattle.am_cluster.specs.Settling.{IsAdmitted, IsSettle, IsTakingOf, all_turns, collections, gatherings};
-ghost use Rattle.am_cluster.specs.Settling.{late_places, loan, spreadings};
+ghost use Rattle.am_cluster.specs.Settling.{IsAdmitted, IsSettle, all_turns, collections, gatherings};
+ghost use Rattle.am_cluster.specs.Settling.{late_places, loan, spreadings, with_backs};
 ghost use Rattle.am_cluster.specs.Settling.Turn.{Collects, Takes};
-ghost use Rattle.am_cluster.specs.Worlds.{Replica};
+ghost use Rattle.am_cluster.specs.Worlds.{Replica, with_room};
 
 use crate::cluster::Cluster;
-use crate::error::{ClusterError, SettleError};
+use crate::error::SettleError;
 use crate::journal::{Journal, Mark};
 use crate::member::Member;
 use am_gossip::Frame;
-use am_instance::{Event, Instance, Place, Reply, whole_state};
+use am_instance::{Event, Instance, Place, whole_state};
 use am_runs::Source;
 use am_steps::carried::laws::what_keeps_its_limit_is_readable;
 use am_steps::laws::lent_maps_come_from_their_lender;
@@ -71,24 +71,6 @@ impl Cluster {
             frame,
         })
     }
-
-    /// Has a member take the maps of another, which runs. Where the row of one has over 67,108,864 bytes, that is answered as
-    /// want of memory.
-    fn lend(
-        &mut self,
-        borrower: usize,
-        lender: usize,
-        now: Moment,
-        line: u64,
-    ) -> Result<Reply, ClusterError>
-        requires borrower { borrower < length self.old.replicas }
-        requires lender { lender < length self.old.replicas }
-        requires runs { OfMember self.old lender (λ lent. lent.runs ≡ true) }
-        ensures { IsTakingOf self.old borrower lender now line result self.new }
-    {
-        let event = self.lent_by(lender)?;
-        self.happen(borrower, event, Source::Lent(lender), now, line)
-    }
 }
 
 impl Cluster {
@@ -119,7 +101,8 @@ impl Cluster {
         ensures { AreTurns self.old (Takes borrower lender ∷ []) now line result self.new }
     {
         let _ = &self.alloc;
-        match self.lend(borrower, lender, now, line) {
+        let event = self.lent_by(lender)?;
+        match self.happen(borrower, event, Source::Lent(lender), now, line) {
             Ok(_reply) => Ok(()),
             Err(_) => Err(SettleError::Memory),
         }
@@ -206,24 +189,33 @@ fn mark_late(journal: &mut Journal, members: &[Member], now: Moment, line: u64)
 }
 
 impl Cluster {
+    /// Writes down that a settle is refused to each member whose last moment is after it.
+    fn refuse_late(&mut self, now: Moment, line: u64) -> Result<(), AllocError>
+        ensures backs { OnOk result
+            (self.new ≡ with_backs (with_room self.old (length self.old.replicas)) (late_places self.old.replicas now) now line) }
+        ensures unwritten { OnErr result (self.new ≡ self.old) }
+        ensures without_room { OnErr result (self.old.room < length self.old.replicas) }
+    {
+        self.journal.make_room(self.members.len(), 0)?;
+        mark_late(&mut self.journal, &self.members, now, line);
+        Ok(())
+    }
+
     /// Asks whether all members can settle, and writes it down if they can't, or if there are none.
     fn admit(&mut self, now: Moment, line: u64) -> Result<(), SettleError>
         ensures { IsAdmitted self.old now line result self.new }
     {
-        let count = self.members.len();
-        self.journal.make_room(count.max(1), 0)?;
         if has_stopped(&self.members) {
-            self.journal.mark(Mark::Refused { now }, line);
+            self.write_mark(Mark::Refused { now }, line)?;
             return Err(SettleError::Stopped);
         }
         if has_late(&self.members, now) {
-            mark_late(&mut self.journal, &self.members, now, line);
+            self.refuse_late(now, line)?;
             return Err(SettleError::MomentBack);
         }
-        if !self.members.is_empty() {
-            return Ok(());
+        if self.members.is_empty() {
+            self.write_mark(Mark::Refused { now }, line)?;
         }
-        self.journal.mark(Mark::Refused { now }, line);
         Ok(())
     }
 
@@ -233,9 +225,9 @@ impl Cluster {
     ///
     /// # Errors
     ///
-    /// The first [`SettleError`] that applies, in their order; for want of room to write down what it is before all
-    /// others, and then nothing has changed. A map that is to be taken and whose row has over 67,108,864 bytes is answered
-    /// as [`SettleError::Memory`].
+    /// The first [`SettleError`] that applies, in their order. Where there was no room to write a refusal down, it may be want
+    /// of memory, and then nothing has changed. A map that is to be taken and whose row has over 67,108,864 bytes is
+    /// answered as [`SettleError::Memory`].
     pub fn settle(&mut self, now: Moment, line: u64) -> Result<(), SettleError>
         ensures settled { IsSettle self.old now line result self.new }
         // PROMISE: After a settle all members hold the greatest live version of each key that any of them held.

@@ -3,12 +3,13 @@
 ghost use Rattle.std.specs.Prelude.{◌≡◌, ◌<◌, IfOk, IfSome, length};
 ghost use Rattle.am_steps.specs.Events.{IsSound, asked_by};
 ghost use Rattle.am_cluster.specs.Lives.{OfMember};
-ghost use Rattle.am_cluster.specs.Steps.{Fits, IsDone, IsStepped, place_in, quiet};
+ghost use Rattle.am_cluster.specs.Doing.{IsDone, quiet};
+ghost use Rattle.am_cluster.specs.Steps.{Fits, IsStepped, place_in};
 
 use crate::cluster::Cluster;
 use crate::error::ClusterError;
-use am_instance::{Config, Event, Reply};
-use am_runs::Source;
+use crate::journal::Mark;
+use am_instance::Reply;
 use am_schedule::{Action, LineEvent, Step};
 use am_steps::{Asked, to_event};
 use am_version_order::Moment;
@@ -56,15 +57,16 @@ impl Cluster {
         line: u64,
     ) -> Result<Reply, ClusterError>
         requires { place < length self.old.replicas }
-        ensures { OfMember self.old place (λ replica. IsDone self.old place replica event.now now line result self.new) }
+        ensures { OfMember self.old place
+            (λ replica. IsDone self.old place replica (asked_by replica.stand.config event.now) now line result self.new) }
     {
+        if let Some(cause) = self.line_refusal(place, event, now) {
+            return Err(self.refuse_at(place, cause, now, line));
+        }
         match self.asked(place, event)? {
             Asked::Event { event, source } => self.happen(place, event, source, now, line),
             Asked::Start => quiet(self.start_at(place, now, line)),
-            Asked::NoMember => {
-                let stranger = Event::PullFrom(self.count() as u64);
-                self.happen(place, stranger, Source::Made, now, line)
-            }
+            Asked::NoMember => unreachable!(),
         }
     }
 
@@ -72,7 +74,8 @@ impl Cluster {
     ///
     /// # Errors
     ///
-    /// The first [`ClusterError`] that applies, in their order; for want of room to write the step down before all others.
+    /// The first [`ClusterError`] that applies, in their order. Want of memory comes last, but where there was no room to
+    /// write a refusal down.
     pub fn step(&mut self, step: &Step, line: u64) -> Result<Reply, ClusterError>
         // PROMISE: A line of a schedule changes one member, the record and the frames in flight exactly as it says.
         ensures { IsStepped self.old step.now line result self.new }
@@ -80,7 +83,10 @@ impl Cluster {
         match step.action() {
             Action::Event { at, name, event } => match self.place_of(name.as_str()) {
                 Some(place) => self.do_at(place, event, *at, line),
-                None => Err(self.refuse(ClusterError::UnknownPeer, *at, line)),
+                None => {
+                    let mark = Mark::Refused { now: *at };
+                    Err(self.refuse(ClusterError::UnknownPeer, mark, line))
+                }
             },
             Action::Stop { name } => match self.place_of(name.as_str()) {
                 Some(place) => quiet(self.stop_at(place, line)),

@@ -1,6 +1,6 @@
 //! How an event is written down.
 
-ghost use Rattle.std.specs.Prelude.{◌≡◌, ◌+◌, ◌-◌, ◌++◌, ◌≤◌, ℕ, List, [], length, map, vec_capacity, vec_len, IfOk, OnOk, OnErr};
+ghost use Rattle.std.specs.Prelude.{◌≡◌, ◌+◌, ◌-◌, ◌++◌, ◌<◌, ◌≤◌, ℕ, List, [], length, map, vec_capacity, vec_len, IfOk, OnOk, OnErr};
 ghost use Rattle.am_gossip.specs.declared.frame.Frame.{Frame as SentFrame};
 ghost use Rattle.am_runs.specs.Records.{step_of};
 ghost use Rattle.am_runs.specs.Steps.RunStep.{Took};
@@ -64,24 +64,30 @@ fn write_with(journal: &mut Journal, entry: &Entry, versions: Delivered, sent: S
     journal.append(silences, log, entry.line);
 }
 
+/// Nothing was sent. It takes no memory.
+fn nothing_sent(alloc: Global) -> Sent
+    ensures { AreSent result [] }
+{
+    Sent {
+        silences: Vec::new(alloc),
+        log: Vec::new(alloc),
+    }
+}
+
 /// Writes down an event that left no frame in flight. It takes no memory.
 pub(crate) fn write_silent(alloc: Global, journal: &mut Journal, entry: &Entry, versions: Delivered)
     requires { CanWrite journal.old entry.now versions [] }
     ensures { IsWritten journal.old entry.now versions [] journal.new }
 {
     journal.is_told_of_both();
-    let sent = Sent {
-        silences: Vec::new(alloc),
-        log: Vec::new(alloc),
-    };
-    write_with(journal, entry, versions, sent);
+    write_with(journal, entry, versions, nothing_sent(alloc));
 }
 
 /// Makes all room that frames take when they are sent, and copies their versions.
 ///
 /// # Errors
 ///
-/// [`AllocError`] where memory runs out.
+/// [`AllocError`] where memory runs out, which no frames take none of.
 fn make_ready(
     alloc: Global,
     journal: &Journal,
@@ -92,7 +98,12 @@ fn make_ready(
     ensures room { OnOk result (length frames.now ≤ vec_capacity flights.new - vec_len flights.new) }
     ensures numbers { OnOk result (length (flights_of journal.now.silences) + length frames.now ≤ usize.MAX) }
     ensures flights { flights.new.items ≡ flights.old.items }
+    ensures some { OnErr result (0 < length frames.now) }
 {
+    if frames.is_empty() {
+        journal.is_told_of_both();
+        return Ok(nothing_sent(alloc));
+    }
     journal.room_for_frames(frames.len())?;
     flights.reserve(frames.len())?;
     sent_in(alloc, frames)
@@ -118,6 +129,7 @@ pub(crate) fn write_event(
         ≡ flights.old.items ++ sent_on (length (flights_of journal.old.silences)) entry.now.place entry.now.moment frames.items) }
     ensures silent { OnErr result (IsWritten journal.old entry.now versions [] journal.new) }
     ensures grounded { OnErr result (flights.new.items ≡ flights.old.items) }
+    ensures some { OnErr result (0 < length frames.items) }
 {
     match make_ready(alloc, journal, flights, &frames) {
         Ok(sent) => {

@@ -1,7 +1,10 @@
 //! A connection that is served.
 
-ghost use Rattle.std.specs.Prelude.{◌≡◌, ◌≤◌, drop, length};
+ghost use Rattle.std.specs.Prelude.{◌≡◌, ◌≤◌, drop, length, true, Some, None, IfSome};
 ghost use Rattle.am_api_silences.specs.Replies.{bytes_of};
+ghost use Rattle.am_gate.specs.Gates.{before};
+ghost use Rattle.am_http.specs.Sessions.{fresh, nothing, spoken};
+ghost use Rattle.am_dialogue.specs.Talks.{IsRequest, Rests, Stays, closed, talk_of};
 
 use crate::counting::{Account, Census};
 use crate::turns::{Turn, bytes_of_request, is_dear_call};
@@ -91,7 +94,9 @@ struct HeldBack {
 
 impl Dialogue {
     /// Before the first byte of a connection of which this is heard. It takes no memory.
-    pub fn new(alloc: Global, hears: Hears) -> Dialogue {
+    pub fn new(alloc: Global, hears: Hears) -> Dialogue
+        ensures { talk_of result ≡ record { way = before; session = fresh; waiting = None } }
+    {
         Dialogue {
             gate: Gate::new(alloc, hears),
             session: Session::new(alloc),
@@ -105,7 +110,10 @@ impl Dialogue {
     }
 
     /// Keeps a request that has to wait, and gives what hasn't: lists wait for their turn, and all requests for the first pull.
-    pub fn hold(&mut self, said: Said, waits_for_pull: bool) -> Option<Said> {
+    pub fn hold(&mut self, said: Said, waits_for_pull: bool) -> Option<Said>
+        ensures held { result ≡ None → IsRequest (spoken said) × (talk_of self.new ≡ record (talk_of self.old) { waiting = Some (spoken said) }) }
+        ensures given { IfSome result (λ given. (given ≡ said) × (talk_of self.new ≡ talk_of self.old)) }
+    {
         if must_wait(&said, waits_for_pull) {
             self.work = Work::Request(said);
             return None;
@@ -114,7 +122,9 @@ impl Dialogue {
     }
 
     /// Why a request isn't heard that names a host or a site which isn't this member's, now that the next piece is there.
-    pub fn screen(&mut self, piece: &[u8], hosts: &[&str]) -> Option<Refusal> {
+    pub fn screen(&mut self, piece: &[u8], hosts: &[&str]) -> Option<Refusal>
+        ensures { talk_of self.new ≡ talk_of self.old }
+    {
         if self.is_screened {
             return None;
         }
@@ -130,7 +140,9 @@ impl Dialogue {
     }
 
     /// Answers a request by the line of a refusal, whatever it asks for, and hears no more.
-    pub fn refuse(&mut self, alloc: Global, refusal: &Refusal) {
+    pub fn refuse(&mut self, alloc: Global, refusal: &Refusal)
+        ensures { talk_of self.new ≡ closed (talk_of self.old) }
+    {
         self.work = Work::Nothing;
         self.session.stop();
         let Begun { making, .. } = turn_away(alloc, refusal);
@@ -138,7 +150,9 @@ impl Dialogue {
     }
 
     /// Answers a request that waited for the first pull that nobody waits for any more, or not as long as the pull may take.
-    pub fn turn_away(&mut self, alloc: Global, said: Option<Said>) {
+    pub fn turn_away(&mut self, alloc: Global, said: Option<Said>)
+        ensures { talk_of self.new ≡ closed (talk_of self.old) }
+    {
         let method = match &said {
             Some(said) => method_of(said),
             None => b"".as_slice(),
@@ -147,7 +161,9 @@ impl Dialogue {
     }
 
     /// Has a reply go out, where there is one. A list waits until it is written.
-    pub fn reply_with(&mut self, alloc: Global, reply: Option<Making>) {
+    pub fn reply_with(&mut self, alloc: Global, reply: Option<Making>)
+        ensures { Stays (talk_of self.old) (talk_of self.new) }
+    {
         let Some(making) = reply else {
             return;
         };
@@ -159,7 +175,9 @@ impl Dialogue {
     }
 
     /// Has a whole reply go out, or that there was no memory for it.
-    pub fn tell(&mut self, alloc: Global, reply: Result<Vec<u8>, AllocError>) {
+    pub fn tell(&mut self, alloc: Global, reply: Result<Vec<u8>, AllocError>)
+        ensures { Rests (talk_of self.old) (talk_of self.new) }
+    {
         match reply {
             Ok(bytes) => self.reply = ReplyBytes::Own(bytes),
             Err(_) => self.refuse(alloc, &Cause::Memory.refusal()),
@@ -180,7 +198,9 @@ impl Dialogue {
     }
 
     /// Has the reply wait for the next commit, where there is a whole one. The request has changed something, or not.
-    pub fn hold_back(&mut self, is_change: bool) {
+    pub fn hold_back(&mut self, is_change: bool)
+        ensures { talk_of self.new ≡ talk_of self.old }
+    {
         if !self.reply.as_slice().is_empty() && self.held_back.is_none() {
             let reply = mem::replace(&mut self.reply, ReplyBytes::Fixed(&[]));
             self.held_back = Some(HeldBack { reply, is_change });
@@ -193,7 +213,9 @@ impl Dialogue {
     }
 
     /// Has the reply go out that waited for a commit, by which all is kept, or not.
-    pub fn release(&mut self, alloc: Global, is_kept: bool) {
+    pub fn release(&mut self, alloc: Global, is_kept: bool)
+        ensures { Rests (talk_of self.old) (talk_of self.new) }
+    {
         let Some(HeldBack { reply, is_change }) = self.held_back.take() else {
             return;
         };
@@ -205,7 +227,9 @@ impl Dialogue {
     }
 
     /// Writes a stretch more of a list. Where none is left it goes out.
-    pub fn go_on(&mut self, alloc: Global, making: Making) {
+    pub fn go_on(&mut self, alloc: Global, making: Making)
+        ensures { Stays (talk_of self.old) (talk_of self.new) }
+    {
         if making.is_whole() {
             self.reply = making.finish(alloc);
         } else {
@@ -214,7 +238,9 @@ impl Dialogue {
     }
 
     /// Writes a stretch more of the log. Where none is left it goes out.
-    pub fn go_on_log(&mut self, alloc: Global, writing: LogWriting) {
+    pub fn go_on_log(&mut self, alloc: Global, writing: LogWriting)
+        ensures { Rests (talk_of self.old) (talk_of self.new) }
+    {
         if writing.is_written() {
             self.reply = writing.finish(alloc);
             return;
@@ -226,7 +252,9 @@ impl Dialogue {
     }
 
     /// Takes out the request that waits, where one does.
-    pub fn take_waiting(&mut self) -> Option<Said> {
+    pub fn take_waiting(&mut self) -> Option<Said>
+        ensures { Stays (talk_of self.old) (talk_of self.new) }
+    {
         match mem::replace(&mut self.work, Work::Nothing) {
             Work::Request(said) => Some(said),
             other => {
@@ -271,6 +299,7 @@ impl Dialogue {
     pub fn sent(&mut self, count: usize)
         requires within { count ≤ length (drop self.old.written (bytes_of self.old.reply)) }
         ensures rest { drop self.new.written (bytes_of self.new.reply) ≡ drop count (drop self.old.written (bytes_of self.old.reply)) }
+        ensures talk { talk_of self.new ≡ talk_of self.old }
     {
         let end = self.reply.as_slice().len();
         self.written = end.min(self.written.saturating_add(count));
@@ -278,7 +307,9 @@ impl Dialogue {
 }
 
 /// Whether a request has to wait.
-fn must_wait(said: &Said, waits_for_pull: bool) -> bool {
+fn must_wait(said: &Said, waits_for_pull: bool) -> bool
+    ensures { result ≡ true → IsRequest (spoken said.now) }
+{
     match &said.request {
         Some(read) => waits_for_pull || is_dear(read) || is_dear_call(read),
         None => false,
@@ -294,7 +325,9 @@ fn method_of(said: &Said) -> &[u8] {
 }
 
 /// Whether nothing was said.
-pub fn is_nothing(said: &Said) -> bool {
+pub fn is_nothing(said: &Said) -> bool
+    ensures { result ≡ true → spoken said.now ≡ nothing }
+{
     said.frames.is_empty() && said.request.is_none() && said.fault.is_none()
 }
 

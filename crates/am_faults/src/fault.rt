@@ -65,6 +65,9 @@ pub enum Fault {
     /// A replica has no such state.
     #[error("Gossip NoState")]
     NoState,
+    /// A replica told an error.
+    #[error("Gossip Error")]
+    GossipError,
     /// A peer is not NAME=ADDRESS:PORT.
     #[error("Peer")]
     Peer,
@@ -153,7 +156,7 @@ impl Fault {
             ),
             Fault::Server(fault) => status_of_server(fault),
             Fault::Gossip(AnswerError::Memory) => status::MEMORY,
-            Fault::Gossip(_) | Fault::NoState => status::REFUSED,
+            Fault::Gossip(_) | Fault::NoState | Fault::GossipError => status::REFUSED,
             Fault::Secret(fault) => status_of_secret(fault),
             _ => status::OUTSIDE,
         }
@@ -161,7 +164,7 @@ impl Fault {
 }
 
 /// How many kinds of faults a member tells apart.
-pub const KINDS: usize = 18;
+pub const KINDS: usize = 19;
 
 impl Fault {
     /// Which kind of fault of a member it is, from 0 on: one for each word with which a line begins.
@@ -181,7 +184,8 @@ impl Fault {
             Fault::Unfinished(_) => 14,
             Fault::Gate(GateFault::Seal(_) | GateFault::Unsealed | GateFault::Cut) => 15,
             Fault::Gate(_) => 16,
-            _ => 17,
+            Fault::Gossip(_) | Fault::NoState | Fault::GossipError => 17,
+            _ => 18,
         }
     }
 }

@@ -18,6 +18,10 @@ pub struct Options<'a> {
     pub peers_address: Option<SocketAddr>,
     /// The other members.
     pub peers: Vec<Peer<'a>>,
+    /// The Alertmanagers beside it, by the addresses of their gossip.
+    pub replicas: Vec<Peer<'a>>,
+    /// How often it asks each of them for all it has.
+    pub gossip_every: Duration,
     /// The file of the members' secret, where they have one.
     pub secret: Option<&'a str>,
     /// Frames are heard without a secret, wherever they come from.

@@ -13,7 +13,7 @@ use std::io::Read;
 /// A gate and a length.
 const HEAD_BYTES: u64 = 9;
 
-const ROOM_BYTES: usize = 4096;
+const ROOM_BYTES: usize = 512;
 
 /// No file has so many bytes.
 const MOST_BYTES: u64 = 1 << 62;

@@ -34,6 +34,11 @@ const WRITTEN: u64 = 1;
 
 const CUT: u64 = 2;
 
+/// How many bytes the kernel is asked to read at a time: where it is asked for more, it may read only the first.
+const AHEAD: usize = 1 << 20;
+
+const MOST_AHEAD: u64 = 1 << 26;
+
 /// What a file held as it was opened. Code over `S: Start` is proved for all contents whose whole blocks end where
 /// `end` says.
 pub trait Start: Drop {
@@ -133,7 +138,8 @@ fn noted(
     }
 }
 
-/// Syncs a file before it is read, and asks the kernel to drop its copies of it.
+/// Syncs a file before it is read, and asks the kernel to drop its copies of it, and then to read the first 64 MiB anew while
+/// the caller does something else.
 ///
 /// # Errors
 ///
@@ -141,9 +147,23 @@ fn noted(
 pub fn settle(file: &File) -> io::Result<()> {
     file.sync_all()?;
     match libc::posix_fadvise(file.as_raw_fd(), 0, 0, libc::POSIX_FADV_DONTNEED) {
-        0 => Ok(()),
+        0 => read_ahead(file),
         refused => Err(io::Error::from_raw_os_error(refused)),
     }
+}
+
+/// Asks the kernel to read a file. What it doesn't read ahead is read when it is asked for.
+fn read_ahead(file: &File) -> io::Result<()> {
+    let len = file.metadata()?.len().min(MOST_AHEAD);
+    for at in (0..len).step_by(AHEAD) {
+        let _advice = libc::posix_fadvise(
+            file.as_raw_fd(),
+            at as i64,
+            AHEAD as i64,
+            libc::POSIX_FADV_WILLNEED,
+        );
+    }
+    Ok(())
 }
 
 /// Opens the log of a file that was settled and then read, and cuts off what stands behind its whole blocks.

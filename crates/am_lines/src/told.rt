@@ -4,6 +4,7 @@
 ghost use Rattle.std.specs.Prelude.{◌<◌};
 
 use crate::standard_error::StandardError;
+use am_address::shown_name;
 use am_faults::{Fault, KINDS, Occasion, print, print_count};
 use am_peers::later_moment;
 use am_refusals::Place;
@@ -26,7 +27,9 @@ impl Told {
     /// When it is told, now, and the name of its peer, by the names of the members.
     fn occasion<'a, R: Clock>(&self, rt: &R, members: &'a [Text]) -> Occasion<'a> {
         let peer = match self.peer {
-            Some(place) => members.get(place as usize).map(|name| name.as_str()),
+            Some(place) => members
+                .get(place as usize)
+                .map(|name| shown_name(name.as_str())),
             None => None,
         };
         let moment = match rt.since_1970() {

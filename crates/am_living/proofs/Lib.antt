@@ -1,1 +1,2 @@
-pub mod Lived
+mod Lived
+pub mod Talking

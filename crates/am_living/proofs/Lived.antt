@@ -10,7 +10,7 @@ use Rattle.am_reactor.specs.Deeds.{Deed, Did}
 use Rattle.am_reactor.specs.Deeds.Deed.{Fed, Ended, Sent, Resumed, Released, CameDue, Hurried, BrokenOff}
 use Rattle.am_reactor.specs.History.{Acts, AreSame, Happening, Happens, Line, Makes, fed_in, no_lines, with_line}
 use Rattle.am_reactor.specs.History.Happening.{Came, TurnedAway, Called, Thrown, Closed, Acted}
-use Rattle.am_living.specs.Living.{Accords, ActsAlone, AreOf, AreOwn, BeginsFresh, DoesForOne, IsLived, LivesOn, StandsUnder, count_after, count_by, fed_after, fed_by, numbers_after, numbers_by}
+use Rattle.am_living.specs.Living.{Accords, ActsAlone, AreOf, AreOwn, BeginsFresh, DoesForOne, IsLived, LivesOn, OwnsItsOwn, StandsUnder, count_after, count_by, fed_after, fed_by, numbers_after, numbers_by}
 
 -- ---- lives one after the other
 
@@ -38,12 +38,28 @@ turns_append n (Own step ∷ ds) es = turns_append n ds es
 of_append : (n : ℕ) (ds es : List LifeDeed) → AreOf n ds → AreOf n es → AreOf n (ds ++ es)
 of_append n [] es first more = more
 of_append n (Served turn ∷ ds) es first more = (first.0, of_append n ds es first.1 more)
-of_append n (Own step ∷ ds) es first more = of_append n ds es first more
+of_append n (Own step ∷ ds) es first more = (first.0, of_append n ds es first.1 more)
 
 own_append : (ds es : List LifeDeed) → AreOwn ds → AreOwn es → AreOwn (ds ++ es)
 own_append [] es first more = more
 own_append (Served turn ∷ ds) es first more = absurd first
-own_append (Own step ∷ ds) es first more = own_append ds es first more
+own_append (Own step ∷ ds) es first more = (first.0, own_append ds es first.1 more)
+
+-- all that is made by itself is such steps
+owns_append : (ds es : List LifeDeed) → OwnsItsOwn ds → OwnsItsOwn es → OwnsItsOwn (ds ++ es)
+owns_append [] es first more = more
+owns_append (Served turn ∷ ds) es first more = owns_append ds es first more
+owns_append (Own step ∷ ds) es first more = (first.0, owns_append ds es first.1 more)
+
+of_owns : (n : ℕ) (ds : List LifeDeed) → AreOf n ds → OwnsItsOwn ds
+of_owns n [] of = tt
+of_owns n (Served turn ∷ ds) of = of_owns n ds of.1
+of_owns n (Own step ∷ ds) of = (of.0, of_owns n ds of.1)
+
+own_owns : (ds : List LifeDeed) → AreOwn ds → OwnsItsOwn ds
+own_owns [] own = tt
+own_owns (Served turn ∷ ds) own = absurd own
+own_owns (Own step ∷ ds) own = (own.0, own_owns ds own.1)
 
 -- ---- a number, and another
 
@@ -54,7 +70,7 @@ Chosen k key a b x = ((k ≡ key) × (x ≡ a)) ⊎ ((k ≢ key) × (x ≡ b))
 here_or_there : (k key : ℕ) → (k ≡ key) ⊎ (k ≢ key)
 here_or_there k key = grind (arith, nat_tests)
 
-chosen_is : {A : Type 0} (k key : ℕ) (a b : A) → k ≡ key → (if k == key then a else b) ≡ a
+pub chosen_is : {A : Type 0} (k key : ℕ) (a b : A) → k ≡ key → (if k == key then a else b) ≡ a
 chosen_is k key a b e = grind (arith, nat_tests, e)
 
 chosen_not : {A : Type 0} (k key : ℕ) (a b : A) → k ≢ key → (if k == key then a else b) ≡ b
@@ -73,12 +89,12 @@ others_stay n m (Served turn ∷ ds) standings of away =
     let off : m ≢ turn.connection = λ e. away (e ∙ of.0) in
     let rest = others_stay n m ds (standings_after standings turn) of.1 away in
     (rest.0 ∙ chosen_not m turn.connection _ (standings m) off, chosen_not m turn.connection _ _ off ∙ rest.1)
-others_stay n m (Own step ∷ ds) standings of away = others_stay n m ds standings of away
+others_stay n m (Own step ∷ ds) standings of away = others_stay n m ds standings of.1 away
 
-own_stay : (m : ℕ) (ds : List LifeDeed) (standings : ℕ → Standing) → AreOwn ds → (standings_in standings ds m ≡ standings m) × (turns_of m ds ≡ [])
+pub own_stay : (m : ℕ) (ds : List LifeDeed) (standings : ℕ → Standing) → AreOwn ds → (standings_in standings ds m ≡ standings m) × (turns_of m ds ≡ [])
 own_stay m [] standings own = (refl, refl)
 own_stay m (Served turn ∷ ds) standings own = absurd own
-own_stay m (Own step ∷ ds) standings own = own_stay m ds standings own
+own_stay m (Own step ∷ ds) standings own = own_stay m ds standings own.1
 
 fed_more : (deed : Deed) (deeds : List Deed) → fed_in (deed ∷ []) ++ fed_in deeds ≡ fed_in (deed ∷ deeds)
 fed_more (Fed piece) deeds = ap (λ l. l ++ fed_in deeds) (append-nil piece)
@@ -99,7 +115,7 @@ module _ {S T : Type 0} (instance_of : S → InstanceState) (accords : T → Lis
   -- calls for one session, one after the other
   lives_calls : (does : S → T → Deed → S → T → Type 0) (so : (s : S) (t : T) (d : Deed) (s' : S) (t' : T) → does s t d s' t' → DoesForOne instance_of accords s t d s' t')
       → (deeds : List Deed) (s : S) (t : T) (s' : S) (t' : T) → Did does s t deeds s' t' → (n : ℕ) (standings : ℕ → Standing) (fed : List ℕ) (turns : List Turn)
-      → accords t fed (standings n) turns → LivesOn instance_of accords n standings s s' t' (fed ++ fed_in deeds) turns
+      → accords t fed (standings n) turns → LivesOn n standings (instance_of s) (instance_of s') turns (accords t' (fed ++ fed_in deeds))
   lives_calls does so [] s t s' t' did n standings fed turns a = record {
     deeds = [];
     of = tt;
@@ -162,6 +178,7 @@ module _ {S T C : Type 0} (instance_of : S → InstanceState) (accords : T → L
   record GoesOn (count : ℕ) (numbers : ℕ → ℕ) (fed : ℕ → List ℕ) (standings : ℕ → Standing) (turns : ℕ → List Turn) (s s' : S) (new : ℕ → Option (Line T C)) : Type 0 where
     deeds : List LifeDeed
     life : IsLife standings (instance_of s) deeds (instance_of s')
+    own : OwnsItsOwn deeds
     accord : Accords accords count numbers fed (standings_in standings deeds) (λ n. turns n ++ turns_of n deeds) new
 
   came_on : (key count : ℕ) (numbers : ℕ → ℕ) (fed : ℕ → List ℕ) (standings : ℕ → Standing) (turns : ℕ → List Turn) (line : Line T C) (old new : ℕ → Option (Line T C))
@@ -212,6 +229,7 @@ module _ {S T C : Type 0} (instance_of : S → InstanceState) (accords : T → L
       record {
         deeds = l.deeds;
         life = l.life;
+        own = of_owns (numbers key) l.deeds l.of;
         accord = record {
           each = λ k x e. elim (chosen k key (Some line') (old k)) [
             | inl p ↦ accord_at accords line'.session x.session _ _ _ _ _ _ (ap (λ (l : Line T C). l.session) (some_same line' x (sym p.1 ∙ (sym (same k) ∙ e))))
@@ -232,10 +250,11 @@ module _ {S T C : Type 0} (instance_of : S → InstanceState) (accords : T → L
       → GoesOn (count_after count h) (numbers_after count numbers h) (fed_after fed h) standings turns s s' new
   happening_on (Came key) count numbers fed standings turns s s' old new m a =
       let b = begins_so s m.0.session s' m.2 in
-      record { deeds = []; life = b.same; accord = came_on key count numbers fed standings turns m.0 old new b.accord m.4 a }
+      record { deeds = []; life = b.same; own = tt; accord = came_on key count numbers fed standings turns m.0 old new b.accord m.4 a }
   happening_on TurnedAway count numbers fed standings turns s s' old new m a = record {
     deeds = [];
     life = (begins_so s m.0.0 s' m.0.1).same;
+    own = tt;
     accord = accords_still accords count numbers fed standings standings turns _ old new (λ k x e. (x, sym (m.1 k) ∙ e, refl)) (λ n. refl) (λ n. append-nil (turns n)) a;
   }
   happening_on (Called key deeds) count numbers fed standings turns s s' old new m a =
@@ -243,6 +262,7 @@ module _ {S T C : Type 0} (instance_of : S → InstanceState) (accords : T → L
   happening_on (Thrown key bytes) count numbers fed standings turns s s' old new m a = record {
     deeds = [];
     life = ap instance_of m.4;
+    own = tt;
     accord = accords_still accords count numbers fed standings standings turns _ old new
         (λ k x e. elim (chosen k key (Some m.1) (old k)) [
           | inl p ↦ (m.0, ap old p.0 ∙ m.2, sym m.3.session ∙ ap (λ (l : Line T C). l.session) (some_same m.1 x (sym p.1 ∙ (sym (m.5 k) ∙ e))))
@@ -253,6 +273,7 @@ module _ {S T C : Type 0} (instance_of : S → InstanceState) (accords : T → L
   happening_on Closed count numbers fed standings turns s s' old new m a = record {
     deeds = [];
     life = ap instance_of m.0;
+    own = tt;
     accord = accords_still accords count numbers fed standings standings turns _ old new
         (λ k x e. elim (m.1 k) [
           | inl p ↦ (x, sym p ∙ e, refl)
@@ -264,6 +285,7 @@ module _ {S T C : Type 0} (instance_of : S → InstanceState) (accords : T → L
       let l = lives_acts instance_of accords acts acts_so count' s s' m.0 in record {
         deeds = l.0;
         life = l.2 standings;
+        own = own_owns l.0 l.1;
         accord = accords_still accords count numbers fed standings _ turns _ old new (λ k x e. (x, sym (m.1 k) ∙ e, refl))
             (λ n. (own_stay n l.0 standings l.1).0) (λ n. ap (λ x. turns n ++ x) (own_stay n l.0 standings l.1).1 ∙ append-nil (turns n)) a;
       }
@@ -274,6 +296,7 @@ module _ {S T C : Type 0} (instance_of : S → InstanceState) (accords : T → L
   happenings_on [] count numbers fed standings turns s s' old new happens a = record {
     deeds = [];
     life = ap instance_of happens.0;
+    own = tt;
     accord = accords_still accords count numbers fed standings standings turns _ old new (λ k x e. (x, sym (happens.1 k) ∙ e, refl)) (λ n. refl) (λ n. append-nil (turns n)) a;
   }
   happenings_on (h ∷ hs) count numbers fed standings turns s s' old new happens a =
@@ -282,6 +305,7 @@ module _ {S T C : Type 0} (instance_of : S → InstanceState) (accords : T → L
       record {
         deeds = first.deeds ++ rest.deeds;
         life = life_append first.deeds rest.deeds standings (instance_of s) (instance_of happens.0) (instance_of s') first.life rest.life;
+        own = owns_append first.deeds rest.deeds first.own rest.own;
         accord = accords_still accords _ _ _ _ _ _ _ new new (λ k x e. (x, e, refl))
             (λ n. ap (λ (f : ℕ → Standing). f n) (standings_append first.deeds rest.deeds standings))
             (λ n. ap (λ x. turns n ++ x) (turns_append n first.deeds rest.deeds) ∙ sym (append_assoc (turns n) (turns_of n first.deeds) (turns_of n rest.deeds)))
@@ -294,4 +318,4 @@ module _ {S T C : Type 0} (instance_of : S → InstanceState) (accords : T → L
   history_lived hs s s' new happens =
       let all = happenings_on hs 0 (λ _. 0) (λ _. []) (λ _. fresh) (λ _. []) s s' no_lines new happens
       (record { each = λ k x e. absurd (none-some x e); given = λ k s. absurd (none-some s.0 s.1); apart = λ one other s t e. absurd (none-some s.0 s.1); unused = λ n below. (refl, refl) }) in
-      record { deeds = all.deeds; life = all.life; accord = all.accord }
+      record { deeds = all.deeds; life = all.life; own = all.own; accord = all.accord }

@@ -2,7 +2,7 @@
 use Rattle.std.specs.Prelude.{◌≡◌, ◌==◌, ℕ, ◌+◌, ◌<◌, ◌≤◌, List, [], ◌∷◌, ◌++◌, Option, Some, None, ⊤, if◌then◌else◌}
 use Rattle.am_http.specs.Sessions.{Standing, fresh}
 use Rattle.am_instance.specs.InstanceStates.{InstanceState}
-use Rattle.am_member.specs.Lives.{Deed as LifeDeed, IsLife, Turn, standings_in, turns_of}
+use Rattle.am_member.specs.Lives.{Deed as LifeDeed, IsLife, IsOwnEvent, Turn, standings_in, turns_of}
 use Rattle.am_member.specs.Lives.Deed.{Served, Own}
 use Rattle.am_reactor.specs.Deeds.{Deed}
 use Rattle.am_reactor.specs.History.{Happening, Happens, Line, fed_in}
@@ -42,13 +42,19 @@ fed_by fed (happening ∷ happenings) = fed_by (fed_after fed happening) happeni
 abbrev pub AreOf : ℕ → List LifeDeed → Type 0
 AreOf connection [] = ⊤
 AreOf connection (Served turn ∷ deeds) = (turn.connection ≡ connection) × AreOf connection deeds
-AreOf connection (Own step ∷ deeds) = AreOf connection deeds
+AreOf connection (Own step ∷ deeds) = IsOwnEvent step.event × AreOf connection deeds
 
 -- steps that the member made by itself
 abbrev pub AreOwn : List LifeDeed → Type 0
 AreOwn [] = ⊤
 AreOwn (Served turn ∷ deeds) = ⊥
-AreOwn (Own step ∷ deeds) = AreOwn deeds
+AreOwn (Own step ∷ deeds) = IsOwnEvent step.event × AreOwn deeds
+
+-- all that a member made by itself are such steps
+abbrev pub OwnsItsOwn : List LifeDeed → Type 0
+OwnsItsOwn [] = ⊤
+OwnsItsOwn (Served turn ∷ deeds) = OwnsItsOwn deeds
+OwnsItsOwn (Own step ∷ deeds) = IsOwnEvent step.event × OwnsItsOwn deeds
 
 -- A call that is for no session is steps that the member made by itself.
 pub record ActsAlone {S : Type 0} (instance_of : S → InstanceState) (service service' : S) : Type 0 where
@@ -56,24 +62,24 @@ pub record ActsAlone {S : Type 0} (instance_of : S → InstanceState) (service s
   pub own : AreOwn deeds
   pub life : (standings : ℕ → Standing) → IsLife standings (instance_of service) deeds (instance_of service')
 
+-- turns of one connection that had these, and steps by itself, behind which it is in accord
+pub record LivesOn (connection : ℕ) (standings : ℕ → Standing) (old new : InstanceState) (turns : List Turn) (IsInAccord : Standing → List Turn → Type 0) : Type 0 where
+  pub deeds : List LifeDeed
+  pub of : AreOf connection deeds
+  pub life : IsLife standings old deeds new
+  pub accord : IsInAccord (standings_in standings deeds connection) (turns ++ turns_of connection deeds)
+
 module _ {S T : Type 0} (instance_of : S → InstanceState) (accords : T → List ℕ → Standing → List Turn → Type 0) where
   -- a session begins with a connection of which nothing came
   pub record BeginsFresh (service : S) (session : T) (service' : S) : Type 0 where
     pub same : instance_of service' ≡ instance_of service
     pub accord : accords session [] fresh []
 
-  -- turns of one connection, and steps by itself, behind which its session accords with what was fed to it and with its turns
-  pub record LivesOn (connection : ℕ) (standings : ℕ → Standing) (service : S) (service' : S) (session' : T) (fed : List ℕ) (turns : List Turn) : Type 0 where
-    pub deeds : List LifeDeed
-    pub of : AreOf connection deeds
-    pub life : IsLife standings (instance_of service) deeds (instance_of service')
-    pub accord : accords session' fed (standings_in standings deeds connection) (turns ++ turns_of connection deeds)
-
   -- A call for a session is turns of its connection, whichever that is, and steps by itself.
   abbrev pub DoesForOne : S → T → Deed → S → T → Type 0
   DoesForOne service session deed service' session' =
       (connection : ℕ) (standings : ℕ → Standing) (fed : List ℕ) (turns : List Turn) → accords session fed (standings connection) turns
-      → LivesOn connection standings service service' session' (fed ++ fed_in (deed ∷ [])) turns
+      → LivesOn connection standings (instance_of service) (instance_of service') turns (accords session' (fed ++ fed_in (deed ∷ [])))
 
 -- ---- what a loop did, as a life
 
@@ -101,5 +107,6 @@ pub record IsLived {S T C : Type 0} (instance_of : S → InstanceState) (accords
     (first : S) (happenings : List Happening) (service : S) (lines : ℕ → Option (Line T C)) : Type 0 where
   pub deeds : List LifeDeed
   pub life : IsLife (λ _. fresh) (instance_of first) deeds (instance_of service)
+  pub own : OwnsItsOwn deeds
   pub accord : Accords accords (count_by 0 happenings) (numbers_by 0 (λ _. 0) happenings) (fed_by (λ _. []) happenings) (standings_in (λ _. fresh) deeds)
       (λ connection. turns_of connection deeds) lines

@@ -10,11 +10,11 @@ ghost use Rattle.am_reactor.specs.Deeds.{Deed};
 ghost use Rattle.am_reactor.specs.History.{Leads, Line, no_lines};
 ghost use Rattle.am_living.specs.Living.{ActsAlone, BeginsFresh, DoesForOne, IsLived};
 
-use am_reactor::{Entrances, Limits, Service, Stream};
+use am_reactor::{Entrances, Limits, Peers, Service, Stream};
 use mio::net::TcpStream;
 use std::alloc::Global;
 use std::io::{self, Input};
-use std::net::{Net, SocketAddr};
+use std::net::Net;
 use std::rt::Clock;
 
 /// A service that is a member: its calls are turns of its connections, and steps that it makes by itself.
@@ -45,8 +45,7 @@ pub fn run<S: Living, R: Net + Clock + Input>(
     alloc: Global,
     rt: &R,
     entrances: Entrances,
-    addresses: &[Option<SocketAddr>],
-    greeting: &[u8],
+    peers: Peers<'_>,
     service: &mut S,
     limits: Limits,
 ) -> io::Result<()>
@@ -55,5 +54,5 @@ pub fn run<S: Living, R: Net + Clock + Input>(
         × (history : Leads S.does S.begins S.acts S.pending ⟦<TcpStream as Stream>⟧.coming ⟦<TcpStream as Stream>⟧.gone service.old no_lines service.new left)
         × IsLived S.instance_of S.accords service.old history.happenings service.new left }
 {
-    am_reactor::run(alloc, rt, entrances, addresses, greeting, service, limits)
+    am_reactor::run(alloc, rt, entrances, peers, service, limits)
 }

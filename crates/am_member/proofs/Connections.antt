@@ -9,7 +9,7 @@ use Rattle.am_peers.specs.declared.fault.Fault.{Fault}
 use Rattle.am_peers.specs.declared.fault.Fault.TheVariants.{Read, Write, TooLarge, Frame as InFrame, UnknownName, Step}
 use Rattle.am_member.specs.Exchanging.{is_stopped, left_at}
 use Rattle.am_member.specs.Lives.{Came, Deed, IsHeardOut, IsLife, IsTurn, Tells, Turn, bytes_in, bytes_of, said_in, standings_after, standings_in, turns_of}
-use Rattle.am_member.specs.Lives.Came.{Heard, Fed, AtEnd}
+use Rattle.am_member.specs.Lives.Came.{Heard, Fed, AtEnd, Opened}
 use Rattle.am_member.specs.Lives.Deed.{Served, Own}
 
 -- the bytes of each turn
@@ -26,6 +26,7 @@ told_heard : (came : Came) (piece : List ℕ) (old : Standing) (said : Spoken) (
 told_heard (Heard bytes) piece old said new is tells = tells
 told_heard (Fed bytes) piece old said new is tells = absurd cc
 told_heard AtEnd piece old said new is tells = absurd cc
+told_heard (Opened greeting frames) piece old said new is tells = absurd cc
 
 -- the connection is heard on
 heard_on : (fault : Option Fault) (standing : Standing) → is_stopped fault ≡ false → left_at fault standing ≡ standing

@@ -5,4 +5,3 @@ mod Lives
 mod Connections
 mod Replied
 mod Exchanging
-mod OneRead

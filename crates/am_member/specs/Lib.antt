@@ -2,4 +2,3 @@ pub mod Sparing
 pub mod Incoming
 pub mod Exchanging
 pub mod Lives
-pub mod Conversing

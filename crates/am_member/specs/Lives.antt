@@ -1,5 +1,5 @@
 -- A member's life: what came of its connections, in any interleaving, and what it answered.
-use Rattle.std.specs.Prelude.{◌≡◌, ◌⊎◌, ◌==◌, ◌≤◌, ℕ, true, false, List, [], ◌∷◌, ◌++◌, map, Option, None, Some, Result, Ok, Err, if◌then◌else◌}
+use Rattle.std.specs.Prelude.{◌≡◌, ◌⊎◌, ◌==◌, ◌≤◌, ℕ, true, false, List, [], ◌∷◌, ◌++◌, map, Option, None, Some, Result, Ok, Err, ⊤, if◌then◌else◌}
 use Rattle.std.specs.List.{AllByRecursion, flat_map}
 use Rattle.am_silence.specs.Mesh.{Mesh, mesh_version}
 use Rattle.am_nflog.specs.Mesh.{Mesh as LogMesh, mesh_version as entry_version}
@@ -30,23 +30,38 @@ use Rattle.am_http.specs.Sessions.{Feeds, Says as SaysPiece, SaysEnd, Spoken, St
 use Rattle.am_member.specs.Exchanging.{Answer, IsExchanged, IsFromNobody, IsSender, is_stopped, left_at}
 use Rattle.am_member.specs.Sparing.{spared}
 
--- what came of a connection: a piece that there was memory for, any piece, or the end of its input
+-- what came of a connection: a piece that there was memory for, any piece, or the end of its input; or frames that were sealed, with the
+-- text of the greeting before them where that came with them
 pub data Came : Type 0 where
   Heard : List ℕ → Came
   Fed : List ℕ → Came
   AtEnd : Came
+  Opened : List ℕ → List Frame → Came
 
 -- the bytes of what came
 abbrev pub bytes_of : Came → List ℕ
 bytes_of (Heard piece) = piece
 bytes_of (Fed piece) = piece
 bytes_of AtEnd = []
+bytes_of (Opened greeting frames) = greeting
+
+-- the session heard the greeting, where one came
+abbrev pub IsGreetedBy : Standing → List ℕ → Standing → Type 0
+IsGreetedBy old greeting new = ((greeting ≡ []) × (new ≡ old)) ⊎ ((said : Spoken) × Feeds old greeting said new × (said.fault ≡ None))
+
+-- what sealed frames say: just these, behind the greeting; the connection is heard on or not
+pub record SaysOpened (old : Standing) (greeting : List ℕ) (frames : List Frame) (said : Spoken) (new : Standing) : Type 0 where
+  pub says : said ≡ record { frames = frames; request = None; fault = None }
+  pub mid : Standing
+  pub greets : IsGreetedBy old greeting mid
+  pub goes_on : (new ≡ mid) ⊎ (new ≡ over (name_of mid))
 
 -- what it says, and how far the connection has come then
 abbrev pub Tells : Standing → Came → Spoken → Standing → Type 0
 Tells old (Heard piece) said new = SaysPiece old piece said new
 Tells old (Fed piece) said new = Feeds old piece said new
 Tells old AtEnd said new = SaysEnd old said × (new ≡ over (name_of old))
+Tells old (Opened greeting frames) said new = SaysOpened old greeting frames said new
 
 -- A turn of a member: something came of a connection, at a moment and with random bits; what it said and how far the connection
 -- had come with it, what the member answered, with the reply that its making was finished with, and the instance as it left it.
@@ -101,6 +116,16 @@ bytes_in turns = flat_map (λ turn. bytes_of turn.came) turns
 abbrev pub said_in : List Turn → Spoken
 said_in [] = nothing
 said_in (turn ∷ turns) = and_then turn.said (said_in turns)
+
+-- What a member does by itself: a collection, what is for a program that sends pages, and a frame of a replica that it asked. Nothing is
+-- posted or ended by it.
+abbrev pub IsOwnEvent : Event → Type 0
+IsOwnEvent events.Tick = ⊤
+IsOwnEvent (events.Mutes labels) = ⊤
+IsOwnEvent (events.Decide group_key receiver firing resolved repeat send_resolved) = ⊤
+IsOwnEvent (events.Notified group_key receiver firing resolved repeat) = ⊤
+IsOwnEvent (events.Frame sender frame) = ⊤
+IsOwnEvent _ = ⊥
 
 -- where a life leaves the connections
 abbrev pub standings_in : (ℕ → Standing) → List Deed → ℕ → Standing

@@ -1,8 +1,7 @@
-//! A member of a cluster on this machine: what comes of what a connection said, and one connection over any reader and writer.
+//! A member of a cluster: what comes of what its connections say.
 #![tactic(auto)]
 
 mod answering;
-mod conversing;
 mod exchanged;
 mod judging;
 pub mod laws;
@@ -11,7 +10,6 @@ mod sparing;
 mod steps;
 
 pub use answering::{exchange, is_dear};
-pub use conversing::{Conversed, converse};
 pub use exchanged::{Effects, Exchanged};
 pub use judging::{Judged, Judging};
 pub use sparing::{Spared, spare};

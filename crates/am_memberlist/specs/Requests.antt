@@ -18,3 +18,7 @@ header size = 6 ∷ 0x83 ∷ 0xa4 ∷ (codes "Join" ++ 0xc2 ∷ 0xa5 ∷ (codes 
 -- a request that gives these states
 abbrev pub request_text : List ℕ → List ℕ
 request_text states = header (length states) ++ states
+
+-- a message that gives a part of a state
+abbrev pub told_text : List ℕ → List ℕ
+told_text part = 8 ∷ 0x81 ∷ 0xaa ∷ (codes "UserMsgLen" ++ (number_text (length part) ++ part))

@@ -58,6 +58,10 @@ pub record IsPartDraft (fields : List FieldAt) (draft : PartDraft) : Type 0 wher
 abbrev pub nothing_of : List FieldAt → Unit {0}
 nothing_of fields = tt
 
--- ---- the one text that is written of a state, which stands alone in a full state
+-- ---- the one text that is written of a state: its part
+unfoldable pub part_text : StateKey → List ℕ → List ℕ
+part_text key row = writes_text 1 (key_text key) ++ writes_text 2 row
+
+-- which stands alone in a full state
 unfoldable pub states_text : StateKey → List ℕ → List ℕ
-states_text key row = writes_delimited 1 (writes_text 1 (key_text key) ++ writes_text 2 row)
+states_text key row = writes_delimited 1 (part_text key row)

@@ -1,5 +1,5 @@
 //! Push/pull messages of hashicorp/memberlist, protocol version 2, by which running Alertmanagers tell one another all they
-//! hold: requests, which are written, and answers, which are read.
+//! hold: requests, which are written, and answers, which are read; and messages that tell of a state.
 #![tactic(auto)]
 
 mod answer;
@@ -12,5 +12,5 @@ mod rows;
 
 pub use answer::{MOST_NODES, Said, read_message, unpack_answer};
 pub use error::AnswerError;
-pub use request::request_text;
-pub use rows::{row_in, states_text};
+pub use request::{request_text, told_text};
+pub use rows::{part_text, row_in, states_text};

@@ -1,12 +1,15 @@
 //! Requests.
 
 ghost use Rattle.std.specs.Prelude.{◌≡◌, ◌++◌, length, IfOk, OnOk};
-ghost use Rattle.am_memberlist.specs.Requests.{number_text, request_text};
+ghost use Rattle.am_memberlist.specs.Requests.{number_text, request_text, told_text};
 
 use std::alloc::{AllocError, Global};
 
 /// What a request begins with: its type, and all of its header but the last number. It joins no cluster, and tells of no node.
 const HEAD: [u8; 28] = *b"\x06\x83\xa4Join\xc2\xa5Nodes\x00\xacUserStateLen";
+
+/// What a message begins with that tells of a state: its type, and all of its header but the number.
+const TOLD_HEAD: [u8; 13] = *b"\x08\x81\xaaUserMsgLen";
 
 /// Adds a number in its shortest form.
 fn add_number(out: &mut Vec<u8>, number: u64) -> Result<(), AllocError>
@@ -45,5 +48,22 @@ pub fn request_text(alloc: Global, states: &[u8]) -> Result<Vec<u8>, AllocError>
     text.extend_from_slice(HEAD.as_slice())?;
     add_number(&mut text, states.len() as u64)?;
     text.extend_from_slice(states)?;
+    Ok(text)
+}
+
+/// A message that gives a part of a state, and asks nothing: nothing comes back. Its header claims exactly the bytes that follow,
+/// and nothing is compressed.
+///
+/// # Errors
+///
+/// [`AllocError`] where memory runs out.
+pub fn told_text(alloc: Global, part: &[u8]) -> Result<Vec<u8>, AllocError>
+    // PROMISE: What a replica is told claims exactly the bytes that follow, and nothing compressed.
+    ensures { IfOk result (λ text. text.items ≡ told_text part.now) }
+{
+    let mut text = Vec::new(alloc);
+    text.extend_from_slice(TOLD_HEAD.as_slice())?;
+    add_number(&mut text, part.len() as u64)?;
+    text.extend_from_slice(part)?;
     Ok(text)
 }

@@ -5,7 +5,7 @@ ghost use Rattle.am_wire.specs.Fields.{field_of};
 ghost use Rattle.am_gossip.specs.Keys.{key_text};
 ghost use Rattle.am_gossip.specs.Parts.{part_table, parts_fit};
 ghost use Rattle.am_memberlist.specs.Answers.{GivesUnlessMemory};
-ghost use Rattle.am_memberlist.specs.Rows.{part_row, with_part, row_in, states_text};
+ghost use Rattle.am_memberlist.specs.Rows.{part_row, part_text, with_part, row_in, states_text};
 ghost use Rattle.am_memberlist.specs.Seen.{row_seen, found_seen};
 
 use crate::error::AnswerError;
@@ -146,6 +146,23 @@ pub fn row_in<'a>(
     Ok(found)
 }
 
+/// The part of a state, by its row.
+///
+/// # Errors
+///
+/// [`AllocError`] where memory runs out.
+#[tactic(auto, unfolding(crate::specs::Rows::part_text))]
+pub fn part_text(alloc: Global, key: StateKey, row: &[u8]) -> Result<Vec<u8>, AllocError>
+    ensures { IfOk result (λ text. text.items ≡ part_text key row.now) }
+{
+    let mut part = Vec::new(alloc);
+    write_text(&mut part, 1, key.as_str())?;
+    if !row.is_empty() {
+        write_delimited(&mut part, 2, row)?;
+    }
+    Ok(part)
+}
+
 /// The states of which one alone is told, by its row.
 ///
 /// # Errors
@@ -155,11 +172,7 @@ pub fn row_in<'a>(
 pub fn states_text(alloc: Global, key: StateKey, row: &[u8]) -> Result<Vec<u8>, AllocError>
     ensures { IfOk result (λ text. text.items ≡ states_text key row.now) }
 {
-    let mut part = Vec::new(alloc);
-    write_text(&mut part, 1, key.as_str())?;
-    if !row.is_empty() {
-        write_delimited(&mut part, 2, row)?;
-    }
+    let part = part_text(alloc, key, row)?;
     let mut text = Vec::new(alloc);
     write_delimited(&mut text, 1, &part)?;
     Ok(text)

@@ -24,7 +24,12 @@ module _ {K X : Type 0} (seen : X → Version K) where
   kept now None v = if_live seen now (Some v)
   kept now (Some w) v = if is_live now (seen v) && nat_lt (seen w).updated (seen v).updated then Some v else Some w
 
-  -- the same, where perhaps none comes
+  -- an Alertmanager that has this at its key takes a version: one that is live, and the first, or updated later
+  abbrev pub takes : ℕ → Option X → X → Bool
+  takes now None v = is_live now (seen v)
+  takes now (Some w) v = is_live now (seen v) && nat_lt (seen w).updated (seen v).updated
+
+  -- what is held once perhaps one comes
   abbrev pub kept_of : ℕ → Option X → Option X → Option X
   kept_of now old None = old
   kept_of now old (Some v) = kept now old v
@@ -48,6 +53,10 @@ module _ {K X : Type 0} (seen : X → Version K) where
     -- the versions of a map that another one lacks: those greater than what it has at their key, or the first there
     abbrev pub lacked : List X → List X → List X
     lacked held map = filter (replaces seen cmp held) map
+
+    -- a replica that holds these is given a version: one that it takes, and that isn't of the future
+    abbrev pub is_given : ℕ → List X → X → Bool
+    is_given now held v = nat_le (seen v).updated now && takes now (at seen cmp held (seen v).key) v
 
     -- what an Alertmanager holds at a key once these came, of which each has a key of its own
     abbrev pub after : ℕ → List X → List X → K → Option X

@@ -1,9 +1,9 @@
 //! What holds of replicas that are mended.
 
-ghost use Rattle.std.specs.Prelude.{◌≡◌, ℕ, List, All};
+ghost use Rattle.std.specs.Prelude.{◌≡◌, ℕ, List, All, Option, Some, if◌then◌else◌};
 ghost use Rattle.am_merge.specs.Maps.{IsMap, at};
 ghost use Rattle.am_snapshot.specs.Best.{HoldsBest};
-ghost use Rattle.am_mend.specs.Mending.{AreLive, TieNowhere, after, lacked, versions_of};
+ghost use Rattle.am_mend.specs.Mending.{AreLive, TieNowhere, after, kept, lacked, takes, versions_of};
 
 use am_version_order::Version;
 
@@ -16,4 +16,9 @@ pub fn mended_replicas_hold_the_fold<V: Version>()
         TieNowhere V.seen (versions_of replicas) → AreLive V.seen now (versions_of replicas) →
         All (λ held. (key : V.Key) →
         after V.seen V.Key.cmp now held (lacked V.seen V.Key.cmp held fold) key ≡ at V.seen V.Key.cmp fold key) replicas }
+{}
+
+/// What an Alertmanager takes is what it holds then, and else it holds what it held.
+pub fn what_is_taken_is_held<V: Version>()
+    ensures { (now : ℕ) (held : Option V) (v : V) → kept V.seen now held v ≡ (if takes V.seen now held v then Some v else held) }
 {}

@@ -1,9 +1,11 @@
-//! Mending a live replica: which versions it is sent, and why it doesn't hold one that was sent.
+//! Mending a live replica: which versions it lacks, which it is given, and why it doesn't hold one that was sent.
 #![tactic(auto)]
 
+mod given;
 pub mod laws;
 mod mending;
 mod refused;
 
+pub use given::{is_given, takes};
 pub use mending::{is_lacked, lacked};
 pub use refused::{Refused, why_refused};

@@ -53,6 +53,9 @@ pub trait Service {
     /// What the service is once what waited for a peer is lost.
     ghost loses: { Self → ℕ → LinkFault → Self → Type 0 };
 
+    /// What the service is once a peer answered with these bytes.
+    ghost answers: { Self → ℕ → List ℕ → Self → Type 0 };
+
     /// What the service is once it was asked for more for a peer, and gave these bytes or none.
     ghost gives: { Self → ℕ → Option (List ℕ) → Self → Type 0 };
 
@@ -155,7 +158,18 @@ pub trait Service {
         ensures given { gives self.old peer (option_map (λ bytes. bytes.items) result) self.new }
         ensures acted { acts self.old self.new };
 
-    /// What waited for a peer is lost. It is told once of a link.
+    /// What is asked of a peer next, over a connection of its own: behind these bytes the peer is heard until it ends its
+    /// stream. It is asked for once in each turn of the loop, until there is nothing. What is asked of a peer while it hasn't
+    /// answered is lost.
+    fn question(&mut self) -> Option<Outgoing>
+        ensures { acts self.old self.new };
+
+    /// A peer took all that was asked of it, answered with these bytes, perhaps none, and ended its stream.
+    fn answered(&mut self, peer: usize, answer: Vec<u8>)
+        ensures told { answers self.old peer answer.items self.new }
+        ensures acted { acts self.old self.new };
+
+    /// What waited for a peer is lost, or what was asked of it. It is told once of a link and of a question.
     fn lost(&mut self, peer: usize, fault: LinkFault)
         ensures told { loses self.old peer fault self.new }
         ensures acted { acts self.old self.new };

@@ -16,8 +16,8 @@ pub use am_cluster::laws::{
     durable_members_show_what_came, durable_runs_are_timely_by_what_came,
     first_is_told_after_a_spread, first_is_told_exactly, first_is_told_where_old_ones_ended,
     members_agree_on_what_is_old, members_reply_as_the_bare_sets, members_show_the_bare_sets,
-    members_with_equal_sets_mute_alike, members_with_equal_sets_reply_alike,
-    timely_runs_bring_all_in_time, worked_restarts,
+    members_with_equal_sets_mute_alike, members_with_equal_sets_reply_alike, settles_go_on,
+    steps_go_on, timely_runs_bring_all_in_time, worked_restarts,
 };
 pub use am_instance::laws::{
     calm_steps_reply_as_the_bare_sets, cuts_change_no_event, equal_sets_show_alike,

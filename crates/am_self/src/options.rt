@@ -54,12 +54,16 @@ fn write_number<W: fmt::Write>(f: &mut fmt::Formatter<W>, name: &str, number: u6
     write!(f, "--{name} {number}\n")
 }
 
-/// Writes the members that it knows.
-fn write_peers<W: fmt::Write>(f: &mut fmt::Formatter<W>, peers: &[Peer<'_>]) -> fmt::Result {
+/// Writes an option that names others, with their addresses.
+fn write_peers<W: fmt::Write>(
+    f: &mut fmt::Formatter<W>,
+    option: &str,
+    peers: &[Peer<'_>],
+) -> fmt::Result {
     for peer in peers {
         let name = peer.name;
         let address = AddressWord(peer.address);
-        write!(f, "--peer {name}={address}\n")?;
+        write!(f, "--{option} {name}={address}\n")?;
     }
     Ok(())
 }
@@ -100,8 +104,9 @@ fn write_hosts<W: fmt::Write>(f: &mut fmt::Formatter<W>, hosts: &[&str]) -> fmt:
 fn write_names<W: fmt::Write>(f: &mut fmt::Formatter<W>, options: &Options<'_>) -> fmt::Result {
     write_text(f, "name", options.name)?;
     write_address(f, "listen", Some(options.address))?;
-    write_peers(f, &options.peers)?;
+    write_peers(f, "peer", &options.peers)?;
     write_between(f, options)?;
+    write_peers(f, "gossip", &options.replicas)?;
     write_hosts(f, &options.hosts)?;
     write_text(f, "sil", options.silences)?;
     write_text(f, "nfl", options.log)
@@ -131,6 +136,7 @@ fn write_own<W: fmt::Write>(f: &mut fmt::Formatter<W>, options: &Options<'_>) ->
     write_time(f, "tick-every", options.tick_every)?;
     write_time(f, "pull-every", options.pull_every)?;
     write_time(f, "save-every", options.save_every)?;
+    write_time(f, "gossip-every", Some(options.gossip_every))?;
     write_flag(f, "log", options.keeps_log)?;
     write_flag(f, "pull-first", options.pull_first)?;
     write_time(f, "pull-first-limit", Some(options.pull_first_limit))

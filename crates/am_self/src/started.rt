@@ -26,6 +26,15 @@ fn write_peers<W: fmt::Write>(peers: &[Peer<'_>], f: &mut fmt::Formatter<W>) -> 
     Ok(())
 }
 
+/// Writes the names and addresses of the Alertmanagers beside it, if there are some.
+fn write_replicas<W: fmt::Write>(replicas: &[Peer<'_>], f: &mut fmt::Formatter<W>) -> fmt::Result {
+    if replicas.is_empty() {
+        return Ok(());
+    }
+    write!(f, ", beside")?;
+    write_peers(replicas, f)
+}
+
 impl fmt::Display for Started<'_, '_> {
     fn fmt<W: fmt::Write>(&self, f: &mut fmt::Formatter<W>) -> fmt::Result {
         let name = Word(self.options.name.as_bytes());
@@ -36,6 +45,7 @@ impl fmt::Display for Started<'_, '_> {
         }
         write!(f, ", peers")?;
         write_peers(&self.options.peers, f)?;
+        write_replicas(&self.options.replicas, f)?;
         let silences = self.silences;
         let entries = self.entries;
         write!(f, "; loaded {silences} silences, {entries} entries")

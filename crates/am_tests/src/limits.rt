@@ -3,7 +3,7 @@
 use crate::members::{PEER, at, instance};
 use am_http::session::Session;
 use am_instance::Instance;
-use am_member::converse;
+use am_member::{Spared, exchange, spare};
 use am_peers::Fault;
 use std::alloc::{AllocError, Global};
 use std::io::{self, Read};
@@ -54,27 +54,23 @@ fn connected(alloc: Global, instance: &mut Instance, frame: &[u8], bytes: usize)
         others: frame,
         left: bytes,
     };
+    let mut buffer = [0u8; 4_096];
     let (mut sent, mut fault) = (0usize, None);
     for _ in 0..u64::MAX {
         if session.is_over() {
             break;
         }
-        let mut sink = io::sink();
-        match converse(
-            alloc,
-            instance,
-            &mut session,
-            &mut reader,
-            &mut sink,
-            0,
-            at(11),
-        ) {
-            Ok(conversed) => {
-                sent = sent.max(conversed.effects.outbox.frames.len());
-                fault = conversed.fault;
-            }
-            Err(_) => return None,
-        }
+        let count = reader.read(&mut buffer).ok()?;
+        let piece = &buffer[..count];
+        let said = if piece.is_empty() {
+            session.end()
+        } else {
+            session.feed(piece)
+        };
+        let Spared { said, .. } = spare(said);
+        let exchanged = exchange(alloc, instance, &mut session, said, 0, at(11));
+        sent = sent.max(exchanged.effects.outbox.frames.len());
+        fault = exchanged.fault;
     }
     Some((instance.silences().len(), sent, fault))
 }

@@ -5,6 +5,7 @@ use crate::upkeep::{Upkeep, sooner};
 use am_disk::FileFault;
 use am_faults::Fault;
 use am_files::{Compaction, compact};
+use am_instance::{Config, Instance};
 use am_nflog::LogKey;
 use am_wire::Text;
 use std::mem;
@@ -122,92 +123,89 @@ impl<R: Host> Upkeep<'_, R> {
     }
 
     /// Does a stage of what is written anew, if the logs lack nothing, and answers how long it is until the next one.
-    pub fn compact(&mut self, now: Instant) -> Option<Duration> {
+    pub fn compact(&mut self, instance: &Instance, now: Instant) -> Option<Duration> {
         if self.keeping.is_behind() {
             self.give_up_compaction();
             return None;
         }
         match mem::replace(&mut self.compacting.work, Work::Nothing) {
-            Work::Nothing => self.begin_compaction(now),
-            Work::Silences(left) => self.compact_silences(left, now),
-            Work::Log(left) => self.compact_log(left, now),
+            Work::Nothing => self.begin_compaction(instance, now),
+            Work::Silences(left) => self.compact_silences(instance, left, now),
+            Work::Log(left) => self.compact_log(instance, left, now),
         }
         self.compacting.left(now)
     }
 
     /// Begins to write a file anew that is wanted: the silences first.
-    fn begin_compaction(&mut self, now: Instant) {
+    fn begin_compaction(&mut self, instance: &Instance, now: Instant) {
         if self.compacting.silences.begins(now) {
-            self.begin_silences(now);
+            self.begin_silences(instance, now);
         } else if self.compacting.log.begins(now) {
-            self.begin_log(now);
+            self.begin_log(instance, now);
         }
     }
 
-    fn begin_silences(&mut self, now: Instant) {
+    fn begin_silences(&mut self, instance: &Instance, now: Instant) {
         self.count_save_begun(true);
         let most = self.options.most_bytes;
-        match self
-            .silences
-            .part_logs(self.rt, self.instance.silences(), most)
-        {
+        match self.silences.part_logs(self.rt, instance.silences(), most) {
             Ok(bytes) => {
                 self.room.is_counted(bytes);
                 self.compacting.go_on(Work::Silences(Compaction::new()));
             }
-            Err(fault) => self.fail_silences(fault, now),
+            Err(fault) => self.fail_silences(instance.config(), fault, now),
         }
     }
 
-    fn begin_log(&mut self, now: Instant) {
+    fn begin_log(&mut self, instance: &Instance, now: Instant) {
         self.count_save_begun(false);
         let most = self.options.most_bytes;
-        match self.log.part_logs(self.rt, self.instance.log(), most) {
+        match self.log.part_logs(self.rt, instance.log(), most) {
             Ok(_) => self.compacting.go_on(Work::Log(Compaction::new())),
-            Err(fault) => self.fail_log(fault, now),
+            Err(fault) => self.fail_log(instance.config(), fault, now),
         }
     }
 
-    fn compact_silences(&mut self, left: Compaction<Text>, now: Instant) {
+    fn compact_silences(&mut self, instance: &Instance, left: Compaction<Text>, now: Instant) {
         let most = self.options.most_bytes;
-        let held = self.instance.silences();
+        let held = instance.silences();
         match compact(self.rt, &mut self.silences, left, held, most) {
             Ok(Some(left)) => self.compacting.go_on(Work::Silences(left)),
             Ok(None) => self.count_save(true, true),
-            Err(fault) => self.fail_silences(fault, now),
+            Err(fault) => self.fail_silences(instance.config(), fault, now),
         }
     }
 
-    fn compact_log(&mut self, left: Compaction<LogKey>, now: Instant) {
+    fn compact_log(&mut self, instance: &Instance, left: Compaction<LogKey>, now: Instant) {
         let most = self.options.most_bytes;
-        let held = self.instance.log();
+        let held = instance.log();
         match compact(self.rt, &mut self.log, left, held, most) {
             Ok(Some(left)) => self.compacting.go_on(Work::Log(left)),
             Ok(None) => self.count_save(false, true),
-            Err(fault) => self.fail_log(fault, now),
+            Err(fault) => self.fail_log(instance.config(), fault, now),
         }
     }
 
     /// Tells why the silences aren't written anew.
-    fn fail_silences(&mut self, fault: FileFault, now: Instant) {
+    fn fail_silences(&mut self, config: &Config, fault: FileFault, now: Instant) {
         self.compacting.silences.fails(now);
         self.count_save(true, false);
         let is_trusted = self.silences.is_trusted();
-        self.fail(Fault::Silences(fault), is_trusted);
+        self.fail(config, Fault::Silences(fault), is_trusted);
     }
 
     /// Tells why the log isn't written anew.
-    fn fail_log(&mut self, fault: FileFault, now: Instant) {
+    fn fail_log(&mut self, config: &Config, fault: FileFault, now: Instant) {
         self.compacting.log.fails(now);
         self.count_save(false, false);
         let is_trusted = self.log.is_trusted();
-        self.fail(Fault::Log(fault), is_trusted);
+        self.fail(config, Fault::Log(fault), is_trusted);
     }
 
     /// Tells why a file isn't written anew. Where its log isn't trusted any more, that lacks what comes.
-    fn fail(&mut self, fault: Fault, is_trusted: bool) {
+    fn fail(&mut self, config: &Config, fault: Fault, is_trusted: bool) {
         self.is_changed = true;
-        self.tell(fault);
+        self.tell(config, fault);
         if !is_trusted {
             self.keeping.lose();
         }

@@ -31,9 +31,9 @@ fn step_of_frame(frame: &Frame) -> Option<Step> {
 fn cause_of(fault: LinkFault) -> Cause {
     match fault {
         LinkFault::Connect(_) | LinkFault::NoPeer => Cause::Connect,
-        LinkFault::Write { .. } => Cause::Write,
+        LinkFault::Write { .. } | LinkFault::Read { .. } => Cause::Write,
         LinkFault::Time { .. } => Cause::Time,
-        LinkFault::Full => Cause::Full,
+        LinkFault::Full | LinkFault::TooLong => Cause::Full,
         LinkFault::Memory => Cause::Memory,
     }
 }

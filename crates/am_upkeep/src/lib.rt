@@ -18,4 +18,4 @@ pub use host::Host;
 pub use keeping::{DISK, Keeping};
 pub use room::Room;
 pub use sending::lock_of;
-pub use upkeep::{Upkeep, sooner};
+pub use upkeep::{Upkeep, place_of, sooner};

@@ -6,7 +6,7 @@ use crate::host::Host;
 use crate::keeping::{DISK, Keeping};
 use crate::room::Room;
 use crate::upkeep::Upkeep;
-use am_address::Peer;
+use am_address::{Peer, name_beside};
 use am_faults::Fault;
 use am_figures::Figures;
 use am_files::{OpenedState, StateFile, open_state};
@@ -29,23 +29,51 @@ struct Loaded {
     log: StateFile,
 }
 
+/// Whether the member or one of its peers has a name.
+fn is_named(options: &Options<'_>, name: &str) -> bool {
+    options.name == name || options.peers.iter().any(|peer| peer.name == name)
+}
+
+/// Whether each Alertmanager beside it has a name, which is none of a member.
+fn check_replicas(options: &Options<'_>) -> Result<(), ConfigError> {
+    for replica in &options.replicas {
+        if replica.name.is_empty() {
+            return Err(ConfigError::EmptyName);
+        }
+        if is_named(options, replica.name) {
+            return Err(ConfigError::SameName);
+        }
+    }
+    Ok(())
+}
+
 /// The names of the members, and how long things are kept.
 fn config(alloc: Global, options: &Options<'_>) -> Result<Config, Fault> {
+    check_replicas(options)?;
     let Ok(name) = Text::copied(alloc, options.name) else {
         return Err(Fault::Config(ConfigError::Memory));
     };
-    let Ok(peers) = names(alloc, &options.peers, options.keeps_log) else {
+    let Ok(peers) = names(alloc, options) else {
         return Err(Fault::Config(ConfigError::Memory));
     };
     Ok(Config::new(alloc, name, peers, options.retention, options.peer_timeout)?)
 }
 
-/// The names of peers, and of the disk where logs are kept.
-fn names(alloc: Global, peers: &[Peer<'_>], keeps_log: bool) -> Result<Vec<Text>, AllocError> {
-    let mut names = Vec::with_capacity(alloc, peers.len())?;
-    if keeps_log {
+/// The names of peers, and behind them those of Alertmanagers beside it, and of the disk where logs are kept.
+fn names(alloc: Global, options: &Options<'_>) -> Result<Vec<Text>, AllocError> {
+    let mut names = peer_names(alloc, &options.peers)?;
+    for replica in &options.replicas {
+        names.push(Text::new(name_beside(alloc, replica.name)?))?;
+    }
+    if options.keeps_log {
         names.push(Text::copied(alloc, DISK)?)?;
     }
+    Ok(names)
+}
+
+/// The names of peers.
+fn peer_names(alloc: Global, peers: &[Peer<'_>]) -> Result<Vec<Text>, AllocError> {
+    let mut names = Vec::with_capacity(alloc, peers.len())?;
     for peer in peers {
         names.push(Text::copied(alloc, peer.name)?)?;
     }
@@ -115,7 +143,7 @@ fn empty<R: Host>(
     Ok((figures, lines))
 }
 
-/// The member that holds what was loaded.
+/// The instance that was loaded, and the upkeep of it.
 fn upkeep_of<'a, R: Host>(
     rt: &'a R,
     options: &'a Options<'a>,
@@ -123,7 +151,7 @@ fn upkeep_of<'a, R: Host>(
     loaded: Loaded,
     figures: Figures,
     lines: Lines,
-) -> Upkeep<'a, R> {
+) -> (Instance, Upkeep<'a, R>) {
     let Loaded {
         instance,
         silences,
@@ -132,10 +160,9 @@ fn upkeep_of<'a, R: Host>(
     let room = Room::of(instance.silences(), options.most_bytes);
     let keeping = Keeping::new(instance.config().place_named(DISK));
     let is_changed = silences.owes_save() || log.owes_save();
-    Upkeep {
+    let upkeep = Upkeep {
         rt,
         options,
-        instance,
         secret,
         silences,
         log,
@@ -147,16 +174,17 @@ fn upkeep_of<'a, R: Host>(
         watch: Watch::new(),
         figures,
         is_changed,
-    }
+    };
+    (instance, upkeep)
 }
 
 impl<'a, R: Host> Upkeep<'a, R> {
-    /// A member that holds what its files hold.
+    /// An instance that holds what its files hold, and the upkeep of it.
     ///
     /// # Errors
     ///
     /// The first [`Fault`] of names, secret, memory, silences, log.
-    pub fn load(rt: &'a R, options: &'a Options<'a>) -> Result<Upkeep<'a, R>, Fault> {
+    pub fn load(rt: &'a R, options: &'a Options<'a>) -> Result<(Instance, Self), Fault> {
         let config = config(rt.alloc(), options)?;
         let secret = secret(rt, options)?;
         let Ok((figures, lines)) = empty(rt, &config, options) else {

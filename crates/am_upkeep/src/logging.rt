@@ -7,12 +7,16 @@ use crate::host::Host;
 use crate::upkeep::Upkeep;
 use am_faults::Fault;
 use am_gossip::{Frame, Part, StateKey};
-use am_instance::Place;
+use am_instance::{Config, Instance, Place};
 use am_peers::{Parted, part_frames};
 
 impl<R: Host> Upkeep<'_, R> {
     /// Puts what goes to the disk into the logs, and gives what goes to peers.
-    pub(crate) fn log_frames(&mut self, frames: Vec<(Place, Frame)>) -> Vec<(Place, Frame)> {
+    pub(crate) fn log_frames(
+        &mut self,
+        config: &Config,
+        frames: Vec<(Place, Frame)>,
+    ) -> Vec<(Place, Frame)> {
         let Some(disk) = self.keeping.disk() else {
             return frames;
         };
@@ -20,53 +24,53 @@ impl<R: Host> Upkeep<'_, R> {
         let count = frames.len();
         let Ok(Parted { own, others }) = part_frames(alloc, disk, frames) else {
             self.keeping.lose();
-            self.tell(Fault::UnsentMemory(count));
+            self.tell(config, Fault::UnsentMemory(count));
             return Vec::new(alloc);
         };
         for frame in &own {
-            self.log_frame(frame);
+            self.log_frame(config, frame);
         }
         others
     }
 
     /// Puts a version into the log of its state.
-    fn log_frame(&mut self, frame: &Frame) {
+    fn log_frame(&mut self, config: &Config, frame: &Frame) {
         if let Frame::Delta(part) = frame {
             self.keeping.add();
-            self.log_part(part);
+            self.log_part(config, part);
         }
     }
 
     /// Puts rows into the log of their state. Where that fails, it is told, and the logs lack something.
-    fn log_part(&mut self, part: &Part) {
+    fn log_part(&mut self, config: &Config, part: &Part) {
         let alloc = self.rt.alloc();
         let rows = part.bytes.as_slice();
         let failed = match part.key {
             StateKey::Sil => self.silences.append(alloc, rows).err().map(Fault::Silences),
             StateKey::Nfl => self.log.append(alloc, rows).err().map(Fault::Log),
         };
-        self.tell_behind(failed);
+        self.tell_behind(config, failed);
     }
 
     /// Tells why the logs lack something, where they do.
-    fn tell_behind(&mut self, fault: Option<Fault>) {
+    fn tell_behind(&mut self, config: &Config, fault: Option<Fault>) {
         if let Some(fault) = fault {
             self.keeping.lose();
-            self.tell(fault);
+            self.tell(config, fault);
         }
     }
 
     /// Makes sure of what was done so far: it is in the logs, or, where they lack something, in the files.
-    pub fn keep(&mut self) {
+    pub fn keep(&mut self, instance: &Instance) {
         self.keeping.begin_commit();
         let alloc = self.rt.alloc();
         let silences = self.silences.commit(alloc).err().map(Fault::Silences);
-        self.tell_behind(silences);
+        self.tell_behind(instance.config(), silences);
         let log = self.log.commit(alloc).err().map(Fault::Log);
-        self.tell_behind(log);
+        self.tell_behind(instance.config(), log);
         self.keeping.begin_commit();
         if self.keeping.is_behind() {
-            self.save_behind();
+            self.save_behind(instance);
         }
         self.keeping.end_commit();
         self.want_outgrown();

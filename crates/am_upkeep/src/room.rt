@@ -2,6 +2,7 @@
 
 use crate::host::Host;
 use crate::upkeep::Upkeep;
+use am_instance::Instance;
 use am_merge::Held;
 use am_snapshot::row_length_within;
 use am_version_order::Version;
@@ -76,8 +77,8 @@ impl Room {
 impl<R: Host> Upkeep<'_, R> {
     /// Whether there is room for so many bytes of a post. Where it doesn't look so, the silences are counted anew, once a
     /// second.
-    pub fn has_room(&mut self, post: u64) -> bool {
-        let silences = self.instance.silences();
+    pub fn has_room(&mut self, instance: &Instance, post: u64) -> bool {
+        let silences = instance.silences();
         if self.room.holds(post, silences.len()) {
             return true;
         }

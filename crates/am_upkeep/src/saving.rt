@@ -1,10 +1,16 @@
 //! The saves of both states while everybody waits, and when they are made.
 
+ghost use Rattle.std.specs.Prelude.{ℕ, Result};
+ghost use Rattle.am_instance.specs.OneStep.{IsStep};
+ghost use Rattle.am_instance.specs.declared.event.Event.TheVariants as events;
+ghost use Rattle.am_instance.specs.declared.reply.Outcome.{Outcome};
+ghost use Rattle.am_refusals.specs.declared.error.StepError.{StepError};
+
 use crate::host::Host;
 use crate::upkeep::Upkeep;
 use am_faults::Fault;
 use am_figures::Step;
-use am_instance::Event;
+use am_instance::{Event, Instance};
 use std::time::Instant;
 
 /// The first of two faults, where there is one.
@@ -18,20 +24,20 @@ fn first_of(one: Option<Fault>, other: Option<Fault>) -> Option<Fault> {
 impl<R: Host> Upkeep<'_, R> {
     /// Saves both states, now that nobody is served any more, be it since the listener failed. Answers the fault with which it
     /// ends: that of the listener, or else why a state isn't saved, which is told.
-    pub fn end(&mut self, failed: Option<Fault>) -> Option<Fault> {
-        let unsaved = self.save();
-        self.settle_lines();
+    pub fn end(&mut self, instance: &Instance, failed: Option<Fault>) -> Option<Fault> {
+        let unsaved = self.save(instance);
+        self.settle_lines(instance.config());
         first_of(failed, unsaved)
     }
 
     /// Saves the silences, and then the log, while everybody waits. Answers the first fault; each is told.
-    pub(crate) fn save(&mut self) -> Option<Fault> {
+    pub(crate) fn save(&mut self, instance: &Instance) -> Option<Fault> {
         self.give_up_compaction();
         self.count_save_begun(true);
-        let silences = self.save_silences();
+        let silences = self.save_silences(instance);
         self.count_save(true, silences.is_none());
         self.count_save_begun(false);
-        let log = self.save_log();
+        let log = self.save_log(instance);
         self.count_save(false, log.is_none());
         self.is_changed = silences.is_some() || log.is_some();
         if !self.is_changed {
@@ -41,63 +47,65 @@ impl<R: Host> Upkeep<'_, R> {
     }
 
     /// Saves the silences, and answers why they are not saved, which is told.
-    fn save_silences(&mut self) -> Option<Fault> {
+    fn save_silences(&mut self, instance: &Instance) -> Option<Fault> {
         let most = self.options.most_bytes;
-        match self.silences.save(self.rt, self.instance.silences(), most) {
+        match self.silences.save(self.rt, instance.silences(), most) {
             Ok(bytes) => {
                 self.room.is_counted(bytes);
                 None
             }
             Err(fault) => {
-                self.tell(Fault::Silences(fault));
+                self.tell(instance.config(), Fault::Silences(fault));
                 Some(Fault::Silences(fault))
             }
         }
     }
 
     /// Saves the log, and answers why it is not saved, which is told.
-    fn save_log(&mut self) -> Option<Fault> {
+    fn save_log(&mut self, instance: &Instance) -> Option<Fault> {
         let most = self.options.most_bytes;
-        match self.log.save(self.rt, self.instance.log(), most) {
+        match self.log.save(self.rt, instance.log(), most) {
             Ok(_) => None,
             Err(fault) => {
-                self.tell(Fault::Log(fault));
+                self.tell(instance.config(), Fault::Log(fault));
                 Some(Fault::Log(fault))
             }
         }
     }
 
     /// Drops what has expired, and saves both states.
-    pub fn tick(&mut self) {
-        if self.step(Event::Tick) {
+    pub fn tick(&mut self, instance: &mut Instance)
+        ensures { (now : ℕ) × (answer : Result Outcome StepError) × IsStep instance.old events.Tick now answer instance.new }
+    {
+        if self.step(instance, Event::Tick) {
             self.figures.step(Step::Tick, 1);
-            self.save_in_turn();
+            self.save_in_turn(instance);
         }
     }
 
     /// Saves both states at the start, where a log stands that is to go. Without logs that is before anything comes: what ended a
     /// version that such a log has would be in no log, and could have gone before the log does.
-    pub fn save_owed(&mut self) {
+    pub fn save_owed(&mut self, instance: &Instance) {
         if self.is_changed {
-            self.save_in_turn();
+            self.save_in_turn(instance);
         }
     }
 
     /// Saves both states: at once, or where logs are kept, behind the duties and while it serves.
-    pub fn save_in_turn(&mut self) {
+    pub fn save_in_turn(&mut self, instance: &Instance) {
         if self.keeping.is_on() {
             self.want_both();
         } else {
-            self.save();
+            self.save(instance);
         }
     }
 
     /// Saves, where the last such save is a second ago.
-    pub(crate) fn save_behind(&mut self) {
+    pub(crate) fn save_behind(&mut self, instance: &Instance) {
         if let Ok(now) = Instant::now(self.rt)
             && self.keeping.may_save(now)
         {
-            self.save();
+            self.save(instance);
         }
     }
 }

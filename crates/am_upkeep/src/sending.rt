@@ -4,7 +4,7 @@ use crate::host::Host;
 use crate::upkeep::Upkeep;
 use am_faults::Fault;
 use am_gossip::Frame;
-use am_instance::Place;
+use am_instance::{Config, Place};
 use am_jobs::Options;
 use am_peers::{Parted, frames_text, part_frames};
 use am_reactor::Outgoing;
@@ -24,20 +24,20 @@ pub fn lock_of<'a>(options: &Options<'a>, secret: &'a Option<Secret>) -> Option<
 
 impl<R: Host> Upkeep<'_, R> {
     /// The bytes of frames for a peer, sealed where members have a secret. Where there is no memory for them there are none.
-    fn bytes_for(&self, peer: Place, frames: &[Frame]) -> Option<Vec<u8>> {
+    fn bytes_for(&self, config: &Config, peer: Place, frames: &[Frame]) -> Option<Vec<u8>> {
         let alloc = self.rt.alloc();
         let Some(lock) = lock_of(self.options, &self.secret) else {
             return frames_text(alloc, frames).ok();
         };
-        let name = self.instance.config().members().get(peer as usize)?;
+        let name = config.members().get(peer as usize)?;
         sealed_text(alloc, lock, name.as_str(), frames).ok()
     }
 
     /// Has frames wait to be handed out.
-    pub(crate) fn queue_frames(&mut self, frames: Vec<(Place, Frame)>) {
-        let mut frames = self.log_frames(frames);
+    pub(crate) fn queue_frames(&mut self, config: &Config, frames: Vec<(Place, Frame)>) {
+        let mut frames = self.log_frames(config, frames);
         if self.queue.append(&mut frames).is_err() {
-            self.tell(Fault::UnsentMemory(frames.len()));
+            self.tell(config, Fault::UnsentMemory(frames.len()));
         }
     }
 
@@ -46,32 +46,42 @@ impl<R: Host> Upkeep<'_, R> {
         self.queue.is_empty()
     }
 
-    /// The frames that wait for the peer of the first of them, as they go out.
-    pub fn next_outgoing(&mut self) -> Option<Outgoing> {
+    /// The frames that wait for the peer of the first of them, and its place.
+    pub fn next_frames(&mut self, config: &Config) -> Option<(Place, Vec<Frame>)> {
         let place = self.queue.first()?.0;
         let alloc = self.rt.alloc();
         let frames = std::mem::replace(&mut self.queue, Vec::new(alloc));
         let count = frames.len();
         let Ok(Parted { own, others }) = part_frames(alloc, place, frames) else {
-            self.tell(Fault::UnsentMemory(count));
+            self.tell(config, Fault::UnsentMemory(count));
             return None;
         };
         self.queue = others;
-        let bytes = self.text_of(place, &own)?;
+        Some((place, own))
+    }
+
+    /// Frames for a peer, as they go out.
+    pub fn outgoing_of(
+        &mut self,
+        config: &Config,
+        place: Place,
+        frames: &[Frame],
+    ) -> Option<Outgoing> {
+        let bytes = self.text_of(config, place, frames)?;
         let peer = place as usize;
         Some(Outgoing { peer, bytes })
     }
 
     /// The text of frames for a peer. Where there is none, they are told unsent.
-    pub fn text_of(&mut self, peer: Place, frames: &[Frame]) -> Option<Vec<u8>> {
-        match self.bytes_for(peer, frames) {
+    pub fn text_of(&mut self, config: &Config, peer: Place, frames: &[Frame]) -> Option<Vec<u8>> {
+        match self.bytes_for(config, peer, frames) {
             Some(bytes) => {
                 self.count_handed(peer, frames);
                 Some(bytes)
             }
             None => {
                 self.figures.unsent(frames.len(), 0);
-                self.tell_of(Some(peer), Fault::UnsentMemory(frames.len()));
+                self.tell_of(config, Some(peer), Fault::UnsentMemory(frames.len()));
                 None
             }
         }

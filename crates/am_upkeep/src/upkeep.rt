@@ -1,4 +1,9 @@
-//! A member without those who connect to it.
+//! A member without what it holds, and without those who connect to it.
+
+ghost use Rattle.std.specs.Prelude.{ℕ, Result};
+ghost use Rattle.am_instance.specs.OneStep.{IsStep};
+ghost use Rattle.am_instance.specs.declared.reply.Outcome.{Outcome};
+ghost use Rattle.am_refusals.specs.declared.error.StepError.{StepError};
 
 use crate::compaction::Compacting;
 use crate::host::Host;
@@ -8,7 +13,7 @@ use am_faults::Fault;
 use am_figures::Figures;
 use am_files::StateFile;
 use am_gossip::Frame;
-use am_instance::{Event, Instance, Outbox, Place, Unsent};
+use am_instance::{Config, Event, Instance, Outbox, Place, Unsent};
 use am_jobs::Options;
 use am_lines::{Lines, Told, Watch};
 use am_peers::{Fault as ConnectionFault, next_moment};
@@ -16,12 +21,11 @@ use am_secret::Secret;
 use std::rt::Clock;
 use std::time::{Duration, Instant};
 
-/// What a member holds, its files, and what it prints and counts.
+/// The files of what a member holds, and what it prints and counts.
 #[derive(Drop)]
 pub struct Upkeep<'a, R> {
     pub rt: &'a R,
     pub options: &'a Options<'a>,
-    pub instance: Instance,
     /// The secret of the members, where they have one.
     pub secret: Option<Secret>,
     /// The file of the silences.
@@ -54,105 +58,113 @@ pub fn sooner(one: Option<Duration>, other: Option<Duration>) -> Option<Duration
     }
 }
 
+/// The place of the peer that greeted with this name, if one did.
+pub fn place_of(config: &Config, name: Option<&str>) -> Option<Place> {
+    let place = config.place_named(name?)?;
+    if place == config.place() {
+        None
+    } else {
+        Some(place)
+    }
+}
+
 impl<R: Host> Upkeep<'_, R> {
     /// Prints a fault.
-    pub fn tell(&mut self, fault: Fault) {
-        self.tell_of(None, fault);
+    pub fn tell(&mut self, config: &Config, fault: Fault) {
+        self.tell_of(config, None, fault);
     }
 
     /// Prints a fault that is about a peer, if its place is known.
-    pub fn tell_of(&mut self, peer: Option<Place>, fault: Fault) {
-        let members = self.instance.config().members();
+    pub fn tell_of(&mut self, config: &Config, peer: Option<Place>, fault: Fault) {
+        let members = config.members();
         self.lines.tell(self.rt, members, Told { fault, peer });
     }
 
     /// Prints how many lines were left out of each kind.
-    pub fn settle_lines(&mut self) {
-        let members = self.instance.config().members();
-        self.lines.settle_all(self.rt, members);
+    pub fn settle_lines(&mut self, config: &Config) {
+        self.lines.settle_all(self.rt, config.members());
     }
 
     /// Prints how many lines were left out of each kind for which that is due.
-    pub fn settle_due_lines(&mut self, now: Instant) {
-        let members = self.instance.config().members();
-        self.lines.settle(self.rt, members, now);
+    pub fn settle_due_lines(&mut self, config: &Config, now: Instant) {
+        self.lines.settle(self.rt, config.members(), now);
     }
 
     /// Prints how many bytes were cut off from the logs, where some were.
-    pub fn tell_torn(&mut self) {
+    pub fn tell_torn(&mut self, config: &Config) {
         let silences = self.silences.torn();
         if silences > 0 {
-            self.tell(Fault::SilencesTorn(silences));
+            self.tell(config, Fault::SilencesTorn(silences));
         }
         let log = self.log.torn();
         if log > 0 {
-            self.tell(Fault::LogTorn(log));
-        }
-    }
-
-    /// The place of the peer that greeted with this name, if one did.
-    pub fn place_of(&self, name: Option<&str>) -> Option<Place> {
-        let config = self.instance.config();
-        let place = config.place_named(name?)?;
-        if place == config.place() {
-            None
-        } else {
-            Some(place)
+            self.tell(config, Fault::LogTorn(log));
         }
     }
 
     /// Prints how many frames are not sent.
-    fn tell_unsent(&mut self, unsent: Unsent) {
+    fn tell_unsent(&mut self, config: &Config, unsent: Unsent) {
         if unsent.memory > 0 {
-            self.tell(Fault::UnsentMemory(unsent.memory));
+            self.tell(config, Fault::UnsentMemory(unsent.memory));
         }
         if unsent.limit > 0 {
-            self.tell(Fault::UnsentLimit(unsent.limit));
+            self.tell(config, Fault::UnsentLimit(unsent.limit));
         }
     }
 
     /// What follows the steps of a connection, perhaps of a peer, and why no more is heard of it.
-    pub fn follow(&mut self, peer: Option<Place>, outbox: Outbox, fault: Option<ConnectionFault>) {
+    pub fn follow(
+        &mut self,
+        config: &Config,
+        peer: Option<Place>,
+        outbox: Outbox,
+        fault: Option<ConnectionFault>,
+    ) {
         if let Some(fault) = fault {
-            self.tell_of(peer, Fault::Connection(fault));
+            self.tell_of(config, peer, Fault::Connection(fault));
         }
-        self.follow_step(outbox);
+        self.follow_step(config, outbox);
     }
 
     /// What follows steps: their frames go out.
-    pub fn follow_step(&mut self, outbox: Outbox) {
+    pub fn follow_step(&mut self, config: &Config, outbox: Outbox) {
         let Outbox { frames, unsent } = outbox;
         if unsent.memory > 0 || unsent.limit > 0 {
             self.keeping.lose();
         }
         self.figures.unsent(unsent.memory, unsent.limit);
-        self.tell_unsent(unsent);
-        self.queue_frames(frames);
+        self.tell_unsent(config, unsent);
+        self.queue_frames(config, frames);
     }
 
     /// Makes a step by itself, and answers whether it was made.
-    pub(crate) fn step(&mut self, event: Event) -> bool {
-        let now = next_moment(self.rt, self.instance.last());
-        match self.instance.step(event, now) {
+    pub(crate) fn step(&mut self, instance: &mut Instance, event: Event) -> bool
+        ensures { (now : ℕ) × (answer : Result Outcome StepError) × IsStep instance.old event now answer instance.new }
+    {
+        let now = next_moment(self.rt, instance.last());
+        match instance.step(event, now) {
             Ok(outcome) => {
                 let (_, outbox) = outcome.into_parts();
-                self.follow_step(outbox);
+                self.follow_step(instance.config(), outbox);
                 true
             }
             Err(error) => {
-                self.tell(Fault::Connection(ConnectionFault::Step(error)));
+                self.tell(
+                    instance.config(),
+                    Fault::Connection(ConnectionFault::Step(error)),
+                );
                 false
             }
         }
     }
 
     /// Tells where the clock is behind the moment of the last event, and where it is no more.
-    pub fn look_at_clock(&mut self, now: Instant) {
+    pub fn look_at_clock(&mut self, instance: &Instance, now: Instant) {
         let Ok(since_1970) = self.rt.since_1970() else {
             return;
         };
-        if let Some(fault) = self.watch.look(since_1970, self.instance.last(), now) {
-            self.tell(fault);
+        if let Some(fault) = self.watch.look(since_1970, instance.last(), now) {
+            self.tell(instance.config(), fault);
         }
     }
 }

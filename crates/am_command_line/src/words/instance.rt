@@ -40,6 +40,7 @@ struct OwnNumbers {
     tick_every: Option<Duration>,
     pull_every: Option<Duration>,
     save_every: Option<Duration>,
+    gossip_every: Duration,
     pull_first_limit: Duration,
     least_repeat: Option<u64>,
 }
@@ -64,7 +65,8 @@ fn between<'a>(alloc: Global, command: Command<'a>) -> Result<Command<'a>, Alloc
     command
         .arg(option(alloc, "peers-listen", "ADDRESS:PORT", PEERS_LISTEN_HELP))?
         .arg(option(alloc, "secret", "FILE", SECRET_HELP))?
-        .arg(flag(alloc, "open-peers", OPEN_PEERS_HELP))
+        .arg(flag(alloc, "open-peers", OPEN_PEERS_HELP))?
+        .arg(option(alloc, "gossip", "NAME=ADDRESS:PORT", GOSSIP_HELP).action(ArgAction::Append))
 }
 
 /// The options that have a default.
@@ -87,6 +89,7 @@ fn own<'a>(alloc: Global, command: Command<'a>) -> Result<Command<'a>, AllocErro
         .arg(option(alloc, "tick-every", "S", TICK_EVERY_HELP))?
         .arg(option(alloc, "pull-every", "S", PULL_EVERY_HELP))?
         .arg(option(alloc, "save-every", "S", SAVE_EVERY_HELP))?
+        .arg(option(alloc, "gossip-every", "S", GOSSIP_EVERY_HELP).default_value("60"))?
         .arg(flag(alloc, "log", LOG_HELP))?
         .arg(flag(alloc, "pull-first", PULL_FIRST_HELP))?
         .arg(option(alloc, "pull-first-limit", "S", PULL_FIRST_LIMIT_HELP).default_value("30"))?
@@ -138,6 +141,8 @@ pub fn read_options<'a, R: Files + AllocGlobal>(
         secret: flags.get_str("secret"),
         opens_peers: flags.get_flag("open-peers"),
         peers: peers(rt.alloc(), flags.get_strs("peer").unwrap_or(&[]))?,
+        replicas: peers(rt.alloc(), flags.get_strs("gossip").unwrap_or(&[]))?,
+        gossip_every: numbers.own.gossip_every,
         hosts,
         silences: text(flags, "sil"),
         log: text(flags, "nfl"),
@@ -232,12 +237,14 @@ fn read_own(flags: &ArgMatches<'_>) -> Result<OwnNumbers, &'static str> {
     let tick_every = every(flags, "tick-every").ok_or(BAD_TICK_EVERY)?;
     let pull_every = every(flags, "pull-every").ok_or(BAD_PULL_EVERY)?;
     let save_every = every(flags, "save-every").ok_or(BAD_SAVE_EVERY)?;
+    let gossip_every = number(flags, "gossip-every", MOST_SECONDS).ok_or(BAD_GOSSIP_EVERY)?;
     let limit = number(flags, "pull-first-limit", MOST_SECONDS).ok_or(BAD_PULL_FIRST_LIMIT)?;
     let least_repeat = some_number(flags, "least-repeat").ok_or(BAD_LEAST_REPEAT)?;
     Ok(OwnNumbers {
         tick_every,
         pull_every,
         save_every,
+        gossip_every: Duration::from_secs(gossip_every),
         pull_first_limit: Duration::from_secs(limit),
         least_repeat,
     })
@@ -338,6 +345,10 @@ const SECRET_HELP: &str =
 const OPEN_PEERS_HELP: &str =
     "Hears frames without --secret also at an address that other machines reach: whoever reaches it can change silences";
 
+const GOSSIP_HELP: &str =
+    "An Alertmanager beside which it runs, and the address of its gossip (--cluster.listen-address), or its port alone on \
+    127.0.0.1: each holds what the other does; any number of times, each by a name of its own";
+
 const HOST_HELP: &str =
     "A name by which it is asked beside 127.0.0.1, localhost and the address of --listen, as that of a proxy; any number of \
     times. \
@@ -388,11 +399,15 @@ const PULL_EVERY_HELP: &str =
 const SAVE_EVERY_HELP: &str =
     "Saves both files every so many seconds, 1 to 999999999, where something may have changed";
 
+const GOSSIP_EVERY_HELP: &str =
+    "Asks each --gossip for all it has every so many seconds, 1 to 999999999, and gives back what it lacks; new versions go \
+    to it at once";
+
 const LOG_HELP: &str =
     "Keeps a log beside each file, and has all it takes there, on the disk, before it is answered or sent on";
 
 const PULL_FIRST_HELP: &str =
-    "Answers no request, and no peer that asks for all, before a peer has sent all it has";
+    "Answers no request, and no peer that asks for all, before a peer or a --gossip has sent all it has";
 
 const PULL_FIRST_LIMIT_HELP: &str =
     "For how many seconds --pull-first waits at the most, 1 to 999999999";
@@ -411,6 +426,8 @@ Three machines, a on 10.0.0.1, b on 10.0.0.2 and c on 10.0.0.3, each with the sa
   head -c 32 /dev/urandom | base64 > members.secret && chmod 600 members.secret
   am_tool instance --name a --listen 127.0.0.1:9093 --peers-listen 10.0.0.1:9094 --secret members.secret \\
     --peer b=10.0.0.2:9094 --peer c=10.0.0.3:9094 --sil a.sil --nfl a.nfl --tick-every 60 --pull-every 60 --pull-first
+Beside an Alertmanager that gossips on port 9094 of this machine:
+  am_tool instance --name a --listen 9101 --gossip am=9094 --sil a.sil --nfl a.nfl --tick-every 60 --save-every 5
 A Tick is a greeting with a peer's name and the bytes 4 and 0, sent to the port; for a peer b:
   printf '\\0\\1b\\4\\0' >/dev/tcp/127.0.0.1/PORT";
 
@@ -463,6 +480,9 @@ const BAD_PULL_EVERY: &str =
 
 const BAD_SAVE_EVERY: &str =
     "invalid value for '--save-every <S>': a whole number from 1 to 999999999 is wanted, in digits alone";
+
+const BAD_GOSSIP_EVERY: &str =
+    "invalid value for '--gossip-every <S>': a whole number from 1 to 999999999 is wanted, in digits alone";
 
 const BAD_PULL_FIRST_LIMIT: &str =
     "invalid value for '--pull-first-limit <S>': a whole number from 1 to 999999999 is wanted, in digits alone";

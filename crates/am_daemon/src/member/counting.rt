@@ -1,13 +1,15 @@
 //! What a member counts of those who connect to it.
 
 ghost use Rattle.std.specs.Prelude.{◌≡◌};
+ghost use Rattle.am_dialogue.specs.Talks.{talk_of};
 
-use super::Member;
-use am_dialogue::{Dialogue, request_of};
+use super::clerk::Clerk;
+use am_dialogue::{Account, Dialogue, request_of};
 use am_figures::{Failing, MUTED, Request, Step, decision_word};
 use am_http::session::Said;
+use am_instance::Config;
 use am_reactor::Failure;
-use am_upkeep::Host;
+use am_upkeep::{Host, place_of};
 use std::time::Instant;
 
 /// What a failure of a connection is counted as.
@@ -41,32 +43,36 @@ fn decision_in(reply: &[u8]) -> Option<usize> {
     decision_word(word)
 }
 
-impl<R: Host> Member<'_, R> {
-    /// Counts what was said.
-    pub(super) fn count_said(&mut self, dialogue: &mut Dialogue, said: &Said) {
+impl<R: Host> Clerk<'_, R> {
+    /// Counts what was said, by who greeted with this name.
+    pub(super) fn count_said(
+        &mut self,
+        config: &Config,
+        account: &mut Account,
+        name: Option<&str>,
+        said: &Said,
+    ) {
         if let Some(request) = request_of(said) {
-            dialogue
-                .account
-                .ask(request, Instant::now(self.upkeep.rt).ok());
+            account.ask(request, Instant::now(self.upkeep.rt).ok());
         }
-        if let Some(place) = self.upkeep.place_of(dialogue.session.name()) {
+        if let Some(place) = place_of(config, name) {
             self.upkeep.count_frames(place, &said.frames);
         }
     }
 
     /// Counts a connection that failed.
-    pub(super) fn count_broken(&mut self, dialogue: &mut Dialogue, why: Failure) {
+    pub(super) fn count_broken(&mut self, account: &mut Account, why: Failure) {
         self.upkeep.figures.fail(failing_of(why));
-        if dialogue.account.close() {
+        if account.close() {
             self.upkeep.figures.end();
         }
     }
 
     /// Counts a connection that is done, and what it was answered.
-    pub(super) fn count_done(&mut self, dialogue: &mut Dialogue)
-        ensures session { dialogue.new.session ≡ dialogue.old.session }
+    pub(super) fn count_where_done(&mut self, dialogue: &mut Dialogue)
         ensures reply { dialogue.new.reply ≡ dialogue.old.reply }
         ensures written { dialogue.new.written ≡ dialogue.old.written }
+        ensures talk { talk_of dialogue.new ≡ talk_of dialogue.old }
     {
         if dialogue.is_done() && dialogue.account.close() {
             self.count_end(dialogue);

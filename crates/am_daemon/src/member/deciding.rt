@@ -1,14 +1,16 @@
 //! Decisions for programs that send pages: what they ask is answered at once, or at this member's turn.
 
-use super::Member;
-use super::serving::put_off;
+ghost use Rattle.am_dialogue.specs.Answered.{ByItself};
+ghost use Rattle.am_dialogue.specs.Talks.{Closes, Rests, talk_of};
+
+use super::clerk::{Clerk, put_off};
 use super::telling::time_between;
 use am_api_decisions::{Asked, Deciding, Notice, Question, asked_of, begin_log, log_notice};
 use am_api_silences::{Begun, Making, Read, Refusal, Request};
 use am_dialogue::{Dialogue, Turn, Work};
 use am_figures::Step;
 use am_http::session::Said;
-use am_instance::Outbox;
+use am_instance::{Config, Instance, Outbox};
 use am_peers::next_moment;
 use am_upkeep::Host;
 use am_version_order::Moment;
@@ -24,43 +26,68 @@ const ENOUGH: u64 = 1_000;
 /// An alert costs as much as holding it against so many silences, beside those that there are.
 const BESIDE: usize = 64;
 
+/// How far a decision has come, by a moment.
+#[derive(Drop)]
+struct Reached {
+    deciding: Deciding,
+    now: Moment,
+}
+
 /// How many alerts are held against so many silences between two looks at the clock.
 fn stretch_over(silences: usize) -> usize {
     (STRETCH / silences.max(BESIDE)).max(1)
 }
 
-impl<R: Host> Member<'_, R> {
+impl<R: Host> Clerk<'_, R> {
     /// Answers a call of a program that sends pages, or keeps it until its turn.
-    pub(super) fn answer_call(&mut self, dialogue: &mut Dialogue, said: Said) {
+    pub(super) fn answer_call(
+        &mut self,
+        instance: &mut Instance,
+        dialogue: &mut Dialogue,
+        said: Said,
+    )
+        ensures own { ByItself instance.old instance.new }
+        ensures closes { Closes (talk_of dialogue.old) (talk_of dialogue.new) }
+    {
+        dialogue.session.stop();
         let Said { request, .. } = said;
         let Some(Read::Whole(request)) = request else {
             return;
         };
         match asked_of(self.upkeep.rt.alloc(), &request) {
-            Ok(asked) => self.take_up(dialogue, request, asked),
+            Ok(asked) => self.take_up(instance, dialogue, request, asked),
             Err(refusal) => dialogue.refuse(self.upkeep.rt.alloc(), &refusal),
         }
     }
 
     /// Answers what is asked, or keeps its request until its turn.
-    fn take_up(&mut self, dialogue: &mut Dialogue, request: Request, asked: Asked) {
+    fn take_up(
+        &mut self,
+        instance: &mut Instance,
+        dialogue: &mut Dialogue,
+        request: Request,
+        asked: Asked,
+    )
+        ensures own { ByItself instance.old instance.new }
+        ensures rests { Rests (talk_of dialogue.old) (talk_of dialogue.new) }
+    {
         match asked {
-            Asked::Decide(question) => match self.turn_of(&question) {
+            Asked::Decide(question) => match self.turn_of(instance, &question) {
                 Some(due) => self.wait_for_turn(dialogue, Turn::new(request, due)),
-                None => self.begin_deciding(dialogue, question),
+                None => self.begin_deciding(instance, dialogue, question),
             },
-            Asked::Notified(notice) => self.log(dialogue, notice),
-            Asked::Log => self.list_log(dialogue),
+            Asked::Notified(notice) => self.log(instance, dialogue, notice),
+            Asked::Log => self.list_log(instance, dialogue),
         }
     }
 
     /// When it is this member's turn to answer a question that came now, if not at once.
-    fn turn_of(&self, question: &Question) -> Option<Instant> {
+    fn turn_of(&self, instance: &Instance, question: &Question) -> Option<Instant> {
         if !question.waits() {
             return None;
         }
-        let now = next_moment(self.upkeep.rt, self.upkeep.instance.last());
-        let wait = time_between(now, self.upkeep.instance.due_from(now)?);
+        let now = next_moment(self.upkeep.rt, instance.last());
+        let wait = time_between(now, instance.due_from(now)?);
         if wait == Duration::ZERO {
             return None;
         }
@@ -68,7 +95,9 @@ impl<R: Host> Member<'_, R> {
     }
 
     /// Has a request wait for its turn, where another one may.
-    fn wait_for_turn(&mut self, dialogue: &mut Dialogue, turn: Turn) {
+    fn wait_for_turn(&mut self, dialogue: &mut Dialogue, turn: Turn)
+        ensures { Rests (talk_of dialogue.old) (talk_of dialogue.new) }
+    {
         if self.turns.begin() {
             put_off(dialogue, Work::Turn(turn));
         } else {
@@ -78,54 +107,96 @@ impl<R: Host> Member<'_, R> {
 
     /// The turn of a request has come: it is answered, or waits for its place in the line. Where the member stops, it is turned
     /// away.
-    pub(super) fn take_turn(&mut self, dialogue: &mut Dialogue, turn: Turn) {
+    pub(super) fn take_turn(&mut self, instance: &mut Instance, dialogue: &mut Dialogue, turn: Turn)
+        ensures own { ByItself instance.old instance.new }
+        ensures rests { Rests (talk_of dialogue.old) (talk_of dialogue.new) }
+    {
         self.turns.end();
         if self.stops {
             dialogue.refuse(self.upkeep.rt.alloc(), &Refusal::new(503, "member stops"));
         } else if turn.is_dear() {
             put_off(dialogue, Work::Due(turn));
         } else {
-            self.answer_turn(dialogue, &turn);
+            self.answer_turn(instance, dialogue, &turn);
         }
     }
 
     /// Begins to answer a request whose turn has come.
-    pub(super) fn answer_turn(&mut self, dialogue: &mut Dialogue, turn: &Turn) {
+    pub(super) fn answer_turn(
+        &mut self,
+        instance: &mut Instance,
+        dialogue: &mut Dialogue,
+        turn: &Turn,
+    )
+        ensures own { ByItself instance.old instance.new }
+        ensures rests { Rests (talk_of dialogue.old) (talk_of dialogue.new) }
+    {
         let alloc = self.upkeep.rt.alloc();
         match asked_of(alloc, turn.request()) {
-            Ok(Asked::Decide(question)) => self.begin_deciding(dialogue, question),
+            Ok(Asked::Decide(question)) => self.begin_deciding(instance, dialogue, question),
             Ok(_) => {}
             Err(refusal) => dialogue.refuse(alloc, &refusal),
         }
     }
 
     /// Begins to answer a question.
-    fn begin_deciding(&mut self, dialogue: &mut Dialogue, question: Question) {
+    fn begin_deciding(
+        &mut self,
+        instance: &mut Instance,
+        dialogue: &mut Dialogue,
+        question: Question,
+    )
+        ensures own { ByItself instance.old instance.new }
+        ensures rests { Rests (talk_of dialogue.old) (talk_of dialogue.new) }
+    {
         let alerts = question.message.alerts.len() as u64;
         self.upkeep.figures.step(Step::Mutes, alerts);
         let deciding = Deciding::new(self.upkeep.rt.alloc(), question);
-        self.go_on_deciding(dialogue, deciding);
+        self.go_on_deciding(instance, dialogue, deciding);
     }
 
     /// Holds more of the alerts against the silences, for as long as a turn of the loop may take. Where none is left, it is
     /// decided.
-    pub(super) fn go_on_deciding(&mut self, dialogue: &mut Dialogue, deciding: Deciding) {
+    pub(super) fn go_on_deciding(
+        &mut self,
+        instance: &mut Instance,
+        dialogue: &mut Dialogue,
+        deciding: Deciding,
+    )
+        ensures own { ByItself instance.old instance.new }
+        ensures rests { Rests (talk_of dialogue.old) (talk_of dialogue.new) }
+    {
+        let Reached { deciding, now } = match self.ask_on(instance, deciding) {
+            Ok(reached) => reached,
+            Err(refusal) => return dialogue.refuse(self.upkeep.rt.alloc(), &refusal),
+        };
+        if deciding.is_asked() {
+            self.decide(instance, dialogue, deciding, now);
+        } else {
+            put_off(dialogue, Work::Deciding(deciding));
+        }
+    }
+
+    /// Holds more of the alerts against the silences, for as long as a turn of the loop may take, or all that are left.
+    fn ask_on(&self, instance: &mut Instance, deciding: Deciding) -> Result<Reached, Refusal>
+        ensures { ByItself instance.old instance.new }
+    {
         let alloc = self.upkeep.rt.alloc();
         let begun = Instant::now(self.upkeep.rt).ok();
-        let most = stretch_over(self.upkeep.instance.silences().len());
+        let most = stretch_over(instance.silences().len());
+        let mut now = instance.last();
         let mut left = deciding;
         for _ in 0..u64::MAX {
-            let now = next_moment(self.upkeep.rt, self.upkeep.instance.last());
-            match left.go_on(alloc, &mut self.upkeep.instance, most, now) {
-                Ok(deciding) if deciding.is_asked() => return self.decide(dialogue, deciding, now),
-                Ok(deciding) => left = deciding,
-                Err(refusal) => return dialogue.refuse(alloc, &refusal),
-            }
-            if self.is_enough(begun) {
+            now = next_moment(self.upkeep.rt, instance.last());
+            left = left.go_on(alloc, instance, most, now)?;
+            if left.is_asked() || self.is_enough(begun) {
                 break;
             }
         }
-        put_off(dialogue, Work::Deciding(left));
+        Ok(Reached {
+            deciding: left,
+            now,
+        })
     }
 
     /// Whether alerts were held against silences for long enough, in a turn that began then.
@@ -139,40 +210,62 @@ impl<R: Host> Member<'_, R> {
     }
 
     /// Decides, now that all alerts were held against the silences.
-    fn decide(&mut self, dialogue: &mut Dialogue, deciding: Deciding, now: Moment) {
+    fn decide(
+        &mut self,
+        instance: &mut Instance,
+        dialogue: &mut Dialogue,
+        deciding: Deciding,
+        now: Moment,
+    )
+        ensures own { ByItself instance.old instance.new }
+        ensures rests { Rests (talk_of dialogue.old) (talk_of dialogue.new) }
+    {
         let alloc = self.upkeep.rt.alloc();
-        let reply = deciding.decide(alloc, &mut self.upkeep.instance, now);
+        let reply = deciding.decide(alloc, instance, now);
         self.count_decision(reply.as_slice());
-        self.reply_to_call(dialogue, Making::Whole(reply), Outbox::new(alloc));
+        self.reply_to_call(
+            instance.config(),
+            dialogue,
+            Making::Whole(reply),
+            Outbox::new(alloc),
+        );
     }
 
     /// Logs what was notified.
-    fn log(&mut self, dialogue: &mut Dialogue, notice: Notice) {
+    fn log(&mut self, instance: &mut Instance, dialogue: &mut Dialogue, notice: Notice)
+        ensures own { ByItself instance.old instance.new }
+        ensures rests { Rests (talk_of dialogue.old) (talk_of dialogue.new) }
+    {
         self.upkeep.is_changed = true;
-        let now = next_moment(self.upkeep.rt, self.upkeep.instance.last());
-        let Begun { making, outbox } = log_notice(
-            self.upkeep.rt.alloc(),
-            &mut self.upkeep.instance,
-            notice,
-            now,
-        );
-        self.reply_to_call(dialogue, making, outbox);
+        let now = next_moment(self.upkeep.rt, instance.last());
+        let Begun { making, outbox } = log_notice(self.upkeep.rt.alloc(), instance, notice, now);
+        self.reply_to_call(instance.config(), dialogue, making, outbox);
     }
 
     /// Begins to write the entries of the log that are live.
-    fn list_log(&mut self, dialogue: &mut Dialogue) {
+    fn list_log(&mut self, instance: &Instance, dialogue: &mut Dialogue)
+        ensures { Rests (talk_of dialogue.old) (talk_of dialogue.new) }
+    {
         let alloc = self.upkeep.rt.alloc();
-        let now = next_moment(self.upkeep.rt, self.upkeep.instance.last());
-        match begin_log(alloc, &self.upkeep.instance, now) {
+        let now = next_moment(self.upkeep.rt, instance.last());
+        match begin_log(alloc, instance, now) {
             Ok(writing) => put_off(dialogue, Work::Log(writing)),
             Err(refusal) => dialogue.refuse(alloc, &refusal),
         }
     }
 
     /// Has a reply go out, and what its step sends: behind the next commit, where something came since the last one.
-    fn reply_to_call(&mut self, dialogue: &mut Dialogue, making: Making, outbox: Outbox) {
+    fn reply_to_call(
+        &mut self,
+        config: &Config,
+        dialogue: &mut Dialogue,
+        making: Making,
+        outbox: Outbox,
+    )
+        ensures { Rests (talk_of dialogue.old) (talk_of dialogue.new) }
+    {
         let news = self.upkeep.keeping.news();
-        self.upkeep.follow_step(outbox);
+        self.upkeep.follow_step(config, outbox);
         dialogue.reply_with(self.upkeep.rt.alloc(), Some(making));
         if self.upkeep.keeping.has_news() {
             dialogue.hold_back(self.upkeep.keeping.news() != news);

@@ -1,15 +1,20 @@
 //! Whose frames are heard: what is asked of a connection by where it comes in.
 
-use super::Member;
+ghost use Rattle.am_http.specs.Sessions.{spoken};
+ghost use Rattle.am_dialogue.specs.Answered.{IsAnswered};
+ghost use Rattle.am_dialogue.specs.Talks.{talk_of};
+
+use super::clerk::Clerk;
 use am_address::is_loopback;
 use am_dialogue::Dialogue;
 use am_faults::Fault;
 use am_gate::{Heard, Hears};
+use am_instance::Instance;
 use am_jobs::Options;
 use am_peers::{SendError, greeting};
 use am_reactor::Entrance;
 use am_seal::{Lock, SEALED};
-use am_upkeep::{Host, Upkeep, lock_of};
+use am_upkeep::{Host, Upkeep, lock_of, place_of};
 use std::alloc::{AllocError, Global};
 
 /// What a member opens sealed frames by, where it has a secret.
@@ -62,14 +67,17 @@ pub fn opening(alloc: Global, name: &str, is_sealed: bool) -> Result<Vec<u8>, Se
     Ok(sealed)
 }
 
-impl<R: Host> Member<'_, R> {
+impl<R: Host> Clerk<'_, R> {
     /// Answers what was heard at the gate of a connection, and tells why no more is.
-    pub fn hear_at_gate(&mut self, dialogue: &mut Dialogue, heard: Heard) {
+    pub fn hear_at_gate(&mut self, instance: &mut Instance, dialogue: &mut Dialogue, heard: Heard)
+        ensures { IsAnswered (spoken heard.said) instance.old (talk_of dialogue.old) instance.new (talk_of dialogue.new) }
+    {
         let Heard { said, fault } = heard;
-        self.hear(dialogue, said);
+        self.hear(instance, dialogue, said);
         if let Some(fault) = fault {
-            let peer = self.upkeep.place_of(dialogue.session.name());
-            self.upkeep.tell_of(peer, Fault::Gate(fault));
+            let config = instance.config();
+            let peer = place_of(config, dialogue.session.name());
+            self.upkeep.tell_of(config, peer, Fault::Gate(fault));
         }
     }
 }

@@ -1,16 +1,16 @@
 //! All that a member holds, as it is handed to a peer: part by part, each made when the one before it went out.
 
-use super::Member;
+use super::clerk::Clerk;
 use am_dialogue::Share;
 use am_faults::Fault;
-use am_instance::{HandedPart, Place};
+use am_instance::{Config, HandedPart, Instance, Place};
 use am_reactor::Outgoing;
 use am_upkeep::Host;
 
 /// The most bytes of a part, but where one version has more.
 const MOST_OF_PART: usize = 1_048_576;
 
-impl<R: Host> Member<'_, R> {
+impl<R: Host> Clerk<'_, R> {
     /// Has a peer be handed all that is held, and perhaps be asked for as much.
     pub fn hand_all(&mut self, peer: usize, asks: bool) {
         if let Some(share) = self.shares.get_mut(peer) {
@@ -35,13 +35,14 @@ impl<R: Host> Member<'_, R> {
     }
 
     /// The next part for a peer, as it goes out.
-    pub fn next_part(&mut self, peer: usize) -> Option<Vec<u8>> {
+    pub fn next_part(&mut self, instance: &Instance, peer: usize) -> Option<Vec<u8>> {
         let left = self.shares.get_mut(peer)?.take_left()?;
-        let text = match self.upkeep.instance.hand_out(left, MOST_OF_PART) {
-            Ok(part) => self.text_of_part(peer, part),
+        let text = match instance.hand_out(left, MOST_OF_PART) {
+            Ok(part) => self.text_of_part(instance.config(), peer, part),
             Err(_) => {
+                let peer = Some(peer as Place);
                 self.upkeep
-                    .tell_of(Some(peer as Place), Fault::UnsentMemory(1));
+                    .tell_of(instance.config(), peer, Fault::UnsentMemory(1));
                 None
             }
         };
@@ -52,10 +53,10 @@ impl<R: Host> Member<'_, R> {
     }
 
     /// The text of a part for a peer. Where there is none, it is told unsent.
-    fn text_of_part(&mut self, peer: usize, part: HandedPart) -> Option<Vec<u8>> {
+    fn text_of_part(&mut self, config: &Config, peer: usize, part: HandedPart) -> Option<Vec<u8>> {
         let share = self.shares.get_mut(peer)?;
         let HandedPart { state, next } = part;
         let frame = share.frame_of(state, next);
-        self.upkeep.text_of(peer as Place, &[frame])
+        self.upkeep.text_of(config, peer as Place, &[frame])
     }
 }

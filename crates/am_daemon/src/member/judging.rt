@@ -1,17 +1,24 @@
 //! Requests whose patterns are compiled before they are answered, one in a turn of the loop; and posts for which there is no room.
 
-use super::Member;
-use super::serving::put_off;
+ghost use Rattle.std.specs.Prelude.{◌≡◌, IfOk, IfSome, IsTrue};
+ghost use Rattle.am_http.specs.Sessions.{spoken};
+ghost use Rattle.am_dialogue.specs.Answered.{IsAnswered};
+ghost use Rattle.am_dialogue.specs.Talks.{IsRequest, closed, talk_of};
+
+use super::clerk::{Clerk, put_off};
 use am_api_silences::{Read, Refusal};
 use am_dialogue::{Dialogue, Work, is_call, post_bytes};
 use am_http::Cause;
 use am_http::session::Said;
+use am_instance::Instance;
 use am_member::{Judged, Judging};
 use am_upkeep::Host;
 use std::alloc::{AllocError, Global};
 
 /// The patterns of what was said, where it has such.
-fn judging_of(alloc: Global, said: &Said) -> Result<Option<Judging>, AllocError> {
+fn judging_of(alloc: Global, said: &Said) -> Result<Option<Judging>, AllocError>
+    ensures { IfOk result (λ found. IfSome found (λ _. IsRequest (spoken said.now))) }
+{
     match &said.request {
         Some(Read::Whole(request)) => Judging::of(alloc, request),
         _ => Ok(None),
@@ -32,20 +39,25 @@ fn is_judged(judging: &mut Judging) -> Result<bool, Refusal> {
     }
 }
 
-impl<R: Host> Member<'_, R> {
+impl<R: Host> Clerk<'_, R> {
     /// Answers what was said, or keeps it until its patterns are compiled.
-    pub(super) fn judge(&mut self, dialogue: &mut Dialogue, said: Said) {
+    pub(super) fn judge(&mut self, instance: &mut Instance, dialogue: &mut Dialogue, said: Said)
+        ensures { IsAnswered (spoken said) instance.old (talk_of dialogue.old) instance.new (talk_of dialogue.new) }
+    {
         if is_call(&said) {
-            self.answer_call(dialogue, said);
-        } else if !self.refuses(dialogue, &said) {
-            self.begin_judging(dialogue, said);
+            self.answer_call(instance, dialogue, said);
+        } else if !self.refuses(instance, dialogue, &said) {
+            self.begin_judging(instance, dialogue, said);
         }
     }
 
     /// Refuses a post for which there is no room, and answers whether it did.
-    fn refuses(&mut self, dialogue: &mut Dialogue, said: &Said) -> bool {
+    fn refuses(&mut self, instance: &Instance, dialogue: &mut Dialogue, said: &Said) -> bool
+        ensures refused { IsTrue result → talk_of dialogue.new ≡ closed (talk_of dialogue.old) }
+        ensures heard { ¬ IsTrue result → talk_of dialogue.new ≡ talk_of dialogue.old }
+    {
         match post_bytes(said) {
-            Some(bytes) if !self.upkeep.has_room(bytes) => {
+            Some(bytes) if !self.upkeep.has_room(instance, bytes) => {
                 dialogue.refuse(
                     self.upkeep.rt.alloc(),
                     &Refusal::new(500, "state too large"),
@@ -57,32 +69,50 @@ impl<R: Host> Member<'_, R> {
     }
 
     /// Answers what was said that isn't refused, or keeps it until its patterns are compiled.
-    fn begin_judging(&mut self, dialogue: &mut Dialogue, said: Said) {
+    fn begin_judging(&mut self, instance: &mut Instance, dialogue: &mut Dialogue, said: Said)
+        ensures { IsAnswered (spoken said) instance.old (talk_of dialogue.old) instance.new (talk_of dialogue.new) }
+    {
         let alloc = self.upkeep.rt.alloc();
         match judging_of(alloc, &said) {
             Ok(Some(judging)) => put_off(dialogue, Work::Judging(said, judging)),
-            Ok(None) => self.answer(dialogue, said),
+            Ok(None) => self.answer(instance, dialogue, said),
             Err(_) => dialogue.refuse(alloc, &Cause::Memory.refusal()),
         }
     }
 
     /// Compiles the next pattern of a request. Where none is left it is answered.
-    pub(super) fn go_on_judging(&mut self, dialogue: &mut Dialogue, said: Said, judging: Judging) {
+    pub(super) fn go_on_judging(
+        &mut self,
+        instance: &mut Instance,
+        dialogue: &mut Dialogue,
+        said: Said,
+        judging: Judging,
+    )
+        ensures { IsRequest (spoken said) → IsAnswered (spoken said) instance.old (talk_of dialogue.old) instance.new (talk_of dialogue.new) }
+    {
         let mut judging = judging;
         match is_judged(&mut judging) {
-            Ok(true) => self.answer_by(dialogue, said, judging),
+            Ok(true) => self.answer_by(instance, dialogue, said, judging),
             Ok(false) => put_off(dialogue, Work::Judging(said, judging)),
             Err(refusal) => dialogue.refuse(self.upkeep.rt.alloc(), &refusal),
         }
     }
 
     /// Answers a request by its patterns, which are compiled.
-    fn answer_by(&mut self, dialogue: &mut Dialogue, said: Said, judging: Judging) {
-        if self.refuses(dialogue, &said) {
+    fn answer_by(
+        &mut self,
+        instance: &mut Instance,
+        dialogue: &mut Dialogue,
+        said: Said,
+        judging: Judging,
+    )
+        ensures { IsAnswered (spoken said) instance.old (talk_of dialogue.old) instance.new (talk_of dialogue.new) }
+    {
+        if self.refuses(instance, dialogue, &said) {
             return;
         }
-        let own = self.upkeep.instance.swap_patterns(judging.into_patterns());
-        self.answer(dialogue, said);
-        let _ = self.upkeep.instance.swap_patterns(own);
+        let own = instance.swap_patterns(judging.into_patterns());
+        self.answer(instance, dialogue, said);
+        let _ = instance.swap_patterns(own);
     }
 }

@@ -1,14 +1,16 @@
 //! The start of a member.
 
-use super::Member;
+use super::clerk::Clerk;
 use super::guarding::{hosts_of, opening};
-use am_address::Peer;
+use am_address::{Peer, shown_name};
+use am_attendant::{Member, live};
+use am_beside::Replicas;
 use am_dialogue::{Duties, Intervals, Share, Turns};
 use am_faults::{Fault, report, status};
-use am_instance::{Config, ConfigError, Place};
+use am_instance::{Config, ConfigError, Instance, Place};
 use am_jobs::Options;
 use am_lines::signals;
-use am_reactor::{Entrances, Limits, listen};
+use am_reactor::{Entrances, Limits, Peers, listen};
 use am_self::Started;
 use am_upkeep::{Host, Upkeep};
 use rand::make_rng;
@@ -21,6 +23,9 @@ use std::time::Instant;
 
 /// The most bytes that wait for a peer while a connection to it is open.
 const MOST_WAITING: usize = 134_217_728;
+
+/// The most bytes that an Alertmanager beside it answers.
+const MOST_ANSWER: usize = 67_125_248;
 
 /// Runs a member, prints why it ends early, and answers the exit status of the program.
 pub fn run<'a, R: Host>(rt: &'a R, options: &'a Options<'a>) -> u8 {
@@ -63,27 +68,41 @@ fn entrances<R: Host>(rt: &R, options: &Options<'_>) -> Result<Entrances, Fault>
 }
 
 /// Runs a member that listens. Answers with which fault it ended, which is told.
-fn run_member<R: Host>(member: Member<'_, R>, entrances: Entrances) -> Option<Fault> {
+fn run_member<R: Host>(member: Member<Clerk<'_, R>>, entrances: Entrances) -> Option<Fault> {
     let mut member = member;
-    tell_start(&mut member);
-    member.upkeep.tell_torn();
-    member.upkeep.save_owed();
+    begin(&mut member);
     let failed = serve(&mut member, entrances);
-    member.upkeep.end(failed)
+    let Member {
+        instance,
+        attendant: clerk,
+    } = member;
+    let mut clerk = clerk;
+    clerk.upkeep.end(&instance, failed)
+}
+
+/// Tells of the start of a member, and does what that leaves to be done.
+fn begin<R: Host>(member: &mut Member<Clerk<'_, R>>) {
+    let Member {
+        instance,
+        attendant: clerk,
+    } = member;
+    tell_start(instance, clerk);
+    clerk.upkeep.tell_torn(instance.config());
+    clerk.upkeep.save_owed(instance);
 }
 
 /// Prints that a member listens, and the times that it keeps, where that finds room.
-fn tell_start<R: Host>(member: &mut Member<'_, R>) {
-    if !member.upkeep.lines.has_room() {
+fn tell_start<R: Host>(instance: &Instance, clerk: &mut Clerk<'_, R>) {
+    if !clerk.upkeep.lines.has_room() {
         return;
     }
     let started = Started {
-        options: member.upkeep.options,
-        silences: member.upkeep.instance.silences().len(),
-        entries: member.upkeep.instance.log().len(),
+        options: clerk.upkeep.options,
+        silences: instance.silences().len(),
+        entries: instance.log().len(),
     };
-    let _ = eprintln!(member.upkeep.rt; "am_tool: {started}");
-    am_self::report(member.upkeep.rt, member.upkeep.options);
+    let _ = eprintln!(clerk.upkeep.rt; "am_tool: {started}");
+    am_self::report(clerk.upkeep.rt, clerk.upkeep.options);
 }
 
 /// Why nobody is served, or no more.
@@ -95,40 +114,58 @@ enum Unserved {
 
 /// Serves whoever connects, until the member is told to end or has taken its connections. Answers why it doesn't, or no more,
 /// which is told.
-fn serve<R: Host>(member: &mut Member<'_, R>, entrances: Entrances) -> Option<Fault> {
+fn serve<R: Host>(member: &mut Member<Clerk<'_, R>>, entrances: Entrances) -> Option<Fault> {
     match serve_peers(member, entrances) {
         Ok(()) => None,
         Err(Unserved::Memory) => {
-            member.upkeep.tell(Fault::Config(ConfigError::Memory));
+            tell(member, Fault::Config(ConfigError::Memory));
             Some(Fault::Config(ConfigError::Memory))
         }
         Err(Unserved::Listener(kind)) => {
-            member.upkeep.tell(Fault::Accept(kind));
+            tell(member, Fault::Accept(kind));
             Some(Fault::Accept(kind))
         }
     }
 }
 
+/// Prints a fault.
+fn tell<R: Host>(member: &mut Member<Clerk<'_, R>>, fault: Fault) {
+    let Member {
+        instance,
+        attendant: clerk,
+    } = member;
+    clerk.upkeep.tell(instance.config(), fault);
+}
+
 /// Serves whoever connects, and the peers.
-fn serve_peers<R: Host>(member: &mut Member<'_, R>, entrances: Entrances) -> Result<(), Unserved> {
-    let rt = member.upkeep.rt;
-    let is_sealed = member.upkeep.secret.is_some();
-    let Ok(greeting) = opening(rt.alloc(), member.upkeep.options.name, is_sealed) else {
+fn serve_peers<R: Host>(
+    member: &mut Member<Clerk<'_, R>>,
+    entrances: Entrances,
+) -> Result<(), Unserved> {
+    let Clerk {
+        upkeep,
+        addresses,
+        asked,
+        ..
+    } = &member.attendant;
+    let rt = upkeep.rt;
+    let is_sealed = upkeep.secret.is_some();
+    let Ok(greeting) = opening(rt.alloc(), upkeep.options.name, is_sealed) else {
         return Err(Unserved::Memory);
     };
-    let Ok(addresses) = member.addresses.clone() else {
+    let Ok(links) = addresses.clone() else {
         return Err(Unserved::Memory);
     };
-    let limits = limits(member.upkeep.options);
-    match am_reactor::run(
-        rt.alloc(),
-        rt,
-        entrances,
-        &addresses,
-        &greeting,
-        member,
-        limits,
-    ) {
+    let Ok(asked) = asked.clone() else {
+        return Err(Unserved::Memory);
+    };
+    let peers = Peers {
+        links: &links,
+        greeting: &greeting,
+        asked: &asked,
+    };
+    let limits = limits(upkeep.options);
+    match live(rt.alloc(), rt, entrances, peers, member, limits) {
         Ok(()) => Ok(()),
         Err(error) => Err(Unserved::Listener(error.kind())),
     }
@@ -141,6 +178,7 @@ fn limits(options: &Options<'_>) -> Limits {
         connections: options.connections,
         time: options.time_limit,
         link_bytes: MOST_WAITING,
+        answer_bytes: MOST_ANSWER,
         held_bytes: options.most_unfinished,
         watch_input: options.stop_at_input_end,
     }
@@ -151,39 +189,49 @@ fn limits(options: &Options<'_>) -> Limits {
 struct Places<'a> {
     hosts: Vec<&'a str>,
     addresses: Vec<Option<SocketAddr>>,
+    asked: Vec<Option<SocketAddr>>,
+    replicas: Replicas,
     awaited: Vec<Place>,
     shares: Vec<Share>,
 }
 
 /// The member before it listens.
-fn member<'a, R: Host>(rt: &'a R, options: &'a Options<'a>) -> Result<Member<'a, R>, Fault> {
-    let upkeep = Upkeep::load(rt, options)?;
-    let Ok(places) = places_of(rt.alloc(), upkeep.instance.config(), options) else {
+fn member<'a, R: Host>(rt: &'a R, options: &'a Options<'a>) -> Result<Member<Clerk<'a, R>>, Fault> {
+    let (instance, upkeep) = Upkeep::load(rt, options)?;
+    let Ok(places) = places_of(rt.alloc(), instance.config(), options) else {
         return Err(Fault::Config(ConfigError::Memory));
     };
     let random = random(rt)?;
     let duties = duties(rt, options)?;
-    Ok(member_of(upkeep, places, random, duties))
+    let clerk = clerk_of(upkeep, places, random, duties);
+    Ok(Member {
+        instance,
+        attendant: clerk,
+    })
 }
 
-/// The member that has all this.
-fn member_of<'a, R: Host>(
+/// The clerk that has all this.
+fn clerk_of<'a, R: Host>(
     upkeep: Upkeep<'a, R>,
     places: Places<'a>,
     random: StdRng,
     duties: Duties,
-) -> Member<'a, R> {
+) -> Clerk<'a, R> {
     let Places {
         hosts,
         addresses,
+        asked,
+        replicas,
         awaited,
         shares,
     } = places;
     let waiting = upkeep.options.waiting.min(upkeep.options.at_once / 2);
-    Member {
+    Clerk {
         upkeep,
         hosts,
         addresses,
+        asked,
+        replicas,
         random,
         duties,
         shares,
@@ -201,11 +249,15 @@ fn places_of<'a>(
     options: &Options<'a>,
 ) -> Result<Places<'a>, AllocError> {
     let addresses = addresses(alloc, config, &options.peers)?;
+    let asked = asked(alloc, config, &options.replicas)?;
+    let replicas = Replicas::new(alloc, &asked, options.gossip_every)?;
     let awaited = peer_places(alloc, &addresses)?;
     let shares = shares(alloc, addresses.len())?;
     Ok(Places {
         hosts: hosts_of(alloc, options)?,
         addresses,
+        asked,
+        replicas,
         awaited,
         shares,
     })
@@ -221,7 +273,8 @@ fn duties<R: Host>(rt: &R, options: &Options<'_>) -> Result<Duties, Fault> {
 
 /// How often it does what it does by itself.
 fn intervals(options: &Options<'_>) -> Intervals {
-    let waits = options.pull_first && !options.peers.is_empty();
+    let is_alone = options.peers.is_empty() && options.replicas.is_empty();
+    let waits = options.pull_first && !is_alone;
     Intervals {
         tick: options.tick_every,
         pull: options.pull_every,
@@ -254,6 +307,29 @@ fn addresses(
         addresses.push(peer.map(|peer| peer.address))?;
     }
     Ok(addresses)
+}
+
+/// At which address each Alertmanager beside it is asked, by the places of members.
+fn asked(
+    alloc: Global,
+    config: &Config,
+    replicas: &[Peer<'_>],
+) -> Result<Vec<Option<SocketAddr>>, AllocError> {
+    let mut asked = Vec::with_capacity(alloc, config.members().len())?;
+    for name in config.members() {
+        asked.push(address_beside(replicas, name.as_str()))?;
+    }
+    Ok(asked)
+}
+
+/// The address of the Alertmanager that stands under a name among the members.
+fn address_beside(replicas: &[Peer<'_>], name: &str) -> Option<SocketAddr> {
+    let shown = shown_name(name);
+    if shown.len() == name.len() {
+        return None;
+    }
+    let replica = replicas.iter().find(|replica| replica.name == shown)?;
+    Some(replica.address)
 }
 
 /// What each of so many members is handed: nothing yet.

@@ -1,7 +1,8 @@
 //! What a member tells of itself.
 
-use super::Member;
-use super::serving::put_off;
+ghost use Rattle.am_dialogue.specs.Talks.{Closes, Rests, talk_of};
+
+use super::clerk::{Clerk, put_off};
 use am_api_silences::Read;
 use am_api_status::{
     Call, Peer, Resource, Standing, call_of, metrics_reply, not_ready, page_reply, receivers_reply,
@@ -11,14 +12,14 @@ use am_dialogue::{Census, Dialogue, Work};
 use am_figures::{PeerName, Shown, families};
 use am_http::Cause;
 use am_http::session::Said;
+use am_instance::{Config, Instance};
 use am_jobs::VERSION;
 use am_peers::later_moment;
 use am_self::{Process, options_text};
-use am_upkeep::{DISK, Host, since_1970};
+use am_upkeep::{Host, since_1970};
 use am_version_order::Moment;
 use am_wire::Text;
 use std::alloc::AllocError;
-use std::mem;
 use std::time::Duration;
 
 /// How long it is from one moment to a later one; none to an earlier one.
@@ -30,21 +31,32 @@ pub fn time_between(from: Moment, to: Moment) -> Duration {
     ))
 }
 
-impl<R: Host> Member<'_, R> {
+impl<R: Host> Clerk<'_, R> {
     /// Answers what was asked of the member itself. Nothing waits for a first pull here.
-    pub(super) fn tell_itself(&mut self, dialogue: &mut Dialogue, said: Said, resource: Resource) {
+    pub(super) fn tell_itself(
+        &mut self,
+        instance: &Instance,
+        dialogue: &mut Dialogue,
+        said: Said,
+        resource: Resource,
+    )
+        ensures { Closes (talk_of dialogue.old) (talk_of dialogue.new) }
+    {
+        dialogue.session.stop();
         let Said { request, .. } = said;
         let Some(Read::Whole(request)) = request else {
             return;
         };
         match call_of(resource, &request.method) {
-            Ok(call) => self.tell_call(dialogue, call),
+            Ok(call) => self.tell_call(instance, dialogue, call),
             Err(refusal) => dialogue.refuse(self.upkeep.rt.alloc(), &refusal),
         }
     }
 
     /// Answers a call.
-    fn tell_call(&mut self, dialogue: &mut Dialogue, call: Call) {
+    fn tell_call(&mut self, instance: &Instance, dialogue: &mut Dialogue, call: Call)
+        ensures { Rests (talk_of dialogue.old) (talk_of dialogue.new) }
+    {
         let alloc = self.upkeep.rt.alloc();
         let Call { resource, is_bare } = call;
         match resource {
@@ -52,8 +64,8 @@ impl<R: Host> Member<'_, R> {
             Resource::Healthy => dialogue.tell(alloc, well_reply(alloc, is_bare)),
             Resource::Ready => self.tell_readiness(dialogue, is_bare),
             Resource::Receivers => dialogue.tell(alloc, receivers_reply(alloc, is_bare)),
-            Resource::Status => self.tell_status(dialogue, is_bare),
-            Resource::Metrics => self.begin_counting(dialogue, Census::new(is_bare)),
+            Resource::Status => self.tell_status(instance.config(), dialogue, is_bare),
+            Resource::Metrics => self.begin_counting(instance, dialogue, is_bare),
         }
     }
 
@@ -63,7 +75,9 @@ impl<R: Host> Member<'_, R> {
     }
 
     /// Tells whether it answers requests.
-    fn tell_readiness(&mut self, dialogue: &mut Dialogue, is_bare: bool) {
+    fn tell_readiness(&self, dialogue: &mut Dialogue, is_bare: bool)
+        ensures { Rests (talk_of dialogue.old) (talk_of dialogue.new) }
+    {
         let alloc = self.upkeep.rt.alloc();
         if self.is_ready() {
             dialogue.tell(alloc, well_reply(alloc, is_bare));
@@ -73,9 +87,11 @@ impl<R: Host> Member<'_, R> {
     }
 
     /// Tells who it is.
-    fn tell_status(&mut self, dialogue: &mut Dialogue, is_bare: bool) {
+    fn tell_status(&self, config: &Config, dialogue: &mut Dialogue, is_bare: bool)
+        ensures { Rests (talk_of dialogue.old) (talk_of dialogue.new) }
+    {
         let alloc = self.upkeep.rt.alloc();
-        let reply = match self.standing() {
+        let reply = match self.standing(config) {
             Ok(standing) => status_reply(alloc, &standing, is_bare),
             Err(error) => Err(error),
         };
@@ -83,12 +99,12 @@ impl<R: Host> Member<'_, R> {
     }
 
     /// Who it is.
-    fn standing(&self) -> Result<Standing, AllocError> {
+    fn standing(&self, config: &Config) -> Result<Standing, AllocError> {
         let alloc = self.upkeep.rt.alloc();
         Ok(Standing {
             name: Text::copied(alloc, self.upkeep.options.name)?,
             is_ready: self.is_ready(),
-            peers: self.members_shown()?,
+            peers: self.members_shown(config)?,
             options: Text::new(options_text(alloc, self.upkeep.options)?),
             start: later_moment(self.upkeep.figures.start, Moment::LEAST),
             version: VERSION,
@@ -96,7 +112,7 @@ impl<R: Host> Member<'_, R> {
     }
 
     /// All members, with where they listen.
-    fn members_shown(&self) -> Result<Vec<Peer>, AllocError> {
+    fn members_shown(&self, config: &Config) -> Result<Vec<Peer>, AllocError> {
         let alloc = self.upkeep.rt.alloc();
         let own = self
             .upkeep
@@ -104,8 +120,8 @@ impl<R: Host> Member<'_, R> {
             .peers_address
             .unwrap_or(self.upkeep.options.address);
         let mut peers = Vec::new(alloc);
-        for (place, name) in self.upkeep.instance.config().members().iter().enumerate() {
-            if name.as_str() == DISK {
+        for (place, name) in config.members().iter().enumerate() {
+            if self.is_inner(config, name.as_str()) {
                 continue;
             }
             let address = self.address_of(place).unwrap_or(own);
@@ -118,67 +134,88 @@ impl<R: Host> Member<'_, R> {
     }
 
     /// Begins to count the silences. While a first pull is waited for nothing that waits is done, so they are counted at once.
-    fn begin_counting(&mut self, dialogue: &mut Dialogue, census: Census) {
-        put_off(dialogue, Work::Counting(census));
+    fn begin_counting(&self, instance: &Instance, dialogue: &mut Dialogue, is_bare: bool)
+        ensures { Rests (talk_of dialogue.old) (talk_of dialogue.new) }
+    {
+        let census = Census::new(is_bare);
         if self.duties.waits_for_pull() {
-            self.count_all(dialogue);
-        }
-    }
-
-    /// Counts all silences, since nothing is done in stretches now.
-    fn count_all(&mut self, dialogue: &mut Dialogue) {
-        for _ in 0..u64::MAX {
-            match mem::replace(&mut dialogue.work, Work::Nothing) {
-                Work::Counting(census) => self.go_on_counting(dialogue, census),
-                other => return put_off(dialogue, other),
-            }
-        }
-    }
-
-    /// Counts a stretch more of the silences. Where none is left, the figures are told.
-    pub(super) fn go_on_counting(&mut self, dialogue: &mut Dialogue, census: Census) {
-        let alloc = self.upkeep.rt.alloc();
-        let now = later_moment(since_1970(self.upkeep.rt), self.upkeep.instance.last());
-        match census.go_on(alloc, self.upkeep.instance.silences(), now) {
-            Ok(census) => self.follow_counting(dialogue, census),
-            Err(_) => dialogue.refuse(alloc, &Cause::Memory.refusal()),
-        }
-    }
-
-    /// Tells the figures where all silences are counted, and else goes on later.
-    fn follow_counting(&mut self, dialogue: &mut Dialogue, census: Census) {
-        if census.is_done() {
-            self.tell_figures(dialogue, &census);
+            self.follow_counting(instance, dialogue, self.counted(instance, census));
         } else {
             put_off(dialogue, Work::Counting(census));
         }
     }
 
-    /// Tells its figures.
-    fn tell_figures(&mut self, dialogue: &mut Dialogue, census: &Census) {
+    /// Counts all silences, since nothing is done in stretches now.
+    fn counted(&self, instance: &Instance, census: Census) -> Result<Census, AllocError> {
+        let mut census = census;
+        for _ in 0..u64::MAX {
+            if census.is_done() {
+                break;
+            }
+            census = self.counted_on(instance, census)?;
+        }
+        Ok(census)
+    }
+
+    /// Counts a stretch more of the silences.
+    fn counted_on(&self, instance: &Instance, census: Census) -> Result<Census, AllocError> {
+        let now = later_moment(since_1970(self.upkeep.rt), instance.last());
+        census.go_on(self.upkeep.rt.alloc(), instance.silences(), now)
+    }
+
+    /// Counts a stretch more of the silences. Where none is left, the figures are told.
+    pub(super) fn go_on_counting(
+        &self,
+        instance: &Instance,
+        dialogue: &mut Dialogue,
+        census: Census,
+    )
+        ensures { Rests (talk_of dialogue.old) (talk_of dialogue.new) }
+    {
+        self.follow_counting(instance, dialogue, self.counted_on(instance, census));
+    }
+
+    /// Tells the figures where all silences are counted, and else goes on later.
+    fn follow_counting(
+        &self,
+        instance: &Instance,
+        dialogue: &mut Dialogue,
+        counted: Result<Census, AllocError>,
+    )
+        ensures { Rests (talk_of dialogue.old) (talk_of dialogue.new) }
+    {
         let alloc = self.upkeep.rt.alloc();
-        let reply = match self.shown(census.counts) {
-            Ok(shown) => match families(alloc, &self.upkeep.figures, &shown) {
-                Ok(families) => metrics_reply(alloc, &families, census.is_bare),
-                Err(error) => Err(error),
-            },
-            Err(error) => Err(error),
-        };
-        dialogue.tell(alloc, reply);
+        match counted {
+            Ok(census) if census.is_done() => dialogue.tell(alloc, self.figures(instance, &census)),
+            Ok(census) => put_off(dialogue, Work::Counting(census)),
+            Err(_) => dialogue.refuse(alloc, &Cause::Memory.refusal()),
+        }
+    }
+
+    /// Its figures, as a reply.
+    fn figures(&self, instance: &Instance, census: &Census) -> Result<Vec<u8>, AllocError> {
+        let alloc = self.upkeep.rt.alloc();
+        let shown = self.shown(instance, census.counts)?;
+        let families = families(alloc, &self.upkeep.figures, &shown)?;
+        metrics_reply(alloc, &families, census.is_bare)
     }
 
     /// What is told of it beside what it counts.
-    fn shown(&self, silences: [u64; 3]) -> Result<Shown<'_>, AllocError> {
+    fn shown<'b>(
+        &'b self,
+        instance: &'b Instance,
+        silences: [u64; 3],
+    ) -> Result<Shown<'b>, AllocError> {
         let process = Process::now(self.upkeep.rt);
-        let peers = self.peers_counted()?;
+        let peers = self.peers_counted(instance.config())?;
         Ok(Shown {
             version: VERSION,
             members: (peers.len() as u64).saturating_add(1),
             peers,
             silences,
-            entries: self.upkeep.instance.log().len() as u64,
+            entries: instance.log().len() as u64,
             waiting: self.turns.count(),
-            behind: self.clock_behind(),
+            behind: self.clock_behind(instance.last()),
             is_ready: self.is_ready(),
             ticks: process.ticks,
             resident: process.resident,
@@ -187,9 +224,9 @@ impl<R: Host> Member<'_, R> {
     }
 
     /// The peers, by place.
-    fn peers_counted(&self) -> Result<Vec<PeerName<'_>>, AllocError> {
+    fn peers_counted<'b>(&self, config: &'b Config) -> Result<Vec<PeerName<'b>>, AllocError> {
         let mut peers = Vec::new(self.upkeep.rt.alloc());
-        for (place, name) in self.upkeep.instance.config().members().iter().enumerate() {
+        for (place, name) in config.members().iter().enumerate() {
             if self.address_of(place).is_some() {
                 peers.push(PeerName {
                     place,
@@ -201,8 +238,8 @@ impl<R: Host> Member<'_, R> {
     }
 
     /// How far the clock is behind the moment of the last event.
-    fn clock_behind(&self) -> Duration {
+    fn clock_behind(&self, last: Moment) -> Duration {
         let now = later_moment(since_1970(self.upkeep.rt), Moment::LEAST);
-        time_between(now, self.upkeep.instance.last())
+        time_between(now, last)
     }
 }

@@ -200,6 +200,8 @@ pub fn write_link_fault<W: fmt::Write>(
         LinkFault::Write { written, .. } | LinkFault::Time { written } => {
             write!(f, "Send Write {peer} {written}")
         }
+        LinkFault::Read { read, .. } => write!(f, "Send Read {peer} {read}"),
+        LinkFault::TooLong => numbered(f, "Send TooLarge", peer),
         LinkFault::Full => numbered(f, "Send Full", peer),
         LinkFault::Memory => numbered(f, "Send Memory", peer),
         LinkFault::NoPeer => numbered(f, "Send NoPeer", peer),

@@ -60,6 +60,7 @@ pub fn meaning_of(fault: &Fault) -> &'static str {
         Fault::List(error) => meaning_of_list(error),
         Fault::Gossip(error) => meaning_of_answer(error),
         Fault::NoState => "the replica tells of no such state",
+        Fault::GossipError => "the replica told an error; am_tool pull prints it",
         Fault::Peer =>
             "a peer is NAME=ADDRESS:PORT, or NAME=PORT on 127.0.0.1, with a port from 1 to 65535",
         Fault::Config(error) => meaning_of_names(error),
@@ -310,6 +311,8 @@ fn meaning_of_link(fault: LinkFault) -> &'static str {
     match fault {
         LinkFault::Connect(kind) => meaning_of_connect(kind),
         LinkFault::Write { .. } | LinkFault::Time { .. } => LOST_WRITE,
+        LinkFault::Read { .. } => LOST_READ,
+        LinkFault::TooLong => "over 67,125,248 bytes came back",
         LinkFault::Full => "over 134,217,728 bytes wait for this peer; does it hang?",
         LinkFault::Memory => "memory ran out for what waits for this peer",
         LinkFault::NoPeer => "no member has this place",

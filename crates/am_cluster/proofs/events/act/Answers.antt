@@ -28,7 +28,7 @@ write_answer-requires c =
         log =
             can_be_next log_state c.steps_are_possible.ensures.log c.args.journal.now.members c.args.journal.now.log c.args.entry.now c.args.event c.args.instance.now c.step_of-answer.new.instance c.step_of-answer.result
             c.requires.ready.log c.step_of-answer.ensures.step values;
-        sound = c.step_of-answer.ensures.no_fault;
+        not_refused = c.step_of-answer.ensures.not_refused;
         few = on_ok (λ o. length o.made.silences.items ≤ 2) c.args.instance.now c.step_of-answer.new.instance c.args.event c.args.entry.now.moment c.step_of-answer.result (λ o step. c.few_are_made.ensures.silences c.args.instance.now c.step_of-answer.new.instance c.args.event c.args.entry.now.moment o step) c.step_of-answer.ensures.step;
         idle = on_ok (λ o. collects c.args.event ≡ true → (o.frames.items ≡ []) × (o.unsent.memory ≡ 0)) c.args.instance.now c.step_of-answer.new.instance c.args.event c.args.entry.now.moment c.step_of-answer.result
             (λ o step collecting. (c.collecting_leaves_nothing_out.ensures.frames c.args.instance.now c.step_of-answer.new.instance c.args.event c.args.entry.now.moment o collecting step, c.collecting_leaves_nothing_out.ensures.memory c.args.instance.now c.step_of-answer.new.instance c.args.event c.args.entry.now.moment o collecting step)) c.step_of-answer.ensures.step;
@@ -53,7 +53,7 @@ returns c =
       log =
           can_be_next log_state c.steps_are_possible.ensures.log c.args.journal.now.members c.args.journal.now.log c.args.entry.now c.args.event c.args.instance.now c.step_of-answer.new.instance c.step_of-answer.result
           c.requires.ready.log c.step_of-answer.ensures.step values;
-      sound = c.step_of-answer.ensures.no_fault;
+      not_refused = c.step_of-answer.ensures.not_refused;
       few = on_ok (λ o. length o.made.silences.items ≤ 2) c.args.instance.now c.step_of-answer.new.instance c.args.event c.args.entry.now.moment c.step_of-answer.result (λ o step. c.few_are_made.ensures.silences c.args.instance.now c.step_of-answer.new.instance c.args.event c.args.entry.now.moment o step) c.step_of-answer.ensures.step;
       idle = on_ok (λ o. collects c.args.event ≡ true → (o.frames.items ≡ []) × (o.unsent.memory ≡ 0)) c.args.instance.now c.step_of-answer.new.instance c.args.event c.args.entry.now.moment c.step_of-answer.result
           (λ o step collecting. (c.collecting_leaves_nothing_out.ensures.frames c.args.instance.now c.step_of-answer.new.instance c.args.event c.args.entry.now.moment o collecting step, c.collecting_leaves_nothing_out.ensures.memory c.args.instance.now c.step_of-answer.new.instance c.args.event c.args.entry.now.moment o collecting step)) c.step_of-answer.ensures.step;

@@ -1,5 +1,5 @@
-use Rattle.am_cluster.proofs.Acted.{no_fault}
+use Rattle.am_cluster.proofs.Acted.{not_refused}
 use Rattle.am_cluster.proofs.events.step_of.Goals as goal
 
-pub returns-clause-no_fault : goal.returns-clause-no_fault
-returns-clause-no_fault c = no_fault c.args.instance.now c.step-answer.new.self c.args.event c.args.now c.step-answer.result c.requires c.step-answer.ensures
+pub returns-clause-not_refused : goal.returns-clause-not_refused
+returns-clause-not_refused c = not_refused c.args.instance.now c.step-answer.new.self c.args.event c.args.now c.step-answer.result c.requires c.step-answer.ensures

@@ -28,7 +28,7 @@ loop-place-preserved c =
       | then-lt w ↦ subst (λ j. HasBacks c.args.journal.now (late_among members c.args.now (place + 1)) c.args.now c.args.line j × (length members ≤ j.room + (place + 1))) (sym w.journal-is) (
         one_marked c.args.journal.now c.loop-place.journal w.mark.new.self (late_among members c.args.now place) (late_among members c.args.now (place + 1)) place c.args.now c.args.line c.loop-place.invariant.0
             (late_too members c.args.now place c.index-members-place.result found (subst (λ m. c.args.now < m) last (told_less c.args.now c.last.result c.lt.result c.lt.ensures w.if-lt.true)))
-            w.mark.ensures.members w.mark.ensures.silences w.mark.ensures.log w.mark.ensures.lines,
+            w.mark.ensures.members w.mark.ensures.silences w.mark.ensures.log w.mark.ensures.lines w.mark.ensures.room,
         omega (arith, c.loop-place.invariant.1, w.mark.ensures.room),
       )
       | else-lt w ↦ subst (λ j. HasBacks c.args.journal.now (late_among members c.args.now (place + 1)) c.args.now c.args.line j × (length members ≤ j.room + (place + 1))) (sym w.journal-is) (

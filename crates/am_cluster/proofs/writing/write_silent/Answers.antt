@@ -1,5 +1,5 @@
-use Rattle.std.proofs.Common.{[], ap, map}
+use Rattle.std.proofs.Common.{[]}
 use Rattle.am_cluster.proofs.writing.write_silent.Goals as goal
 
 pub returns : goal.returns
-returns c = c.write_with.ensures [] (record { silences = ap (map (λ frame. frame.items)) c.new.ensures.items; log = ap (map (λ frame. frame.items)) c.new-2.ensures.items })
+returns c = c.write_with.ensures [] c.nothing_sent.ensures

@@ -1,9 +1,33 @@
-use Rattle.std.proofs.Common.{length, subst}
+use Rattle.std.proofs.Common.{◌≡◌, sym, ◌∙◌, subst, length}
+use Rattle.std.specs.Prelude.{None}
+use Rattle.am_steps.specs.Events.{IsSound}
+use Rattle.am_cluster.specs.Refusals.{refused_anyway}
 use Rattle.am_cluster.specs.Steps.{Fits}
+use Rattle.am_cluster.proofs.Refusing.{can_begin, can_have, late_cause, stranger_refused}
+use Rattle.am_cluster.proofs.Turned.{got}
 use Rattle.am_cluster.proofs.cluster.Cluster.do_at.Goals as goal
+
+pub refuse_at-requires-clause-late : goal.refuse_at-requires-clause-late
+refuse_at-requires-clause-late c = λ last back replica found.
+    late_cause c.args.now replica _ c.in-Some.cause last (sym (c.line_refusal.ensures replica found) ∙ c.in-Some.is) back
+
+pub happen-requires-clause-ready : goal.happen-requires-clause-ready
+happen-requires-clause-ready c = λ replica found.
+    let none = subst (λ what. refused_anyway replica what c.args.now ≡ None) (sym (c.in_ok-event.ensures.asked replica found) ∙ c.in-Event.is) (sym (c.line_refusal.ensures replica found) ∙ c.in_default.is) in
+    can_have c.args.now replica c.in-Event.event (subst IsSound c.in-Event.is c.in_ok-event.ensures.sound replica.stand.config c.args.now) none
 
 pub happen-requires-clause-silences : goal.happen-requires-clause-silences
 happen-requires-clause-silences c = (subst Fits c.in-Event.is c.in_ok-event.ensures.fits (length c.args.self.now.replicas) c.args.now).0 c.args.self.now.silences
 
 pub happen-requires-clause-log : goal.happen-requires-clause-log
 happen-requires-clause-log c = (subst Fits c.in-Event.is c.in_ok-event.ensures.fits (length c.args.self.now.replicas) c.args.now).1 c.args.self.now.log
+
+pub start_at-requires-clause-ready : goal.start_at-requires-clause-ready
+start_at-requires-clause-ready c = λ replica found.
+    can_begin c.args.now replica (subst (λ what. refused_anyway replica what c.args.now ≡ None) (sym (c.in_ok-event.ensures.asked replica found) ∙ c.in-Start.is) (sym (c.line_refusal.ensures replica found) ∙ c.in_default.is))
+
+pub unreachable-requires : goal.unreachable-requires
+unreachable-requires c =
+    let here = got c.args.self.now.replicas c.args.place c.requires in
+    stranger_refused c.args.now here.0
+    (subst (λ what. refused_anyway here.0 what c.args.now ≡ None) (sym (c.in_ok-event.ensures.asked here.0 here.1) ∙ c.in-NoMember.is) (sym (c.line_refusal.ensures here.0 here.1) ∙ c.in_default.is))

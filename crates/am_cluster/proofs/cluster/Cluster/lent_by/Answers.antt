@@ -16,7 +16,7 @@ pub returns-clause-silences : goal.returns-clause-silences
 returns-clause-silences c = λ now.
     let less = inside _ _ c.args.lender c.self.view_is c.requires.within in
     let found = found_at c.self.inside.members.items c.args.lender c.index.result.now less c.index.ensures in
-    lent_in (record { replicas = c.self.inside.members.items; silences = c.self.inside.journal.silences; log = c.self.inside.journal.log; lines = c.self.inside.journal.lines; flights = c.self.inside.flights.items })
+    lent_in (record { replicas = c.self.inside.members.items; silences = c.self.inside.journal.silences; log = c.self.inside.journal.log; lines = c.self.inside.journal.lines; flights = c.self.inside.flights.items; room = c.self.inside.journal.room })
     c.args.self.now c.args.lender now c.index.result.now c.behind-self.inside.instance c.in_ok-frame.frame c.self.view_is c.self.invariant.world found (sym (ap (λ x. x.stand) c.behind-self.view_is)) c.requires.runs c.in_ok-frame.ensures.frame
     silence_run (λ m. m.silences)
     (λ runs gone. c.lent_maps_come_from_their_lender.ensures.silences (length c.self.inside.members.items) c.args.lender now c.self.inside.journal.silences c.behind-self.inside.instance runs gone c.in_ok-frame.ensures.maps c.in_ok-frame.ensures.silences c.in_ok-frame.ensures.log)
@@ -25,7 +25,7 @@ pub returns-clause-log : goal.returns-clause-log
 returns-clause-log c = λ now.
     let less = inside _ _ c.args.lender c.self.view_is c.requires.within in
     let found = found_at c.self.inside.members.items c.args.lender c.index.result.now less c.index.ensures in
-    lent_in (record { replicas = c.self.inside.members.items; silences = c.self.inside.journal.silences; log = c.self.inside.journal.log; lines = c.self.inside.journal.lines; flights = c.self.inside.flights.items })
+    lent_in (record { replicas = c.self.inside.members.items; silences = c.self.inside.journal.silences; log = c.self.inside.journal.log; lines = c.self.inside.journal.lines; flights = c.self.inside.flights.items; room = c.self.inside.journal.room })
     c.args.self.now c.args.lender now c.index.result.now c.behind-self.inside.instance c.in_ok-frame.frame c.self.view_is c.self.invariant.world found (sym (ap (λ x. x.stand) c.behind-self.view_is)) c.requires.runs c.in_ok-frame.ensures.frame
     log_run (λ m. m.log)
     (λ runs gone. c.lent_maps_come_from_their_lender.ensures.log (length c.self.inside.members.items) c.args.lender now c.self.inside.journal.log c.behind-self.inside.instance runs gone c.in_ok-frame.ensures.maps c.in_ok-frame.ensures.silences c.in_ok-frame.ensures.log)

@@ -1,4 +1,4 @@
-use Rattle.std.proofs.Common.{◌+◌, [], ◌∷◌, ap, sym, ◌∙◌, length, length-append}
+use Rattle.std.proofs.Common.{◌+◌, [], ◌∷◌, ap, sym, ◌∙◌, length, length-append, arith}
 use Rattle.am_runs.specs.Records.{step_of}
 use Rattle.am_cluster.proofs.Twinned.{flights_pushed, twin_push}
 use Rattle.am_cluster.proofs.journal.Journal.append.Goals as goal
@@ -12,4 +12,7 @@ invariant_of-self c = record {
       ∙ (ap (λ n. n + 1) c.self.invariant.lines
       ∙ (sym (length-append c.self.inside.silences.steps (step_of c.args.silences ∷ [])) ∙ ap length (sym c.append.ensures.steps))));
   sendings = rw (c.append.ensures.steps, c.self.invariant.sendings, c.sendings.ensures) (sym (flights_pushed c.self.inside.silences.steps (step_of c.args.silences)));
+  room_silences = (let before = c.self.invariant.room_silences in let spent = c.append.ensures.room in omega arith);
+  room_log = (let before = c.self.invariant.room_log in let spent = c.append-2.ensures.room in omega arith);
+  room_lines = (let before = c.self.invariant.room_lines in let capacity = c.push_reserved.ensures.capacity in let len = c.push_reserved.ensures.len in omega arith);
 }

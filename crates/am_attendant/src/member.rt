@@ -1,0 +1,234 @@
+//! A member: what it holds, and who attends to it.
+
+ghost use Rattle.std.specs.Prelude.{◌≡◌, ◌↔◌, ◌⊎◌, ◌≤◌, IsTrue, ⊤, drop, length};
+ghost use Rattle.am_api_silences.specs.Replies.{bytes_of};
+ghost use Rattle.am_dialogue.specs.Answered.{ByItself, IsAnswered};
+ghost use Rattle.am_dialogue.specs.Talks.{Rests, closed, talk_of};
+ghost use Rattle.am_http.specs.Sessions.{SaysEnd, Spoken, name_of, over as ended_under};
+ghost use Rattle.am_living.specs.Talking.{Does, IsLetIn, IsScreened, IsTakenUp, fresh_talk};
+
+use am_dialogue::Dialogue;
+use am_instance::{Config, Instance};
+use am_living::Living;
+use am_reactor::{Broken, Entrance, LinkFault, Outgoing, Service, Wake};
+use std::io::ErrorKind;
+use std::time::Instant;
+
+/// A member that runs.
+#[derive(Drop)]
+pub struct Member<A> {
+    /// What it holds.
+    pub instance: Instance,
+    /// Who does something with that.
+    pub attendant: A,
+}
+
+/// Who attends to what a member holds. Each method is a call of [`Service`], and only one that is handed the instance to be
+/// changed makes steps of it.
+pub trait Attendant {
+    fn begin(&mut self, entrance: Entrance) -> Dialogue
+        ensures { talk_of result ≡ fresh_talk };
+
+    fn feed(&mut self, instance: &mut Instance, dialogue: &mut Dialogue, piece: &[u8])
+        ensures { IsScreened instance.old (talk_of dialogue.old) instance.new (talk_of dialogue.new)
+            ⊎ IsLetIn piece.now instance.old (talk_of dialogue.old) instance.new (talk_of dialogue.new) };
+
+    fn end(&mut self, instance: &mut Instance, dialogue: &mut Dialogue)
+        ensures { (said : Spoken) × SaysEnd dialogue.old.session said × IsAnswered said instance.old
+            (record (talk_of dialogue.old) { session = ended_under (name_of dialogue.old.session) }) instance.new (talk_of dialogue.new) };
+
+    fn broken(&mut self, config: &Config, dialogue: &mut Dialogue, broken: Broken)
+        ensures { talk_of dialogue.new ≡ talk_of dialogue.old };
+
+    fn may_resume(&self) -> bool;
+
+    fn resume(&mut self, instance: &mut Instance, dialogue: &mut Dialogue)
+        ensures { IsTakenUp (talk_of dialogue.old).waiting instance.old (talk_of dialogue.old) instance.new (talk_of dialogue.new) };
+
+    fn has_uncommitted(&self) -> bool;
+
+    fn commit(&mut self, instance: &Instance);
+
+    fn release(&mut self, dialogue: &mut Dialogue)
+        ensures { Rests (talk_of dialogue.old) (talk_of dialogue.new) };
+
+    fn come_due(&mut self, instance: &mut Instance, dialogue: &mut Dialogue)
+        ensures own { ByItself instance.old instance.new }
+        ensures rests { Rests (talk_of dialogue.old) (talk_of dialogue.new) };
+
+    fn hurry(&mut self, dialogue: &mut Dialogue)
+        ensures { Rests (talk_of dialogue.old) (talk_of dialogue.new) };
+
+    /// What of a connection is done is counted.
+    fn count_done(&mut self, dialogue: &mut Dialogue)
+        ensures reply { dialogue.new.reply ≡ dialogue.old.reply }
+        ensures written { dialogue.new.written ≡ dialogue.old.written }
+        ensures talk { talk_of dialogue.new ≡ talk_of dialogue.old };
+
+    fn outgoing(&mut self, config: &Config) -> Option<Outgoing>;
+
+    fn question(&mut self, instance: &Instance) -> Option<Outgoing>;
+
+    fn answered(&mut self, peer: usize, answer: Vec<u8>);
+
+    fn more(&mut self, instance: &Instance, peer: usize) -> Option<Vec<u8>>;
+
+    fn lost(&mut self, config: &Config, peer: usize, fault: LinkFault);
+
+    fn wake(&mut self, instance: &mut Instance, now: Instant) -> Wake
+        ensures { ByItself instance.old instance.new };
+
+    fn input_ended(&mut self);
+
+    fn accept_failed(&mut self, config: &Config, kind: ErrorKind);
+}
+
+impl<A: Attendant> Service for Member<A> {
+    type Session = Dialogue;
+
+    ghost pending = { λ dialogue. drop dialogue.written (bytes_of dialogue.reply) };
+
+    ghost over = { λ dialogue. dialogue.session ≡ ended_under (name_of dialogue.session) };
+
+    ghost waits = { λ _ _. ⊤ };
+
+    ghost is_held_back = { λ _ _. ⊤ };
+
+    ghost due = { λ _ _. ⊤ };
+
+    ghost loses = { λ _ _ _ _. ⊤ };
+
+    ghost gives = { λ _ _ _ _. ⊤ };
+
+    ghost answers = { λ _ _ _ _. ⊤ };
+
+    ghost begins = { λ member dialogue member'. (member'.instance ≡ member.instance) × (talk_of dialogue ≡ fresh_talk) };
+
+    ghost acts = { λ member member'. ByItself member.instance member'.instance };
+
+    ghost does = { λ member dialogue deed member' dialogue'. Does deed member.instance (talk_of dialogue) member'.instance (talk_of dialogue') };
+
+    fn begin(&mut self, entrance: Entrance) -> Dialogue {
+        self.attendant.begin(entrance)
+    }
+
+    fn feed(&mut self, session: &mut Dialogue, piece: &[u8]) {
+        self.attendant.feed(&mut self.instance, session, piece);
+    }
+
+    fn end(&mut self, session: &mut Dialogue) {
+        self.attendant.end(&mut self.instance, session);
+    }
+
+    fn broken(&mut self, session: &mut Dialogue, broken: Broken) {
+        self.attendant
+            .broken(self.instance.config(), session, broken);
+    }
+
+    fn waits(&self, session: &Dialogue) -> bool {
+        session.waits()
+    }
+
+    fn may_resume(&self) -> bool {
+        self.attendant.may_resume()
+    }
+
+    fn resume(&mut self, session: &mut Dialogue) {
+        self.attendant.resume(&mut self.instance, session);
+    }
+
+    fn has_uncommitted(&self) -> bool {
+        self.attendant.has_uncommitted()
+    }
+
+    fn commit(&mut self) {
+        self.attendant.commit(&self.instance);
+    }
+
+    fn is_held_back(&self, session: &Dialogue) -> bool {
+        session.is_held_back()
+    }
+
+    fn release(&mut self, session: &mut Dialogue) {
+        self.attendant.release(session);
+    }
+
+    fn due(&self, session: &Dialogue) -> Option<Instant> {
+        session.due()
+    }
+
+    fn come_due(&mut self, session: &mut Dialogue) {
+        self.attendant.come_due(&mut self.instance, session);
+    }
+
+    fn hurry(&mut self, session: &mut Dialogue) {
+        self.attendant.hurry(session);
+    }
+
+    fn output<'a>(&self, session: &'a Dialogue) -> &'a [u8] {
+        session.output()
+    }
+
+    fn sent(&mut self, session: &mut Dialogue, count: usize) {
+        session.sent(count);
+        self.attendant.count_done(session);
+    }
+
+    fn is_over(&self, session: &Dialogue) -> bool {
+        session.session.is_over()
+    }
+
+    fn held(&self, session: &Dialogue) -> usize {
+        session.held()
+    }
+
+    fn outgoing(&mut self) -> Option<Outgoing> {
+        self.attendant.outgoing(self.instance.config())
+    }
+
+    fn question(&mut self) -> Option<Outgoing> {
+        self.attendant.question(&self.instance)
+    }
+
+    fn answered(&mut self, peer: usize, answer: Vec<u8>) {
+        self.attendant.answered(peer, answer);
+    }
+
+    fn more(&mut self, peer: usize) -> Option<Vec<u8>> {
+        self.attendant.more(&self.instance, peer)
+    }
+
+    fn lost(&mut self, peer: usize, fault: LinkFault) {
+        self.attendant.lost(self.instance.config(), peer, fault);
+    }
+
+    fn wake(&mut self, now: Instant) -> Wake {
+        self.attendant.wake(&mut self.instance, now)
+    }
+
+    fn input_ended(&mut self) {
+        self.attendant.input_ended();
+    }
+
+    fn accept_failed(&mut self, kind: ErrorKind) {
+        self.attendant.accept_failed(self.instance.config(), kind);
+    }
+}
+
+impl<A: Attendant> Living for Member<A> {
+    ghost use Rattle.am_dialogue.specs.Talks.{talk_of};
+    ghost use Rattle.am_living.proofs.Talking.{acts_alone, does_lives, fresh_in_accord};
+    ghost use Rattle.am_living.specs.Talking.{IsInAccord};
+
+    ghost instance_of = { λ member. member.instance };
+
+    ghost accords = { λ dialogue. IsInAccord (talk_of dialogue) };
+
+    ghost begins_fresh = { λ member dialogue member' begins. record { same = begins.0; accord = fresh_in_accord (talk_of dialogue) begins.1 } };
+
+    ghost acts_alone = { λ member member' own.
+        let alone = acts_alone member.instance member'.instance own in record { deeds = alone.0; own = alone.1; life = alone.2 } };
+
+    ghost does_for_one = { λ member dialogue deed member' dialogue' does connection standings fed turns accord.
+        does_lives connection standings member.instance member'.instance turns fed (talk_of dialogue) (talk_of dialogue') deed accord does };
+}

@@ -1,0 +1,21 @@
+//! Running Alertmanagers beside a member: what they tell it, which it takes in as frames of peers, and what it gives back.
+#![tactic(auto)]
+
+mod fault;
+mod news;
+mod reading;
+mod replica;
+mod replicas;
+mod side;
+mod sieve;
+mod sifting;
+mod told;
+mod work;
+
+pub use fault::BesideFault;
+pub use news::News;
+pub use reading::read_some;
+pub use replicas::{Came, Replicas};
+pub use sieve::Sieve;
+pub use sifting::sift;
+pub use told::{ToldRows, told_rows};

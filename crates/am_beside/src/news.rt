@@ -1,0 +1,141 @@
+//! What a replica is to be told.
+
+use crate::sieve::Sieve;
+use crate::sifting::sift;
+use am_gossip::{Part, StateKey};
+use am_memberlist::{part_text, told_text};
+use am_merge::Held;
+use am_nflog::MeshEntry;
+use am_silence::MeshSilence;
+use am_snapshot::{RowPiece, take_row};
+use am_version_order::{Moment, Version};
+use am_wire::Message;
+use std::alloc::{AllocError, Global};
+use std::mem;
+
+/// The most bytes of new versions that wait for a replica.
+const MOST_WAITING: usize = 16_777_216;
+
+/// What a replica is to be told: the rows that it is given, and then the versions that have come since.
+#[derive(Drop)]
+pub struct News {
+    /// The rows that it is given, each of one state.
+    given: Vec<(StateKey, Vec<u8>)>,
+    silences: Held<MeshSilence>,
+    entries: Held<MeshEntry>,
+    /// How many bytes of versions came since they last went out.
+    waiting: usize,
+}
+
+/// The message that tells of the live versions of a map, but for those of the future; none where there is no such version.
+fn message_of<V: Version>(
+    alloc: Global,
+    key: StateKey,
+    held: &Held<V>,
+    now: Moment,
+) -> Result<Option<Vec<u8>>, AllocError>
+where
+    V::Key: Drop,
+{
+    let nothing = Held::new(alloc);
+    let sieve = Sieve::Given(&nothing, now);
+    let RowPiece { row, next: _ } = sift(alloc, &sieve, held.iter(), usize::MAX, usize::MAX)?;
+    if row.as_slice().is_empty() {
+        return Ok(None);
+    }
+    Ok(Some(message_with(alloc, key, row.as_slice())?))
+}
+
+/// The message that tells of a row.
+fn message_with(alloc: Global, key: StateKey, row: &[u8]) -> Result<Vec<u8>, AllocError> {
+    let part = part_text(alloc, key, row)?;
+    told_text(alloc, &part)
+}
+
+/// Takes the versions of a row, if it can be read.
+fn take_all<V: Version + Message>(
+    alloc: Global,
+    held: &mut Held<V>,
+    row: &[u8],
+) -> Result<(), AllocError> {
+    let mut reader = row;
+    let Ok(more) = take_row(alloc, &mut reader) else {
+        return Err(AllocError);
+    };
+    match held.merge(&more, Moment::LEAST) {
+        Ok(_) => Ok(()),
+        Err(_) => Err(AllocError),
+    }
+}
+
+impl News {
+    /// Nothing.
+    pub fn new(alloc: Global) -> News {
+        News {
+            given: Vec::new(alloc),
+            silences: Held::new(alloc),
+            entries: Held::new(alloc),
+            waiting: 0,
+        }
+    }
+
+    /// Whether there is nothing to be told.
+    pub fn is_empty(&self) -> bool {
+        self.given.is_empty() && self.silences.is_empty() && self.entries.is_empty()
+    }
+
+    /// Adds a row that the replica is given, if it has a version.
+    pub(crate) fn give(&mut self, key: StateKey, row: Vec<u8>) -> Result<(), AllocError> {
+        if !row.is_empty() {
+            self.given.push((key, row))?;
+        }
+        Ok(())
+    }
+
+    /// Adds new versions. Answers whether there was room and memory for them; where there was none, all that came is forgotten.
+    pub fn add(&mut self, alloc: Global, part: &Part) -> bool {
+        let row = part.bytes.as_slice();
+        self.waiting = self.waiting.saturating_add(row.len());
+        let is_added = self.waiting <= MOST_WAITING && self.take(alloc, part.key, row).is_ok();
+        if !is_added {
+            self.forget(alloc);
+        }
+        is_added
+    }
+
+    fn take(&mut self, alloc: Global, key: StateKey, row: &[u8]) -> Result<(), AllocError> {
+        match key {
+            StateKey::Sil => take_all(alloc, &mut self.silences, row),
+            StateKey::Nfl => take_all(alloc, &mut self.entries, row),
+        }
+    }
+
+    /// Forgets the versions that came.
+    fn forget(&mut self, alloc: Global) {
+        self.silences = Held::new(alloc);
+        self.entries = Held::new(alloc);
+        self.waiting = 0;
+    }
+
+    /// The next message, which is told of no more; none where nothing is left to be told.
+    ///
+    /// # Errors
+    ///
+    /// [`AllocError`] where memory runs out; what it tells of is forgotten.
+    pub fn next_message(
+        &mut self,
+        alloc: Global,
+        now: Moment,
+    ) -> Result<Option<Vec<u8>>, AllocError> {
+        if let Some((key, row)) = self.given.pop() {
+            return Ok(Some(message_with(alloc, key, &row)?));
+        }
+        let silences = mem::replace(&mut self.silences, Held::new(alloc));
+        if let Some(message) = message_of(alloc, StateKey::Sil, &silences, now)? {
+            return Ok(Some(message));
+        }
+        let entries = mem::replace(&mut self.entries, Held::new(alloc));
+        self.waiting = 0;
+        message_of(alloc, StateKey::Nfl, &entries, now)
+    }
+}

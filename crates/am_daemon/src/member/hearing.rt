@@ -1,0 +1,214 @@
+//! What comes of what a connection said.
+
+ghost use Rattle.std.specs.Prelude.{◌≡◌, ℕ, IsTrue};
+ghost use Rattle.am_http.specs.Sessions.{name_of, spoken};
+ghost use Rattle.am_dialogue.specs.Answered.{IsAnswered, IsTaken};
+ghost use Rattle.am_dialogue.specs.Talks.{Closes, Stays, closed, talk_of};
+ghost use Rattle.am_member.specs.Exchanging.{Comes, IsExchanged, left_at};
+
+use super::clerk::Clerk;
+use am_dialogue::{Dialogue, asked_of_itself, bytes_said, ends_pull, is_nothing, may_change};
+use am_faults::Fault;
+use am_figures::Request;
+use am_http::Refusal;
+use am_http::session::{Said, Session};
+use am_instance::{Config, Instance};
+use am_member::{Exchanged, Spared, exchange, spare};
+use am_peers::{Fault as ConnectionFault, next_moment};
+use am_upkeep::{Host, place_of};
+use std::time::Instant;
+
+/// What the frames of a peer asked for beside what they bring.
+#[derive(Clone, Copy)]
+struct Asked {
+    /// A Pull was answered.
+    pulled: bool,
+    /// All that is held here, by one who has sent all it has.
+    asks: bool,
+    /// A Tick.
+    ticks: bool,
+}
+
+impl<R: Host> Clerk<'_, R> {
+    /// Answers what was said, or keeps it until it may be answered.
+    pub(super) fn hear(&mut self, instance: &mut Instance, dialogue: &mut Dialogue, said: Said)
+        ensures { IsAnswered (spoken said) instance.old (talk_of dialogue.old) instance.new (talk_of dialogue.new) }
+    {
+        let name = dialogue.session.name();
+        self.count_said(instance.config(), &mut dialogue.account, name, &said);
+        if let Some(resource) = asked_of_itself(&said) {
+            return self.tell_itself(instance, dialogue, said, resource);
+        }
+        if let Some(said) = dialogue.hold(said, self.duties.waits_for_pull()) {
+            self.judge(instance, dialogue, said);
+        }
+    }
+
+    /// Refuses to hear a request that names a host or a site which isn't this member's.
+    pub(super) fn turn_away(&self, dialogue: &mut Dialogue, refusal: &Refusal)
+        ensures { talk_of dialogue.new ≡ closed (talk_of dialogue.old) }
+    {
+        dialogue
+            .account
+            .ask(Request::Other, Instant::now(self.upkeep.rt).ok());
+        dialogue.refuse(self.upkeep.rt.alloc(), refusal);
+    }
+
+    /// Answers what was said.
+    pub(super) fn answer(&mut self, instance: &mut Instance, dialogue: &mut Dialogue, said: Said)
+        ensures { IsAnswered (spoken said) instance.old (talk_of dialogue.old) instance.new (talk_of dialogue.new) }
+    {
+        if is_nothing(&said) && dialogue.session.name().is_none() {
+            return;
+        }
+        if self.refuses_inner(instance.config(), dialogue) {
+            return;
+        }
+        self.take_in(instance, dialogue, said);
+    }
+
+    /// Refuses who greets by a name that is nobody's, as that of the disk, and answers whether somebody did.
+    fn refuses_inner(&mut self, config: &Config, dialogue: &mut Dialogue) -> bool
+        ensures refused { IsTrue result → Closes (talk_of dialogue.old) (talk_of dialogue.new) }
+        ensures heard { ¬ IsTrue result → talk_of dialogue.new ≡ talk_of dialogue.old }
+    {
+        let is_inner = match dialogue.session.name() {
+            Some(name) => self.is_inner(config, name),
+            None => false,
+        };
+        if is_inner {
+            dialogue.session.stop();
+            let fault = Fault::Connection(ConnectionFault::UnknownName);
+            self.upkeep.tell(config, fault);
+        }
+        is_inner
+    }
+
+    /// Makes the steps of what was said, and what follows them.
+    fn take_in(&mut self, instance: &mut Instance, dialogue: &mut Dialogue, said: Said)
+        ensures { IsTaken (spoken said) instance.old (talk_of dialogue.old) instance.new (talk_of dialogue.new) }
+    {
+        self.upkeep.room.add(bytes_said(&said));
+        self.upkeep.is_changed |= may_change(&said);
+        let pulled = ends_pull(&said);
+        let Spared { said, asks, ticks } = spare(said);
+        let exchanged = self.make_steps(instance, &mut dialogue.session, said);
+        let asked = Asked {
+            pulled,
+            asks,
+            ticks,
+        };
+        let config = instance.config();
+        self.heed(config, dialogue.session.name(), asked, exchanged.fault);
+        self.reply(config, dialogue, exchanged);
+    }
+
+    /// Makes the steps of what was said.
+    fn make_steps(
+        &mut self,
+        instance: &mut Instance,
+        session: &mut Session,
+        said: Said,
+    ) -> Exchanged
+        ensures exchanged { (bits : ℕ) × (now : ℕ) × Comes (IsExchanged (name_of session.old) bits now (spoken said) instance.old instance.new) result }
+        ensures session { session.new ≡ left_at result.fault session.old }
+    {
+        let bits = self.random_bits();
+        let now = next_moment(self.upkeep.rt, instance.last());
+        exchange(self.upkeep.rt.alloc(), instance, session, said, bits, now)
+    }
+
+    /// Has go out what comes of steps: behind the next commit, where something came since the last one.
+    fn reply(&mut self, config: &Config, dialogue: &mut Dialogue, exchanged: Exchanged)
+        ensures { Stays (talk_of dialogue.old) (talk_of dialogue.new) }
+    {
+        let Exchanged {
+            reply,
+            effects,
+            fault,
+        } = exchanged;
+        let news = self.upkeep.keeping.news();
+        let peer = place_of(config, dialogue.session.name());
+        self.upkeep.follow(config, peer, effects.outbox, fault);
+        dialogue.reply_with(self.upkeep.rt.alloc(), reply);
+        if self.upkeep.keeping.has_news() {
+            dialogue.hold_back(self.upkeep.keeping.news() != news);
+        }
+    }
+
+    /// Does what the frames of a peer asked for, as far as their steps were made.
+    fn heed(
+        &mut self,
+        config: &Config,
+        name: Option<&str>,
+        asked: Asked,
+        fault: Option<ConnectionFault>,
+    ) {
+        let Asked {
+            pulled,
+            asks,
+            ticks,
+        } = asked;
+        if fault.is_none() {
+            self.end_first_pull_after(config, name, pulled, asks);
+        }
+        if fault != Some(ConnectionFault::UnknownName) {
+            self.owe(config, name, asks, ticks);
+        }
+    }
+
+    /// Ends the first pull, if it is waited for, where a peer has sent all it has, or now that each has.
+    fn end_first_pull_after(
+        &mut self,
+        config: &Config,
+        name: Option<&str>,
+        pulled: bool,
+        pushed: bool,
+    ) {
+        if !self.duties.waits_for_pull() {
+            return;
+        }
+        let all = pushed && self.has_all_with(config, name);
+        if pulled || all {
+            self.end_first_pull();
+        }
+    }
+
+    /// Keeps in mind what the frames of a peer asked for: all that is held here, but while the first pull is waited for, and a
+    /// Tick.
+    fn owe(&mut self, config: &Config, name: Option<&str>, asks: bool, ticks: bool) {
+        if ticks {
+            self.duties.owe_tick();
+        }
+        if !asks || self.duties.waits_for_pull() {
+            return;
+        }
+        let Some(place) = place_of(config, name) else {
+            return;
+        };
+        self.hand_all(place as usize, false);
+    }
+
+    /// Whether each peer has pushed all that it has, now that the one of this name did.
+    fn has_all_with(&mut self, config: &Config, name: Option<&str>) -> bool {
+        let Some(name) = name else {
+            return false;
+        };
+        let place = config.place_named(name);
+        if let Some(at) = self
+            .awaited
+            .iter()
+            .position(|awaited| Some(*awaited) == place)
+        {
+            self.awaited.swap_remove(at);
+        }
+        self.awaited.is_empty()
+    }
+
+    /// What all peers have is here.
+    pub(super) fn end_first_pull(&mut self) {
+        if let Ok(now) = Instant::now(self.upkeep.rt) {
+            self.duties.end_first_pull(now);
+        }
+    }
+}

@@ -1,0 +1,3 @@
+pub mod Finished
+pub mod Resting
+pub mod Steps

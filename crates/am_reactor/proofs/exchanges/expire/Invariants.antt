@@ -1,0 +1,5 @@
+use Rattle.am_reactor.specs.History.{ActsOn}
+use Rattle.am_reactor.proofs.exchanges.expire.Given as goal
+
+abbrev pub invariant-loop : goal.invariant-loop
+invariant-loop g l = ActsOn g.S.Service.acts l.fn.service l.service

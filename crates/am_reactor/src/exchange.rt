@@ -1,0 +1,108 @@
+//! A connection over which a peer is asked, and answers.
+
+ghost use Rattle.std.specs.Prelude.{◌≡◌, ◌≤◌, [], length, Ok, IfOk};
+ghost use Rattle.am_reactor.specs.Exchanges.{GoesOn, IsBegun};
+
+use crate::connection::Pace;
+use crate::fault::LinkFault;
+use crate::inbox::hear_on;
+use crate::link::stands;
+use crate::outbox::{Outbox, Progress};
+use mio::net::TcpStream;
+use std::alloc::Global;
+use std::net::{Net, SocketAddr};
+use std::time::Instant;
+
+/// A connection to a peer, what is asked over it, and what came back.
+#[derive(Drop)]
+pub struct Exchange {
+    pub stream: TcpStream,
+    outbox: Outbox,
+    answer: Vec<u8>,
+    /// When its time is over.
+    pub end: Instant,
+    is_connected: bool,
+}
+
+impl Exchange {
+    /// Begins to connect to an address, to ask this.
+    ///
+    /// # Errors
+    ///
+    /// [`LinkFault::Memory`] and [`LinkFault::Connect`].
+    pub fn open<R: Net>(
+        alloc: Global,
+        rt: &R,
+        address: SocketAddr,
+        request: &[u8],
+        end: Instant,
+    ) -> Result<Exchange, LinkFault>
+        ensures { IfOk result (λ exchange. IsBegun exchange request.now) }
+    {
+        let outbox = Outbox::new(alloc, &[], request)?;
+        match TcpStream::connect(rt, address) {
+            Ok(stream) => Ok(Exchange {
+                stream,
+                outbox,
+                answer: Vec::new(alloc),
+                end,
+                is_connected: false,
+            }),
+            Err(error) => Err(LinkFault::Connect(error.kind())),
+        }
+    }
+
+    /// Whether the connection stands.
+    ///
+    /// # Errors
+    ///
+    /// [`LinkFault::Connect`] where it was refused.
+    fn connected(&mut self) -> Result<bool, LinkFault>
+        ensures outbox { self.new.outbox ≡ self.old.outbox }
+        ensures answer { self.new.answer ≡ self.old.answer }
+    {
+        self.is_connected = stands(&self.stream, self.is_connected)?;
+        Ok(self.is_connected)
+    }
+
+    /// Writes what is still to be asked; once all is, reads what comes back, which is at most `most` bytes. It is done once the
+    /// peer has ended its stream.
+    ///
+    /// # Errors
+    ///
+    /// [`LinkFault::Connect`], [`LinkFault::Write`], [`LinkFault::Read`], [`LinkFault::TooLong`] and [`LinkFault::Memory`].
+    pub fn advance(&mut self, piece: &mut [u8], most: usize) -> Result<Progress, LinkFault>
+        ensures went { GoesOn self.old self.new }
+        ensures done { result ≡ Ok Progress.Done → self.new.outbox.waiting ≡ [] }
+        ensures within { length self.old.answer.items ≤ most → length self.new.answer.items ≤ most }
+    {
+        if !self.connected()? {
+            return Ok(Progress::Going(Pace::Idle));
+        }
+        match self.outbox.send_on(&mut self.stream)? {
+            Progress::Done => hear_on(&mut self.answer, &mut self.stream, piece, most),
+            going => Ok(going),
+        }
+    }
+
+    /// How many bytes went out.
+    pub fn written(&self) -> u64
+        ensures { result ≡ length self.now.outbox.gone }
+    {
+        self.outbox.written() as u64
+    }
+
+    /// What came back.
+    pub fn into_answer(self) -> Vec<u8>
+        ensures { result ≡ self.answer }
+    {
+        let Exchange {
+            stream: _,
+            outbox: _,
+            answer,
+            end: _,
+            is_connected: _,
+        } = self;
+        answer
+    }
+}

@@ -1,0 +1,307 @@
+//! The exchanges with the peers.
+
+ghost use Rattle.std.specs.Prelude.{◌≡◌, [], ℕ, None, false, IfOk, IfSome, IsTrue, Ok, OnOk};
+ghost use Rattle.std.specs.Option.{IsSome};
+ghost use Rattle.am_reactor.specs.Exchanges.{GoesOnWith, IsAskedOf, IsBegun, IsHeard, IsTold, KeepsExchanges, exchange_with};
+ghost use Rattle.am_reactor.specs.History.{ActsOn};
+
+use crate::connection::Pace;
+use crate::exchange::Exchange;
+use crate::fault::LinkFault;
+use crate::outbox::Progress;
+use crate::queue::Queue;
+use crate::service::{Outgoing, Service};
+use crate::source::Source;
+use mio::{Interest, Registry};
+use std::alloc::{AllocError, Global};
+use std::mem;
+use std::net::{Net, SocketAddr};
+use std::time::Instant;
+
+/// The exchanges with the peers, one at a time with each.
+#[derive(Drop)]
+pub struct Exchanges {
+    alloc: Global,
+    /// At which address each peer is asked, where there is one.
+    addresses: Vec<Option<SocketAddr>>,
+    open: Vec<Option<Exchange>>,
+    /// The most bytes that come back over one.
+    most: usize,
+    /// The peers of those that are open, in the order in which their time is over.
+    by_end: Queue,
+    /// Those for which there is more to do at once.
+    busy: Queue,
+}
+
+impl Exchanges {
+    /// No exchange, with peers at these addresses.
+    pub fn new(
+        alloc: Global,
+        addresses: &[Option<SocketAddr>],
+        most: usize,
+    ) -> Result<Exchanges, AllocError>
+        ensures addresses { IfOk result (λ exchanges. exchanges.addresses.items ≡ addresses.now) }
+        ensures most { IfOk result (λ exchanges. exchanges.most ≡ most) }
+        ensures none { IfOk result (λ exchanges. (peer : ℕ) → exchange_with exchanges peer ≡ None) }
+    {
+        let Ok(count) = u16::try_from(addresses.len()) else {
+            return Err(AllocError);
+        };
+        let mut open = Vec::with_capacity(alloc, addresses.len())?;
+        for _ in addresses {
+            open.push(None)?;
+        }
+        Ok(Exchanges {
+            alloc,
+            addresses: Vec::from_slice(alloc, addresses)?,
+            open,
+            most,
+            by_end: Queue::new(alloc, count)?,
+            busy: Queue::new(alloc, count)?,
+        })
+    }
+
+    /// Whether no exchange is under way.
+    pub fn is_empty(&self) -> bool {
+        self.by_end.is_empty()
+    }
+
+    /// Whether there is more to do at once.
+    pub fn is_busy(&self) -> bool {
+        !self.busy.is_empty()
+    }
+
+    /// When the next time of an exchange is over.
+    pub fn next_end(&self) -> Option<Instant> {
+        let peer = self.by_end.first()?;
+        match self.open.get(peer) {
+            Some(Some(exchange)) => Some(exchange.end),
+            _ => None,
+        }
+    }
+
+    /// A peer with which the time of the exchange is over by now.
+    fn overdue(&self, now: Instant) -> Option<usize> {
+        match self.next_end() {
+            Some(end) if end <= now => self.by_end.first(),
+            _ => None,
+        }
+    }
+
+    /// Whether an exchange with a peer is under way.
+    fn is_open(&self, peer: usize) -> bool
+        ensures open { IsTrue result → IsSome (exchange_with self.now peer) }
+        ensures none { result ≡ false → exchange_with self.now peer ≡ None }
+    {
+        match self.open.get(peer) {
+            Some(Some(_)) => true,
+            _ => false,
+        }
+    }
+
+    /// Begins to ask a peer, whose time is over then.
+    ///
+    /// # Errors
+    ///
+    /// [`LinkFault::Full`] where an exchange with it is under way, which goes on; [`LinkFault::NoPeer`]; and why there is no
+    /// connection.
+    fn begin<R: Net>(
+        &mut self,
+        rt: &R,
+        registry: &Registry,
+        asked: &Outgoing,
+        end: Instant,
+    ) -> Result<(), LinkFault>
+        ensures none { OnOk result (exchange_with self.old asked.now.peer ≡ None) }
+        ensures open { OnOk result (IsSome (exchange_with self.new asked.now.peer)) }
+        ensures begun { OnOk result (IfSome (exchange_with self.new asked.now.peer) (λ exchange. IsBegun exchange asked.now.bytes.items)) }
+        ensures others { KeepsExchanges asked.now.peer self.old self.new }
+    {
+        let peer = asked.peer;
+        if self.is_open(peer) {
+            return Err(LinkFault::Full);
+        }
+        let exchange = self.connect(rt, registry, peer, asked.bytes.as_slice(), end)?;
+        let Some(open) = self.open.get_mut(peer) else {
+            return Err(LinkFault::NoPeer);
+        };
+        *open = Some(exchange);
+        self.by_end.push(peer);
+        self.busy.push(peer);
+        Ok(())
+    }
+
+    /// Begins to connect to a peer.
+    fn connect<R: Net>(
+        &self,
+        rt: &R,
+        registry: &Registry,
+        peer: usize,
+        request: &[u8],
+        end: Instant,
+    ) -> Result<Exchange, LinkFault>
+        ensures { IfOk result (λ exchange. IsBegun exchange request.now) }
+    {
+        let (Some(Some(address)), Ok(place)) = (
+            self.addresses.get(peer).copied(),
+            u16::try_from(peer),
+        ) else {
+            return Err(LinkFault::NoPeer);
+        };
+        let token = Source::Exchange(place).token();
+        let mut exchange = Exchange::open(self.alloc, rt, address, request, end)?;
+        match registry.register(
+            &mut exchange.stream,
+            token,
+            Interest::READABLE | Interest::WRITABLE,
+        ) {
+            Ok(()) => Ok(exchange),
+            Err(error) => Err(LinkFault::Connect(error.kind())),
+        }
+    }
+
+    /// Has the exchange with a peer go on as far as it can now.
+    ///
+    /// # Errors
+    ///
+    /// Why it ends.
+    fn advance(&mut self, peer: usize, piece: &mut [u8]) -> Result<Progress, LinkFault>
+        requires { IsSome (exchange_with self.old peer) }
+        ensures open { IsSome (exchange_with self.new peer) }
+        ensures went { GoesOnWith self.old self.new peer }
+        ensures done { result ≡ Ok Progress.Done → IfSome (exchange_with self.new peer) (λ exchange. exchange.outbox.waiting ≡ []) }
+        ensures others { KeepsExchanges peer self.old self.new }
+    {
+        let most = self.most;
+        match &mut self.open[peer] {
+            Some(exchange) => exchange.advance(piece, most),
+            None => Ok(Progress::Going(Pace::Idle)),
+        }
+    }
+
+    /// Closes the exchange with a peer, and gives it.
+    fn close(&mut self, peer: usize) -> Option<Exchange>
+        ensures given { result ≡ exchange_with self.old peer }
+        ensures closed { exchange_with self.new peer ≡ None }
+        ensures others { KeepsExchanges peer self.old self.new }
+    {
+        self.by_end.remove(peer);
+        self.busy.remove(peer);
+        match self.open.get_mut(peer) {
+            Some(open) => mem::replace(open, None),
+            None => None,
+        }
+    }
+
+    /// How many bytes went out over the exchange with a peer.
+    fn written(&self, peer: usize) -> u64 {
+        match self.open.get(peer) {
+            Some(Some(exchange)) => exchange.written(),
+            _ => 0,
+        }
+    }
+}
+
+/// Asks a peer; its time is over then. Or tells the service why what it asks is lost.
+pub fn ask<S: Service, R: Net>(
+    exchanges: &mut Exchanges,
+    service: &mut S,
+    rt: &R,
+    registry: &Registry,
+    asked: &Outgoing,
+    end: Instant,
+)
+    ensures others { KeepsExchanges asked.now.peer exchanges.old exchanges.new }
+    ensures asked { IsAskedOf S.answers S.loses asked.now.peer asked.now.bytes.items service.old exchanges.old service.new exchanges.new }
+    ensures acted { ActsOn S.acts service.old service.new }
+{
+    if let Err(fault) = exchanges.begin(rt, registry, asked, end) {
+        service.lost(asked.peer, fault);
+    }
+}
+
+/// Tells the service of all that came back from a peer, and closes the exchange with it.
+fn tell<S: Service>(exchanges: &mut Exchanges, service: &mut S, peer: usize)
+    requires open { IsSome (exchange_with exchanges.old peer) }
+    requires asked { IfSome (exchange_with exchanges.old peer) (λ exchange. exchange.outbox.waiting ≡ []) }
+    ensures told { IfSome (exchange_with exchanges.old peer) (IsTold S.answers S.loses peer service.old service.new) }
+    ensures closed { exchange_with exchanges.new peer ≡ None }
+    ensures others { KeepsExchanges peer exchanges.old exchanges.new }
+    ensures acted { ActsOn S.acts service.old service.new }
+{
+    if let Some(exchange) = exchanges.close(peer) {
+        service.answered(peer, exchange.into_answer());
+    }
+}
+
+/// Has the exchange with a peer go on as far as it can now. Tells the service of what came back, once all did, and why it is
+/// lost, where it fails.
+pub fn hear<S: Service>(exchanges: &mut Exchanges, service: &mut S, peer: usize, piece: &mut [u8])
+    ensures others { KeepsExchanges peer exchanges.old exchanges.new }
+    // PROMISE: What a peer answered is told once, whole, once all was asked of it; or it is told that it is lost.
+    ensures heard { IsSome (exchange_with exchanges.old peer)
+        → IsHeard S.answers S.loses peer service.old exchanges.old service.new exchanges.new }
+    ensures untold { exchange_with exchanges.old peer ≡ None → service.new ≡ service.old }
+    ensures acted { ActsOn S.acts service.old service.new }
+{
+    if !exchanges.is_open(peer) {
+        return;
+    }
+    match exchanges.advance(peer, piece) {
+        Ok(Progress::Going(Pace::Idle)) => {}
+        Ok(Progress::Going(Pace::Busy)) => exchanges.busy.push(peer),
+        Ok(Progress::Done) => tell(exchanges, service, peer),
+        Err(fault) => {
+            let _ = exchanges.close(peer);
+            service.lost(peer, fault);
+        }
+    }
+}
+
+/// Does more where there is more to do at once.
+pub fn hear_all<S: Service>(exchanges: &mut Exchanges, service: &mut S, piece: &mut [u8])
+    ensures { ActsOn S.acts service.old service.new }
+{
+    for _ in 0..exchanges.busy.len() {
+        match exchanges.busy.pop() {
+            Some(peer) => hear(exchanges, service, peer, piece),
+            None => break,
+        }
+    }
+}
+
+/// Closes the exchange with a peer, whose time is over.
+fn give_up<S: Service>(exchanges: &mut Exchanges, service: &mut S, peer: usize)
+    ensures closed { exchange_with exchanges.new peer ≡ None }
+    ensures others { KeepsExchanges peer exchanges.old exchanges.new }
+    ensures told { (written : ℕ) × S.loses service.old peer (LinkFault.Time written) service.new }
+    ensures acted { ActsOn S.acts service.old service.new }
+{
+    let written = exchanges.written(peer);
+    let _ = exchanges.close(peer);
+    service.lost(peer, LinkFault::Time { written });
+}
+
+/// Closes the exchanges whose time is over by now.
+pub fn expire<S: Service>(exchanges: &mut Exchanges, service: &mut S, now: Instant)
+    ensures { ActsOn S.acts service.old service.new }
+{
+    for _ in 0..u16::MAX {
+        match exchanges.overdue(now) {
+            Some(peer) => give_up(exchanges, service, peer),
+            None => break,
+        }
+    }
+}
+
+/// Closes every exchange.
+pub fn give_up_all<S: Service>(exchanges: &mut Exchanges, service: &mut S)
+    ensures { ActsOn S.acts service.old service.new }
+{
+    for _ in 0..u16::MAX {
+        match exchanges.by_end.first() {
+            Some(peer) => give_up(exchanges, service, peer),
+            None => break,
+        }
+    }
+}

@@ -1,0 +1,74 @@
+//! What comes back over an exchange.
+
+ghost use Rattle.std.specs.Prelude.{◌≡◌, ◌++◌, ◌<◌, ◌≤◌, Ok, length, IsErrOf, OnErr, OnOk};
+ghost use Rattle.std.specs.Io.KnownBytes.{IsAtEnd};
+ghost use Rattle.am_reactor.specs.Exchanges.{ComesBack, IsTooMuch};
+
+use crate::connection::Pace;
+use crate::fault::LinkFault;
+use crate::outbox::Progress;
+use crate::reading::{Brought, PIECES, read_once};
+use crate::stream::Stream;
+
+/// Reads once, and adds what came, where that is at most `most` bytes in all.
+///
+/// # Errors
+///
+/// [`LinkFault::TooLong`] and [`LinkFault::Memory`]; nothing is added then.
+fn hear_once<C: Stream>(
+    answer: &mut Vec<u8>,
+    stream: &mut C,
+    piece: &mut [u8],
+    most: usize,
+) -> Result<Brought, LinkFault>
+    ensures came { OnOk result (ComesBack (C.coming stream.old) (C.coming stream.new) answer.old.items answer.new.items) }
+    ensures kept { OnErr result (answer.new.items ≡ answer.old.items) }
+    ensures too_long { IsErrOf result LinkFault.TooLong
+        → IsTooMuch most (C.coming stream.old) (C.coming stream.new) answer.old.items }
+    ensures within { length answer.old.items ≤ most → length answer.new.items ≤ most }
+    ensures ended { result ≡ Ok Brought.End → 0 < length piece.old → IsAtEnd (C.coming stream.new) }
+    ensures gone { C.gone stream.new ≡ C.gone stream.old }
+{
+    let brought = read_once(stream, piece);
+    if let Brought::Bytes(count) = brought {
+        if count > most.saturating_sub(answer.len()) {
+            return Err(LinkFault::TooLong);
+        }
+        answer.extend_from_slice(&piece[..count])?;
+    }
+    Ok(brought)
+}
+
+/// Reads what came back, and adds it, until nothing more is there, the stream has ended or the reads of this turn are made.
+///
+/// # Errors
+///
+/// [`LinkFault::Read`]; [`LinkFault::TooLong`] where more than `most` bytes came; and [`LinkFault::Memory`].
+pub fn hear_on<C: Stream>(
+    answer: &mut Vec<u8>,
+    stream: &mut C,
+    piece: &mut [u8],
+    most: usize,
+) -> Result<Progress, LinkFault>
+    // PROMISE: An answer is all that came over its own stream, up to its end and within its limit.
+    ensures came { OnOk result (ComesBack (C.coming stream.old) (C.coming stream.new) answer.old.items answer.new.items) }
+    ensures longer { (more : _) × (answer.new.items ≡ answer.old.items ++ more) }
+    ensures within { length answer.old.items ≤ most → length answer.new.items ≤ most }
+    ensures ended { result ≡ Ok Progress.Done → 0 < length piece.old → IsAtEnd (C.coming stream.new) }
+    ensures gone { C.gone stream.new ≡ C.gone stream.old }
+{
+    for _ in 0..PIECES {
+        match hear_once(answer, stream, piece, most)? {
+            Brought::Bytes(_) | Brought::Interrupted => {}
+            Brought::End => return Ok(Progress::Done),
+            Brought::Nothing => return Ok(Progress::Going(Pace::Idle)),
+            Brought::Failed(kind) => {
+                return Err(LinkFault::Read {
+                    read: answer.len() as u64,
+                    kind,
+                });
+            }
+        }
+    }
+    Ok(Progress::Going(Pace::Busy))
+}

@@ -1,0 +1,288 @@
+#!/usr/bin/env python3
+"""Runs members of the built am_tool beside replicas of this script, which speak memberlist as Alertmanager does, or badly.
+
+    tests/beside.py [PROGRAM]
+
+PROGRAM is crates/am_tool/out/am_tool if it isn't given; ./am_tool and rt ci build it. A member has to hold what each replica
+holds, to give back what one forgot, and to tell each of new versions at once; and to go on where one lies, stalls, cuts its
+answer or never ends it. What is wanted is written by hand, from docs/MEMBERS.md and docs/FORMATS.md. Prints each case that
+fails, and at the end how many passed.
+"""
+
+import json
+import sys
+import tempfile
+import threading
+import time
+
+import gossip
+from lib import members
+from gossip import Liar, Replica, answer, bomb, compressed, plain_lzw, states_of, take, version_of
+from lib.members import Member, eventually, free_ports, run
+from lib.tally import check, compare, finish, try_each
+from lib.api import silence
+from lib.versions import row
+from lib.wire import greeting, items
+
+HOUR = 3600
+
+# The moment of the start, in seconds.
+NOW = int(time.time())
+
+# What a member prints of an answer that is cut.
+CUT = "am_tool: Gossip Cut"
+
+
+def of(key, value="x", updated=-10, expires=HOUR, comment="c"):
+    """A silence in words, with moments in seconds from the start on."""
+    return f"{key} job={value} {NOW - 100}..{NOW + expires} updated {NOW + updated} expires {NOW + expires} by me saying {comment}"
+
+
+def entry(group, updated=-10, firing="1,2"):
+    return f"{group} r/w/0 updated {NOW + updated} expires {NOW + HOUR} firing {firing}"
+
+
+class Alive(Replica):
+    """A replica by the clock of this machine."""
+
+    def __init__(self, **held):
+        super().__init__(now=0, **held)
+        self.port = int(self.word.rsplit(":", 1)[1])
+
+    def merge(self, states):
+        self.now = time.time_ns()
+        super().merge(states)
+
+    def keys(self, state="sil"):
+        return sorted(key[0].decode() for key in self.held[state])
+
+    def forget(self):
+        self.held = {"sil": {}, "nfl": {}}
+
+
+def started(name, folder, replicas, *options, every=1, peers=()):
+    """A member beside replicas by their names."""
+    words = [word for at, it in replicas.items() for word in ("--gossip", f"{at}={it.port}")]
+    member = Member(name, free_ports(1)[0], peers, folder, [*words, "--gossip-every", str(every), *members.ALL_LINES, *options])
+    check(f"{name} listens", member.start(), member.lines)
+    return member
+
+
+def listed(member):
+    return sorted(it["id"] for it in member.listed() or [])
+
+
+def post(member, value):
+    status, body = member.ask("POST", "/api/v2/silences", json.dumps(silence(value)).encode())
+    compare(f"a post of {value}", status, 200)
+    return json.loads(body)["silenceID"]
+
+
+def stop(member):
+    member.process.terminate()
+    member.end()
+
+
+def test_holds(folder):
+    """It holds what the replica holds, both states, and what comes there later."""
+    one = Alive(sil=f"{of('a')}, {of('b')}", nfl=entry("g"))
+    member = started("m", folder, {"am": one})
+    check("it holds the silences", eventually(lambda: listed(member) == ["a", "b"]), member.lines)
+    check("its start says so", ", beside am=" in member.lines[0], member.lines[0])
+    one.merge(states_of(sil=row("sil", f"{of('c')}, {of('b', updated=-5, comment='later')}")))
+    check("and what came later", eventually(lambda: listed(member) == ["a", "b", "c"]), member.lines)
+    check("an update, too", eventually(lambda: "later" in [it["comment"] for it in member.listed()]), member.listed())
+    compare("nothing goes back", (one.pushed[1:], one.faults), ([], []))
+    member.send(greeting("nobody"))
+    compare("no fault", [it for it in member.lines[1:] if "UnknownName" not in it], [])
+    member.process.kill()
+    member.end()
+
+
+def test_given_back(folder):
+    """What a replica forgot, it gets again, each key once, both states, from the member alone."""
+    many = ", ".join(of(f"k{it:04}") for it in range(3_000))
+    one = Alive(sil=many, nfl=entry("g"), raw=True)
+    member = started("m", folder, {"am": one})
+    check("it holds all", eventually(lambda: len(listed(member)) == 3_000), len(listed(member)))
+    held = {state: dict(it) for state, it in one.held.items()}
+    one.forget()
+    check("it is given back", eventually(lambda: len(one.held["sil"]) == 3_000 and len(one.held["nfl"]) == 1), len(one.held["sil"]))
+    compare("byte for byte", one.held, held)
+    compare("in one part of each state, without a fault", (sorted((key, len(it)) for key, it in one.pushed), one.faults), ([("nfl", 1), ("sil", 3_000)], []))
+    member.process.kill()
+    member.end()
+
+
+def test_at_once(folder):
+    """A new version goes to each replica at once, and from one to the other; both ways once."""
+    one, other = Alive(), Alive(sil=of("o"))
+    member = started("m", folder, {"am1": one, "am2": other}, every=HOUR)
+    check("from one to the other", eventually(lambda: one.keys() == ["o"]), one.keys())
+    begun = time.monotonic()
+    key = post(member, "web")
+    check("to the first", eventually(lambda: key in one.keys()), one.keys())
+    check("to the second", eventually(lambda: key in other.keys()), other.keys())
+    check("within a second or so", time.monotonic() - begun < 5)
+    status, _ = member.ask("DELETE", f"/api/v2/silence/{key}")
+    compare("an end", status, 200)
+    ended = lambda it: version_of(it.held["sil"][(key.encode(), b"")])[1]
+    check("comes, too", eventually(lambda: ended(one) == ended(other) and len(one.pushed) >= 3), one.pushed)
+    compare("each was asked once", (one.asked, other.asked), (1, 1))
+    compare("without a fault", one.faults + other.faults, [])
+    stop(member)
+
+
+def test_not_given(folder):
+    """What a replica wouldn't take isn't sent: the future, what has expired, and what ties in its update."""
+    one = Alive()
+    with open(f"{folder}/m.sil", "wb") as file:
+        file.write(row("sil", ", ".join([of("f", updated=HOUR, expires=2 * HOUR), of("g", expires=-5), of("t", expires=2 * HOUR), of("l")])))
+    one.merge(states_of(sil=row("sil", of("t"))))
+    member = started("m", folder, {"am": one})
+    check("what it lacks comes", eventually(lambda: "l" in one.keys()), one.keys())
+    check("it is asked again", eventually(lambda: one.asked > 3), one.asked)
+    compare("and nothing else", [len(it) for _, it in one.pushed], [1, 1])
+    compare("the tie stays", version_of(one.held["sil"][(b"t", b"")])[2] // 10**9, NOW + HOUR)
+    stop(member)
+
+
+class Stalling(Liar):
+    """One that sends these bytes, and nothing more for a long time."""
+
+    def __init__(self, reply):
+        super().__init__(reply, wait=600)
+
+
+class Endless(Liar):
+    """One that never stops sending."""
+
+    def __init__(self):
+        super().__init__(b"")
+
+    def speak(self, stream):
+        take(stream, len(gossip.PULL))
+        while True:
+            stream.sendall(bytes(65536))
+
+
+def test_liars(folder):
+    """One that lies, stalls or cuts holds up nobody: the member answers, the other replica is served, and a line tells whose fault it is."""
+    whole = answer(states_of(sil=row("sil", of("x")), nfl=b""))
+    liars = {
+        "nothing": (Liar(b""), "Gossip Nothing"),
+        "http": (Liar(b"HTTP/1.1 400 Bad Request\r\n\r\n"), "Gossip Kind 72"),
+        "cut": (Liar(whole[:20]), "Gossip Cut"),
+        "more": (Liar(whole + b"\0"), "Gossip Length"),
+        "lzw": (Liar(compressed(plain_lzw(whole)[:-2])), "Gossip Lzw Cut"),
+        "zbomb": (Liar(compressed(bomb())), "Gossip Lzw TooLong"),
+        "twice": (Liar(answer(states_of(sil=b"") + states_of(sil=b""))), "Gossip Twice"),
+        "one": (Liar(answer(states_of(sil=row("sil", of("x"))))), "Gossip NoState"),
+        "error": (Liar(gossip.recorded("error.answer")), "Gossip Error"),
+        "row": (Liar(answer(states_of(sil=row("sil", of("x"))[:-1], nfl=b""))), "Wire Truncated 0"),
+        "stall": (Stalling(b""), "Send Write"),
+        "part": (Stalling(whole[:10]), "Send Write"),
+        "endless": (Endless(), "Send"),
+    }
+    for liar, _ in liars.values():
+        liar.port = int(liar.word.rsplit(":", 1)[1])
+    one = Alive(sil=of("a"))
+    beside = {"am": one, **{name: liar for name, (liar, _) in liars.items()}}
+    member = started("m", folder, beside, "--time-limit", "2", every=HOUR)
+    check("the true one is served", eventually(lambda: listed(member) == ["a"]), member.lines)
+    begun = time.monotonic()
+    key = post(member, "web")
+    check("and told at once", eventually(lambda: key in one.keys()), one.keys())
+    check("whatever the others do", time.monotonic() - begun < 5)
+    for name, (_, line) in liars.items():
+        told = lambda: [it for it in member.whole_lines if f"(peer {name}, " in it and it.startswith(f"am_tool: {line}")]
+        check(f"of {name} it is told {line}", eventually(told, 20), member.whole_lines)
+    compare("nothing of theirs is held", listed(member), sorted(["a", key]))
+    stop(member)
+
+
+def test_nobody(folder):
+    """One that isn't there is told, and found once it is."""
+    port = free_ports(1)[0]
+    one = Alive(sil=of("a"))
+    away = type("Away", (), {"port": port})
+    member = started("m", folder, {"am": away, "bm": one})
+    check("it is told", eventually(lambda: f"am_tool: Connect ConnectionRefused {port}" in member.lines), member.lines)
+    compare("the other one is served", eventually(lambda: listed(member)), ["a"])
+    stop(member)
+
+
+def test_names(folder):
+    """A name is given once, and nobody greets by one of a replica."""
+    words = ["instance", "--name", "m", "--listen", str(free_ports(1)[0]), "--sil", f"{folder}/s", "--nfl", f"{folder}/n"]
+    for said, more, line in [
+        ("the own name", ["--gossip", "m=9"], "SameName"),
+        ("a peer's name", ["--peer", "b=9", "--gossip", "b=9"], "SameName"),
+        ("one name twice", ["--gossip", "b=9", "--gossip", "b=8"], "SameName"),
+        ("no name", ["--gossip", "=9"], "EmptyName"),
+        ("a long name", ["--gossip", f"{252 * 'n'}=9"], "LongName"),
+        ("no address", ["--gossip", "b"], "Peer"),
+        ("no port", ["--gossip", "b=0"], "Peer"),
+    ]:
+        compare(said, run([*words, *more]), (2, b"", f"am_tool: {line}\n"))
+    one = Alive()
+    member = started("m", folder, {"am": one}, "--log")
+    for name in ("am", "\U0010ffffam", 8 * "\U0010ffff"):
+        place = len(member.lines)
+        member.send(greeting(name) + bytes([2, 0]))
+        check(f"{name!a} is nobody", eventually(lambda: "am_tool: UnknownName" in member.lines[place:]), member.lines)
+    status, body = member.ask("GET", "/api/v2/status")
+    compare("it is no member", (status, [it["name"] for it in json.loads(body)["cluster"]["peers"]]), (200, ["m"]))
+    check("its options are told", f"--gossip am={one.port}" in json.loads(body)["config"]["original"], body)
+    stop(member)
+
+
+def test_kept(folder):
+    """What came from a replica is on the disk, and goes to peers as all does."""
+    one = Alive(sil=of("a"), nfl=entry("g"))
+    ports = free_ports(2)
+    members_of = {name: port for name, port in zip("mn", ports)}
+    n = Member("n", members_of["n"], [("m", members_of["m"])], folder, ["--log"])
+    check("n listens", n.start(), n.lines)
+    words = ["--gossip", f"am={one.port}", "--gossip-every", "1", "--log"]
+    m = Member("m", members_of["m"], [("n", members_of["n"])], folder, words)
+    check("m listens", m.start(), m.lines)
+    for it in (m, n):
+        check(f"{it.name} holds it", eventually(lambda: listed(it) == ["a"]), it.lines)
+    key = post(n, "web")
+    check("what a peer took goes there", eventually(lambda: key in one.keys()), one.keys())
+    for it in (m, n):
+        it.kill()
+        status, output, error = run(["show", "--log", "--state", "sil", it.sil])
+        compare(f"{it.name} kept it", (status, output.count(b"\n"), error), (0, 2, ""))
+        status, output, error = run(["show", "--log", "--state", "nfl", it.nfl])
+        compare(f"{it.name} kept the entry", (status, output.count(b"\n"), error), (0, 1, ""))
+
+
+def test_pull_first(folder):
+    """A member with --pull-first answers once a replica's answer is taken."""
+    slow = Alive(sil=of("a"))
+    gate = threading.Event()
+    answered = slow.answer
+    slow.answer = lambda *words: (gate.wait(20), answered(*words))
+    member = started("m", folder, {"am": slow}, "--pull-first", "--time-limit", "30")
+    time.sleep(0.5)
+    compare("it isn't ready before", member.ask("GET", "/-/ready")[0], 503)
+    gate.set()
+    check("it is then", eventually(lambda: member.ask("GET", "/-/ready")[0] == 200), member.lines)
+    compare("and holds all", listed(member), ["a"])
+    stop(member)
+
+
+TESTS = [test_holds, test_given_back, test_at_once, test_not_given, test_liars, test_nobody, test_names, test_kept, test_pull_first]
+
+
+def main():
+    members.choose("beside", sys.argv[1:])
+    with tempfile.TemporaryDirectory() as folder:
+        try_each(TESTS, folder)
+    finish("beside")
+
+
+if __name__ == "__main__":
+    main()

@@ -1,0 +1,62 @@
+"""What a script passed and failed, and its last line, which .ci/run reads."""
+
+import contextlib
+import os
+import sys
+import time
+
+passed, failed = 0, 0
+
+
+def count(holds):
+    """Counts a case, and answers whether it holds."""
+    global passed, failed
+    if holds:
+        passed += 1
+    else:
+        failed += 1
+    return holds
+
+
+def compare(name, found, wanted):
+    if not count(found == wanted):
+        print(f"{name}: found\n  {found!r}\nand not\n  {wanted!r}", flush=True)
+
+
+def check(name, holds, said=""):
+    if not count(bool(holds)):
+        print(f"{name}: not so; {said}", flush=True)
+
+
+@contextlib.contextmanager
+def attempt(name, said=None):
+    """What can't go on is a case that fails, and what was said until then is told."""
+    try:
+        yield
+    except Exception as fault:
+        check(f"{name} runs", False, f"{fault!r} {said or ''}")
+
+
+def try_each(tests, folder):
+    """Runs tests, each in a folder of its own; where one can't go on it fails, and the others are tried."""
+    for test in tests:
+        place = f"{folder}/{test.__name__}"
+        os.mkdir(place)
+        begun = time.monotonic()
+        with attempt(test.__name__):
+            test(place)
+        if os.environ.get("TIMES"):
+            print(f"{test.__name__}: {time.monotonic() - begun:.1f} s", flush=True)
+
+
+def finish(title):
+    """Ends a script with its last line."""
+    print(f"{title}: {passed} passed, {failed} failed")
+    sys.exit(1 if failed else 0)
+
+
+def give_up(title, why):
+    """Ends a script that can't try anything, which is a failure."""
+    print(why)
+    count(False)
+    finish(title)
