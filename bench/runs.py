@@ -2,11 +2,9 @@
 
 A version comes to each member in turn, one step a second; there are a thousand silences, each of which is made anew again
 and again. `steps` is the mean of all steps in microseconds, with the version made, the room for it and the step written
-down; the others are microseconds for one question at the end: the first fault of each member, and whether the run is
-timely. `far` and `at_once` are that last question of other runs of two members: in one each version comes to the second
-member only after all came to the first, in the other all versions come to each member in one step. `restarts` is that
-question of a run like the first, in which a member is saved, stopped and started behind every hundredth version. The least
-of the rounds counts.
+down, and `restarts` that of a run in which a member is saved, stopped and started behind every hundredth version. The others
+are microseconds for one question at the end: the first fault of each member, and whether the run is timely, which is asked of
+at most 10,000 steps. The least of the rounds counts.
 """
 import measuring
 
@@ -15,5 +13,5 @@ OPTIONS = {"--rounds": 3}
 
 def run(given):
     found = measuring.by_count("time_runs", given.rounds)
-    took = {(kind, count): took / (count if kind == "steps" else 1) / 1000 for (kind, count), (took, _) in found.items()}
-    measuring.print_by_count(took, ("steps", "first_fault", "timely", "far", "at_once", "restarts"))
+    took = {(kind, count): took / (count if kind in ("steps", "restarts") else 1) / 1000 for (kind, count), (took, _) in found.items()}
+    measuring.print_by_count(took, ("steps", "restarts", "first_fault", "timely"))

@@ -39,10 +39,10 @@ PARTS = {
 
 HEAD = """# What is proved
 
-Every function is proved safe: it returns on every input, without undefined behaviour. Beyond that each row is a promise, and the clause of the contract that carries it. docs/promises.py writes this page from the comments beside these clauses. A *law* is a function that does nothing; its clauses hold for all values. [MODEL](MODEL.md) has the words.
+Every function is proved safe: it returns on every input, without undefined behaviour. Each row is a promise, and the clause that carries it; docs/promises.py writes this page. A *law* is a function that does nothing; its clauses hold for all values. [MODEL](MODEL.md) has the words.
 
 - **Memory.** A call that allocates may answer `Memory` instead.
-- **Bytes.** Clauses on readers and writers speak of known bytes, of slices and vectors, not of sockets or files.
+- **Bytes.** Clauses on readers and writers speak of known bytes, not of sockets or files.
 - **Calm** is a premise, not a gift: a replica that is cut off for longer than the retention can lose it.
 """
 
@@ -55,7 +55,7 @@ TAIL = """## Only tested
 - **Pages** go out, and once if nothing fails: tests/pages.py; beside real Alertmanagers tests/real_shims.py, on request.
 - **Command lines, servers, logs that are read, pictures' layout, the page for people**: tests/command_line.py, live_sources.py, log_sources.py, gossip.py, pictures.py, page.py (with chromium).
 - **That a member's gate knows its secret, that what is sealed opens and comes of the bytes that were fed, that the reply of a turn is what goes out, that `push` sends just the lacking rows, and that a member beside Alertmanagers asks and tells them**: tests/machines.py, tests/gossip.py, tests/beside.py.
-- **Refused memory and hostile input**: tests/refused_memory.py, tests/fuzz.py, am_tests (128 MiB, random runs).
+- **Refused memory and hostile input**: tests/refused_memory.py, tests/fuzz.py, am_tests.
 - **Real replicas** of prometheus-alertmanager 0.25.0: tests/real_replicas.py, on request.
 
 ## Trusted
@@ -68,7 +68,7 @@ The toolchain, the C library, the statements of the kit's crates, the disk, and 
 - that `SystemDisk` and `LogFile` make the calls that they note, and that bytes outside of a write stay;
 - how long an answer takes.
 
-[wrong/README](../wrong/README.md) lists the wrong bodies that the contracts refuse, and those that they let through.
+[wrong/README](../wrong/README.md) lists wrong bodies that contracts refuse, and those that they let through.
 """
 
 

@@ -36,6 +36,7 @@ PARTS = ["src", "specs", "proofs"]
 FUNCTION = re.compile(r"^( *)(?:pub(?:\([a-z]+\))? )?(?:final )?(?:const )?fn (\w+)")
 IMPL = re.compile(r"^ *impl\b(?:<.*?>(?= ))? (?:(?:\w+::)*(\w+)(?:<([\w:]*).*>)? for )?&?(?:'\w+ )?(\w+)")
 TRAIT = re.compile(r"^ *(?:pub )?trait (\w+)")
+ONE_TYPE = re.compile(r"^ *impl (\w+)<(\w+)> \{")
 PLACE = re.compile(r"^(?:note: )?(?:\./)?((?:src|specs|proofs)/\S+?):(\d+):\d+: (.*)")
 GOAL = re.compile(r"\(`([^`]+)`\)")
 OPEN = re.compile(r"^fn (\S+): (.*)")
@@ -124,6 +125,8 @@ def path_of(crate, file, texts, name, begin):
             match, trait = IMPL.match(line), TRAIT.match(line)
             if match:
                 words = [match[3] + trait_of(match[1], match[2])]
+                if only := ONE_TYPE.match(line):
+                    words = [f"{only[1]}+{only[2]}"]
                 # (an impl of a trait stands where it is written)
                 file = file if match[1] else home_of(texts, file, match[3])
                 break

@@ -14,7 +14,7 @@ mod work;
 
 pub use fault::BesideFault;
 pub use news::News;
-pub use reading::read_some;
+pub use reading::{begin_row, read_some};
 pub use replicas::{Came, Replicas};
 pub use sieve::Sieve;
 pub use sifting::sift;

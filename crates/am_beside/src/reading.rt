@@ -8,9 +8,20 @@ ghost use Rattle.am_beside.specs.Reading.{IsReadFrom};
 use am_merge::Held;
 use am_version_order::{Moment, Version};
 use am_wire::{Message, RowFault, RowReader};
+use std::alloc::Global;
 use std::io::Read;
 
-/// Reads on in a row, by so many versions, and takes each, live or not. Answers whether the row has ended.
+/// A reader of a row from its first byte on, and the versions that it has read: none.
+pub fn begin_row<V: Version + Message>(alloc: Global) -> (RowReader<V>, Held<V>)
+    ensures { (start : Option (List ℕ)) → IsReadFrom V.reads V.seen V.Key.cmp start start result.0 result.1 }
+{
+    let rows = RowReader::new(alloc);
+    let held = Held::new(alloc);
+    (rows, held)
+}
+
+/// Reads on in a row that was begun by [`begin_row`], by so many versions, and takes each, live or not. Answers whether the row
+/// has ended.
 ///
 /// # Errors
 ///

@@ -195,7 +195,7 @@ impl Replicas {
         }
         let place = self.answered_place()?;
         let answer = self.at(place)?.take_answer()?;
-        Some((place, Work::Answer(answer)))
+        Some((place, Work::new(self.alloc, answer)))
     }
 
     /// Keeps what is left of the work on an answer.

@@ -2,7 +2,7 @@
 //! stretches.
 
 use crate::fault::BesideFault;
-use crate::reading::read_some;
+use crate::reading::{begin_row, read_some};
 use crate::sieve::Sieve;
 use crate::sifting::sift;
 use am_gossip::{Part, StateKey};
@@ -11,7 +11,6 @@ use am_snapshot::RowPiece;
 use am_version_order::{Moment, Version};
 use am_wire::{Message, RowReader};
 use std::alloc::{AllocError, Global};
-use std::io::Cursor;
 use std::mem;
 
 /// How many versions are looked at in a stretch.
@@ -39,7 +38,8 @@ where
 {
     key: StateKey,
     rows: RowReader<V>,
-    row: Cursor<Vec<u8>>,
+    /// How many bytes of its row are read.
+    read: usize,
     /// What the replica holds, as far as it is read.
     held: Held<V>,
     stage: Stage<V::Key>,
@@ -58,13 +58,14 @@ impl<V: Version + Message> Side<V>
 where
     V::Key: Drop,
 {
-    /// A state whose row this is.
-    pub fn new(alloc: Global, key: StateKey, row: Vec<u8>) -> Side<V> {
+    /// A state of which nothing is read yet.
+    pub fn new(alloc: Global, key: StateKey) -> Side<V> {
+        let (rows, held) = begin_row(alloc);
         Side {
             key,
-            rows: RowReader::new(alloc),
-            row: Cursor::new(row),
-            held: Held::new(alloc),
+            rows,
+            read: 0,
+            held,
             stage: Stage::Reading,
             given: Vec::new(alloc),
         }
@@ -80,7 +81,7 @@ where
         let Side {
             key: _,
             rows: _,
-            row: _,
+            read: _,
             held: _,
             stage: _,
             given,
@@ -88,7 +89,7 @@ where
         given
     }
 
-    /// Does a stretch more, beside a member that holds these, and gives what comes in.
+    /// Does a stretch more of the state whose row this is, beside a member that holds these, and gives what comes in.
     ///
     /// # Errors
     ///
@@ -96,12 +97,13 @@ where
     pub fn go_on(
         &mut self,
         alloc: Global,
+        row: &[u8],
         own: &Held<V>,
         now: Moment,
     ) -> Result<Option<Part>, BesideFault> {
         match mem::replace(&mut self.stage, Stage::Done) {
             Stage::Reading => {
-                self.read_on()?;
+                self.read_on(row)?;
                 Ok(None)
             }
             Stage::Taking(from) => Ok(self.take_on(alloc, own, from)?),
@@ -114,8 +116,10 @@ where
     }
 
     /// Reads a stretch of the row.
-    fn read_on(&mut self) -> Result<(), BesideFault> {
-        let has_ended = read_some(&mut self.rows, &mut self.row, &mut self.held, COUNT)?;
+    fn read_on(&mut self, row: &[u8]) -> Result<(), BesideFault> {
+        let mut left = row.get(self.read..).unwrap_or(&[]);
+        let has_ended = read_some(&mut self.rows, &mut left, &mut self.held, COUNT)?;
+        self.read = row.len().saturating_sub(left.len());
         self.stage = if has_ended {
             Stage::Taking(None)
         } else {

@@ -9,20 +9,20 @@ use am_gossip::StateKey;
 use am_memberlist::{Said, read_message, row_in};
 use std::alloc::Global;
 
-/// The rows of both states, as a replica told them.
-#[derive(Drop)]
-pub struct ToldRows {
-    pub silences: Vec<u8>,
-    pub entries: Vec<u8>,
+/// The rows of both states, as they stand in what a replica told.
+#[derive(Clone, Copy)]
+pub struct ToldRows<'a> {
+    pub silences: &'a [u8],
+    pub entries: &'a [u8],
 }
 
 /// The row of a state in what a replica told.
-fn told_row(alloc: Global, states: &[u8], key: StateKey) -> Result<Vec<u8>, BesideFault>
-    ensures told { IfOk result (λ row. row_told key states.now ≡ Ok row.items) }
+fn told_row(alloc: Global, states: &[u8], key: StateKey) -> Result<&[u8], BesideFault>
+    ensures told { IfOk result (λ row. row_told key states.now ≡ Ok row.now) }
     ensures fault { IfErr result (λ e. e ≢ Memory → row_told key states.now ≡ Err e) }
 {
     match row_in(alloc, states, key)? {
-        Some(row) => Ok(row.to_vec(alloc)?),
+        Some(row) => Ok(row),
         None => Err(BesideFault::NoState),
     }
 }
@@ -32,7 +32,7 @@ fn told_row(alloc: Global, states: &[u8], key: StateKey) -> Result<Vec<u8>, Besi
 /// # Errors
 ///
 /// The first [`BesideFault`]: of the message, of the silences, of the log; or [`BesideFault::Memory`].
-pub fn told_rows(alloc: Global, message: &[u8]) -> Result<ToldRows, BesideFault>
+pub fn told_rows(alloc: Global, message: &[u8]) -> Result<ToldRows<'_>, BesideFault>
     // PROMISE: Of a replica's message just the rows of both states are taken, or its first fault is told.
     ensures told { IfOk result (λ told. rows_told message.now ≡ Ok (rows_seen told)) }
     ensures fault { IfErr result (λ e. e ≢ Memory → rows_told message.now ≡ Err e) }

@@ -3,9 +3,9 @@
 use crate::fault::BesideFault;
 use crate::news::News;
 use crate::side::Side;
-use crate::told::{ToldRows, told_rows};
+use crate::told::told_rows;
 use am_gossip::{Frame, FullState, Part, StateKey};
-use am_memberlist::unpack_answer;
+use am_memberlist::{Answer, AnswerError};
 use am_merge::Held;
 use am_nflog::MeshEntry;
 use am_silence::MeshSilence;
@@ -16,17 +16,18 @@ use std::alloc::{AllocError, Global};
 /// The most bytes to which an answer is unpacked.
 const MOST_UNPACKED: usize = 67_108_864;
 
+/// How many codes are unpacked in a stretch.
+const CODES: usize = 4_096;
+
 /// How far an answer is.
 #[derive(Drop)]
 pub enum Work {
-    /// It isn't unpacked yet.
-    Answer(Vec<u8>),
-    /// It is unpacked.
-    Message(Vec<u8>),
-    /// The silences are looked at; the row of the log waits.
-    Silences(Side<MeshSilence>, Vec<u8>),
-    /// The log is looked at.
-    Entries(Side<MeshEntry>),
+    /// It is being unpacked.
+    Answer(Answer),
+    /// The silences of the message are looked at.
+    Silences(Vec<u8>, Side<MeshSilence>),
+    /// The log of the message is looked at.
+    Entries(Vec<u8>, Side<MeshEntry>),
 }
 
 /// What came of a stretch.
@@ -54,6 +55,11 @@ fn some_frame(alloc: Global, part: Option<Part>) -> Result<Option<Frame>, AllocE
 }
 
 impl Work {
+    /// All that is to be done of an answer.
+    pub fn new(alloc: Global, answer: Vec<u8>) -> Work {
+        Work::Answer(Answer::new(alloc, answer, MOST_UNPACKED))
+    }
+
     /// Does a stretch more, beside a member that holds these. What the replica is given goes to its news.
     ///
     /// # Errors
@@ -68,25 +74,23 @@ impl Work {
         now: Moment,
     ) -> Result<Stretch, BesideFault> {
         match self {
-            Work::Answer(answer) => Ok(goes_on(Work::Message(unpack_answer(
-                alloc,
-                answer,
-                MOST_UNPACKED,
-            )?))),
-            Work::Message(message) => {
-                let ToldRows {
-                    silences: row,
-                    entries: other,
-                } = told_rows(alloc, &message)?;
-                let side = Side::new(alloc, StateKey::Sil, row);
-                Ok(goes_on(Work::Silences(side, other)))
+            Work::Answer(answer) => Ok(unpack_on(alloc, answer)?),
+            Work::Silences(message, side) => {
+                go_on_silences(alloc, message, side, silences, news, now)
             }
-            Work::Silences(side, other) => {
-                go_on_silences(alloc, side, other, silences, news, now)
+            Work::Entries(message, side) => {
+                go_on_entries(alloc, message, side, entries, news, now)
             }
-            Work::Entries(side) => go_on_entries(alloc, side, entries, news, now),
         }
     }
+}
+
+/// Unpacks a stretch of an answer.
+fn unpack_on(alloc: Global, answer: Answer) -> Result<Stretch, AnswerError> {
+    Ok(goes_on(match answer.go_on(alloc, CODES)? {
+        Answer::Message(message) => Work::Silences(message, Side::new(alloc, StateKey::Sil)),
+        answer => Work::Answer(answer),
+    }))
 }
 
 /// Nothing comes in, and this is left.
@@ -100,44 +104,47 @@ fn goes_on(work: Work) -> Stretch {
 /// Looks at a stretch of the silences.
 fn go_on_silences(
     alloc: Global,
+    message: Vec<u8>,
     side: Side<MeshSilence>,
-    other: Vec<u8>,
     own: &Held<MeshSilence>,
     news: &mut News,
     now: Moment,
 ) -> Result<Stretch, BesideFault> {
     let mut side = side;
-    let part = side.go_on(alloc, own, now)?;
+    let row = told_rows(alloc, &message)?.silences;
+    let part = side.go_on(alloc, row, own, now)?;
     let frame = some_frame(alloc, part)?;
     if !side.is_done() {
         return Ok(Stretch {
             frame,
-            left: Some(Work::Silences(side, other)),
+            left: Some(Work::Silences(message, side)),
         });
     }
     news.give(StateKey::Sil, side.into_given())?;
-    let log = Side::new(alloc, StateKey::Nfl, other);
+    let log = Side::new(alloc, StateKey::Nfl);
     Ok(Stretch {
         frame,
-        left: Some(Work::Entries(log)),
+        left: Some(Work::Entries(message, log)),
     })
 }
 
 /// Looks at a stretch of the log.
 fn go_on_entries(
     alloc: Global,
+    message: Vec<u8>,
     side: Side<MeshEntry>,
     own: &Held<MeshEntry>,
     news: &mut News,
     now: Moment,
 ) -> Result<Stretch, BesideFault> {
     let mut side = side;
-    let part = side.go_on(alloc, own, now)?;
+    let row = told_rows(alloc, &message)?.entries;
+    let part = side.go_on(alloc, row, own, now)?;
     let frame = some_frame(alloc, part)?;
     if !side.is_done() {
         return Ok(Stretch {
             frame,
-            left: Some(Work::Entries(side)),
+            left: Some(Work::Entries(message, side)),
         });
     }
     news.give(StateKey::Nfl, side.into_given())?;

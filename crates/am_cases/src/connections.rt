@@ -9,7 +9,7 @@ use am_instance::{Instance, Outbox, StepError};
 use am_member::exchange;
 use am_part_cases::common::{Brittle, Call, Case, Cut, Fault, Pieces, cut, phrase};
 use am_part_cases::{given, put, say};
-use am_peers::{Fault as Cause, SendError, frames_text, greeting};
+use am_peers::{Fault as Cause, frames_text, greeting};
 use am_version_order::Moment;
 
 /// A connection that comes to a copy of a member.
@@ -178,12 +178,12 @@ fn say_differences(case: &Case, coming: &Coming<'_>, bytes: &[u8], whole: &str) 
 /// `send NAME: FRAMES`: what goes out to a peer, the greeting of a name and frames behind it.
 pub fn send(case: &Case, rest: &str) {
     let (name, digits) = cut(rest, ": ");
-    let Some(mut out) = case.got(greeting(case.alloc, name), SendError::Memory) else {
+    let Some(mut out) = case.got(greeting(case.alloc, name), FrameError::Memory) else {
         return case.say_bytes(&[]);
     };
     given!(fed = fed(case, digits));
     let text = frames_text(case.alloc, fed.frames.as_slice());
-    given!(text = case.got(text, SendError::Memory));
+    given!(text = case.got(text, FrameError::Memory));
     case.append(&mut out, text.as_slice());
     say!(case; out.len(), " bytes");
     case.say_bytes(out.as_slice());

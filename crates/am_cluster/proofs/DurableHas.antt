@@ -14,7 +14,7 @@ use Rattle.am_runs.specs.Runs.{IsPossible, IsRun}
 use Rattle.am_runs.specs.Steps.{RunStep, delivered_by, delivered_in, moment}
 use Rattle.am_runs.specs.Steps.RunStep.{Took, Ticked, Back, Refused, Saved, Stopped, Started}
 use Rattle.am_runs.specs.Timely.{HasCaughtUp, IsSpread, IsTimely}
-use Rattle.am_runs.specs.Uptimes.{saves, starts}
+use Rattle.am_cluster.specs.Durable.{saves, starts}
 use Rattle.am_runs.proofs.Cuts.{carried, each_front}
 use Rattle.am_runs.proofs.Pasts.{member_from-append, member_of-push, taken-passes, taken-pass, taken-tick}
 use Rattle.am_runs.proofs.Views.{empty}

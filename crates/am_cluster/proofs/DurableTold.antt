@@ -6,7 +6,7 @@ use Rattle.std.proofs.lemmas.List.Folds.{Any-from_list_any, list_any-append, lis
 use Rattle.am_version_order.specs.Versions.{Version, is_live}
 use Rattle.am_runs.specs.Steps.{RunStep, EachStep}
 use Rattle.am_runs.specs.Steps.RunStep.{Took, Ticked, Back, Refused, Saved, Stopped, Started}
-use Rattle.am_runs.specs.Uptimes.{saves, starts}
+use Rattle.am_cluster.specs.Durable.{saves, starts}
 use Rattle.am_runs.proofs.Cuts.{each_cons, each_nil, each_rest, each_weaker, never_empty}
 use Rattle.am_cluster.specs.Durable.{BringsLive, IsDurable, IsSaved}
 use Rattle.am_cluster.specs.DurableTests.{brings_live, durable_from, saved_after}

@@ -4,12 +4,11 @@ use Rattle.am_silence.specs.Mesh.{Mesh}
 use Rattle.am_nflog.specs.Mesh.{Mesh as LogMesh}
 use Rattle.am_runs.specs.Steps.{RunStep}
 
--- how many members there are, what each step was to the silences and to the log, the line that it was given, for how many
--- more steps there is room, and for how many more versions that they deliver
+-- how many members there are, what each step was to the silences and to the log, the line that it was given, and for how
+-- many more steps there is room
 pub record Account : Type 0 where
   pub members : ℕ
   pub silences : List (RunStep Mesh)
   pub log : List (RunStep LogMesh)
   pub lines : List ℕ
   pub room : ℕ
-  pub spare : ℕ

@@ -1,13 +1,32 @@
 -- Members that lose nothing by a restart: those that are saved behind each step that brings them something live.
 -- X is the type of versions, and `seen` is what the merge sees of one.
-use Rattle.std.specs.Prelude.{◌≡◌, ◌+◌, ◌≤◌, ◌++◌, ℕ, List, [], ◌∷◌, true, false, ◌==◌, if◌then◌else◌, All, Contains, IfSome}
+use Rattle.std.specs.Prelude.{◌≡◌, ◌+◌, ◌≤◌, ◌++◌, ℕ, List, [], ◌∷◌, Bool, true, false, ◌==◌, if◌then◌else◌, All, Contains, IfSome}
 use Rattle.std.specs.List.{flat_map, list_any}
 use Rattle.am_version_order.specs.Versions.{Version, IsLive, is_below}
 use Rattle.am_runs.specs.Members.{member_of}
 use Rattle.am_runs.specs.Steps.{RunStep, EachStep, delivered_in, moment}
-use Rattle.am_runs.specs.Steps.RunStep.{Took}
+use Rattle.am_runs.specs.Steps.RunStep.{Took, Ticked, Back, Refused, Saved, Stopped, Started}
 use Rattle.am_runs.specs.Timely.{HasCaughtUp, IsOnward, IsSwift}
-use Rattle.am_runs.specs.Uptimes.{saves, starts}
+
+-- a step starts a member
+abbrev pub starts : {X : Type 0} → ℕ → RunStep X → Bool
+starts q (Took place now source versions frames) = false
+starts q (Ticked place now) = false
+starts q (Back place now) = false
+starts q (Refused now) = false
+starts q (Saved place) = false
+starts q (Stopped place) = false
+starts q (Started place now) = place == q
+
+-- a step saves a member
+abbrev pub saves : {X : Type 0} → ℕ → RunStep X → Bool
+saves q (Took place now source versions frames) = false
+saves q (Ticked place now) = false
+saves q (Back place now) = false
+saves q (Refused now) = false
+saves q (Saved place) = place == q
+saves q (Stopped place) = false
+saves q (Started place now) = false
 
 -- the versions that a step brings a member
 abbrev pub came_by : {X : Type 0} → ℕ → RunStep X → List X

@@ -5,7 +5,7 @@ use Rattle.std.specs.List.{list_any}
 use Rattle.am_version_order.specs.Versions.{Version, is_live}
 use Rattle.am_runs.specs.Steps.{RunStep}
 use Rattle.am_runs.specs.Steps.RunStep.{Took}
-use Rattle.am_runs.specs.Uptimes.{saves, starts}
+use Rattle.am_cluster.specs.Durable.{saves, starts}
 
 module _ {K X : Type 0} (seen : X → Version K) where
   -- a step brings a member something live

@@ -66,15 +66,11 @@ CanBeNext state members steps entry event answer = (frames : List (ℕ × Frame)
     → IsPossible state.seen state.cmp members steps (event_step state entry.place entry.moment entry.source event answer frames)
 
 -- What an instance answered to an event, and what is known of it.
-pub record CanRecord (account : Account) (entry : Entry) (event : Event) (versions : List AnyVersion)
-    (answer : Result Outcome StepError) : Type 0 where
+pub record CanRecord (account : Account) (entry : Entry) (event : Event) (answer : Result Outcome StepError) : Type 0 where
   pub room_for_it : 0 < account.room
-  pub spare_for_it : length versions ≤ account.spare
-  pub spare_for_made : 3 ≤ account.spare
   pub silences : CanBeNext silence_state account.members account.silences entry event answer
   pub log : CanBeNext log_state account.members account.log entry event answer
   pub not_refused : IsNoRefusal answer
-  pub few : IfOk answer (λ outcome. length outcome.made.silences.items ≤ 2)
   pub idle : IfOk answer (λ outcome. collects event ≡ true → (outcome.frames.items ≡ []) × (outcome.unsent.memory ≡ 0))
   pub brings : IfOk answer (λ outcome. brings_or_makes event ≡ kinds.Brings → IsNothing outcome.made)
 

@@ -29,7 +29,6 @@ pub record AreSent (sent : Sent) (frames : List (ℕ × Frame)) : Type 0 where
 -- there is room for it, and it can have happened
 pub record CanWrite (account : Account) (entry : Entry) (versions : Delivered) (frames : List (ℕ × Frame)) : Type 0 where
   pub room_for_it : 0 < account.room
-  pub spare_for_it : length versions.silences.items + length versions.log.items ≤ account.spare
   pub silences : IsPossibleForSilences account.members account.silences (took_silences entry versions frames)
   pub log : IsPossibleForLog account.members account.log (took_entries entry versions frames)
 

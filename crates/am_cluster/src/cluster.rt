@@ -141,7 +141,8 @@ impl Cluster {
     }
 
     /// Makes room for so many more steps, of which each that is written down takes one. While there is room no step that is to
-    /// be refused is told as want of memory.
+    /// be refused is told as want of memory: this is for a program that has to tell one from the other. A replay, which stops at
+    /// either, doesn't call it.
     ///
     /// # Errors
     ///
@@ -151,7 +152,7 @@ impl Cluster {
         ensures unchanged { OnErr result (self.new ≡ self.old) }
         ensures without_room { OnErr result (self.old.room < steps) }
     {
-        self.journal.make_room(steps, 0)
+        self.journal.make_room(steps)
     }
 
     /// The frames in flight, by their numbers. It takes no memory.

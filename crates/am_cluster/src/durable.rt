@@ -5,7 +5,7 @@ ghost use Rattle.std.specs.Prelude.{◌≡◌, ◌↔◌, IsTrue, map, true};
 ghost use Rattle.std.specs.List.{list_any};
 ghost use Rattle.am_version_order.specs.Versions.{is_live};
 ghost use Rattle.am_runs.specs.Records.{step_of};
-ghost use Rattle.am_runs.specs.Uptimes.{saves, starts};
+ghost use Rattle.am_cluster.specs.Durable.{saves, starts};
 ghost use Rattle.am_cluster.specs.Durable.{IsDurable};
 ghost use Rattle.am_cluster.specs.DurableTests.{brings_live, durable_from, saved_after};
 

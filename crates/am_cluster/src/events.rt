@@ -101,7 +101,7 @@ fn act(
     requires coming { ComesWith coming event }
     requires values { All IsValue (brought event) }
     requires room { IsRoomFor coming.parted (length coming.versions.items) }
-    requires enough { 0 < journal.old.room × (length coming.versions.items ≤ journal.old.spare) × (3 ≤ journal.old.spare) }
+    requires enough { 0 < journal.old.room }
     ensures { HasActed journal.old flights.old.items entry.now event instance.old result journal.new flights.new.items instance.new }
 {
     steps_are_possible();
@@ -131,7 +131,7 @@ impl Cluster {
     {
         self.journal.is_told_of_both();
         let coming = coming_with(self.alloc, &event)?;
-        self.journal.make_room(1, coming.versions.len().max(3))?;
+        self.journal.make_room(1)?;
         let entry = Entry {
             place,
             moment: now,

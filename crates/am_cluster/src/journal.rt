@@ -3,7 +3,7 @@
 ghost use Rattle.std.specs.Prelude.{◌≡◌, ◌++◌, ℕ, [], ◌∷◌, ◌+◌, ◌-◌, ◌<◌, ◌≤◌, length, max, IsTrue, ◌↔◌, MatchOption, OnOk, OnErr, All};
 ghost use Rattle.am_runs.specs.Members.{last_of, member_of};
 ghost use Rattle.am_runs.specs.Records.{step_of};
-ghost use Rattle.am_runs.specs.Steps.{delivered_by, delivered_in, flights_by, flights_of};
+ghost use Rattle.am_runs.specs.Steps.{delivered_in, flights_by, flights_of};
 ghost use Rattle.am_silence.specs.Mesh.{IsMesh};
 ghost use Rattle.am_nflog.specs.Mesh.{IsMesh as IsLogMesh};
 ghost use Rattle.am_cluster.specs.DurableRuns.{IsDurableInBoth};
@@ -54,7 +54,7 @@ impl Drop for Journal {
 }
 
 impl Model for Journal {
-    ghost use Rattle.std.specs.Prelude.{◌≡◌, ◌≤◌, ◌-◌, length, min, vec_len, vec_capacity};
+    ghost use Rattle.std.specs.Prelude.{◌≡◌, ◌≤◌, ◌-◌, length, vec_len, vec_capacity};
     ghost use Rattle.am_runs.specs.Steps.{flights_of};
     ghost use Rattle.am_cluster.specs.Accounts.{Account};
     ghost use Rattle.am_cluster.specs.Twins.{AreTwins};
@@ -67,7 +67,6 @@ impl Model for Journal {
       log = journal.log.steps;
       lines = journal.lines.items;
       room = journal.room;
-      spare = min journal.silences.spare journal.log.spare;
     } };
 
     ghost invariant = { λ journal. record {
@@ -111,28 +110,25 @@ impl Journal {
         self.log.consistency();
     }
 
-    /// Makes room for so many steps, which deliver at most so many versions in all, silences and entries together. Room
-    /// that is there takes no memory.
+    /// Makes room for so many steps. Room that is there takes no memory.
     ///
     /// # Errors
     ///
     /// [`AllocError`] where memory runs out. There is as much room then as before.
-    pub fn make_room(&mut self, steps: usize, versions: usize) -> Result<(), AllocError>
+    pub fn make_room(&mut self, steps: usize) -> Result<(), AllocError>
         ensures members { self.new.members ≡ self.old.members }
         ensures silences { self.new.silences ≡ self.old.silences }
         ensures log { self.new.log ≡ self.old.log }
         ensures lines { self.new.lines ≡ self.old.lines }
         ensures room { OnOk result (self.new.room ≡ max self.old.room steps) }
-        ensures spare { OnOk result (versions ≤ self.new.spare) }
         ensures kept_room { OnErr result (self.new.room ≡ self.old.room) }
-        ensures kept_spare { self.old.spare ≤ self.new.spare }
-        ensures without_room { OnErr result (versions ≡ 0 → self.old.room < steps) }
+        ensures without_room { OnErr result (self.old.room < steps) }
     {
-        if versions == 0 && steps <= self.room {
+        if steps <= self.room {
             return Ok(());
         }
-        self.silences.make_room(steps, versions)?;
-        self.log.make_room(steps, versions)?;
+        self.silences.make_room(steps)?;
+        self.log.make_room(steps)?;
         self.lines.reserve(steps)?;
         self.room = self.room.max(steps);
         Ok(())
@@ -154,10 +150,9 @@ impl Journal {
         }
     }
 
-    /// Writes down what a step was to the silences and to the log, and its line. It takes no memory.
+    /// Writes down what a step was to the silences and to the log, and its line.
     pub fn append(&mut self, silences: RunStep<MeshSilence>, log: RunStep<MeshEntry>, line: u64)
         requires room { 0 < self.old.room }
-        requires spare { length (delivered_by (step_of silences)) + length (delivered_by (step_of log)) ≤ self.old.spare }
         requires frames { length (flights_of self.old.silences) + length (flights_by (step_of silences)) ≤ usize.MAX }
         requires possible_silences { IsPossibleForSilences self.old.members self.old.silences (step_of silences) }
         requires possible_log { IsPossibleForLog self.old.members self.old.log (step_of log) }
@@ -167,8 +162,6 @@ impl Journal {
         ensures log { self.new.log ≡ self.old.log ++ step_of log ∷ [] }
         ensures lines { self.new.lines ≡ self.old.lines ++ line ∷ [] }
         ensures room { self.new.room ≡ self.old.room - 1 }
-        ensures spare { self.old.spare
-            ≤ self.new.spare + (length (delivered_by (step_of silences)) + length (delivered_by (step_of log))) }
     {
         self.sendings += silences.sendings();
         self.room -= 1;
@@ -177,7 +170,7 @@ impl Journal {
         self.lines.push_reserved(line);
     }
 
-    /// Writes down a step without versions, and its line. It takes no memory.
+    /// Writes down a step without versions, and its line.
     pub fn mark(&mut self, mark: Mark, line: u64)
         requires room { 0 < self.old.room }
         requires possible { IsPossibleForSilences self.old.members self.old.silences (step_of_mark mark) }
@@ -186,7 +179,6 @@ impl Journal {
         ensures log { self.new.log ≡ self.old.log ++ step_of_mark mark ∷ [] }
         ensures lines { self.new.lines ≡ self.old.lines ++ line ∷ [] }
         ensures room { self.new.room ≡ self.old.room - 1 }
-        ensures spare { self.old.spare ≤ self.new.spare }
     {
         self.is_told_of_both();
         marks_are_told_of_both();

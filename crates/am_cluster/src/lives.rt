@@ -18,7 +18,7 @@ impl Cluster {
             return Err(ClusterError::Stopped);
         }
         let copy = self.members[place].copy()?;
-        self.journal.make_room(1, 0)?;
+        self.journal.make_room(1)?;
         self.members[place].keep(copy);
         self.journal.mark(Mark::Saved { place }, line);
         Ok(())
@@ -32,7 +32,7 @@ impl Cluster {
         if !self.members[place].runs {
             return Err(ClusterError::Stopped);
         }
-        self.journal.make_room(1, 0)?;
+        self.journal.make_room(1)?;
         self.members[place].stop();
         self.journal.mark(Mark::Stopped { place }, line);
         Ok(())
@@ -50,7 +50,7 @@ impl Cluster {
         ensures { OfMember self.old place (λ replica. IsStart self.old place replica now line result self.new) }
     {
         let instance = self.members[place].revived(now)?;
-        self.journal.make_room(1, 0)?;
+        self.journal.make_room(1)?;
         self.members[place].begin(instance);
         self.journal.mark(Mark::Started { place, now }, line);
         Ok(())

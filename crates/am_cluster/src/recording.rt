@@ -159,8 +159,8 @@ fn write_outcome(
     outcome: Outcome,
 ) -> Result<Reply, ClusterError>
     requires { IsRoomFor coming.parted (length coming.versions.items)
-        × (event : Event) × ComesWith coming event × CanRecord journal.old entry.now event coming.versions.items (Ok outcome) }
-    ensures { (event : Event) → ComesWith coming event → CanRecord journal.old entry.now event coming.versions.items (Ok outcome) →
+        × (event : Event) × ComesWith coming event × CanRecord journal.old entry.now event (Ok outcome) }
+    ensures { (event : Event) → ComesWith coming event → CanRecord journal.old entry.now event (Ok outcome) →
         IsRecorded journal.old flights.old.items entry.now event (Ok outcome) result journal.new flights.new.items }
 {
     let Outcome {
@@ -195,9 +195,9 @@ fn write_refusal(
     error: StepError,
 ) -> ClusterError
     requires { IsRoomFor coming.parted (length coming.versions.items)
-        × (event : Event) × ComesWith coming event × CanRecord journal.old entry.now event coming.versions.items (Err error) }
+        × (event : Event) × ComesWith coming event × CanRecord journal.old entry.now event (Err error) }
     ensures { (flights : List Flight) (event : Event) → ComesWith coming event →
-        CanRecord journal.old entry.now event coming.versions.items (Err error) →
+        CanRecord journal.old entry.now event (Err error) →
         IsRecorded journal.old flights entry.now event (Err error) (Err result) journal.new flights }
 {
     match error {
@@ -222,8 +222,8 @@ pub(crate) fn write_answer(
     answer: Result<Outcome, StepError>,
 ) -> Result<Reply, ClusterError>
     requires { IsRoomFor coming.parted (length coming.versions.items)
-        × (event : Event) × ComesWith coming event × CanRecord journal.old entry.now event coming.versions.items answer }
-    ensures { (event : Event) → ComesWith coming event → CanRecord journal.old entry.now event coming.versions.items answer →
+        × (event : Event) × ComesWith coming event × CanRecord journal.old entry.now event answer }
+    ensures { (event : Event) → ComesWith coming event → CanRecord journal.old entry.now event answer →
         IsRecorded journal.old flights.old.items entry.now event answer result journal.new flights.new.items }
 {
     match answer {

@@ -109,7 +109,7 @@ impl Cluster {
         ensures unwritten { OnErr result (self.new ≡ self.old) }
         ensures without_room { OnErr result (self.old.room ≡ 0) }
     {
-        self.journal.make_room(1, 0)?;
+        self.journal.make_room(1)?;
         self.journal.mark(mark, line);
         Ok(())
     }

@@ -196,7 +196,7 @@ impl Cluster {
         ensures unwritten { OnErr result (self.new ≡ self.old) }
         ensures without_room { OnErr result (self.old.room < length self.old.replicas) }
     {
-        self.journal.make_room(self.members.len(), 0)?;
+        self.journal.make_room(self.members.len())?;
         mark_late(&mut self.journal, &self.members, now, line);
         Ok(())
     }

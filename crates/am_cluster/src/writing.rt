@@ -49,7 +49,7 @@ fn took<V>(entry: &Entry, versions: Vec<V>, frames: Vec<Vec<V>>) -> RunStep<V>
     }
 }
 
-/// Writes down an event that left these frames in flight. It takes no memory.
+/// Writes down an event that left these frames in flight.
 fn write_with(journal: &mut Journal, entry: &Entry, versions: Delivered, sent: Sent)
     requires { IsReady journal.old entry.now versions sent }
     ensures { (frames : List (ℕ × SentFrame)) → AreSent sent frames → IsWritten journal.old entry.now versions frames journal.new }
@@ -74,7 +74,7 @@ fn nothing_sent(alloc: Global) -> Sent
     }
 }
 
-/// Writes down an event that left no frame in flight. It takes no memory.
+/// Writes down an event that left no frame in flight.
 pub(crate) fn write_silent(alloc: Global, journal: &mut Journal, entry: &Entry, versions: Delivered)
     requires { CanWrite journal.old entry.now versions [] }
     ensures { IsWritten journal.old entry.now versions [] journal.new }

@@ -5,14 +5,15 @@ ghost use Rattle.std.specs.Prelude.{◌≡◌, ◌≢◌};
 mod diff;
 mod instance;
 mod live;
+mod options;
 
 use am_jobs::{FoldJob, Form, Job, ShowJob, StateName, VERSION, is_file};
 use am_peers::number_within;
 use am_silence_json::moments::read_moment;
 use am_version_order::Moment;
 use clap::error::ErrorKind;
-use clap::{Arg, ArgAction, ArgMatches, Command};
-use instance::flag;
+use clap::{ArgMatches, Command};
+use options::{Named, Takes, Words, command_of, with_options};
 use std::alloc::{AllocError, Global};
 use std::rt::{Env, Files};
 use std::{env, io};
@@ -66,9 +67,14 @@ pub fn job_of<'a, R: Files + AllocGlobal>(
     if words.len() <= 1 {
         return Ok(Job::Replay(None));
     }
-    let mut command = command(rt.alloc())?;
-    let matches = command.try_get_matches_from_mut(words)?;
+    let matches = matches_of(rt.alloc(), words)?;
     read_job(rt, &matches)
+}
+
+/// What the words of the command line say.
+fn matches_of<'a>(alloc: Global, words: &'a [String]) -> Result<ArgMatches<'a>, WordsError> {
+    let mut command = command(alloc)?;
+    Ok(command.try_get_matches_from_mut(words)?)
 }
 
 /// The program's name and the words behind it.
@@ -84,118 +90,174 @@ pub fn words_of<R: Env + AllocGlobal>(rt: &R) -> Result<Vec<String>, WordsError>
     }
 }
 
+/// The tasks, in the order of the help.
+static TASKS: [Task; 7] = [
+    Task::Replay,
+    Task::Fold,
+    Task::Show,
+    Task::Diff,
+    Task::Pull,
+    Task::Push,
+    Task::Instance,
+];
+
+/// What the program is asked to do.
+#[derive(Clone, Copy)]
+enum Task {
+    Replay,
+    Fold,
+    Show,
+    Diff,
+    Pull,
+    Push,
+    Instance,
+}
+
+/// The program with its tasks.
 fn command<'a>(alloc: Global) -> Result<Command<'a>, AllocError> {
-    Command::new(alloc, "am_tool")
+    let mut command = Command::new(alloc, "am_tool")
         .version(VERSION)
         .about("The state that instances of Alertmanager share")
-        .subcommand_required(true)
-        .subcommand(replay_command(alloc)?)?
-        .subcommand(fold_command(alloc, FOLD)?)?
-        .subcommand(show_command(alloc, SHOW)?)?
-        .subcommand(diff::command(alloc, diff::NAME)?)?
-        .subcommand(live::pull_command(alloc, live::PULL)?)?
-        .subcommand(live::push_command(alloc, live::PUSH)?)?
-        .subcommand(instance::command(alloc, instance::NAME)?)
+        .subcommand_required(true);
+    for task in &TASKS {
+        command = command.subcommand(task_command(alloc, *task)?)?;
+    }
+    Ok(command)
+}
+
+/// The command of a task.
+fn task_command<'a>(alloc: Global, task: Task) -> Result<Command<'a>, AllocError> {
+    match task {
+        Task::Replay => replay_command(alloc),
+        Task::Fold => fold_command(alloc, FOLD),
+        Task::Show => show_command(alloc, SHOW),
+        Task::Diff => diff::command(alloc, diff::NAME),
+        Task::Pull => live::pull_command(alloc, live::PULL),
+        Task::Push => live::push_command(alloc, live::PUSH),
+        Task::Instance => instance::command(alloc, instance::NAME),
+    }
 }
 
 fn replay_command<'a>(alloc: Global) -> Result<Command<'a>, AllocError> {
     let about =
         "Plays a schedule on a cluster, and prints what its members answer; so does am_tool without words";
-    Command::new(alloc, REPLAY)
-        .about(about)
-        .arg(picture_option(alloc))
-}
-
-fn picture_option<'a>(alloc: Global) -> Arg<'a> {
-    Arg::new(alloc, PICTURE)
-        .long(PICTURE)
-        .value_name("FILE")
-        .help(
-            "Also draws what was played, in this file as SVG; a schedule of over 2,000 steps is refused then",
-        )
-        .action(ArgAction::Set)
+    with_options(
+        alloc,
+        Command::new(alloc, REPLAY).about(about),
+        &REPLAY_OPTIONS,
+    )
 }
 
 fn fold_command<'a>(alloc: Global, name: &'a str) -> Result<Command<'a>, AllocError> {
     let about = "Reads a row of versions, and writes the one that counts of each key, in key order";
-    let state = "The state that the row is of: silences or the notification log";
-    let now =
-        "The moment of taking, in nanoseconds since 1970 or as 2026-11-26T12:00:00Z; with --log it may be left out";
-    Command::new(alloc, name)
-        .about(about)
-        .after_help(AFTER_FOLD)
-        .arg(state_flag(alloc, state))?
-        .arg(now_flag(alloc, now).required_unless_present(LOG)?)?
-        .arg(flag(alloc, LOG, LOG_HELP))?
-        .arg(
-            file_words(alloc, FOLD_FILE_HELP)
-                .num_args(1..)
-                .action(ArgAction::Append),
-        )
+    command_of(alloc, name, about, AFTER_FOLD, &FOLD_OPTIONS)
 }
 
 fn show_command<'a>(alloc: Global, name: &'a str) -> Result<Command<'a>, AllocError> {
     let about = "Reads a snapshot, and prints a line for each version that is live, in key order";
-    let state = "The state that the snapshot is of: silences or the notification log";
-    let now =
-        "The moment of the view, in nanoseconds since 1970 or as 2026-11-26T12:00:00Z; without it, the clock's";
-    Command::new(alloc, name)
-        .about(about)
-        .after_help(AFTER_SHOW)
-        .arg(state_flag(alloc, state))?
-        .arg(now_flag(alloc, now))?
-        .arg(json_flag(alloc, SHOW_JSON_HELP))?
-        .arg(flag(alloc, LOG, LOG_HELP))?
-        .arg(file_words(alloc, SHOW_FILE_HELP).action(ArgAction::Set))
+    command_of(alloc, name, about, AFTER_SHOW, &SHOW_OPTIONS)
 }
 
-/// The words that name files.
-fn file_words<'a>(alloc: Global, help: &'a str) -> Arg<'a> {
-    Arg::new(alloc, FILE).value_name("FILE").help(help)
-}
+static REPLAY_OPTIONS: [Named; 1] = [Named {
+    name: PICTURE,
+    value: "FILE",
+    takes: Takes::One,
+    help: "Also draws what was played, in this file as SVG; a schedule of over 2,000 steps is refused then",
+}];
 
-fn state_flag<'a>(alloc: Global, help: &'a str) -> Arg<'a> {
-    Arg::new(alloc, "state")
-        .long("state")
-        .value_name("STATE")
-        .help(help)
-        .required(true)
-        .action(ArgAction::Set)
-        .value_parser(["sil", "nfl"].as_slice())
-}
+static FOLD_OPTIONS: [Named; 4] = [
+    Named {
+        name: "state",
+        value: "STATE",
+        takes: Takes::State,
+        help: "The state that the row is of: silences or the notification log",
+    },
+    Named {
+        name: "now",
+        value: "MOMENT",
+        takes: Takes::WantedWithout(LOG),
+        help: "The moment of taking, in nanoseconds since 1970 or as 2026-11-26T12:00:00Z; with --log it may be left out",
+    },
+    Named {
+        name: LOG,
+        value: "",
+        takes: Takes::Nothing,
+        help: LOG_HELP,
+    },
+    Named {
+        name: FILE,
+        value: "FILE",
+        takes: Takes::Word(Words {
+            are_wanted: false,
+            are_many: true,
+        }),
+        help: "Files with rows, which are folded together; '-' is standard input, which is read where no file is named",
+    },
+];
 
-fn now_flag<'a>(alloc: Global, help: &'a str) -> Arg<'a> {
-    Arg::new(alloc, "now")
-        .long("now")
-        .value_name("MOMENT")
-        .help(help)
-        .action(ArgAction::Set)
-}
+static SHOW_OPTIONS: [Named; 5] = [
+    Named {
+        name: "state",
+        value: "STATE",
+        takes: Takes::State,
+        help: "The state that the snapshot is of: silences or the notification log",
+    },
+    Named {
+        name: "now",
+        value: "MOMENT",
+        takes: Takes::One,
+        help: "The moment of the view, in nanoseconds since 1970 or as 2026-11-26T12:00:00Z; without it, the clock's",
+    },
+    Named {
+        name: JSON,
+        value: "",
+        takes: Takes::Nothing,
+        help: "Prints a list in JSON, on one line: silences as API v2 shows them, or entries of the log",
+    },
+    Named {
+        name: LOG,
+        value: "",
+        takes: Takes::Nothing,
+        help: LOG_HELP,
+    },
+    Named {
+        name: FILE,
+        value: "FILE",
+        takes: Takes::Word(Words {
+            are_wanted: false,
+            are_many: false,
+        }),
+        help: "The file of the snapshot; '-' is standard input, which is read where no file is named",
+    },
+];
 
-fn json_flag<'a>(alloc: Global, help: &'a str) -> Arg<'a> {
-    Arg::new(alloc, JSON)
-        .long(JSON)
-        .help(help)
-        .action(ArgAction::SetTrue)
-}
-
+/// The job that is asked for.
 fn read_job<'a, R: Files + AllocGlobal>(
     rt: &R,
     matches: &ArgMatches<'a>,
 ) -> Result<Job<'a>, WordsError> {
-    let alloc = rt.alloc();
-    if let Some(flags) = matches.subcommand_matches(diff::NAME) {
-        return Ok(Job::Diff(diff::read_job(alloc, flags)?));
-    }
     if let Some(flags) = matches.subcommand_matches(instance::NAME) {
-        return Ok(Job::Instance(instance::read_options(rt, flags)?));
+        return instance_job(rt, flags);
     }
+    if let Some(flags) = matches.subcommand_matches(diff::NAME) {
+        return diff_job(rt.alloc(), flags);
+    }
+    read_other(rt.alloc(), matches)
+}
+
+/// The job that is asked for, where no member is to run, and nothing is compared.
+fn read_other<'a>(alloc: Global, matches: &ArgMatches<'a>) -> Result<Job<'a>, WordsError> {
     if let Some(flags) = matches.subcommand_matches(live::PULL) {
-        return Ok(Job::Pull(live::read_pull(alloc, flags)?));
+        return pull_job(alloc, flags);
     }
     if let Some(flags) = matches.subcommand_matches(live::PUSH) {
-        return Ok(Job::Push(live::read_push(alloc, flags)?));
+        return push_job(alloc, flags);
     }
+    read_local(alloc, matches)
+}
+
+/// The job that is asked for, where no replica is asked.
+fn read_local<'a>(alloc: Global, matches: &ArgMatches<'a>) -> Result<Job<'a>, WordsError> {
     if let Some(flags) = matches.subcommand_matches(SHOW) {
         return Ok(Job::Show(read_show(alloc, flags)?));
     }
@@ -204,6 +266,25 @@ fn read_job<'a, R: Files + AllocGlobal>(
     }
     let flags = matches.subcommand_matches(REPLAY);
     Ok(Job::Replay(flags.and_then(|flags| flags.get_str(PICTURE))))
+}
+
+fn instance_job<'a, R: Files + AllocGlobal>(
+    rt: &R,
+    flags: &ArgMatches<'a>,
+) -> Result<Job<'a>, WordsError> {
+    Ok(Job::Instance(instance::read_options(rt, flags)?))
+}
+
+fn diff_job<'a>(alloc: Global, flags: &ArgMatches<'a>) -> Result<Job<'a>, WordsError> {
+    Ok(Job::Diff(diff::read_job(alloc, flags)?))
+}
+
+fn pull_job<'a>(alloc: Global, flags: &ArgMatches<'a>) -> Result<Job<'a>, WordsError> {
+    Ok(Job::Pull(live::read_pull(alloc, flags)?))
+}
+
+fn push_job<'a>(alloc: Global, flags: &ArgMatches<'a>) -> Result<Job<'a>, WordsError> {
+    Ok(Job::Push(live::read_push(alloc, flags)?))
 }
 
 /// The snapshot that is to be shown.
@@ -316,17 +397,8 @@ const FILE: &str = "file";
 const LOG_HELP: &str =
     "Joins each file with the logs beside it, FILE.log and FILE.log.old, which a member with --log keeps";
 
-const FOLD_FILE_HELP: &str =
-    "Files with rows, which are folded together; '-' is standard input, which is read where no file is named";
-
-const SHOW_FILE_HELP: &str =
-    "The file of the snapshot; '-' is standard input, which is read where no file is named";
-
 const NO_FILE: &str =
     "'--log' wants a file that is named: neither standard input nor a server has a log beside it";
-
-const SHOW_JSON_HELP: &str =
-    "Prints a list in JSON, on one line: silences as API v2 shows them, or entries of the log";
 
 const AFTER_FOLD: &str = "\
 Examples:

@@ -4,8 +4,8 @@ use crate::host::{Host, Streams};
 use crate::live::ask_all;
 use crate::moment::{moment_of, warn};
 use crate::replica::told_by;
-use crate::source::{Keys, NO_MEMORY, Origin, ReadFault, Source, open_row, report_read};
-use am_faults::{Fault, SourceFault, report, status};
+use crate::source::{Keys, Origin, ReadFault, Source, open_row, report_read};
+use am_faults::{Fault, report, status};
 use am_jobs::{DiffJob, Form, PullJob, SourceWord, StateName};
 use am_merge::Held;
 use am_nflog::MeshEntry;
@@ -17,7 +17,7 @@ use am_told::{
 };
 use am_version_order::{Moment, Version};
 use am_wire::Message;
-use std::alloc::Global;
+use std::alloc::{AllocError, Global};
 use std::io::{BufReader, Read, Stdin, Write};
 use std::mem;
 
@@ -75,10 +75,7 @@ fn compare_live<'a, R: Host>(
     now: Moment,
 ) -> Result<DiffOutcome, ReadFault<'a>> {
     let Streams { input, mut output } = streams;
-    let replicas = match ask_all(rt, input, job) {
-        Ok(replicas) => replicas,
-        Err(fault) => return Err(fault),
-    };
+    let replicas = ask_all(rt, input, job)?;
     Ok(compare_held(rt.alloc(), job, now, &replicas, &mut output)?)
 }
 
@@ -90,10 +87,7 @@ fn compare_opened<'a, R: Host>(
     now: Moment,
 ) -> Result<DiffOutcome, ReadFault<'a>> {
     let Streams { input, mut output } = streams;
-    let mut inputs = match open_all(rt, input, job) {
-        Ok(inputs) => inputs,
-        Err(fault) => return Err(fault),
-    };
+    let mut inputs = open_all(rt, input, job)?;
     match compare_rows(rt.alloc(), job, now, &mut inputs, &mut output) {
         Ok(outcome) => Ok(outcome),
         Err(error) => Err(named(job, error)),
@@ -103,12 +97,12 @@ fn compare_opened<'a, R: Host>(
 /// Why sources of rows were not compared.
 fn named<'a>(job: &DiffJob<'a>, error: DiffError) -> ReadFault<'a> {
     match error {
-        DiffError::Source { number, fault } => ReadFault::Source(SourceFault {
-            name: job.sources.get(number).map(|source| source.name),
-            fault: Fault::Snapshot(fault),
-        }),
+        DiffError::Source { number, fault } => match job.sources.get(number) {
+            Some(source) => ReadFault::Source(source.name, Fault::Snapshot(fault)),
+            None => ReadFault::from(fault),
+        },
         DiffError::Write { written } => ReadFault::from(SnapshotError::Write { written }),
-        DiffError::Memory => ReadFault::from(SnapshotError::Memory),
+        DiffError::Memory => ReadFault::Fault(Fault::Memory(AllocError)),
     }
 }
 
@@ -121,12 +115,9 @@ fn open_all<'a, R: Host>(
     let mut inputs = Vec::new(rt.alloc());
     for source in &job.sources {
         let name = source.name;
-        let reader = match open_source(rt, input, job, source) {
-            Ok(reader) => reader,
-            Err(fault) => return Err(fault),
-        };
+        let reader = open_source(rt, input, job, source)?;
         if inputs.push(Input { name, reader }).is_err() {
-            return Err(ReadFault::of(name, NO_MEMORY));
+            return Err(ReadFault::Source(name, Fault::Memory(AllocError)));
         }
     }
     Ok(inputs)
@@ -144,7 +135,7 @@ fn open_source<'a, R: Host>(
     }
     match open_row(rt, input, source.file) {
         Ok(reader) => Ok(reader),
-        Err(fault) => Err(ReadFault::of(source.name, Fault::File(fault))),
+        Err(fault) => Err(ReadFault::Source(source.name, Fault::File(fault))),
     }
 }
 
@@ -168,14 +159,8 @@ fn compare_logged<'a, R: Host, V: Told + InJson + Message>(
     now: Moment,
 ) -> Result<DiffOutcome, ReadFault<'a>> {
     let Streams { input, mut output } = streams;
-    let opened = match open_logged(rt, input, job) {
-        Ok(opened) => opened,
-        Err(fault) => return Err(fault),
-    };
-    let replicas: Vec<Replica<'a, V>> = match read_logged(rt.alloc(), opened) {
-        Ok(replicas) => replicas,
-        Err(fault) => return Err(fault),
-    };
+    let opened = open_logged(rt, input, job)?;
+    let replicas: Vec<Replica<'a, V>> = read_logged(rt.alloc(), opened)?;
     let outcome = compare_held(rt.alloc(), job, now, &replicas, &mut output);
     mem::forget(replicas);
     Ok(outcome?)
@@ -190,12 +175,9 @@ fn open_logged<'a, R: Host>(
     let mut opened = Vec::new(rt.alloc());
     for source in &job.sources {
         let name = source.name;
-        let source = match open_with_logs(rt, input, job, source) {
-            Ok(source) => source,
-            Err(fault) => return Err(fault),
-        };
+        let source = open_with_logs(rt, input, job, source)?;
         if opened.push(source).is_err() {
-            return Err(ReadFault::of(name, NO_MEMORY));
+            return Err(ReadFault::Source(name, Fault::Memory(AllocError)));
         }
     }
     Ok(opened)
@@ -225,12 +207,9 @@ fn read_logged<'a, V: Version + Message>(
     let mut replicas = Vec::new(alloc);
     for source in opened {
         let name = source.name();
-        let held: Held<V> = match source.read(alloc, Keys::Repeated) {
-            Ok(held) => held,
-            Err(fault) => return Err(fault),
-        };
+        let held: Held<V> = source.read(alloc, Keys::Repeated)?;
         if replicas.push(Replica::new(name, held)).is_err() {
-            return Err(ReadFault::of(name, NO_MEMORY));
+            return Err(ReadFault::Source(name, Fault::Memory(AllocError)));
         }
     }
     Ok(replicas)

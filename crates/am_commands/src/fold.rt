@@ -14,7 +14,7 @@ use am_silence::MeshSilence;
 use am_snapshot::{SnapshotError, fold_held, save};
 use am_version_order::{Moment, Version};
 use am_wire::Message;
-use std::alloc::Global;
+use std::alloc::{AllocError, Global};
 use std::io::{BufReader, Read, Stdin, Write};
 use std::mem;
 
@@ -39,7 +39,7 @@ fn run_on_input<R: Host>(rt: &R, streams: Streams, job: &FoldJob<'_>) -> u8 {
 fn fold_input(alloc: Global, streams: Streams, job: &FoldJob<'_>) -> Result<(), Fault> {
     let Streams { input, mut output } = streams;
     let Ok(mut input) = BufReader::new(alloc, input) else {
-        return Err(Fault::from(SnapshotError::Memory));
+        return Err(Fault::Memory(AllocError));
     };
     let now = job.now;
     match job.state {
@@ -99,10 +99,7 @@ fn read_all<'a, R: Host, V: Version + Message>(
 ) -> Result<Held<V>, ReadFault<'a>> {
     let mut all = Held::new(rt.alloc());
     for file in &job.files {
-        let source = match Source::open(rt, input, file, file, job.has_logs) {
-            Ok(source) => source,
-            Err(fault) => return Err(fault),
-        };
+        let source = Source::open(rt, input, file, file, job.has_logs)?;
         let held: Held<V> = source.read(rt.alloc(), Keys::Repeated)?;
         all = join(all, held)?;
     }

@@ -3,7 +3,7 @@
 use crate::diff::pull_of;
 use crate::host::Host;
 use crate::replica::told_by;
-use crate::source::{Keys, NO_MEMORY, ReadFault, Source, open_row};
+use crate::source::{Keys, ReadFault, Source, open_row};
 use am_faults::Fault;
 use am_jobs::{DiffJob, PullJob, SourceWord};
 use am_merge::Held;
@@ -12,7 +12,7 @@ use am_silence::MeshSilence;
 use am_silence_json::read_silences;
 use am_snapshot::{SnapshotError, row_bytes, row_length};
 use am_told::Replica;
-use std::alloc::Global;
+use std::alloc::{AllocError, Global};
 use std::io::Stdin;
 use std::time::Duration;
 
@@ -25,12 +25,9 @@ pub fn ask_all<'a, R: Host>(
     let mut replicas = Vec::new(rt.alloc());
     for source in &job.sources {
         let name = source.name;
-        let held = match shown_by(rt, input, job, source) {
-            Ok(held) => held,
-            Err(fault) => return Err(fault),
-        };
+        let held = shown_by(rt, input, job, source)?;
         if replicas.push(Replica::new(name, held)).is_err() {
-            return Err(ReadFault::of(name, NO_MEMORY));
+            return Err(ReadFault::Source(name, Fault::Memory(AllocError)));
         }
     }
     Ok(replicas)
@@ -53,7 +50,7 @@ fn shown_by<'a, R: Host>(
     };
     match shown {
         Ok(held) => Ok(held),
-        Err(fault) => Err(ReadFault::of(source.name, fault)),
+        Err(fault) => Err(ReadFault::Source(source.name, fault)),
     }
 }
 
@@ -68,13 +65,10 @@ fn shown_by_replica<'a, R: Host>(
     rt: &R,
     pull: &PullJob<'a>,
 ) -> Result<Held<MeshSilence>, ReadFault<'a>> {
-    let mut reader = match told_by(rt, pull) {
-        Ok(reader) => reader,
-        Err(fault) => return Err(fault),
-    };
+    let mut reader = told_by(rt, pull)?;
     match shown_of_row(rt.alloc(), &mut reader) {
         Ok(held) => Ok(held),
-        Err(error) => Err(ReadFault::of(pull.name, Fault::Snapshot(error))),
+        Err(error) => Err(ReadFault::Source(pull.name, Fault::Snapshot(error))),
     }
 }
 
@@ -86,14 +80,11 @@ fn shown_by_logged<'a, R: Host>(
 ) -> Result<Held<MeshSilence>, ReadFault<'a>> {
     let name = source.name;
     let alloc = rt.alloc();
-    let source = match Source::open(rt, input, name, source.file, true) {
-        Ok(source) => source,
-        Err(fault) => return Err(fault),
-    };
+    let source = Source::open(rt, input, name, source.file, true)?;
     let held: Held<MeshSilence> = source.read(alloc, Keys::Repeated)?;
     match shown_of(alloc, &held) {
         Ok(shown) => Ok(shown),
-        Err(error) => Err(ReadFault::of(name, Fault::Snapshot(error))),
+        Err(error) => Err(ReadFault::Source(name, Fault::Snapshot(error))),
     }
 }
 
@@ -117,6 +108,6 @@ fn shown_by_server<R: Host>(
     let list = read_silences(alloc, body_of(&reply)?)?;
     match held_of(alloc, list) {
         Ok(held) => Ok(held),
-        Err(_) => Err(Fault::Snapshot(SnapshotError::Memory)),
+        Err(_) => Err(Fault::Memory(AllocError)),
     }
 }

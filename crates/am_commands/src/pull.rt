@@ -34,10 +34,7 @@ fn pull<'a, R: Host, V: Version + Message>(
         input: _,
         mut output,
     } = streams;
-    let held = match held_by::<R, V>(rt, job) {
-        Ok(held) => held,
-        Err(fault) => return Err(fault),
-    };
+    let held = held_by::<R, V>(rt, job)?;
     let written = save(rt.alloc(), &held, &mut output);
     mem::forget(held);
     written?;

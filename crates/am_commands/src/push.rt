@@ -4,7 +4,7 @@ use crate::host::{Host, Streams};
 use crate::moment::moment_of;
 use crate::replica::{exchange, held_by, key_of};
 use crate::source::{ReadFault, report_read};
-use am_faults::{report, status};
+use am_faults::{Fault, report, status};
 use am_jobs::{PushJob, StateName};
 use am_memberlist::states_text;
 use am_mend::{Refused, is_lacked, lacked, why_refused};
@@ -49,10 +49,7 @@ fn push<'a, R: Host, V: Told + Message>(
     } = streams;
     let alloc = rt.alloc();
     let mending: Mending<V> = Mending::read(alloc, &mut input, now)?;
-    let held = match held_by::<R, V>(rt, &job.to) {
-        Ok(held) => held,
-        Err(fault) => return Err(fault),
-    };
+    let held = held_by::<R, V>(rt, &job.to)?;
     let sent = mending.to_send(alloc, &held)?;
     if !job.is_dry {
         send_rows(rt, job, &sent)?;
@@ -61,10 +58,7 @@ fn push<'a, R: Host, V: Told + Message>(
     if job.is_dry || sent.versions.is_empty() {
         return Ok(has_later || !sent.versions.is_empty());
     }
-    let held = match held_by::<R, V>(rt, &job.to) {
-        Ok(held) => held,
-        Err(fault) => return Err(fault),
-    };
+    let held = held_by::<R, V>(rt, &job.to)?;
     Ok(mending.tell_refused(alloc, &held, &mut output)? || has_later)
 }
 
@@ -77,11 +71,11 @@ fn send_rows<'a, R: Host, V: Version>(
     if sent.rows.is_empty() {
         return Ok(());
     }
-    let states = states_text(rt.alloc(), key_of(job.to.state), &sent.rows)?;
-    match exchange(rt, &job.to, &states) {
-        Ok(_) => Ok(()),
-        Err(fault) => Err(ReadFault::of_replica(job.to.name, fault)),
-    }
+    let Ok(states) = states_text(rt.alloc(), key_of(job.to.state), &sent.rows) else {
+        return Err(ReadFault::Fault(Fault::Memory(AllocError)));
+    };
+    exchange(rt, &job.to, &states)?;
+    Ok(())
 }
 
 /// What is sent: the rows, as they were read, and their versions.

@@ -53,10 +53,7 @@ fn show_file<'a, R: Host>(
 ) -> Result<Shown, ReadFault<'a>> {
     let Streams { input, mut output } = streams;
     let alloc = rt.alloc();
-    let source = match Source::open(rt, input, file, file, job.has_logs) {
-        Ok(source) => source,
-        Err(fault) => return Err(fault),
-    };
+    let source = Source::open(rt, input, file, file, job.has_logs)?;
     match job.state {
         StateName::Silences => {
             let held: Held<MeshSilence> = source.read(alloc, Keys::Once)?;

@@ -4,9 +4,9 @@ ghost use Rattle.std.specs.Prelude.{◌≤◌, IfOk};
 ghost use Rattle.am_merge.specs.Maps.{IsMap};
 
 use crate::host::Host;
-use crate::replica::{AskFault, ToldRow};
+use crate::replica::ToldRow;
 use am_disk::FileFault;
-use am_faults::{Fault, SourceFault, report_source, status};
+use am_faults::{Fault, report, report_source, status};
 use am_files::{LogFault, Logs, WholeFile};
 use am_jobs::STANDARD_INPUT;
 use am_merge::Held;
@@ -14,7 +14,7 @@ use am_snapshot::{SnapshotError, load, take_row};
 use am_told::Word;
 use am_version_order::Version;
 use am_wire::{MOST_MESSAGE_BYTES, Message};
-use std::alloc::{AllocError, Global};
+use std::alloc::Global;
 use std::io::{self, BufReader, ErrorKind, Read, Stdin};
 
 /// Where the row of a source stands.
@@ -49,57 +49,30 @@ pub fn open_row<R: Host>(rt: &R, input: Stdin, file: &str) -> Result<BufReader<O
 /// Why a source isn't read, or what was read isn't told.
 #[derive(Drop)]
 pub enum ReadFault<'a> {
-    /// A source is at fault, or nothing that was read.
-    Source(SourceFault<'a>),
-    /// A log beside a source is at fault.
+    /// No source is at fault.
+    Fault(Fault),
+    /// The source of this name is at fault.
+    Source(&'a str, Fault),
+    /// The log of this path, beside a source, is at fault.
     Log(String, FileFault),
     /// The replica of this name told an error, in these words.
     Words(&'a str, Vec<u8>),
 }
 
-/// That memory ran out.
-pub const NO_MEMORY: Fault = Fault::Snapshot(SnapshotError::Memory);
-
 impl<'a> ReadFault<'a> {
-    /// That the source of this name is at fault.
-    pub fn of(name: &'a str, fault: Fault) -> ReadFault<'a> {
-        ReadFault::Source(SourceFault {
-            name: Some(name),
-            fault,
-        })
-    }
-
-    /// That the replica of this name told no state.
-    pub fn of_replica(name: &'a str, fault: AskFault) -> ReadFault<'a> {
-        match fault {
-            AskFault::Fault(fault) => ReadFault::of(name, fault),
-            AskFault::Words(words) => ReadFault::Words(name, words),
-        }
-    }
-
     /// That a log beside the source of this name is at fault.
     fn of_log(name: &'a str, fault: LogFault) -> ReadFault<'a> {
         let LogFault { path, fault } = fault;
         match path {
             Some(path) => ReadFault::Log(path, fault),
-            None => ReadFault::of(name, Fault::File(fault)),
+            None => ReadFault::Source(name, Fault::File(fault)),
         }
     }
 }
 
-/// A fault that is in no source.
 impl From<SnapshotError> for ReadFault<'_> {
     fn from(error: SnapshotError) -> Self {
-        ReadFault::Source(SourceFault {
-            name: None,
-            fault: Fault::Snapshot(error),
-        })
-    }
-}
-
-impl From<AllocError> for ReadFault<'_> {
-    fn from(_error: AllocError) -> Self {
-        ReadFault::from(SnapshotError::Memory)
+        ReadFault::Fault(Fault::Snapshot(error))
     }
 }
 
@@ -108,14 +81,9 @@ pub fn report_read<R: Host>(rt: &R, fault: &ReadFault<'_>) -> u8
     ensures { (1 ≤ result) × (result ≤ 4) }
 {
     match fault {
-        ReadFault::Source(fault) => report_source(rt, fault),
-        ReadFault::Log(path, fault) => {
-            let fault = SourceFault {
-                name: Some(path.as_str()),
-                fault: Fault::File(*fault),
-            };
-            report_source(rt, &fault)
-        }
+        ReadFault::Fault(fault) => report(rt, *fault),
+        ReadFault::Source(name, fault) => report_source(rt, name, *fault),
+        ReadFault::Log(path, fault) => report_source(rt, path.as_str(), Fault::File(*fault)),
         ReadFault::Words(name, words) => {
             let (name, words) = (Word(name.as_bytes()), Word(words));
             let _ = eprintln!(rt;
@@ -161,7 +129,7 @@ impl<'a> Source<'a> {
         let row = match open_row(rt, input, file) {
             Ok(row) => Some(row),
             Err(FileFault::File(ErrorKind::NotFound)) if logs.are_there() => None,
-            Err(fault) => return Err(ReadFault::of(name, Fault::File(fault))),
+            Err(fault) => return Err(ReadFault::Source(name, Fault::File(fault))),
         };
         Ok(Source { name, row, logs })
     }
@@ -189,7 +157,7 @@ impl<'a> Source<'a> {
         let Source { name, row, logs } = self;
         let mut held = match held_in(alloc, row, keys) {
             Ok(held) => held,
-            Err(error) => return Err(ReadFault::of(name, Fault::Snapshot(error))),
+            Err(error) => return Err(ReadFault::Source(name, Fault::Snapshot(error))),
         };
         match logs.join(alloc, &mut held, MOST_MESSAGE_BYTES as u32) {
             Ok(()) => Ok(held),

@@ -10,16 +10,16 @@ use thiserror::Error;
 #[derive(Clone, Copy, Debug, PartialEq, Eq, Error)]
 pub enum FileFault {
     /// The system refused to open, sync or rename it.
-    #[error("the file is refused: {0}")]
+    #[error("File {0:?}")]
     File(ErrorKind),
     /// What stands in it is at fault, or not all of it was read or written.
     #[error("{0}")]
     Snapshot(SnapshotError),
     /// What stands in its place is no file.
-    #[error("no file stands there")]
+    #[error("NotAFile")]
     NotAFile,
     /// Another process has it.
-    #[error("another process has it")]
+    #[error("Locked")]
     Locked,
 }
 

@@ -17,9 +17,8 @@ use am_secret::SecretFault;
 use am_silence_json::ListError;
 use am_snapshot::SnapshotError;
 use am_told::Word;
-use lines::FileLine;
 use meaning::meaning_of;
-use std::fmt;
+use std::alloc::AllocError;
 use std::io::ErrorKind;
 use std::net::SocketAddr;
 use thiserror::Error;
@@ -44,20 +43,32 @@ pub fn report<R: Eprint>(rt: &R, fault: Fault) -> u8
     fault.status()
 }
 
+/// Prints a fault on standard error, behind the name of the source that is at fault. Gives the exit status of the program.
+pub fn report_source<R: Eprint>(rt: &R, name: &str, fault: Fault) -> u8
+    ensures { (1 ≤ result) × (result ≤ 4) }
+{
+    let (name, meaning) = (Word(name.as_bytes()), fault.meaning());
+    let _ = eprintln!(rt; "am_tool: {name} {fault}: {meaning}");
+    fault.status()
+}
+
 /// Why a job was not done, or a part of it. It is printed as its names from outer to inner, and its numbers.
 #[derive(Clone, Copy, Debug, Error)]
 pub enum Fault {
+    /// Memory ran out.
+    #[error("Memory")]
+    Memory(#[from(alloc)] AllocError),
     /// In a row that is loaded or folded, or in what was written of one.
-    #[error(fmt = lines::write_snapshot_error)]
+    #[error("{0}")]
     Snapshot(#[from] SnapshotError),
     /// In the file of a source.
-    #[error(fmt = lines::write_file_fault)]
+    #[error("{0}")]
     File(#[from] FileFault),
     /// Of a source that is a server.
-    #[error(fmt = lines::write_server_fault)]
+    #[error("{0}")]
     Server(#[from] ServerFault),
     /// In the list that a server replied.
-    #[error(fmt = lines::write_list_error)]
+    #[error("{0}")]
     List(#[from] ListError),
     /// In what a replica answered by gossip.
     #[error(fmt = lines::write_answer_error)]
@@ -72,13 +83,13 @@ pub enum Fault {
     #[error("Peer")]
     Peer,
     /// The names of the members are at fault.
-    #[error(fmt = lines::write_config_error)]
+    #[error("{0}")]
     Config(#[from] ConfigError),
     /// In the file of the silences.
-    #[error("Silences {}", FileLine(.0))]
+    #[error("Silences {0}")]
     Silences(FileFault),
     /// In the file of the notification log.
-    #[error("Log {}", FileLine(.0))]
+    #[error("Log {0}")]
     Log(FileFault),
     /// So many bytes at the end of the log of the silences were being written when the last process ended.
     #[error("Silences Torn {0}")]
@@ -90,7 +101,7 @@ pub enum Fault {
     #[error("Random {0:?}")]
     Random(ErrorKind),
     /// The secret isn't read.
-    #[error(fmt = lines::write_secret_fault)]
+    #[error("Secret {0}")]
     Secret(SecretFault),
     /// The system refused to listen at an address.
     #[error(fmt = lines::write_listen_fault)]
@@ -99,10 +110,10 @@ pub enum Fault {
     #[error("Accept {0:?}")]
     Accept(ErrorKind),
     /// In a connection.
-    #[error(fmt = lines::write_connection_fault)]
+    #[error("{0}")]
     Connection(ConnectionFault),
     /// At the gate of a connection.
-    #[error(fmt = lines::write_gate_fault)]
+    #[error("{0}")]
     Gate(GateFault),
     /// A connection gave its place to another one, after so many bytes came.
     #[error("Crowded {0}")]
@@ -148,7 +159,9 @@ impl Fault {
     {
         match self {
             Fault::Snapshot(error) => status_of_snapshot(error),
-            Fault::List(ListError::Memory) | Fault::Config(ConfigError::Memory) => status::MEMORY,
+            Fault::Memory(_)
+            | Fault::List(ListError::Memory)
+            | Fault::Config(ConfigError::Memory) => status::MEMORY,
             Fault::List(_) => status::REFUSED,
             Fault::Peer | Fault::Config(_) => status::WORDS,
             Fault::File(fault) | Fault::Silences(fault) | Fault::Log(fault) => status_of_file(
@@ -248,32 +261,5 @@ fn status_of_secret(fault: SecretFault) -> u8
         SecretFault::File(_) | SecretFault::Read(_) => status::OUTSIDE,
         SecretFault::Short | SecretFault::Long => status::REFUSED,
         SecretFault::Memory => status::MEMORY,
-    }
-}
-
-/// A fault, and the name of the source in which it is, if it is in one.
-#[derive(Clone, Copy)]
-pub struct SourceFault<'a> {
-    /// The name of the source.
-    pub name: Option<&'a str>,
-    /// What is wrong with it.
-    pub fault: Fault,
-}
-
-/// Prints a fault on standard error, behind the name of its source. Gives the exit status of the program.
-pub fn report_source<R: Eprint>(rt: &R, fault: &SourceFault<'_>) -> u8
-    ensures { (1 ≤ result) × (result ≤ 4) }
-{
-    let meaning = fault.fault.meaning();
-    let _ = eprintln!(rt; "am_tool: {fault}: {meaning}");
-    fault.fault.status()
-}
-
-impl fmt::Display for SourceFault<'_> {
-    fn fmt<W: fmt::Write>(&self, f: &mut fmt::Formatter<W>) -> fmt::Result {
-        if let Some(name) = self.name {
-            write!(f, "{} ", Word(name.as_bytes()))?;
-        }
-        write!(f, "{}", self.fault)
     }
 }

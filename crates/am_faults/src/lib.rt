@@ -5,5 +5,5 @@ mod fault;
 mod occasion;
 pub mod status;
 
-pub use fault::{Fault, KINDS, SourceFault, print, print_count, report, report_source};
+pub use fault::{Fault, KINDS, print, print_count, report, report_source};
 pub use occasion::Occasion;

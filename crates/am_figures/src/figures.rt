@@ -12,7 +12,6 @@ use std::alloc::{AllocError, Global};
 use std::time::{Duration, Instant};
 
 /// What a member counts.
-#[derive(Drop)]
 pub struct Figures {
     /// When it was started, as the time since 1970.
     pub start: Duration,
@@ -36,6 +35,30 @@ pub struct Figures {
     /// The saves of the silences and of the log.
     pub silences: Save,
     pub log: Save,
+}
+
+// (so that crates above cite one drop, and don't prove those of all that is inside)
+impl Drop for Figures {
+    fn drop(self) {
+        let Figures {
+            start: _,
+            requests: _,
+            times: _,
+            steps: _,
+            decisions: _,
+            sent: _,
+            taken: _,
+            heard: _,
+            unsent_memory: _,
+            unsent_limit: _,
+            begun: _,
+            ended: _,
+            failings: _,
+            not_accepted: _,
+            silences: _,
+            log: _,
+        } = self;
+    }
 }
 
 impl Figures {

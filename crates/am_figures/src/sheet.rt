@@ -72,26 +72,41 @@ pub fn labelled(
     })
 }
 
+/// A figure that has no label.
+#[derive(Clone, Copy)]
+pub struct Figure {
+    pub name: &'static str,
+    pub help: &'static str,
+    pub kind: Kind,
+    pub number: Number,
+}
+
 /// The family of one figure, which has no label.
-pub fn single(
-    alloc: Global,
-    name: &'static str,
-    help: &'static str,
-    kind: Kind,
-    number: Number,
-) -> Result<Family, AllocError> {
+fn single(alloc: Global, figure: Figure) -> Result<Family, AllocError> {
     let mut samples = Vec::with_capacity(alloc, 1)?;
     samples.push(Sample {
         suffix: "",
         labels: Vec::new(alloc),
-        number,
+        number: figure.number,
     })?;
     Ok(Family {
-        name,
-        help,
-        kind,
+        name: figure.name,
+        help: figure.help,
+        kind: figure.kind,
         samples,
     })
+}
+
+/// Adds the families of figures that have no label.
+pub fn add_singles(
+    alloc: Global,
+    out: &mut Vec<Family>,
+    figures: &[Figure],
+) -> Result<(), AllocError> {
+    for figure in figures {
+        out.push(single(alloc, *figure)?)?;
+    }
+    Ok(())
 }
 
 /// The counters of a label's words.

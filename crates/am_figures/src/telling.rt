@@ -4,7 +4,8 @@ use crate::figures::Figures;
 use crate::peers::{Heard, PeerName};
 use crate::saves::Save;
 use crate::sheet::{
-    Shown, by_peer, by_word, label, labelled, seconds, seconds_of, single, twice_labelled,
+    Figure, Shown, add_singles, by_peer, by_word, label, labelled, seconds, seconds_of,
+    twice_labelled,
 };
 use crate::times::{BOUND_WORDS, Times};
 use crate::words::{CAUSES, DECISIONS, FAILINGS, KINDS, REQUESTS, STATES, STATUSES, STEPS};
@@ -44,28 +45,30 @@ fn silences(alloc: Global, shown: &Shown<'_>) -> Result<Family, AllocError> {
 fn add_held(alloc: Global, out: &mut Vec<Family>, shown: &Shown<'_>) -> Result<(), AllocError> {
     out.push(build(alloc, shown)?)?;
     out.push(silences(alloc, shown)?)?;
-    out.push(single(
+    add_singles(
         alloc,
-        "maityrunga_log_entries",
-        "Entries of the notification log held, live or not.",
-        Kind::Gauge,
-        Number::Whole(shown.entries),
-    )?)?;
-    out.push(single(
-        alloc,
-        "maityrunga_ready",
-        "1 where it answers requests, 0 while it waits for a first pull or stops.",
-        Kind::Gauge,
-        Number::Whole(u64::from(shown.is_ready)),
-    )?)?;
-    out.push(single(
-        alloc,
-        "maityrunga_clock_behind_seconds",
-        "By how much the clock is behind the moment of the last event.",
-        Kind::Gauge,
-        seconds(shown.behind),
-    )?)?;
-    Ok(())
+        out,
+        &[
+            Figure {
+                name: "maityrunga_log_entries",
+                help: "Entries of the notification log held, live or not.",
+                kind: Kind::Gauge,
+                number: Number::Whole(shown.entries),
+            },
+            Figure {
+                name: "maityrunga_ready",
+                help: "1 where it answers requests, 0 while it waits for a first pull or stops.",
+                kind: Kind::Gauge,
+                number: Number::Whole(u64::from(shown.is_ready)),
+            },
+            Figure {
+                name: "maityrunga_clock_behind_seconds",
+                help: "By how much the clock is behind the moment of the last event.",
+                kind: Kind::Gauge,
+                number: seconds(shown.behind),
+            },
+        ],
+    )
 }
 
 /// A counter by the words of a label.
@@ -184,14 +187,16 @@ fn add_requests(
         answered(alloc, figures),
     )?)?;
     out.push(durations(alloc, &figures.times)?)?;
-    out.push(single(
+    add_singles(
         alloc,
-        "maityrunga_requests_waiting",
-        "Requests for a decision that wait for this member's turn.",
-        Kind::Gauge,
-        Number::Whole(waiting),
-    )?)?;
-    Ok(())
+        out,
+        &[Figure {
+            name: "maityrunga_requests_waiting",
+            help: "Requests for a decision that wait for this member's turn.",
+            kind: Kind::Gauge,
+            number: Number::Whole(waiting),
+        }],
+    )
 }
 
 /// Its connections.
@@ -200,33 +205,39 @@ fn add_connections(
     out: &mut Vec<Family>,
     figures: &Figures,
 ) -> Result<(), AllocError> {
-    out.push(single(
+    add_singles(
         alloc,
-        "maityrunga_connections",
-        "Connections whose session isn't over.",
-        Kind::Gauge,
-        Number::Whole(figures.begun.saturating_sub(figures.ended)),
-    )?)?;
-    out.push(single(
-        alloc,
-        "maityrunga_connections_accepted_total",
-        "Connections accepted.",
-        Kind::Counter,
-        Number::Whole(figures.begun),
-    )?)?;
+        out,
+        &[
+            Figure {
+                name: "maityrunga_connections",
+                help: "Connections whose session isn't over.",
+                kind: Kind::Gauge,
+                number: Number::Whole(figures.begun.saturating_sub(figures.ended)),
+            },
+            Figure {
+                name: "maityrunga_connections_accepted_total",
+                help: "Connections accepted.",
+                kind: Kind::Counter,
+                number: Number::Whole(figures.begun),
+            },
+        ],
+    )?;
     out.push(counter_by(
         "maityrunga_connections_broken_total",
         "Connections closed before their end, by cause; crowded and unfinished are refused for want of room.",
         by_word(alloc, "cause", &FAILINGS, &figures.failings),
     )?)?;
-    out.push(single(
+    add_singles(
         alloc,
-        "maityrunga_accepts_failed_total",
-        "Connections that the system refused.",
-        Kind::Counter,
-        Number::Whole(figures.not_accepted),
-    )?)?;
-    Ok(())
+        out,
+        &[Figure {
+            name: "maityrunga_accepts_failed_total",
+            help: "Connections that the system refused.",
+            kind: Kind::Counter,
+            number: Number::Whole(figures.not_accepted),
+        }],
+    )
 }
 
 /// Frames that were lost, by peer and cause.
@@ -274,13 +285,16 @@ fn add_cluster(
     figures: &Figures,
     members: u64,
 ) -> Result<(), AllocError> {
-    out.push(single(
+    add_singles(
         alloc,
-        "alertmanager_cluster_members",
-        "Members of the cluster, itself too.",
-        Kind::Gauge,
-        Number::Whole(members),
-    )?)?;
+        out,
+        &[Figure {
+            name: "alertmanager_cluster_members",
+            help: "Members of the cluster, itself too.",
+            kind: Kind::Gauge,
+            number: Number::Whole(members),
+        }],
+    )?;
     out.push(counter_by(
         "alertmanager_cluster_messages_sent_total",
         "Frames handed to links, by kind.",
@@ -326,60 +340,69 @@ fn add_peers(
 }
 
 /// A figure of the saves of both states.
-fn of_saves(
-    alloc: Global,
+#[derive(Clone, Copy)]
+struct SaveFigure {
     name: &'static str,
     help: &'static str,
     kind: Kind,
+    /// Of the silences and of the log.
     numbers: [Number; 2],
-) -> Result<Family, AllocError> {
+}
+
+/// The family of a figure of saves.
+fn of_saves(alloc: Global, figure: SaveFigure) -> Result<Family, AllocError> {
     let mut samples = Vec::with_capacity(alloc, 2)?;
-    for (word, number) in STATES.iter().zip(numbers.iter()) {
+    for (word, number) in STATES.iter().zip(figure.numbers.iter()) {
         samples.push(labelled(alloc, "state", word, *number)?)?;
     }
     Ok(Family {
-        name,
-        help,
-        kind,
+        name: figure.name,
+        help: figure.help,
+        kind: figure.kind,
         samples,
     })
 }
 
 /// How the saves go.
+fn save_figures(silences: &Save, log: &Save) -> [SaveFigure; 4] {
+    [
+        SaveFigure {
+            name: "maityrunga_last_save_timestamp_seconds",
+            help: "When the last save was done, since 1970; 0 before the first.",
+            kind: Kind::Gauge,
+            numbers: [seconds(silences.done), seconds(log.done)],
+        },
+        SaveFigure {
+            name: "maityrunga_last_save_duration_seconds",
+            help: "How long the last save took that was done.",
+            kind: Kind::Gauge,
+            numbers: [seconds(silences.took), seconds(log.took)],
+        },
+        SaveFigure {
+            name: "maityrunga_saves_total",
+            help: "Saves that were done, by state.",
+            kind: Kind::Counter,
+            numbers: [Number::Whole(silences.count), Number::Whole(log.count)],
+        },
+        SaveFigure {
+            name: "maityrunga_saves_failed_total",
+            help: "Saves that failed, by state.",
+            kind: Kind::Counter,
+            numbers: [Number::Whole(silences.failed), Number::Whole(log.failed)],
+        },
+    ]
+}
+
+/// Adds how the saves go.
 fn add_saves(
     alloc: Global,
     out: &mut Vec<Family>,
     silences: &Save,
     log: &Save,
 ) -> Result<(), AllocError> {
-    out.push(of_saves(
-        alloc,
-        "maityrunga_last_save_timestamp_seconds",
-        "When the last save was done, since 1970; 0 before the first.",
-        Kind::Gauge,
-        [seconds(silences.done), seconds(log.done)],
-    )?)?;
-    out.push(of_saves(
-        alloc,
-        "maityrunga_last_save_duration_seconds",
-        "How long the last save took that was done.",
-        Kind::Gauge,
-        [seconds(silences.took), seconds(log.took)],
-    )?)?;
-    out.push(of_saves(
-        alloc,
-        "maityrunga_saves_total",
-        "Saves that were done, by state.",
-        Kind::Counter,
-        [Number::Whole(silences.count), Number::Whole(log.count)],
-    )?)?;
-    out.push(of_saves(
-        alloc,
-        "maityrunga_saves_failed_total",
-        "Saves that failed, by state.",
-        Kind::Counter,
-        [Number::Whole(silences.failed), Number::Whole(log.failed)],
-    )?)?;
+    for figure in &save_figures(silences, log) {
+        out.push(of_saves(alloc, *figure)?)?;
+    }
     Ok(())
 }
 
@@ -390,38 +413,39 @@ fn add_process(
     figures: &Figures,
     shown: &Shown<'_>,
 ) -> Result<(), AllocError> {
-    out.push(single(
+    add_singles(
         alloc,
-        "process_start_time_seconds",
-        "When the process was started, since 1970.",
-        Kind::Gauge,
-        seconds(figures.start),
-    )?)?;
-    out.push(single(
-        alloc,
-        "process_cpu_seconds_total",
-        "Processor time of the process.",
-        Kind::Counter,
-        Number::Nanos {
-            whole: shown.ticks / 100,
-            nanos: (shown.ticks % 100) as u32 * 10_000_000,
-        },
-    )?)?;
-    out.push(single(
-        alloc,
-        "process_resident_memory_bytes",
-        "Memory of the process that is in use.",
-        Kind::Gauge,
-        Number::Whole(shown.resident),
-    )?)?;
-    out.push(single(
-        alloc,
-        "process_open_fds",
-        "Files and sockets that the process has open.",
-        Kind::Gauge,
-        Number::Whole(shown.files),
-    )?)?;
-    Ok(())
+        out,
+        &[
+            Figure {
+                name: "process_start_time_seconds",
+                help: "When the process was started, since 1970.",
+                kind: Kind::Gauge,
+                number: seconds(figures.start),
+            },
+            Figure {
+                name: "process_cpu_seconds_total",
+                help: "Processor time of the process.",
+                kind: Kind::Counter,
+                number: Number::Nanos {
+                    whole: shown.ticks / 100,
+                    nanos: (shown.ticks % 100) as u32 * 10_000_000,
+                },
+            },
+            Figure {
+                name: "process_resident_memory_bytes",
+                help: "Memory of the process that is in use.",
+                kind: Kind::Gauge,
+                number: Number::Whole(shown.resident),
+            },
+            Figure {
+                name: "process_open_fds",
+                help: "Files and sockets that the process has open.",
+                kind: Kind::Gauge,
+                number: Number::Whole(shown.files),
+            },
+        ],
+    )
 }
 
 /// All that is told of a member in figures.

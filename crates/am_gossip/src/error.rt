@@ -11,18 +11,22 @@ use thiserror::Error;
 /// The first fault that stands, in the order in which a stream is read.
 #[derive(Clone, Copy, Debug, PartialEq, Eq, Error)]
 pub enum FrameError {
-    #[error("no frame begins with this byte")]
+    /// No frame begins with this byte.
+    #[error("Kind")]
     Kind,
-    #[error("the length is out of its range")]
+    /// The length of a greeting or a frame is out of its range.
+    #[error("Length")]
     Length,
     /// A fault in a payload; offsets count from the payload's first byte.
     #[error("{0}")]
     Wire(WireError),
-    #[error("a part's key names no state")]
+    /// A part's key names no state.
+    #[error("UnknownState")]
     UnknownState,
-    #[error("the stream ended with an earlier fault")]
+    /// The stream ended with an earlier fault.
+    #[error("Ended")]
     Ended,
-    #[error("out of memory")]
+    #[error("Memory")]
     Memory,
 }
 

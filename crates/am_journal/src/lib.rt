@@ -16,6 +16,3 @@ pub use error::LogError;
 pub use journal::{Journal, repair};
 pub use log_file::{Found, LogFile, Start, open_file, settle};
 pub use memory::Memory;
-
-#[cfg(test)]
-mod tests;

@@ -2,3 +2,4 @@ pub mod Again
 pub mod Maps
 pub mod Numbers
 pub mod Parts
+pub mod Stretches

@@ -4,3 +4,4 @@ pub mod Msgpack
 pub mod Requests
 pub mod Rows
 pub mod Seen
+pub mod Stretches

@@ -47,13 +47,17 @@ abbrev pub as_part : Result (List ℕ) LzwError → Result (List ℕ) AnswerErro
 as_part (Ok bytes) = Ok bytes
 as_part (Err e) = Err (unpacking_fault e)
 
--- the message in a compressed one, which has at most so many bytes
-unfoldable pub unpacked_in : ℕ → List ℕ → Result (List ℕ) AnswerError
-unpacked_in most bytes = map_at bytes >>= λ parts.
+-- the bytes that are compressed, behind the type of a message
+unfoldable pub packed_in : List ℕ → Result (List ℕ) AnswerError
+packed_in bytes = map_at bytes >>= λ parts.
     number_of (value_in (codes "Algo") parts.0) >>= λ way.
     raw_of (value_in (codes "Buf") parts.0) >>= λ packed.
     exactly 0 parts.1 >>= λ none.
-    (if way == 0 then as_part (unpacked (length packed) packed most 0 0 [] []) else Err (Compression way))
+    (if way == 0 then Ok packed else Err (Compression way))
+
+-- the message in a compressed one, which has at most so many bytes
+unfoldable pub unpacked_in : ℕ → List ℕ → Result (List ℕ) AnswerError
+unpacked_in most bytes = packed_in bytes >>= λ packed. as_part (unpacked (length packed) packed most 0 0 [] [])
 
 -- the message that an answer is, or that is compressed in it
 unfoldable pub plain_of : ℕ → List ℕ → Result (List ℕ) AnswerError

@@ -1,14 +1,16 @@
 //! Answers.
 
-ghost use Rattle.std.specs.Prelude.{◌≡◌, map};
+ghost use Rattle.std.specs.Prelude.{◌≡◌, ◌≢◌, Err, drop, map, IfOk, IfErr};
 ghost use Rattle.am_memberlist.specs.Answers.{GivesUnlessMemory};
-ghost use Rattle.am_memberlist.specs.Messages.{behind_nodes, states_in, words_in, message_in, unpacked_in, plain_of, said_seen, exactly};
+ghost use Rattle.am_memberlist.specs.Messages.{behind_nodes, states_in, words_in, message_in, packed_in, unpacked_in, plain_of, said_seen, exactly};
+ghost use Rattle.am_memberlist.specs.Stretches.{message_of, stretch_of, unpacked_from};
+ghost use Rattle.am_memberlist.specs.declared.error.AnswerError.TheVariants.{Memory};
 ghost use Rattle.am_memberlist.specs.Msgpack.{value_in, number_of, raw_of};
 ghost use Rattle.am_memberlist.specs.Seen.{bytes_seen, items_seen, pair_of, option_seen};
 
 use crate::error::AnswerError;
 use crate::msgpack::{Pair, Scalar, map_at};
-use am_lzw::unpack;
+use am_lzw::{Stretch, Unpacking, unpack};
 use std::alloc::Global;
 
 /// The most nodes of an answer.
@@ -139,10 +141,10 @@ pub fn read_message(alloc: Global, bytes: &[u8]) -> Result<Said<'_>, AnswerError
     }
 }
 
-/// The message in a compressed one.
-#[tactic(auto, unfolding(crate::specs::Messages::unpacked_in))]
-fn unpacked_in(alloc: Global, bytes: &[u8], most: usize) -> Result<Vec<u8>, AnswerError>
-    ensures { GivesUnlessMemory (items_seen result) (unpacked_in most bytes.now) }
+/// The bytes that a compressed message has in it, behind its type.
+#[tactic(auto, unfolding(crate::specs::Messages::packed_in))]
+fn packed_in(alloc: Global, bytes: &[u8]) -> Result<&[u8], AnswerError>
+    ensures { GivesUnlessMemory (bytes_seen result) (packed_in bytes.now) }
 {
     let (parts, rest) = map_at(alloc, bytes)?;
     let way = number_of(value_in(&parts, "Algo"))?;
@@ -151,6 +153,15 @@ fn unpacked_in(alloc: Global, bytes: &[u8], most: usize) -> Result<Vec<u8>, Answ
     if way != 0 {
         return Err(AnswerError::Compression(way));
     }
+    Ok(packed)
+}
+
+/// The message in a compressed one.
+#[tactic(auto, unfolding(crate::specs::Messages::unpacked_in))]
+fn unpacked_in(alloc: Global, bytes: &[u8], most: usize) -> Result<Vec<u8>, AnswerError>
+    ensures { GivesUnlessMemory (items_seen result) (unpacked_in most bytes.now) }
+{
+    let packed = packed_in(alloc, bytes)?;
     Ok(unpack(alloc, packed, most)?)
 }
 
@@ -167,4 +178,72 @@ pub fn unpack_answer(alloc: Global, answer: Vec<u8>, most: usize) -> Result<Vec<
         Some((kind, rest)) if *kind == COMPRESSED => unpacked_in(alloc, rest, most),
         _ => Ok(answer),
     }
+}
+
+/// An answer that is unpacked in stretches.
+#[derive(Drop)]
+pub enum Answer {
+    /// Its message.
+    Message(Vec<u8>),
+    /// It is compressed, and how far it is unpacked.
+    Packed(Vec<u8>, Unpacking),
+}
+
+impl Answer {
+    /// An answer whose message has at most `most` bytes, if it is compressed. Nothing is unpacked yet.
+    #[tactic(auto, unfolding(crate::specs::Messages::plain_of))]
+    pub fn new(alloc: Global, answer: Vec<u8>, most: usize) -> Answer
+        ensures { message_of result ≡ plain_of most answer.items }
+    {
+        match answer.split_first() {
+            Some((kind, _)) if *kind == COMPRESSED => {
+                Answer::Packed(answer, Unpacking::new(alloc, most))
+            }
+            _ => Answer::Message(answer),
+        }
+    }
+
+    /// Unpacks so many codes more, as [`Unpacking::go_on`] does.
+    ///
+    /// # Errors
+    ///
+    /// Those of [`unpack_answer`].
+    pub fn go_on(self, alloc: Global, count: usize) -> Result<Answer, AnswerError>
+        ensures found { IfOk result (λ answer. message_of answer ≡ message_of self) }
+        ensures fault { IfErr result (λ e. e ≢ Memory → message_of self ≡ Err e) }
+    {
+        let (answer, unpacking) = match self {
+            Answer::Message(message) => return Ok(Answer::Message(message)),
+            Answer::Packed(answer, unpacking) => (answer, unpacking),
+        };
+        match go_on_in(alloc, &answer, unpacking, count)? {
+            Stretch::Whole(message) => Ok(Answer::Message(message)),
+            Stretch::Part(unpacking) => Ok(Answer::Packed(answer, unpacking)),
+        }
+    }
+}
+
+/// What is behind the type of a message.
+fn behind_type(message: &[u8]) -> &[u8]
+    ensures { result.now ≡ drop 1 message.now }
+{
+    match message.split_first() {
+        Some((_, rest)) => rest,
+        None => &[],
+    }
+}
+
+/// Unpacks a stretch more of a compressed answer.
+#[tactic(auto, using(crate::proofs::Stretches::stretched, crate::proofs::Stretches::at_fault, crate::proofs::Stretches::not_packed))]
+fn go_on_in(
+    alloc: Global,
+    answer: &[u8],
+    unpacking: Unpacking,
+    count: usize,
+) -> Result<Stretch, AnswerError>
+    ensures found { IfOk result (λ stretch. stretch_of answer.now stretch ≡ unpacked_from answer.now unpacking) }
+    ensures fault { IfErr result (λ e. e ≢ Memory → unpacked_from answer.now unpacking ≡ Err e) }
+{
+    let packed = packed_in(alloc, behind_type(answer))?;
+    Ok(unpacking.go_on(packed, count)?)
 }

@@ -10,7 +10,7 @@ mod number;
 mod request;
 mod rows;
 
-pub use answer::{MOST_NODES, Said, read_message, unpack_answer};
+pub use answer::{Answer, MOST_NODES, Said, read_message, unpack_answer};
 pub use error::AnswerError;
 pub use request::{request_text, told_text};
 pub use rows::{part_text, row_in, states_text};

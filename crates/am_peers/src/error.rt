@@ -5,28 +5,29 @@ ghost use Rattle.std.specs.Prelude.{◌≡◌};
 use std::io::{self, ErrorKind};
 use thiserror::Error;
 
-/// Why a server has not told what it was asked.
+/// Why a server has not told what it was asked. It is printed as its name and number; of `NoHead` the name is `Reply`.
 #[derive(Clone, Copy, Debug, PartialEq, Eq, Error)]
 pub enum ServerFault {
     /// There is no connection.
-    #[error("the connection is refused: {0}")]
+    #[error("Connect {0:?}")]
     Connect(ErrorKind),
     /// A write failed or took nothing, when so many bytes of the request had gone out.
-    #[error("a write failed after {written} bytes")]
+    #[error("Write {written}")]
     Write { written: u64 },
     /// A read failed, when so many bytes of the reply had come.
-    #[error("a read failed after {at} bytes")]
+    #[error("Read {at}")]
     Read { at: usize },
-    #[error("more than 67,125,248 bytes")]
+    /// It has over 67,125,248 bytes.
+    #[error("TooLarge")]
     TooLarge,
-    #[error("out of memory")]
+    #[error("Memory")]
     Memory,
     /// The reply doesn't begin with the head of a response of HTTP/1.0 or HTTP/1.1 within 16,384 bytes, of at most 64
     /// fields.
-    #[error("no reply of HTTP")]
+    #[error("Reply")]
     NoHead,
     /// Its status isn't 200.
-    #[error("status {0}")]
+    #[error("Status {0}")]
     Status(u16),
 }
 

@@ -16,7 +16,7 @@ mod writing;
 
 pub use clock::{is_behind, later_moment, next_moment};
 pub use error::ServerFault;
-pub use fault::{Fault, SendError};
+pub use fault::Fault;
 pub use fetching::{Server, ask, fetch, server_of};
 pub use peer::{number_within, port_of};
 pub use queue::{Parted, part_frames};

@@ -4,10 +4,9 @@ ghost use Rattle.std.specs.Prelude.{◌≡◌, ◌++◌, ◌⊎◌, ◌↔◌, f
 ghost use Rattle.std.specs.List.{flat_map};
 ghost use Rattle.am_gossip.specs.Frames.{frame_text};
 ghost use Rattle.am_peers.specs.Outgoing.{all_fit, greeting_text, is_name};
-ghost use Rattle.am_peers.specs.declared.fault.SendError.TheVariants as errors;
+ghost use Rattle.am_gossip.specs.declared.error.FrameError.TheVariants as errors;
 
-use crate::fault::SendError;
-use am_gossip::{Frame, MOST_NAME_BYTES, append_frame, frame_fits};
+use am_gossip::{Frame, FrameError, MOST_NAME_BYTES, append_frame, frame_fits};
 use am_wire::writing::append_delimited;
 use std::alloc::{AllocError, Global};
 
@@ -49,14 +48,14 @@ fn append_frames(out: &mut Vec<u8>, frames: &[Frame]) -> Result<(), AllocError>
 ///
 /// # Errors
 ///
-/// [`SendError::Length`] where the name has no byte or over 255, whatever memory there is, and [`SendError::Memory`].
-pub fn greeting(alloc: Global, name: &str) -> Result<Vec<u8>, SendError>
+/// [`FrameError::Length`] where the name has no byte or over 255, whatever memory there is, and [`FrameError::Memory`].
+pub fn greeting(alloc: Global, name: &str) -> Result<Vec<u8>, FrameError>
     ensures text { IfOk result (λ text. text.items ≡ greeting_text name.now) }
     ensures too_long { (result ≡ Err errors.Length) ↔ (is_name name.now ≡ false) }
     ensures refused { IfErr result (λ e. (e ≡ errors.Memory) ⊎ (e ≡ errors.Length)) }
 {
     if !is_name(name) {
-        return Err(SendError::Length);
+        return Err(FrameError::Length);
     }
     let mut text = Vec::new(alloc);
     append_greeting(&mut text, name)?;
@@ -67,15 +66,15 @@ pub fn greeting(alloc: Global, name: &str) -> Result<Vec<u8>, SendError>
 ///
 /// # Errors
 ///
-/// [`SendError::Length`] where the payload of a frame is over its limit, whatever memory there is, and
-/// [`SendError::Memory`].
-pub fn frames_text(alloc: Global, frames: &[Frame]) -> Result<Vec<u8>, SendError>
+/// [`FrameError::Length`] where the payload of a frame is over its limit, whatever memory there is, and
+/// [`FrameError::Memory`].
+pub fn frames_text(alloc: Global, frames: &[Frame]) -> Result<Vec<u8>, FrameError>
     ensures text { IfOk result (λ text. text.items ≡ flat_map frame_text frames.now) }
     ensures too_long { (result ≡ Err errors.Length) ↔ (all_fit frames.now ≡ false) }
     ensures refused { IfErr result (λ e. (e ≡ errors.Memory) ⊎ (e ≡ errors.Length)) }
 {
     if !all_fit(frames) {
-        return Err(SendError::Length);
+        return Err(FrameError::Length);
     }
     let mut text = Vec::new(alloc);
     append_frames(&mut text, frames)?;

@@ -5,6 +5,7 @@ use Rattle.am_schedule.specs.declared.error.FaultKind.TheVariants as kinds
 use Rattle.am_schedule.specs.declared.error.ScheduleError.{ScheduleError}
 use Rattle.am_schedule.specs.declared.schedule.Schedule.{Schedule}
 use Rattle.am_schedule.specs.Schedules.{schedule_of}
+use Rattle.am_replay.specs.Playing.{IsOutput}
 use Rattle.am_picture.specs.declared.error.PictureError.{PictureError}
 use Rattle.am_picture.specs.declared.error.PictureError.TheVariants as errors
 
@@ -22,6 +23,10 @@ pub record IsPictured (text : List ℕ) : Type 0 where
   pub schedule : Schedule
   pub said : schedule_of text ≡ Ok schedule
   pub few : length schedule.lines ≤ 2000
+
+-- what is printed beside a picture of the text
+abbrev pub IsPrinted : List ℕ → List ℕ → Type 0
+IsPrinted text printed = (schedule : Schedule) × (schedule_of text ≡ Ok schedule) × IsOutput schedule printed
 
 -- why there is no picture: a line is at fault, or the schedule has so many steps, over 2,000; or memory ran out
 abbrev pub StopsPicture : List ℕ → PictureError → Type 0

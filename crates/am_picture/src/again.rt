@@ -1,37 +1,40 @@
 //! Which notifications go out once more although nothing changed.
 
-use crate::mark::{Answer, Mark, Verb};
+use crate::mark::{Mark, Verb};
 use crate::sheet::Sheet;
 use am_schedule::{Action, GroupLine, Line, LineEvent};
-use am_version_order::{Interval, Moment};
 
 /// The line that a step repeats. The step decides to notify a group; that line is the last one before it by which the group
 /// was notified at this receiver, by a decision of another member or as `notified` says it; the alerts are the same, and the
 /// repeat interval of the step isn't over since.
 pub fn repeated_line(sheet: &Sheet<'_>, column: usize) -> Option<u64> {
     let mark = sheet.scene.marks.get(column)?;
-    if !is_notified(&mark.answer) {
+    if !mark.notifies() {
         return None;
     }
-    let place = last_told(sheet, column, mark)?;
-    let told = sheet.scene.marks.get(place)?;
-    if repeats(sheet, column, place, mark.moment, told.moment) {
+    let group = group_at(sheet, column)?;
+    let (told, before) = last_told(sheet, column, mark, group)?;
+    if has_same_alerts(group, before) && mark.moment? < told.moment?.capped_add(group.repeat) {
         Some(told.line)
     } else {
         None
     }
 }
 
-fn is_notified(answer: &Answer) -> bool {
-    matches!(answer, Answer::Notify(_))
-}
-
-/// The number of the last step before one by which its group was notified.
-fn last_told(sheet: &Sheet<'_>, column: usize, mark: &Mark) -> Option<usize> {
+/// The last step before one by which its group was notified, and the group as it was then.
+fn last_told<'a>(
+    sheet: &Sheet<'a>,
+    column: usize,
+    mark: &Mark,
+    group: &GroupLine,
+) -> Option<(&'a Mark, &'a GroupLine)> {
     let mut last = None;
     for (place, earlier) in sheet.scene.marks.iter().enumerate() {
-        if place < column && tells(earlier, mark) && are_of_one_group(sheet, place, column) {
-            last = Some(place);
+        if place < column && tells(earlier, mark) {
+            match group_at(sheet, place) {
+                Some(told) if is_one_group(told, group) => last = Some((earlier, told)),
+                _ => {}
+            }
         }
     }
     last
@@ -40,38 +43,15 @@ fn last_told(sheet: &Sheet<'_>, column: usize, mark: &Mark) -> Option<usize> {
 /// Whether by a step a group was notified, as a later step finds it.
 fn tells(earlier: &Mark, mark: &Mark) -> bool {
     match earlier.verb {
-        Verb::Notified => !earlier.answer.is_refused(),
-        Verb::Decide => is_notified(&earlier.answer) && earlier.place != mark.place,
+        Verb::Notified => !earlier.is_refused(),
+        Verb::Decide => earlier.notifies() && earlier.place != mark.place,
         _ => false,
     }
 }
 
 /// Whether two steps are about one group at one receiver.
-fn are_of_one_group(sheet: &Sheet<'_>, one: usize, other: usize) -> bool {
-    let Some(one) = group_at(sheet, one) else {
-        return false;
-    };
-    let Some(other) = group_at(sheet, other) else {
-        return false;
-    };
+fn is_one_group(one: &GroupLine, other: &GroupLine) -> bool {
     one.group.as_str() == other.group.as_str() && one.receiver.as_str() == other.receiver.as_str()
-}
-
-/// Whether a step has the same alerts as an earlier one, and its repeat interval isn't over since.
-fn repeats(
-    sheet: &Sheet<'_>,
-    column: usize,
-    place: usize,
-    now: Option<Moment>,
-    then: Option<Moment>,
-) -> bool {
-    let Some(group) = group_at(sheet, column) else {
-        return false;
-    };
-    let Some(told) = group_at(sheet, place) else {
-        return false;
-    };
-    has_same_alerts(group, told) && is_within(now, then, group.repeat)
 }
 
 fn has_same_alerts(one: &GroupLine, other: &GroupLine) -> bool {
@@ -79,29 +59,20 @@ fn has_same_alerts(one: &GroupLine, other: &GroupLine) -> bool {
         && one.resolved.as_slice() == other.resolved.as_slice()
 }
 
-/// Whether a moment is less than an interval behind another.
-fn is_within(now: Option<Moment>, then: Option<Moment>, interval: Interval) -> bool {
-    match (now, then) {
-        (Some(now), Some(then)) => now < then.capped_add(interval),
-        _ => false,
-    }
-}
-
 /// The group that a step decides on or notifies.
 fn group_at<'a>(sheet: &Sheet<'a>, column: usize) -> Option<&'a GroupLine> {
-    match sheet.step(column)? {
-        Line::Step(step) => group_of(step.action()),
-        _ => None,
-    }
-}
-
-fn group_of(action: &Action) -> Option<&GroupLine> {
-    match action {
-        Action::Event { event, .. } => match event {
-            LineEvent::Notified(group) => Some(group),
-            LineEvent::Decide { group, .. } => Some(group),
-            _ => None,
-        },
+    let (Line::Step(step), _) = sheet.schedule.lines.as_slice().get(column)? else {
+        return None;
+    };
+    match step.action() {
+        Action::Event {
+            event: LineEvent::Notified(group),
+            ..
+        }
+        | Action::Event {
+            event: LineEvent::Decide { group, .. },
+            ..
+        } => Some(group),
         _ => None,
     }
 }

@@ -5,23 +5,39 @@ use crate::layout::{beyond, edge_of, flight_of, lane_of, loss_of, middle_of};
 use crate::mark::{Mark, Verb};
 use crate::scene::{Fate, Sending};
 use crate::sheet::{Sheet, Stroke, append_title, open_curve};
+use am_replay::kind_name;
 use std::alloc::AllocError;
 
 /// Appends all frames: those that fly or were lost, and each delivery.
 pub fn append_frames(sheet: &Sheet<'_>, out: &mut String) -> Result<(), AllocError> {
-    append_undelivered(sheet, out)?;
+    for sending in &sheet.scene.sendings {
+        append_sending(sheet, out, sending)?;
+    }
     append_arrivals(sheet, out)
 }
 
-fn append_undelivered(sheet: &Sheet<'_>, out: &mut String) -> Result<(), AllocError> {
-    for sending in &sheet.scene.sendings {
-        match sending.fate {
-            Fate::Flying => append_flying(sheet, out, sending)?,
-            Fate::Lost(column) => append_lost(sheet, out, sending, column)?,
-            Fate::Delivered => {}
+/// Appends a frame that was never delivered.
+fn append_sending(
+    sheet: &Sheet<'_>,
+    out: &mut String,
+    sending: &Sending,
+) -> Result<(), AllocError> {
+    let (sender, addressee) = (sending.sender, sending.addressee);
+    match sending.fate {
+        Fate::Flying => {
+            let x2 = flight_of(sender, addressee);
+            let y2 = beyond(sending.column, sender, addressee);
+            open_sending(sheet, out, "frame fly", sending, x2, y2)?;
+            out.push_str(", still in flight</title></path>\n")
         }
+        Fate::Lost(column) => {
+            let (x2, y2) = (loss_of(sender, addressee), middle_of(column));
+            open_sending(sheet, out, "frame", sending, x2, y2)?;
+            let line = sheet.scene.line_of(column);
+            writeln!(out, ", lost by line {line}</title></path>")
+        }
+        Fate::Delivered => Ok(()),
     }
-    Ok(())
 }
 
 fn append_arrivals(sheet: &Sheet<'_>, out: &mut String) -> Result<(), AllocError> {
@@ -35,36 +51,6 @@ fn append_arrivals(sheet: &Sheet<'_>, out: &mut String) -> Result<(), AllocError
     Ok(())
 }
 
-fn append_flying(sheet: &Sheet<'_>, out: &mut String, sending: &Sending) -> Result<(), AllocError> {
-    let stroke = Stroke {
-        x1: lane_of(sending.sender),
-        y1: middle_of(sending.column),
-        x2: flight_of(sending.sender, sending.addressee),
-        y2: beyond(sending.column, sending.sender, sending.addressee),
-    };
-    open_curve(out, "frame fly", &stroke)?;
-    append_story(sheet, out, sending)?;
-    out.push_str(", still in flight</title></path>\n")
-}
-
-fn append_lost(
-    sheet: &Sheet<'_>,
-    out: &mut String,
-    sending: &Sending,
-    column: usize,
-) -> Result<(), AllocError> {
-    let stroke = Stroke {
-        x1: lane_of(sending.sender),
-        y1: middle_of(sending.column),
-        x2: loss_of(sending.sender, sending.addressee),
-        y2: middle_of(column),
-    };
-    open_curve(out, "frame", &stroke)?;
-    append_story(sheet, out, sending)?;
-    let line = sheet.scene.line_of(column);
-    writeln!(out, ", lost by line {line}</title></path>")
-}
-
 /// Appends the frame that a line delivers.
 fn append_delivery(
     sheet: &Sheet<'_>,
@@ -75,14 +61,8 @@ fn append_delivery(
     let Some(sending) = sheet.scene.frame_of(mark) else {
         return Ok(());
     };
-    let stroke = Stroke {
-        x1: lane_of(sending.sender),
-        y1: middle_of(sending.column),
-        x2: lane_of(sending.addressee),
-        y2: middle_of(column),
-    };
-    open_curve(out, "frame tip", &stroke)?;
-    append_story(sheet, out, sending)?;
+    let (x2, y2) = (lane_of(sending.addressee), middle_of(column));
+    open_sending(sheet, out, "frame tip", sending, x2, y2)?;
     let line = mark.line;
     writeln!(out, ", delivered by line {line}</title></path>")
 }
@@ -108,11 +88,25 @@ fn append_written(
     out.push_str("</path>\n")
 }
 
-/// Appends the beginning of a frame's title.
-fn append_story(sheet: &Sheet<'_>, out: &mut String, sending: &Sending) -> Result<(), AllocError> {
-    let (number, kind) = (sending.number, sending.kind);
+/// Appends a frame from where it was sent to a cursor, up to the end of its title.
+fn open_sending(
+    sheet: &Sheet<'_>,
+    out: &mut String,
+    class: &str,
+    sending: &Sending,
+    x2: u64,
+    y2: u64,
+) -> Result<(), AllocError> {
+    let stroke = Stroke {
+        x1: lane_of(sending.sender),
+        y1: middle_of(sending.column),
+        x2,
+        y2,
+    };
+    open_curve(out, class, &stroke)?;
+    let (number, kind) = (sending.number, kind_name(sending.kind));
     let line = sheet.scene.line_of(sending.column);
-    write!(out, "<title>frame {number}, a {kind:?} from ")?;
+    write!(out, "<title>frame {number}, a {kind} from ")?;
     append_escaped(sheet.alloc, out, sheet.name(sending.sender))?;
     out.push_str(" to ")?;
     append_escaped(sheet.alloc, out, sheet.name(sending.addressee))?;

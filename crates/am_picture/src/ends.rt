@@ -36,14 +36,10 @@ fn latest_moment(sheet: &Sheet<'_>) -> Moment {
     let mut latest = Moment::LEAST;
     for place in 0..sheet.names().len() {
         if let Some(instance) = sheet.cluster.instance(place as Place) {
-            latest = later_of(latest, instance.last());
+            latest = latest.max(instance.last());
         }
     }
     latest
-}
-
-fn later_of(first: Moment, second: Moment) -> Moment {
-    if first < second { second } else { first }
 }
 
 /// Appends the head above what is told at the end.

@@ -1,7 +1,7 @@
 //! Why there is no picture of a schedule.
 
+use am_replay::Halt;
 use am_schedule::{FaultKind, ScheduleError};
-use std::alloc::AllocError;
 use thiserror::Error;
 
 /// Why there is no picture of a schedule: the first of these that applies.
@@ -35,13 +35,13 @@ impl From<ScheduleError> for PictureError {
     }
 }
 
-impl From<AllocError> for PictureError {
+impl From<Halt> for PictureError {
     ghost use Rattle.std.specs.Prelude.{◌≡◌};
     ghost use Rattle.am_picture.specs.declared.error.PictureError.TheVariants.{Memory};
 
     ghost from_gives = { λ _ fault. fault ≡ Memory };
 
-    fn from(_e: AllocError) -> PictureError {
+    fn from(_halt: Halt) -> PictureError {
         PictureError::Memory
     }
 }

@@ -34,40 +34,31 @@ fn append_name(
 
 /// Appends a member's lane: a line for each time in which it ran.
 fn append_lane(sheet: &Sheet<'_>, out: &mut String, place: Place) -> Result<(), AllocError> {
-    let mut begins = Some(edge_of(0));
+    let mut start = Some(edge_of(0));
     for (column, mark) in sheet.scene.marks.iter().enumerate() {
-        match (turn_of(mark, place), begins) {
-            (Turn::Stopped, Some(start)) => {
-                append_span(sheet, out, place, start, middle_of(column))?;
-                begins = None;
+        let runs = runs_behind(mark, place, start.is_some());
+        match start {
+            Some(begin) if !runs => {
+                append_span(sheet, out, place, begin, middle_of(column))?;
+                start = None;
             }
-            (Turn::Started, None) => begins = Some(middle_of(column)),
+            None if runs => start = Some(middle_of(column)),
             _ => {}
         }
     }
-    match begins {
-        Some(start) => append_span(sheet, out, place, start, edge_of(sheet.scene.marks.len())),
+    match start {
+        Some(begin) => append_span(sheet, out, place, begin, edge_of(sheet.scene.marks.len())),
         None => Ok(()),
     }
 }
 
-/// What a line means for whether a member runs.
-#[derive(Clone, Copy, PartialEq, Eq)]
-enum Turn {
-    Stopped,
-    Started,
-    /// It goes on as it was.
-    Neither,
-}
-
-fn turn_of(mark: &Mark, place: Place) -> Turn {
-    if mark.place != Some(place) || mark.answer.is_refused() {
-        return Turn::Neither;
-    }
+/// Whether a member runs behind a line, as it did or didn't before.
+fn runs_behind(mark: &Mark, place: Place, runs: bool) -> bool {
     match mark.verb {
-        Verb::Stop => Turn::Stopped,
-        Verb::Start => Turn::Started,
-        _ => Turn::Neither,
+        _ if mark.place != Some(place) || mark.is_refused() => runs,
+        Verb::Stop => false,
+        Verb::Start => true,
+        _ => runs,
     }
 }
 
@@ -75,11 +66,7 @@ fn turn_of(mark: &Mark, place: Place) -> Turn {
 pub fn runs_at_end(sheet: &Sheet<'_>, place: Place) -> bool {
     let mut runs = true;
     for mark in &sheet.scene.marks {
-        match turn_of(mark, place) {
-            Turn::Stopped => runs = false,
-            Turn::Started => runs = true,
-            Turn::Neither => {}
-        }
+        runs = runs_behind(mark, place, runs);
     }
     runs
 }
@@ -92,16 +79,20 @@ fn append_span(
     start: u64,
     end: u64,
 ) -> Result<(), AllocError> {
-    append_along(out, "lane", place, start, end)?;
+    open_along(out, "lane", place, start, end)?;
     out.push_str("</line>\n")?;
-    match sheet.cluster.calm(place).first_fault {
-        Some(line) => append_fault(sheet, out, place, line, start, end),
-        None => Ok(()),
+    match first_fault(sheet, place) {
+        Some((line, fault)) if fault < end => {
+            open_along(out, "lane bad", place, start.max(fault), end)?;
+            append_title(sheet.alloc, out, sheet.line(line))?;
+            out.push_str("</line>\n")
+        }
+        _ => Ok(()),
     }
 }
 
 /// Appends a line along a lane, up to what it holds.
-fn append_along(
+fn open_along(
     out: &mut String,
     class: &str,
     place: Place,
@@ -118,54 +109,27 @@ fn append_along(
     open_stroke(out, class, &stroke)
 }
 
-/// Appends what of a time in which a member ran comes from the fault in a line on.
-fn append_fault(
-    sheet: &Sheet<'_>,
-    out: &mut String,
-    place: Place,
-    line: u64,
-    start: u64,
-    end: u64,
-) -> Result<(), AllocError> {
-    let Some(fault) = cursor_of(sheet, line) else {
-        return Ok(());
-    };
-    if fault >= end {
-        return Ok(());
-    }
-    append_along(out, "lane bad", place, start.max(fault), end)?;
-    append_title(sheet.alloc, out, sheet.line(line))?;
-    out.push_str("</line>\n")
-}
-
-/// Where the line of a number stands.
-fn cursor_of(sheet: &Sheet<'_>, line: u64) -> Option<u64> {
+/// The line of the first fault of a member's calm, and where it stands.
+fn first_fault(sheet: &Sheet<'_>, place: Place) -> Option<(u64, u64)> {
+    let line = sheet.cluster.calm(place).first_fault?;
     for (column, mark) in sheet.scene.marks.iter().enumerate() {
         if mark.line == line {
-            return Some(middle_of(column));
+            return Some((line, middle_of(column)));
         }
     }
     None
 }
 
-/// Appends the number of the line of a member's first fault, beside where it stands.
+/// Appends the number of the line of each member's first fault, beside where it stands.
 pub fn append_fault_lines(sheet: &Sheet<'_>, out: &mut String) -> Result<(), AllocError> {
     for place in 0..sheet.names().len() {
-        append_fault_line(sheet, out, place as Place)?;
+        if let Some((line, y)) = first_fault(sheet, place as Place) {
+            let x = lane_of(place as Place);
+            writeln!(
+                out,
+                "<g transform=\"translate({x} {y})\"><text class=\"fault\" x=\"-8\" y=\"21\">line {line}</text></g>"
+            )?;
+        }
     }
     Ok(())
-}
-
-fn append_fault_line(sheet: &Sheet<'_>, out: &mut String, place: Place) -> Result<(), AllocError> {
-    let Some(line) = sheet.cluster.calm(place).first_fault else {
-        return Ok(());
-    };
-    let Some(y) = cursor_of(sheet, line) else {
-        return Ok(());
-    };
-    let x = lane_of(place);
-    writeln!(
-        out,
-        "<g transform=\"translate({x} {y})\"><text class=\"fault\" x=\"-8\" y=\"21\">line {line}</text></g>"
-    )
 }

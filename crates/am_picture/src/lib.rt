@@ -10,13 +10,12 @@ mod lanes;
 mod layout;
 mod mark;
 mod marks;
+mod painter;
 mod picture;
-mod playing;
-mod refusal;
 mod scene;
 mod sheet;
 mod times;
 
 pub use error::PictureError;
 pub use escape::{append_escaped, append_shortened};
-pub use picture::picture_of;
+pub use picture::{Drawn, picture_of};

@@ -1,28 +1,30 @@
 //! What a line of a schedule did.
 
-use crate::refusal::Refusal;
-use am_dedup::Reason;
+use am_cluster::Cluster;
+use am_dedup::Decision;
 use am_instance::Place;
+use am_replay::{Answer, Refusal};
+use am_schedule::{Action, Line, LineEvent, Word};
 use am_version_order::Moment;
 
 /// What a line asks for.
-#[derive(Clone, Copy, Debug, PartialEq, Eq)]
+#[derive(Clone, Copy)]
 pub enum Verb {
     From,
-    Post,
-    Expire,
     Notified,
     Decide,
+    Start,
+    Stop,
+    Deliver,
+    Lose,
+    Settle,
+    Post,
+    Expire,
     Mutes,
     Show,
     Tick,
     Pull,
-    Start,
-    Stop,
     Save,
-    Deliver,
-    Lose,
-    Settle,
     Timely,
     Frames,
 }
@@ -32,48 +34,28 @@ impl Verb {
     pub fn name(self) -> &'static str {
         match self {
             Verb::From => "from",
-            Verb::Post => "post",
-            Verb::Expire => "end",
             Verb::Notified => "notified",
             Verb::Decide => "decide",
+            Verb::Start => "start",
+            Verb::Stop => "stop",
+            Verb::Deliver => "deliver",
+            Verb::Lose => "lose",
+            Verb::Settle => "settle",
+            Verb::Post => "post",
+            Verb::Expire => "end",
             Verb::Mutes => "mutes",
             Verb::Show => "show",
             Verb::Tick => "tick",
             Verb::Pull => "pull",
-            Verb::Start => "start",
-            Verb::Stop => "stop",
             Verb::Save => "save",
-            Verb::Deliver => "deliver",
-            Verb::Lose => "lose",
-            Verb::Settle => "settle",
             Verb::Timely => "timely",
             Verb::Frames => "frames",
         }
     }
 }
 
-/// What came of a line.
-#[derive(Clone, Copy, Debug, PartialEq, Eq)]
-pub enum Answer {
-    /// Nothing that is told.
-    Nothing,
-    Yes,
-    No,
-    /// A group isn't notified.
-    Skip,
-    /// A group is notified, for this reason.
-    Notify(Reason),
-    Refused(Refusal),
-}
-
-impl Answer {
-    pub fn is_refused(&self) -> bool {
-        matches!(self, Answer::Refused(_))
-    }
-}
-
 /// A line of a schedule as it was played.
-#[derive(Clone, Copy, Debug)]
+#[derive(Clone, Copy)]
 pub struct Mark {
     /// Its number, counted from 1.
     pub line: u64,
@@ -81,7 +63,7 @@ pub struct Mark {
     pub verb: Verb,
     /// The member that it is a step of.
     pub place: Option<Place>,
-    /// The peer that it names.
+    /// The peer from which a frame comes by itself.
     pub peer: Option<Place>,
     /// The number of the frame that it names.
     pub frame: Option<u64>,
@@ -89,8 +71,85 @@ pub struct Mark {
 }
 
 impl Mark {
-    /// Whether the frame that it names flies.
-    pub fn flies(&self) -> bool {
-        self.answer != Answer::Refused(Refusal::NoFrame)
+    /// The place of the frame that it names among all that were sent, counted from 0, if that flies.
+    pub fn flying(&self) -> Option<usize> {
+        match self.answer {
+            Answer::Refused(Refusal::NoFrame) => None,
+            _ => Some(self.frame?.checked_sub(1)? as usize),
+        }
     }
+
+    pub fn is_refused(&self) -> bool {
+        matches!(self.answer, Answer::Refused(_))
+    }
+
+    /// Whether a group is notified by its decision.
+    pub fn notifies(&self) -> bool {
+        matches!(self.answer, Answer::Decided(Decision::Notify(_)))
+    }
+}
+
+/// What the line of a number did.
+pub fn mark_of(cluster: &Cluster, line: &Line, number: u64, answer: Answer) -> Mark {
+    let (verb, moment, name, frame) = parts_of(line);
+    Mark {
+        line: number,
+        moment,
+        verb,
+        place: place_of(cluster, name),
+        peer: place_of(cluster, peer_of(line)),
+        frame,
+        answer,
+    }
+}
+
+/// What a line asks for, its moment, its member and the frame that it names.
+fn parts_of(line: &Line) -> (Verb, Option<Moment>, Option<&Word>, Option<u64>) {
+    match line {
+        Line::Step(step) => match step.action() {
+            Action::Event { at, name, event } => (verb_of(event), Some(*at), Some(name), None),
+            Action::Stop { name } => (Verb::Stop, None, Some(name), None),
+            Action::Save { name } => (Verb::Save, None, Some(name), None),
+            Action::Deliver { at, frame } => (Verb::Deliver, Some(*at), None, Some(*frame)),
+            Action::Lose { frame } => (Verb::Lose, None, None, Some(*frame)),
+        },
+        Line::Settle(now) => (Verb::Settle, Some(*now), None, None),
+        Line::Timely(..) => (Verb::Timely, None, None, None),
+        Line::Frames => (Verb::Frames, None, None, None),
+    }
+}
+
+fn verb_of(event: &LineEvent) -> Verb {
+    match event {
+        LineEvent::From { .. } => Verb::From,
+        LineEvent::Post(_) => Verb::Post,
+        LineEvent::Expire { .. } => Verb::Expire,
+        LineEvent::Notified(_) => Verb::Notified,
+        LineEvent::Decide { .. } => Verb::Decide,
+        LineEvent::Mutes { .. } => Verb::Mutes,
+        LineEvent::Show => Verb::Show,
+        LineEvent::Tick => Verb::Tick,
+        LineEvent::Pull { .. } => Verb::Pull,
+        LineEvent::Start => Verb::Start,
+    }
+}
+
+/// The peer from which a frame comes by itself.
+fn peer_of(line: &Line) -> Option<&Word> {
+    let Line::Step(step) = line else {
+        return None;
+    };
+    match step.action() {
+        Action::Event {
+            event: LineEvent::From { peer, .. },
+            ..
+        } => Some(peer),
+        _ => None,
+    }
+}
+
+/// The place of the member of a name.
+fn place_of(cluster: &Cluster, name: Option<&Word>) -> Option<Place> {
+    let first = cluster.instance(0)?;
+    first.config().place_named(name?.as_str())
 }

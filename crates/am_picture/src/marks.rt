@@ -4,42 +4,32 @@ use crate::again::repeated_line;
 use crate::escape::{append_escaped, append_shortened};
 use crate::lanes::MOST_OF_NAME;
 use crate::layout::{lane_of, loss_of, middle_of, words_of};
-use crate::mark::{Answer, Mark, Verb};
+use crate::mark::{Mark, Verb};
 use crate::sheet::{Sheet, Stroke, append_title, open_stroke};
 use crate::times::append_time;
-use am_dedup::Reason;
 use am_instance::Place;
-use am_version_order::Moment;
+use am_replay::{Answer, decision_name, kind_name, refusal_name, yes_or_no};
 use std::alloc::AllocError;
 
 /// Appends a mark for each line, with its moment at the left and its words at the right.
 pub fn append_marks(sheet: &Sheet<'_>, out: &mut String) -> Result<(), AllocError> {
     for (column, mark) in sheet.scene.marks.iter().enumerate() {
-        append_head(sheet, out, mark, column)?;
+        append_moment(sheet, out, mark, middle_of(column))?;
         append_mark(sheet, out, mark, column)?;
     }
     Ok(())
 }
 
 /// Appends the moment of a line.
-fn append_head(
-    sheet: &Sheet<'_>,
-    out: &mut String,
-    mark: &Mark,
-    column: usize,
-) -> Result<(), AllocError> {
-    match mark.moment {
-        Some(moment) => append_moment(sheet, out, moment, middle_of(column)),
-        None => Ok(()),
-    }
-}
-
 fn append_moment(
     sheet: &Sheet<'_>,
     out: &mut String,
-    moment: Moment,
+    mark: &Mark,
     y: u64,
 ) -> Result<(), AllocError> {
+    let Some(moment) = mark.moment else {
+        return Ok(());
+    };
     write!(out, "<text class=\"head\" x=\"8\" y=\"{y}\" dy=\"5\">")?;
     append_time(out, sheet.first, moment)?;
     out.push_str("</text>\n")
@@ -54,7 +44,11 @@ fn append_mark(
 ) -> Result<(), AllocError> {
     let (x, y) = (lane_of_mark(sheet, mark), middle_of(column));
     let repeated = repeated_line(sheet, column);
-    let class = class_of(mark, repeated);
+    let class = match repeated {
+        _ if mark.is_refused() => "mark no",
+        Some(_) => "mark again",
+        None => "mark",
+    };
     write!(
         out,
         "<g class=\"{class}\" transform=\"translate({x} {y})\">"
@@ -68,16 +62,6 @@ fn append_mark(
     out.push_str("</text></g>\n")
 }
 
-fn class_of(mark: &Mark, repeated: Option<u64>) -> &'static str {
-    if mark.answer.is_refused() {
-        "mark no"
-    } else if repeated.is_some() {
-        "mark again"
-    } else {
-        "mark"
-    }
-}
-
 /// Appends who does a line, what it is called, and what came of it, up to the end of these words.
 fn append_words(
     sheet: &Sheet<'_>,
@@ -87,20 +71,12 @@ fn append_words(
 ) -> Result<(), AllocError> {
     let x = words_of(sheet.names().len()).saturating_sub(x);
     write!(out, "<text x=\"{x}\" y=\"5\">")?;
-    append_who(sheet, out, mark)?;
-    append_label(sheet, out, mark)?;
-    match word_of(&mark.answer) {
-        Some(word) => write!(out, ": {word}"),
-        None => Ok(()),
+    if let Some(place) = mark.place {
+        append_name(sheet, out, place)?;
+        out.push_str(" ")?;
     }
-}
-
-fn append_who(sheet: &Sheet<'_>, out: &mut String, mark: &Mark) -> Result<(), AllocError> {
-    let Some(place) = mark.place else {
-        return Ok(());
-    };
-    append_name(sheet, out, place)?;
-    out.push_str(" ")
+    append_label(sheet, out, mark)?;
+    append_answer(out, &mark.answer)
 }
 
 /// Appends the name of the member at a place.
@@ -113,10 +89,10 @@ fn lane_of_mark(sheet: &Sheet<'_>, mark: &Mark) -> u64 {
     if let Some(place) = mark.place {
         return lane_of(place);
     }
-    match sheet.scene.frame_of(mark) {
-        Some(sending) if mark.verb == Verb::Lose => loss_of(sending.sender, sending.addressee),
-        Some(sending) => lane_of(sending.addressee),
-        None => words_of(sheet.names().len()),
+    match (sheet.scene.frame_of(mark), mark.verb) {
+        (Some(sending), Verb::Lose) => loss_of(sending.sender, sending.addressee),
+        (Some(sending), _) => lane_of(sending.addressee),
+        (None, _) => words_of(sheet.names().len()),
     }
 }
 
@@ -131,7 +107,8 @@ fn append_mark_title(
     write!(out, "<title>line {line}: ")?;
     append_escaped(sheet.alloc, out, sheet.line(line))?;
     if let Answer::Refused(refusal) = mark.answer {
-        write!(out, "\nrefused: {refusal:?}")?;
+        let name = refusal_name(refusal);
+        write!(out, "\nrefused: {name}")?;
     }
     if let Some(line) = repeated {
         write!(out, "\nonce more: notified by line {line}")?;
@@ -141,20 +118,19 @@ fn append_mark_title(
 
 /// What is drawn for a line: a cross where a frame is lost, a dot at a member, and nothing at the head.
 fn shape_of(mark: &Mark) -> &'static str {
-    match mark.verb {
-        Verb::Lose if mark.flies() => "<path class=\"cross\" d=\"M-5-5L5 5M-5 5L5-5\"/>",
-        Verb::Lose | Verb::Settle | Verb::Timely | Verb::Frames => "",
-        Verb::Deliver if !mark.flies() => "",
+    match (mark.verb, mark.flying()) {
+        (Verb::Lose, Some(_)) => "<path class=\"cross\" d=\"M-5-5L5 5M-5 5L5-5\"/>",
+        (Verb::Lose | Verb::Deliver, None) | (Verb::Settle | Verb::Timely | Verb::Frames, _) => "",
         _ => "<circle r=\"5\"/>",
     }
 }
 
 /// Appends what a line is called.
 fn append_label(sheet: &Sheet<'_>, out: &mut String, mark: &Mark) -> Result<(), AllocError> {
-    match sheet.scene.frame_of(mark) {
-        Some(sending) if mark.verb == Verb::Deliver => {
-            let (kind, number) = (sending.kind, sending.number);
-            write!(out, "{kind:?} {number} to ")?;
+    match (mark.verb, sheet.scene.frame_of(mark)) {
+        (Verb::Deliver, Some(sending)) => {
+            let (kind, number) = (kind_name(sending.kind), sending.number);
+            write!(out, "{kind} {number} to ")?;
             append_name(sheet, out, sending.addressee)
         }
         _ => append_verb(sheet, out, mark),
@@ -173,30 +149,23 @@ fn append_verb(sheet: &Sheet<'_>, out: &mut String, mark: &Mark) -> Result<(), A
     Ok(())
 }
 
-/// What came of a line, in a word.
-fn word_of(answer: &Answer) -> Option<&'static str> {
-    match answer {
-        Answer::Nothing => None,
-        Answer::Yes => Some("yes"),
-        Answer::No => Some("no"),
-        Answer::Skip => Some("Skip"),
-        Answer::Notify(Reason::First) => Some("First"),
-        Answer::Notify(Reason::NewFiring) => Some("NewFiring"),
-        Answer::Notify(Reason::AllResolved) => Some("AllResolved"),
-        Answer::Notify(Reason::NewResolved) => Some("NewResolved"),
-        Answer::Notify(Reason::Repeat) => Some("Repeat"),
-        Answer::Refused(_) => Some("refused"),
-    }
+/// Appends what came of a line, in a word.
+fn append_answer(out: &mut String, answer: &Answer) -> Result<(), AllocError> {
+    let word = match *answer {
+        Answer::Nothing => return Ok(()),
+        Answer::Is(answer) => yes_or_no(answer),
+        Answer::Decided(decision) => decision_name(decision),
+        Answer::Refused(_) => "refused",
+    };
+    write!(out, ": {word}")
 }
 
 /// Appends a line across all lanes for each settle that was made.
 pub fn append_settles(sheet: &Sheet<'_>, out: &mut String) -> Result<(), AllocError> {
-    let Some(last) = sheet.names().len().checked_sub(1) else {
-        return Ok(());
-    };
     for (column, mark) in sheet.scene.marks.iter().enumerate() {
-        if mark.verb == Verb::Settle && !mark.answer.is_refused() {
-            append_settle(sheet, out, mark, column, last as u64)?;
+        match mark.verb {
+            Verb::Settle if !mark.is_refused() => append_settle(sheet, out, mark, column)?,
+            _ => {}
         }
     }
     Ok(())
@@ -207,13 +176,12 @@ fn append_settle(
     out: &mut String,
     mark: &Mark,
     column: usize,
-    last: u64,
 ) -> Result<(), AllocError> {
     let y = middle_of(column);
     let stroke = Stroke {
         x1: lane_of(0),
         y1: y,
-        x2: lane_of(last),
+        x2: lane_of(sheet.names().len().saturating_sub(1) as Place),
         y2: y,
     };
     open_stroke(out, "settle", &stroke)?;

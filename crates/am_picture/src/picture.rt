@@ -1,7 +1,7 @@
 //! Pictures of schedules.
 
-ghost use Rattle.std.specs.Prelude.{◌≡◌, ◌≤◌, IfErr, OnOk, length};
-ghost use Rattle.am_picture.specs.Pictures.{IsPictured, StopsPicture};
+ghost use Rattle.std.specs.Prelude.{IfErr, IfOk, OnOk, string_bytes};
+ghost use Rattle.am_picture.specs.Pictures.{IsPictured, IsPrinted, StopsPicture};
 
 use crate::arrows::append_frames;
 use crate::ends::append_ends;
@@ -9,22 +9,35 @@ use crate::error::PictureError;
 use crate::lanes::{append_fault_lines, append_lanes};
 use crate::layout::{MOST_STEPS, height_of, lane_of, middle_of, width_of, words_of};
 use crate::marks::{append_marks, append_settles};
-use crate::playing::{newborn, play};
+use crate::painter::Painter;
 use crate::sheet::{Sheet, Stroke, open_stroke};
-use crate::times::first_of_clock;
-use am_schedule::{Schedule, parse};
+use am_replay::{Onlooker, play};
+use am_schedule::parse;
 use am_silence_json::moments::write_moment;
 use std::alloc::{AllocError, Global};
-use std::str;
 
-/// The picture of the schedule that a text is, as SVG.
+/// A schedule that was played and drawn.
+#[derive(Drop)]
+pub struct Drawn {
+    /// The picture, as SVG.
+    pub picture: String,
+    /// All that is printed of the schedule.
+    pub output: String,
+}
+
+/// Plays the schedule that a text is, and draws it. `onlooker` is told how far the playing is.
 ///
 /// # Errors
 ///
 /// The first [`PictureError`] that applies, before anything is played but for want of memory.
-pub fn picture_of(alloc: Global, text: &[u8]) -> Result<String, PictureError>
+pub fn picture_of<O: Onlooker>(
+    alloc: Global,
+    text: &[u8],
+    onlooker: &mut O,
+) -> Result<Drawn, PictureError>
     // PROMISE: A picture is made of a valid schedule of at most 2,000 steps, and of nothing else.
     ensures pictured { OnOk result (IsPictured text.now) }
+    ensures printed { IfOk result (λ drawn. IsPrinted text.now (string_bytes drawn.output)) }
     ensures stopped { IfErr result (StopsPicture text.now) }
 {
     let schedule = parse(alloc, text)?;
@@ -32,37 +45,14 @@ pub fn picture_of(alloc: Global, text: &[u8]) -> Result<String, PictureError>
     if steps > MOST_STEPS {
         return Err(PictureError::TooManySteps { steps });
     }
-    Ok(draw(alloc, &schedule, text)?)
-}
-
-/// Plays a schedule, and draws what was played.
-fn draw(alloc: Global, schedule: &Schedule, text: &[u8]) -> Result<String, AllocError> {
-    let mut cluster = newborn(alloc, schedule)?;
-    let scene = play(alloc, &mut cluster, schedule)?;
-    let lines = lines_of(alloc, text)?;
-    let sheet = Sheet {
-        alloc,
-        schedule,
-        cluster: &cluster,
-        scene: &scene,
-        lines: &lines,
-        first: first_of_clock(&scene),
-    };
-    let mut out = String::new(alloc);
-    append_picture(&sheet, &mut out)?;
-    Ok(out)
-}
-
-/// The lines of a text that is UTF-8.
-fn lines_of(alloc: Global, text: &[u8]) -> Result<Vec<&str>, AllocError> {
-    match str::from_utf8(text) {
-        Ok(text) => text.split('\n').collect(alloc),
-        Err(_) => Ok(Vec::new(alloc)),
-    }
+    let mut painter = Painter::new(alloc, &schedule, text, onlooker);
+    let output = play(alloc, &schedule, &mut painter)?;
+    let picture = painter.into_picture();
+    Ok(Drawn { picture, output })
 }
 
 /// Appends the whole picture.
-fn append_picture(sheet: &Sheet<'_>, out: &mut String) -> Result<(), AllocError> {
+pub fn append_picture(sheet: &Sheet<'_>, out: &mut String) -> Result<(), AllocError> {
     append_front(sheet, out)?;
     append_first(sheet, out)?;
     append_grid(sheet, out)?;

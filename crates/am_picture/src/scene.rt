@@ -7,7 +7,7 @@ use am_instance::Place;
 use std::alloc::{AllocError, Global};
 
 /// What became of a frame.
-#[derive(Clone, Copy, Debug, PartialEq, Eq)]
+#[derive(Clone, Copy)]
 pub enum Fate {
     /// It was never delivered, and flies.
     Flying,
@@ -18,7 +18,7 @@ pub enum Fate {
 }
 
 /// A frame that was sent.
-#[derive(Clone, Copy, Debug)]
+#[derive(Clone, Copy)]
 pub struct Sending {
     /// Its number, counted from 1, among all that were ever sent.
     pub number: u64,
@@ -31,18 +31,10 @@ pub struct Sending {
 }
 
 /// What was played: what each line did, and all frames that were sent, by their numbers.
+#[derive(Drop)]
 pub struct Scene {
     pub marks: Vec<Mark>,
     pub sendings: Vec<Sending>,
-}
-
-impl Drop for Scene {
-    fn drop(self) {
-        let Scene {
-            marks: _,
-            sendings: _,
-        } = self;
-    }
 }
 
 impl Scene {
@@ -53,26 +45,20 @@ impl Scene {
         }
     }
 
-    /// The frame of a number, if it was sent.
-    pub fn sending(&self, number: u64) -> Option<&Sending> {
-        let index = number.checked_sub(1)?;
-        self.sendings.get(index as usize)
-    }
-
     /// The frame that a line delivers or loses, if it flies.
     pub fn frame_of(&self, mark: &Mark) -> Option<&Sending> {
-        match mark.frame {
-            Some(number) if mark.flies() => self.sending(number),
-            _ => None,
-        }
+        self.sendings.get(mark.flying()?)
     }
 
     /// The line of a step of this number, counted from 0.
     pub fn line_of(&self, column: usize) -> u64 {
-        self.marks.get(column).map_or(0, |mark| mark.line)
+        match self.marks.get(column) {
+            Some(mark) => mark.line,
+            None => 0,
+        }
     }
 
-    /// Adds what a line did, and the frames that it sent.
+    /// Adds what a line did, and of the frames in flight then those that it sent.
     ///
     /// # Errors
     ///
@@ -86,17 +72,12 @@ impl Scene {
         self.add_sendings(column, flights)
     }
 
-    /// Adds frames that a step sent.
+    /// Adds those of the frames in flight that the step of this number sent.
     fn add_sendings(&mut self, column: usize, flights: &[Flight]) -> Result<(), AllocError> {
         for flight in flights {
-            self.sendings.push(Sending {
-                number: flight.number,
-                column,
-                sender: flight.sender,
-                addressee: flight.addressee,
-                kind: flight.frame.kind(),
-                fate: Fate::Flying,
-            })?;
+            if flight.number > self.sendings.len() as u64 {
+                self.sendings.push(sent_by(column, flight))?;
+            }
         }
         Ok(())
     }
@@ -109,15 +90,23 @@ impl Scene {
     }
 }
 
-/// What becomes of the frame that a line names, if it flies, and its place among all.
+/// What becomes of the frame that a line of this number delivers or loses, and its place.
 fn turn_of(mark: &Mark, column: usize) -> Option<(usize, Fate)> {
-    let index = mark.frame?.checked_sub(1)?;
-    if !mark.flies() {
-        return None;
-    }
     let fate = match mark.verb {
         Verb::Lose => Fate::Lost(column),
         _ => Fate::Delivered,
     };
-    Some((index as usize, fate))
+    Some((mark.flying()?, fate))
+}
+
+/// A frame that the step of this number sent.
+fn sent_by(column: usize, flight: &Flight) -> Sending {
+    Sending {
+        number: flight.number,
+        column,
+        sender: flight.sender,
+        addressee: flight.addressee,
+        kind: flight.frame.kind(),
+        fate: Fate::Flying,
+    }
 }

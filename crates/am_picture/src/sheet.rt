@@ -1,12 +1,10 @@
 //! What a picture is drawn of, and its parts in XML.
 
-ghost use Rattle.std.specs.Prelude.{◌+◌, ◌*◌, ◌<◌, ◌^◌};
-
 use crate::escape::{append_escaped, append_shortened};
 use crate::scene::Scene;
 use am_cluster::Cluster;
 use am_instance::Place;
-use am_schedule::{Line, Schedule};
+use am_schedule::Schedule;
 use am_version_order::Moment;
 use am_wire::Text;
 use std::alloc::{AllocError, Global};
@@ -40,14 +38,6 @@ impl<'a> Sheet<'a> {
         }
     }
 
-    /// The step of a number, counted from 0.
-    pub fn step(&self, column: usize) -> Option<&'a Line> {
-        match self.schedule.lines.as_slice().get(column) {
-            Some((line, _)) => Some(line),
-            None => None,
-        }
-    }
-
     /// The text of the line of a number, counted from 1.
     pub fn line(&self, number: u64) -> &'a str {
         match number.checked_sub(1) {
@@ -76,16 +66,18 @@ pub fn open_stroke(out: &mut String, class: &str, stroke: &Stroke) -> Result<(),
 }
 
 /// Appends a line from one cursor to another that is the flatter the nearer it comes, up to what it holds.
-pub fn open_curve(out: &mut String, class: &str, stroke: &Stroke) -> Result<(), AllocError>
-    requires x { 3 * stroke.now.x1 + stroke.now.x2 < 2 ^ 64 }
-    requires y { stroke.now.y1 + 3 * stroke.now.y2 < 2 ^ 64 }
-{
+pub fn open_curve(out: &mut String, class: &str, stroke: &Stroke) -> Result<(), AllocError> {
     let (x1, y1, x2, y2) = (stroke.x1, stroke.y1, stroke.x2, stroke.y2);
-    let (x, y) = ((3 * x1 + x2) / 4, (y1 + 3 * y2) / 4);
+    let (x, y) = (near(x2, x1), near(y1, y2));
     write!(
         out,
         "<path class=\"{class}\" d=\"M{x1} {y1}Q{x} {y} {x2} {y2}\">"
     )
+}
+
+/// Three quarters of the way from a cursor to another.
+fn near(from: u64, to: u64) -> u64 {
+    to.saturating_mul(3).saturating_add(from) / 4
 }
 
 /// Appends a text at a cursor, of at most so many characters.

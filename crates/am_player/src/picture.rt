@@ -1,31 +1,44 @@
-//! A schedule that is drawn, and played.
+//! A schedule that is played and drawn.
+
+ghost use Rattle.std.specs.Prelude.{ℕ, List, IfSome, OnOk};
+ghost use Rattle.std.specs.Io.KnownBytes.{Appends};
+ghost use Rattle.am_replay.specs.Replays.{IsReplay};
 
 use crate::host::Host;
-use crate::play::play_shown;
+use crate::progress::Display;
 use crate::schedule_fault::ScheduleFault;
 use am_disk::FileFault;
 use am_picture::picture_of;
-use am_replay::read_input;
+use am_replay::{ReplayError, read_input};
+use am_streams::send;
 use std::fs;
 use std::io::{Read, Write};
 
-/// Draws the schedule that stands on the input in a file, and then plays it.
+/// Plays the schedule that stands on the input, and writes its picture into a file before what it prints.
 pub fn draw<H: Host, R: Read, W: Write>(
     rt: &H,
     input: &mut R,
     output: &mut W,
     file: &str,
-    is_terminal: bool,
-) -> Result<(), ScheduleFault> {
+    display: &mut Display<'_, H>,
+) -> Result<(), ScheduleFault>
+    ensures played { OnOk result (IfSome (R.remaining input.old) (λ bytes.
+        (text : List ℕ) × IsReplay bytes text × Appends (W.contents output.old) (W.contents output.new) text)) }
+{
     let text = read_input(rt.alloc(), input)?;
-    draw_text(rt, &text, file)?;
-    play_shown(rt, &mut text.as_slice(), output, is_terminal)
+    let drawn = picture_of(rt.alloc(), &text, display)?;
+    write_picture(rt, file, drawn.picture.as_str())?;
+    match send(output, drawn.output.as_str().as_bytes()) {
+        Ok(()) => Ok(()),
+        Err(fault) => Err(ScheduleFault::Replay(ReplayError::Write {
+            written: fault.written,
+        })),
+    }
 }
 
-/// Draws the schedule that a text is in a file.
-fn draw_text<H: Host>(rt: &H, text: &[u8], file: &str) -> Result<(), ScheduleFault> {
-    let picture = picture_of(rt.alloc(), text)?;
-    match write_file(rt, file, picture.as_str()) {
+/// Writes a picture into a file.
+fn write_picture<H: Host>(rt: &H, file: &str, picture: &str) -> Result<(), ScheduleFault> {
+    match write_file(rt, file, picture) {
         Ok(()) => Ok(()),
         Err(fault) => Err(ScheduleFault::Picture(fault)),
     }

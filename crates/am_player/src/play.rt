@@ -9,12 +9,12 @@ use crate::picture::draw;
 use crate::progress::Display;
 use crate::schedule_fault::{ScheduleFault, report};
 use am_faults::status;
-use am_replay::{Progress, run_shown};
+use am_replay::{Onlooker, run_shown};
 use std::alloc::Global;
 use std::io::{Read, Write};
 
 /// Plays the schedule that stands on the input, and answers the exit status of the program. Where a file is named it is drawn
-/// there before. How far the playing is is shown on standard error, where that `is_terminal`.
+/// there. How far the playing is is shown on standard error, where that `is_terminal`.
 pub fn run_replay<H: Host, R: Read, W: Write>(
     rt: &H,
     input: &mut R,
@@ -22,39 +22,28 @@ pub fn run_replay<H: Host, R: Read, W: Write>(
     file: Option<&str>,
     is_terminal: bool,
 ) -> u8 {
+    let mut display = Display::new(rt, is_terminal);
     let played = match file {
-        Some(file) => draw(rt, input, output, file, is_terminal),
-        None => play_shown(rt, input, output, is_terminal),
+        Some(file) => draw(rt, input, output, file, &mut display),
+        None => play(rt.alloc(), input, output, &mut display),
     };
+    display.clear();
     match played {
         Ok(()) => status::DONE,
         Err(fault) => report(rt, fault),
     }
 }
 
-/// Plays the schedule that stands on the input, and shows how far it is where standard error `is_terminal`.
-pub fn play_shown<H: Host, R: Read, W: Write>(
-    rt: &H,
-    input: &mut R,
-    output: &mut W,
-    is_terminal: bool,
-) -> Result<(), ScheduleFault> {
-    let mut display = Display::new(rt, is_terminal);
-    let played = play(rt.alloc(), input, output, &mut display);
-    display.clear();
-    played
-}
-
 /// Plays the schedule that stands on the input.
-fn play<R: Read, W: Write, P: Progress>(
+fn play<R: Read, W: Write, O: Onlooker>(
     alloc: Global,
     input: &mut R,
     output: &mut W,
-    progress: &mut P,
+    onlooker: &mut O,
 ) -> Result<(), ScheduleFault>
     ensures played { OnOk result (IfSome (R.remaining input.old) (λ bytes.
         (text : List ℕ) × IsReplay bytes text × Appends (W.contents output.old) (W.contents output.new) text)) }
 {
-    run_shown(alloc, input, output, progress)?;
+    run_shown(alloc, input, output, onlooker)?;
     Ok(())
 }

@@ -1,7 +1,7 @@
 //! How far the playing of a schedule is, on a terminal.
 
 use crate::host::Host;
-use am_replay::Progress;
+use am_replay::Onlooker;
 use std::time::{Duration, Instant};
 
 /// For how many milliseconds nothing is shown.
@@ -58,8 +58,8 @@ impl<'a, H: Host> Display<'a, H> {
     }
 }
 
-impl<H: Host> Progress for Display<'_, H> {
-    fn played(&mut self, lines: usize, all: usize) {
+impl<H: Host> Onlooker for Display<'_, H> {
+    fn is_at(&mut self, lines: usize, all: usize) {
         if self.due.is_none() {
             return;
         }

@@ -1,3 +1,4 @@
 pub mod Hears
 pub mod Histories
-pub mod Sends
+pub mod Moves
+mod Sends

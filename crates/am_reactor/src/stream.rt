@@ -5,7 +5,7 @@ ghost use Rattle.std.specs.Io.{ReadsAtMost, WritesAtMost};
 ghost use Rattle.std.specs.Io.KnownBytes.{ReadConsumes, WriteAppends};
 
 use mio::net::TcpStream;
-use std::io::{self, Read, Write};
+use std::io::{self, ErrorKind, Read, Write};
 use std::net::Shutdown;
 
 /// What bytes come over and go over. A read changes nothing of what went out, and a write nothing of what comes.
@@ -15,6 +15,13 @@ pub trait Stream {
 
     /// The bytes that went out, where they are known.
     ghost gone: { Self → Option (List ℕ) };
+
+    /// Whether it is connected, as far as that is known.
+    ///
+    /// # Errors
+    ///
+    /// Why it will never be.
+    fn stands(&self) -> Result<bool, ErrorKind>;
 
     /// As [`Read::read`].
     fn read(&mut self, piece: &mut [u8]) -> io::Result<usize>
@@ -39,6 +46,13 @@ impl Stream for TcpStream {
     ghost coming = { λ _. None };
 
     ghost gone = { λ _. None };
+
+    fn stands(&self) -> Result<bool, ErrorKind> {
+        match self.take_error() {
+            Ok(None) => Ok(self.peer_addr().is_ok()),
+            Ok(Some(error)) | Err(error) => Err(error.kind()),
+        }
+    }
 
     fn read(&mut self, piece: &mut [u8]) -> io::Result<usize> {
         Read::read(self, piece)

@@ -11,14 +11,16 @@ use thiserror::Error;
 /// Why names make no configuration: the first of these that applies, in their order.
 #[derive(Clone, Copy, Debug, PartialEq, Eq, Error)]
 pub enum ConfigError {
-    #[error("a member has no name")]
+    /// A member's name has no byte.
+    #[error("EmptyName")]
     EmptyName,
     /// Over 255 bytes.
-    #[error("a member's name is too long")]
+    #[error("LongName")]
     LongName,
-    #[error("two members have one name")]
+    /// Two members have one name.
+    #[error("SameName")]
     SameName,
-    #[error("out of memory")]
+    #[error("Memory")]
     Memory,
 }
 
@@ -46,16 +48,16 @@ impl<T: Drop> From<AllocFailed<T>> for ConfigError {
 #[derive(Clone, Copy, Debug, PartialEq, Eq, Error)]
 pub enum StepError {
     /// The moment is before that of the last event.
-    #[error("the moment is before the last one")]
+    #[error("MomentBack {} {}", .last.parts().0, .last.parts().1)]
     MomentBack { last: Moment },
     /// The event names a place that is no member's, or the own one.
-    #[error("no such peer")]
+    #[error("UnknownPeer")]
     UnknownPeer,
     /// A fault in the rows of a frame, of which none is taken; or the entry of a notification is too large.
-    #[error("{0}")]
+    #[error("Frame {0}")]
     Frame(FrameError),
     /// The first `taken` versions of the event were taken, and its moment counts. Nothing is sent.
-    #[error("out of memory")]
+    #[error("Memory {taken}")]
     Memory { taken: usize },
 }
 

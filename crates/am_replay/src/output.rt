@@ -5,6 +5,7 @@ ghost use Rattle.std.specs.Option.{option_copied};
 ghost use Rattle.am_replay.specs.Texts.{Prints, refused_text, told};
 
 use crate::line::{OutputLine, append_line};
+use crate::onlooker::Answer;
 use crate::refusal::Refusal;
 use std::alloc::AllocError;
 
@@ -15,17 +16,21 @@ pub fn tell(out: &mut String, line: &OutputLine<'_>) -> Result<(), AllocError>
     append_line(out, line)
 }
 
-/// Appends that a step was refused, of a member or of none. Want of memory, which is no kind of refusal, stays one.
+/// Appends that a step was refused, of a member or of none, and gives that. Want of memory, which is no kind of refusal, stays
+/// one.
 #[tactic(auto, unfolding(crate::specs::Printed::line_text))]
 pub fn tell_refusal(
     out: &mut String,
     name: Option<&str>,
     refusal: Option<Refusal>,
-) -> Result<(), AllocError>
+) -> Result<Answer, AllocError>
     ensures { OnOk result (Prints (refused_text (option_copied name.entry) refusal) (string_bytes out.old) (string_bytes out.new)) }
 {
     match refusal {
-        Some(refusal) => tell(out, &OutputLine::Refused { name, refusal }),
+        Some(refusal) => {
+            tell(out, &OutputLine::Refused { name, refusal })?;
+            Ok(Answer::Refused(refusal))
+        }
         None => Err(AllocError),
     }
 }

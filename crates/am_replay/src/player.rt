@@ -12,8 +12,8 @@ ghost use Rattle.am_replay.specs.Texts.{Prints, settle_refusal, settle_text};
 use crate::error::Halt;
 use crate::flights::tell_flights;
 use crate::line::OutputLine;
+use crate::onlooker::{Answer, Onlooker};
 use crate::output::{tell, tell_refusal};
-use crate::progress::Progress;
 use crate::refusal::Refusal;
 use crate::replies::{tell_answer, tell_refused};
 use crate::reports::tell_reports;
@@ -23,17 +23,20 @@ use am_version_order::Moment;
 use am_wire::Text;
 use std::alloc::{AllocError, Global};
 
-/// Makes a step, and appends what it prints.
+/// Makes a step, and appends what it prints. Gives what came of it, as do the next ones.
 fn play_step(
     cluster: &mut Cluster,
     step: &Step,
     number: u64,
     out: &mut String,
-) -> Result<(), AllocError>
+) -> Result<Answer, AllocError>
     ensures { OnOk result (Plays cluster.old (kinds.Step step.now) number cluster.new (string_bytes out.old) (string_bytes out.new)) }
 {
     match cluster.step(step, number) {
-        Ok(reply) => tell_answer(out, step.action(), &reply),
+        Ok(reply) => {
+            tell_answer(out, step.action(), &reply)?;
+            Ok(Answer::of_reply(&reply))
+        }
         Err(error) => tell_refused(out, step.action(), error),
     }
 }
@@ -54,11 +57,14 @@ fn refusal_of(error: SettleError) -> Option<Refusal>
 /// # Errors
 ///
 /// [`AllocError`] also where it was refused for want of memory.
-fn tell_settled(out: &mut String, settled: Result<(), SettleError>) -> Result<(), AllocError>
+fn tell_settled(out: &mut String, settled: Result<(), SettleError>) -> Result<Answer, AllocError>
     ensures { OnOk result (Prints (settle_text settled) (string_bytes out.old) (string_bytes out.new)) }
 {
     match settled {
-        Ok(()) => tell(out, &OutputLine::Settled),
+        Ok(()) => {
+            tell(out, &OutputLine::Settled)?;
+            Ok(Answer::Nothing)
+        }
         Err(error) => tell_refusal(out, None, refusal_of(error)),
     }
 }
@@ -69,7 +75,7 @@ fn play_settle(
     now: Moment,
     number: u64,
     out: &mut String,
-) -> Result<(), AllocError>
+) -> Result<Answer, AllocError>
     ensures { OnOk result (Plays cluster.old (kinds.Settle now) number cluster.new (string_bytes out.old) (string_bytes out.new)) }
 {
     let settled = cluster.settle(now, number);
@@ -82,7 +88,7 @@ fn play_line(
     line: &Line,
     number: u64,
     out: &mut String,
-) -> Result<(), AllocError>
+) -> Result<Answer, AllocError>
     ensures { OnOk result (Plays cluster.old line.now number cluster.new (string_bytes out.old) (string_bytes out.new)) }
 {
     match line {
@@ -90,10 +96,28 @@ fn play_line(
         Line::Settle(now) => play_settle(cluster, *now, number, out),
         Line::Timely(spread, flight) => {
             let is_timely = cluster.timely(*spread, *flight);
-            tell(out, &OutputLine::Timely { is_timely })
+            tell(out, &OutputLine::Timely { is_timely })?;
+            Ok(Answer::Is(is_timely))
         }
-        Line::Frames => tell_flights(out, cluster),
+        Line::Frames => {
+            tell_flights(out, cluster)?;
+            Ok(Answer::Nothing)
+        }
     }
+}
+
+/// Plays a line, appends what it prints, and shows it to who looks on.
+fn show_line<O: Onlooker>(
+    cluster: &mut Cluster,
+    line: &Line,
+    number: u64,
+    out: &mut String,
+    onlooker: &mut O,
+) -> Result<(), AllocError>
+    ensures { OnOk result (Plays cluster.old line.now number cluster.new (string_bytes out.old) (string_bytes out.new)) }
+{
+    let answer = play_line(cluster, line, number, out)?;
+    onlooker.saw(cluster, line, number, answer)
 }
 
 /// Plays lines one after the other, and appends what they print.
@@ -101,18 +125,18 @@ fn play_line(
 /// # Errors
 ///
 /// [`Halt`] at the line at which memory ran out.
-fn play_lines<P: Progress>(
+fn play_lines<O: Onlooker>(
     cluster: &mut Cluster,
     lines: &[(Line, u64)],
     out: &mut String,
-    progress: &mut P,
+    onlooker: &mut O,
 ) -> Result<(), Halt>
     ensures played { OnOk result (PlaysAll cluster.old lines.now cluster.new (string_bytes out.old) (string_bytes out.new)) }
     ensures halted { IfErr result (λ halt. Reaches cluster.old lines.now halt.line) }
 {
     for (index, (line, number)) in lines.iter().enumerate() {
-        progress.played(index, lines.len());
-        match play_line(cluster, line, *number, out) {
+        onlooker.is_at(index, lines.len());
+        match show_line(cluster, line, *number, out, onlooker) {
             Ok(()) => {}
             Err(_) => return Err(Halt { line: *number }),
         }
@@ -148,17 +172,18 @@ fn newborn(alloc: Global, schedule: &Schedule) -> Result<Cluster, AllocError>
 /// # Errors
 ///
 /// [`Halt`] where memory ran out, with the line at which it did, or 0 before the first line and behind the last.
-pub fn play<P: Progress>(
+pub fn play<O: Onlooker>(
     alloc: Global,
     schedule: &Schedule,
-    progress: &mut P,
+    onlooker: &mut O,
 ) -> Result<String, Halt>
     ensures output { IfOk result (λ text. IsOutput schedule.now (string_bytes text)) }
     ensures halted { IfErr result (λ halt. IsHaltedAt schedule.now halt.line) }
 {
     let mut cluster = newborn(alloc, schedule)?;
     let mut out = String::new(alloc);
-    play_lines(&mut cluster, schedule.lines.as_slice(), &mut out, progress)?;
+    play_lines(&mut cluster, schedule.lines.as_slice(), &mut out, onlooker)?;
+    onlooker.saw_end(&cluster)?;
     tell_reports(&mut out, &cluster)?;
     Ok(out)
 }

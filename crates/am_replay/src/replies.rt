@@ -6,6 +6,7 @@ ghost use Rattle.am_replay.specs.Texts.{Prints, answer_text, ended_text, muted_t
 ghost use Rattle.am_replay.specs.Texts.{reply_text, step_refusal};
 
 use crate::line::OutputLine;
+use crate::onlooker::Answer;
 use crate::output::{tell, tell_refusal};
 use crate::refusal::Refusal;
 use am_cluster::ClusterError;
@@ -64,7 +65,13 @@ fn tell_reply(
             },
         ),
         Reply::Deleted => tell_ended(out, name, event),
-        Reply::Refused(error) => tell_refusal(out, Some(name), Some(Refusal::from(*error))),
+        Reply::Refused(error) => tell(
+            out,
+            &OutputLine::Refused {
+                name: Some(name),
+                refusal: Refusal::from(*error),
+            },
+        ),
         Reply::Logged(changed) => tell(
             out,
             &OutputLine::Logged {
@@ -122,7 +129,7 @@ fn refusal_of(error: ClusterError) -> Option<Refusal>
     }
 }
 
-/// Appends that a step was refused.
+/// Appends that a step was refused, and gives that.
 ///
 /// # Errors
 ///
@@ -131,7 +138,7 @@ pub fn tell_refused(
     out: &mut String,
     action: &Action,
     error: ClusterError,
-) -> Result<(), AllocError>
+) -> Result<Answer, AllocError>
     ensures { OnOk result (Prints (refused_text (owner_of action.now) (step_refusal error)) (string_bytes out.old) (string_bytes out.new)) }
 {
     tell_refusal(out, owner_of(action), refusal_of(error))

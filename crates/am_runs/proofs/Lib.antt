@@ -11,10 +11,5 @@ pub mod Goods
 pub mod Agrees
 pub mod Worked
 pub mod Settled
-pub mod Owners
-pub mod Remade
 pub mod Stands
-pub mod Follows
 pub mod Takes
-pub mod Brings
-pub mod Flights

@@ -1,20 +1,20 @@
 -- What stands of members once a step is made.
-use Rattle.std.proofs.Common.{◌≡◌, ◌↔◌, inl, inr, ℕ, ◌<◌, Bool, true, false, cond, eqb, List, [], ◌∷◌, ◌++◌, Option, Some, None, refl, sym, ap, ◌∙◌, subst, arith, length, slice_get, append_assoc, length-append, ◌-◌}
-use Rattle.std.specs.Prelude.{MatchOption, slice_set, IsTrue}
+use Rattle.std.proofs.Common.{◌≡◌, ◌≢◌, ◌↔◌, inl, inr, ℕ, ◌<◌, Bool, true, false, cond, eqb, List, [], ◌∷◌, ◌++◌, Option, Some, None, Result, Ok, Err, suc, zero, refl, sym, ap, ◌∙◌, subst, arith, length, slice_get, append_assoc, length-append, ◌-◌}
+use Rattle.std.specs.Prelude.{MatchOption, slice_set, IsTrue, OnOk, is_err}
 use Rattle.std.specs.declared.cmp.Ordering.{Ordering}
 use Rattle.std.proofs.lemmas.Bool.{cases_eq, cases_lt, false≢true, ne_eqb}
 use Rattle.std.proofs.lemmas.Option.{slice_get_within}
 use Rattle.am_version_order.specs.Versions.{Version}
+use Rattle.am_merge.specs.Maps.{at}
 use Rattle.am_merge.proofs.Indexes.{some_is}
 use Rattle.am_runs.specs.declared.standing.Standing.{Standing}
 use Rattle.am_runs.specs.Records.{lasts_seen}
-use Rattle.am_runs.specs.Standings.{IsStanding, AreStandings, fault_after}
+use Rattle.am_runs.specs.Standings.{IsStanding, IsJudged, AreStandings, Stays, fault_after}
 use Rattle.am_runs.specs.Steps.{RunStep, EachStep, IsFirstWithout, is_at}
 use Rattle.am_runs.specs.Steps.RunStep.{Took, Ticked, Back, Refused, Saved, Stopped, Started}
-use Rattle.am_runs.specs.Tests.{Lasts, acted, last_after, last_from, runs_after, runs_from, lasted, lasts_after, lasts_from, StaysCalm}
-use Rattle.am_runs.proofs.Cuts.{each_nil, each_push}
+use Rattle.am_runs.specs.Tests.{Lasts, Tops, acted, last_after, last_from, runs_after, runs_from, lasted, lasts_after, lasts_from, topped, tops_after, tops_from, top_among, top_in, in_time, comes_in_time, StaysCalm}
+use Rattle.am_runs.proofs.Cuts.{each_nil, each_push, each_weaker}
 use Rattle.am_runs.proofs.Spreads.{get_left, get_right}
-use Rattle.am_runs.proofs.Owners.{got_same, got_other}
 
 lasts_from-push : {X : Type 0} (q : ℕ) (l : Lasts) (before : List (RunStep X)) (s : RunStep X) → lasts_from q l (before ++ s ∷ []) ≡ lasts_after q (lasts_from q l before) s
 lasts_from-push q l [] s = refl
@@ -27,6 +27,27 @@ runs_from-push q r (t ∷ before) s = runs_from-push q (runs_after q r t) before
 last_from-push : {X : Type 0} (q l : ℕ) (before : List (RunStep X)) (s : RunStep X) → last_from q l (before ++ s ∷ []) ≡ last_after q (last_from q l before) s
 last_from-push q l [] s = refl
 last_from-push q l (t ∷ before) s = last_from-push q (last_after q l t) before s
+
+pub on_ok_told : {A E P : Type 0} (r : Result A E) → is_err r ≡ false → OnOk r P → P
+on_ok_told (Ok a) e p = p
+on_ok_told (Err x) e p = absurd (false≢true (sym e))
+
+pub nil_of : {A : Type 0} (xs : List A) → length xs ≡ 0 → xs ≡ []
+nil_of [] e = refl
+nil_of (x ∷ xs) e = absurd (omega arith)
+
+module _ {A : Type 0} where
+  got_same : (xs : List A) (n : ℕ) (x : A) → n < length xs → slice_get (slice_set xs n x) n ≡ Some x
+  got_same [] n x within = absurd (omega arith)
+  got_same (y ∷ xs) zero x within = refl
+  got_same (y ∷ xs) (suc n) x within = got_same xs n x (omega arith)
+
+  got_other : (xs : List A) (n m : ℕ) (x : A) → m ≢ n → slice_get (slice_set xs n x) m ≡ slice_get xs m
+  got_other [] n m x differs = refl
+  got_other (y ∷ xs) zero zero x differs = absurd (differs refl)
+  got_other (y ∷ xs) zero (suc m) x differs = refl
+  got_other (y ∷ xs) (suc n) zero x differs = refl
+  got_other (y ∷ xs) (suc n) (suc m) x differs = got_other xs n m x (λ e. differs (ap suc e))
 
 -- a step of another member leaves a member running or not
 apart_runs : {X : Type 0} (q : ℕ) (r : Bool) (s : RunStep X) → is_at q s ≡ false → runs_after q r s ≡ r
@@ -74,48 +95,80 @@ module _ {K X : Type 0} (seen : X → Version K) (cmp : K → K → Ordering) wh
   pub stands_none : AreStandings seen cmp [] []
   stands_none q standing there = absurd cc
 
-  stands_apart : (q : ℕ) (standing : Standing) (before : List (RunStep X)) (s : RunStep X) → is_at q s ≡ false → IsStanding seen cmp q standing before → IsStanding seen cmp q standing (before ++ s ∷ [])
+  tops_from-push : (q : ℕ) (key : K) (t : Tops X) (before : List (RunStep X)) (s : RunStep X) → tops_from seen cmp q key t (before ++ s ∷ []) ≡ tops_after seen cmp q key (tops_from seen cmp q key t before) s
+  tops_from-push q key t [] s = refl
+  tops_from-push q key t (u ∷ before) s = tops_from-push q key (tops_after seen cmp q key t u) before s
+
+  stands_apart : (q : ℕ) (standing : Standing X K) (before : List (RunStep X)) (s : RunStep X) → is_at q s ≡ false → IsStanding seen cmp q standing before → IsStanding seen cmp q standing (before ++ s ∷ [])
   stands_apart q standing before s apart is =
       let P = StaysCalm seen cmp q in
       record {
         runs = is.runs ∙ sym (apart_runs q (runs_from q true before) s apart) ∙ sym (runs_from-push q true before s);
         acted = is.acted ∙ ap (λ b. cond b (acted (last_from q 0 before) s) (last_from q 0 before)) (sym apart) ∙ sym (last_from-push q 0 before s);
         lasts = is.lasts ∙ ap (λ b. cond b (lasted (lasts_from q (record { last = None; saved = None }) before) s) (lasts_from q (record { last = None; saved = None }) before)) (sym apart) ∙ sym (lasts_from-push q (record { last = None; saved = None }) before s);
+        tops = λ key. is.tops key ∙ ap (λ b. cond b (topped seen cmp key (tops_from seen cmp q key (record { top = None; saved = None }) before) s) (tops_from seen cmp q key (record { top = None; saved = None }) before)) (sym apart) ∙ sym (tops_from-push q key (record { top = None; saved = None }) before s);
         fault = subst (λ f. MatchOption f (EachStep (before ++ s ∷ []) P) (IsFirstWithout (before ++ s ∷ []) P)) (fault_same standing.fault (length before)) (fault_more P standing.fault true before s (λ t. apart_stays q before s apart, λ h. refl) is.fault);
       }
 
-  stands_own : (q : ℕ) (standing new : Standing) (before : List (RunStep X)) (s : RunStep X) (stays : Bool) → new.runs ≡ runs_after q standing.runs s → new.acted ≡ last_after q standing.acted s → lasts_seen new.lasts ≡ lasts_after q (lasts_seen standing.lasts) s → new.fault ≡ fault_after standing.fault stays (length before) → (IsTrue stays ↔ StaysCalm seen cmp q before s) → IsStanding seen cmp q standing before → IsStanding seen cmp q new (before ++ s ∷ [])
-  stands_own q standing new before s stays runs acted lasts fault told is = record {
-    runs = runs ∙ ap (λ r. runs_after q r s) is.runs ∙ sym (runs_from-push q true before s);
-    acted = acted ∙ ap (λ l. last_after q l s) is.acted ∙ sym (last_from-push q 0 before s);
-    lasts = lasts ∙ ap (λ l. lasts_after q l s) is.lasts ∙ sym (lasts_from-push q (record { last = None; saved = None }) before s);
-    fault = subst (λ f. MatchOption f (EachStep (before ++ s ∷ []) (StaysCalm seen cmp q)) (IsFirstWithout (before ++ s ∷ []) (StaysCalm seen cmp q))) (sym fault) (fault_more (StaysCalm seen cmp q) standing.fault stays before s told is.fault);
-  }
+  -- whether it stays calm is told by what stands of it
+  stays_told : (q : ℕ) (standing : Standing X K) (before : List (RunStep X)) (s : RunStep X) → is_at q s ≡ true → IsStanding seen cmp q standing before → Stays seen cmp standing s ↔ StaysCalm seen cmp q before s
+  stays_told q standing before (Took place now source versions frames) here is =
+      let same = λ (done : List X) (v : X). ap (λ (t : Tops X). in_time seen (top_among seen cmp (seen v).key t.top done) standing.lasts.last now v) (is.tops (seen v).key) ∙ ap (λ (l : Lasts). in_time seen (top_among seen cmp (seen v).key (top_in seen cmp q (seen v).key before) done) l.last now v) is.lasts in (
+        λ stays own. each_weaker _ (λ done v. comes_in_time seen cmp q before now done v ≡ true) versions (λ done v calm. sym (same done v) ∙ calm) stays,
+        λ stays. each_weaker _ (λ done v. in_time seen (top_among seen cmp (seen v).key (at seen cmp standing.taken (seen v).key) done) standing.lasts.last now v ≡ true) versions (λ done v calm. same done v ∙ calm) (stays here),
+      )
+  stays_told q standing before (Ticked place now) here is = (λ t. tt, λ t. tt)
+  stays_told q standing before (Back place now) here is = (λ t. absurd t, λ apart. absurd (false≢true (sym apart ∙ here)))
+  stays_told q standing before (Refused now) here is = (λ t. tt, λ t. tt)
+  stays_told q standing before (Saved place) here is = (λ t. tt, λ t. tt)
+  stays_told q standing before (Stopped place) here is = (λ t. tt, λ t. tt)
+  stays_told q standing before (Started place now) here is = (λ t. tt, λ t. tt)
+
+  -- a step of the member itself
+  pub stands_own : (q : ℕ) (standing judged new : Standing X K) (before : List (RunStep X)) (s : RunStep X) (stays : Bool) → is_at q s ≡ true → IsJudged seen cmp standing judged s stays → new.runs ≡ runs_after q judged.runs s → new.acted ≡ last_after q judged.acted s → lasts_seen new.lasts ≡ lasts_after q (lasts_seen judged.lasts) s → new.fault ≡ fault_after judged.fault stays (length before) → new.taken ≡ judged.taken → new.saved ≡ judged.saved → IsStanding seen cmp q standing before → IsStanding seen cmp q new (before ++ s ∷ [])
+  stands_own q standing judged new before s stays here is_judged runs moment lasts fault taken saved is =
+      let told = stays_told q standing before s here is in
+      record {
+        runs = runs ∙ ap (λ r. runs_after q r s) (is_judged.runs ∙ is.runs) ∙ sym (runs_from-push q true before s);
+        acted = moment ∙ ap (λ l. last_after q l s) (is_judged.acted ∙ is.acted) ∙ sym (last_from-push q 0 before s);
+        lasts = lasts ∙ ap (λ l. lasts_after q l s) (ap lasts_seen is_judged.lasts ∙ is.lasts) ∙ sym (lasts_from-push q (record { last = None; saved = None }) before s);
+        tops = λ key. ap (λ map. record { top = at seen cmp map key; saved = at seen cmp new.saved key }) taken ∙ ap (λ map. record { top = at seen cmp judged.taken key; saved = at seen cmp map key }) saved
+            ∙ is_judged.tops key ∙ ap (λ t. topped seen cmp key t s) (is.tops key)
+            ∙ ap (λ b. cond b (topped seen cmp key (tops_from seen cmp q key (record { top = None; saved = None }) before) s) (tops_from seen cmp q key (record { top = None; saved = None }) before)) (sym here) ∙ sym (tops_from-push q key (record { top = None; saved = None }) before s);
+        fault = subst (λ f. MatchOption f (EachStep (before ++ s ∷ []) (StaysCalm seen cmp q)) (IsFirstWithout (before ++ s ∷ []) (StaysCalm seen cmp q))) (sym (fault ∙ ap (λ f. fault_after f stays (length before)) is_judged.fault))
+            (fault_more (StaysCalm seen cmp q) standing.fault stays before s ((λ t. told.0 (is_judged.calm.0 t)), λ h. is_judged.calm.1 (told.1 h)) is.fault);
+      }
 
   -- no step of one of these members
-  pub stands_kept : (standings : List Standing) (before : List (RunStep X)) (s : RunStep X) → ((q : ℕ) → q < length standings → is_at q s ≡ false) → AreStandings seen cmp standings before → AreStandings seen cmp standings (before ++ s ∷ [])
+  pub stands_kept : (standings : List (Standing X K)) (before : List (RunStep X)) (s : RunStep X) → ((q : ℕ) → q < length standings → is_at q s ≡ false) → AreStandings seen cmp standings before → AreStandings seen cmp standings (before ++ s ∷ [])
   stands_kept standings before s apart are q standing there = stands_apart q standing before s (apart q (slice_get_within standings q standing there)) (are q standing there)
 
   -- a step of this member
-  pub stands_noted : (standings : List Standing) (member : ℕ) (standing new : Standing) (before : List (RunStep X)) (s : RunStep X) (stays : Bool) → slice_get standings member ≡ Some standing → ((q : ℕ) → is_at q s ≡ eqb member q) → new.runs ≡ runs_after member standing.runs s → new.acted ≡ last_after member standing.acted s → lasts_seen new.lasts ≡ lasts_after member (lasts_seen standing.lasts) s → new.fault ≡ fault_after standing.fault stays (length before) → (IsTrue stays ↔ StaysCalm seen cmp member before s) → AreStandings seen cmp standings before → AreStandings seen cmp (slice_set standings member new) (before ++ s ∷ [])
-  stands_noted standings member standing new before s stays there at runs acted lasts fault told are q one is = elim (cases_eq q member) [
+  pub stands_noted : (standings : List (Standing X K)) (member : ℕ) (standing new : Standing X K) (before : List (RunStep X)) (s : RunStep X) → slice_get standings member ≡ Some standing → ((q : ℕ) → is_at q s ≡ eqb member q) → (IsStanding seen cmp member standing before → IsStanding seen cmp member new (before ++ s ∷ [])) → AreStandings seen cmp standings before → AreStandings seen cmp (slice_set standings member new) (before ++ s ∷ [])
+  stands_noted standings member standing new before s there own_only own are q one is = elim (cases_eq q member) [
     | inl same ↦
         let put : new ≡ one = some_is (sym (got_same standings member new (slice_get_within standings member standing there)) ∙ ap (slice_get (slice_set standings member new)) (sym same) ∙ is) in
-        let own = stands_own member standing new before s stays runs acted lasts fault told (are member standing there) in
-        subst (λ p. IsStanding seen cmp p one (before ++ s ∷ [])) (sym same) (subst (λ n. IsStanding seen cmp member n (before ++ s ∷ [])) put own)
+        subst (λ p. IsStanding seen cmp p one (before ++ s ∷ [])) (sym same) (subst (λ n. IsStanding seen cmp member n (before ++ s ∷ [])) put (own (are member standing there)))
     | inr differs ↦
-        stands_apart q one before s (at q ∙ ne_eqb member q (λ e. differs (sym e))) (are q one (sym (got_other standings member q new differs) ∙ is))
+        stands_apart q one before s (own_only q ∙ ne_eqb member q (λ e. differs (sym e))) (are q one (sym (got_other standings member q new differs) ∙ is))
   ]
 
   -- one more of whom nothing is known yet
-  pub stands_more : (standings : List Standing) → AreStandings seen cmp standings [] → AreStandings seen cmp (standings ++ (record { runs = true; acted = 0; lasts = record { last = None; saved = None }; fault = None }) ∷ []) []
-  stands_more standings are q standing there = elim (cases_lt q (length standings)) [
-    | inl within ↦ are q standing (sym (get_left standings ((record { runs = true; acted = 0; lasts = record { last = None; saved = None }; fault = None }) ∷ []) q within) ∙ there)
+  abbrev pub unknown : List X → List X → Standing X K
+  unknown taken saved = record { runs = true; acted = 0; lasts = record { last = None; saved = None }; fault = None; taken = taken; saved = saved }
+
+  stands_new : (q : ℕ) (taken saved : List X) → taken ≡ [] → saved ≡ [] → IsStanding seen cmp q (unknown taken saved) []
+  stands_new q taken saved none nothing =
+      subst (λ map. IsStanding seen cmp q (unknown map saved) []) (sym none)
+      (subst (λ map. IsStanding seen cmp q (unknown [] map) []) (sym nothing) (record { runs = refl; acted = refl; lasts = refl; tops = λ key. refl; fault = each_nil (StaysCalm seen cmp q) }))
+
+  pub stands_more : (standings : List (Standing X K)) (taken saved : List X) → taken ≡ [] → saved ≡ [] → AreStandings seen cmp standings [] → AreStandings seen cmp (standings ++ unknown taken saved ∷ []) []
+  stands_more standings taken saved none nothing are q standing there = elim (cases_lt q (length standings)) [
+    | inl within ↦ are q standing (sym (get_left standings (unknown taken saved ∷ []) q within) ∙ there)
     | inr past ↦
-        let long = length-append standings ((record { runs = true; acted = 0; lasts = record { last = None; saved = None }; fault = None }) ∷ []) in
-        let within = slice_get_within (standings ++ (record { runs = true; acted = 0; lasts = record { last = None; saved = None }; fault = None }) ∷ []) q standing there in
-        let none : q - length standings ≡ 0 = omega arith in
-        let is : ◌≡◌ {A = Standing} (record { runs = true; acted = 0; lasts = record { last = None; saved = None }; fault = None }) standing =
-        some_is (sym (get_right standings ((record { runs = true; acted = 0; lasts = record { last = None; saved = None }; fault = None }) ∷ []) q past ∙ ap (slice_get ((record { runs = true; acted = 0; lasts = record { last = None; saved = None }; fault = None }) ∷ [])) none) ∙ there) in
-        subst (λ s. IsStanding seen cmp q s []) is (record { runs = refl; acted = refl; lasts = refl; fault = each_nil (StaysCalm seen cmp q) })
+        let long = length-append standings (unknown taken saved ∷ []) in
+        let within = slice_get_within (standings ++ unknown taken saved ∷ []) q standing there in
+        let alone : q - length standings ≡ 0 = omega arith in
+        let is : unknown taken saved ≡ standing = some_is (sym (get_right standings (unknown taken saved ∷ []) q past ∙ ap (slice_get (unknown taken saved ∷ [])) alone) ∙ there) in
+        subst (λ s. IsStanding seen cmp q s []) is (stands_new q taken saved none nothing)
   ]

@@ -3,19 +3,14 @@
 use Rattle.std.specs.Prelude.{ℕ, List, All}
 use Rattle.std.specs.declared.cmp.Ordering.{Ordering}
 use Rattle.am_version_order.specs.Versions.{Version}
-use Rattle.am_runs.specs.declared.maxima.Maxima.{Maxima}
 use Rattle.am_runs.specs.declared.standing.Standing.{Standing}
-use Rattle.am_runs.specs.Maxima.{version_at, AreMaxima, HasRowRoom, tops_in}
 use Rattle.am_runs.specs.Runs.{IsRun}
 use Rattle.am_runs.specs.Standings.{AreStandings}
 use Rattle.am_runs.specs.Steps.{RunStep, delivered_in}
 
--- the steps are a run, what was delivered in them are values, the greatest versions taken in them stand where the rows say,
--- what stands of each member is so after them, and for so many more versions there is room
+-- the steps are a run, what was delivered in them are values, and what stands of each member is so after them
 pub record IsAccount {K X : Type 0} (seen : X → Version K) (cmp : K → K → Ordering) (is_value : X → Type 0)
-    (members : ℕ) (steps : List (RunStep X)) (maxima : Maxima) (standings : List Standing) (spare : ℕ) : Type 0 where
+    (members : ℕ) (steps : List (RunStep X)) (standings : List (Standing X K)) : Type 0 where
   pub run : IsRun seen cmp members steps
   pub values : All is_value (delivered_in steps)
-  pub rows : AreMaxima seen cmp (version_at steps) maxima (tops_in seen cmp steps)
   pub stands : AreStandings seen cmp standings steps
-  pub room : HasRowRoom maxima spare

@@ -5,9 +5,6 @@ pub mod Runs
 pub mod Timely
 pub mod Tests
 pub mod Examples
-pub mod Flights
 pub mod Settles
-pub mod Maxima
 pub mod Standings
 pub mod Accounts
-pub mod Uptimes

@@ -22,13 +22,11 @@ step_of (KeptSaved place) = Saved place
 step_of (KeptStopped place) = Stopped place
 step_of (KeptStarted place now) = Started place now
 
--- how many members there are, the steps so far, for how many more steps there is room, and for how many more versions
--- that they deliver
+-- how many members there are, the steps so far, and for how many more steps there is room
 pub record Record (X : Type 0) : Type 0 where
   pub members : ℕ
   pub steps : List (RunStep X)
   pub room : ℕ
-  pub spare : ℕ
 
 -- what the tests of calm go on with
 abbrev pub lasts_seen : KeptLasts → Lasts

@@ -1,12 +1,14 @@
 -- What stands of members.
 -- X is the type of versions, and `seen` is what the merge sees of one.
-use Rattle.std.specs.Prelude.{◌≡◌, ℕ, List, Bool, true, Option, Some, None, MatchOption, if◌then◌else◌, slice_get}
+use Rattle.std.specs.Prelude.{◌≡◌, ℕ, List, Bool, true, Option, Some, None, IsTrue, ◌↔◌, MatchOption, if◌then◌else◌, slice_get}
 use Rattle.std.specs.declared.cmp.Ordering.{Ordering}
 use Rattle.am_version_order.specs.Versions.{Version}
+use Rattle.am_merge.specs.Maps.{at}
 use Rattle.am_runs.specs.declared.standing.Standing.{Standing}
 use Rattle.am_runs.specs.Records.{lasts_seen}
 use Rattle.am_runs.specs.Steps.{RunStep, EachStep, IsFirstWithout}
-use Rattle.am_runs.specs.Tests.{last_from, lasts_from, runs_from, StaysCalm}
+use Rattle.am_runs.specs.Steps.RunStep.{Took, Back}
+use Rattle.am_runs.specs.Tests.{Tops, last_from, lasts_from, runs_from, topped, tops_from, top_among, in_time, StaysCalm}
 
 -- the first fault once a step of this number is made, with which the member stays calm or not
 abbrev pub fault_after : Option ℕ → Bool → ℕ → Option ℕ
@@ -14,13 +16,34 @@ fault_after (Some first) stays number = Some first
 fault_after None stays number = if stays then None else Some number
 
 module _ {K X : Type 0} (seen : X → Version K) (cmp : K → K → Ordering) where
+  -- the greatest versions that stand of a member at a key
+  abbrev pub tops_at : Standing X K → K → Tops X
+  tops_at standing key = record { top = at seen cmp standing.taken key; saved = at seen cmp standing.saved key }
+
+  -- with this step of the member it stays calm
+  abbrev pub Stays : Standing X K → RunStep X → Type 0
+  Stays standing (Took place now source versions frames) =
+      EachStep versions (λ done v. in_time seen (top_among seen cmp (seen v).key (at seen cmp standing.taken (seen v).key) done) standing.lasts.last now v ≡ true)
+  Stays standing (Back place now) = ⊥
+  Stays standing _ = Unit {0}
+
+  -- what a step of the member makes of what it took, and whether it stays calm
+  pub record IsJudged (old new : Standing X K) (step : RunStep X) (stays : Bool) : Type 0 where
+    pub calm : IsTrue stays ↔ Stays old step
+    pub tops : (key : K) → tops_at new key ≡ topped seen cmp key (tops_at old key) step
+    pub runs : new.runs ≡ old.runs
+    pub acted : new.acted ≡ old.acted
+    pub lasts : new.lasts ≡ old.lasts
+    pub fault : new.fault ≡ old.fault
+
   -- what stands of a member after steps, where it runs at first
-  pub record IsStanding (q : ℕ) (standing : Standing) (steps : List (RunStep X)) : Type 0 where
+  pub record IsStanding (q : ℕ) (standing : Standing X K) (steps : List (RunStep X)) : Type 0 where
     pub runs : standing.runs ≡ runs_from q true steps
     pub acted : standing.acted ≡ last_from q 0 steps
     pub lasts : lasts_seen standing.lasts ≡ lasts_from q (record { last = None; saved = None }) steps
+    pub tops : (key : K) → tops_at standing key ≡ tops_from seen cmp q key (record { top = None; saved = None }) steps
     pub fault : MatchOption standing.fault (EachStep steps (StaysCalm seen cmp q)) (IsFirstWithout steps (StaysCalm seen cmp q))
 
   -- what stands of the first members after steps
-  abbrev pub AreStandings : List Standing → List (RunStep X) → Type 0
-  AreStandings standings steps = (q : ℕ) (standing : Standing) → slice_get standings q ≡ Some standing → IsStanding q standing steps
+  abbrev pub AreStandings : List (Standing X K) → List (RunStep X) → Type 0
+  AreStandings standings steps = (q : ℕ) (standing : Standing X K) → slice_get standings q ≡ Some standing → IsStanding q standing steps

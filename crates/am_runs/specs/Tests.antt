@@ -196,22 +196,6 @@ abbrev pub is_wanting : ℕ → Watched → Option ℕ → Bool
 is_wanting due w None = false
 is_wanting due w (Some now) = nat_le due now && (w.runs && not w.has)
 
--- a moment, if there is one, is this one or a later one
-abbrev pub is_due : ℕ → Option ℕ → Bool
-is_due due None = false
-is_due due (Some now) = nat_le due now
-
--- the latest moment at which a member ran as a step began, with one step more
-abbrev pub ran_after : Bool → Option ℕ → Option ℕ → Option ℕ
-ran_after false ran now = ran
-ran_after true ran None = ran
-ran_after true ran (Some now) = later ran now
-
--- and after steps
-abbrev pub ran_from : {X : Type 0} → ℕ → Bool → Option ℕ → List (RunStep X) → Option ℕ
-ran_from q runs ran [] = ran
-ran_from q runs ran (step ∷ steps) = ran_from q (runs_after q runs step) (ran_after runs ran (moment step)) steps
-
 module _ {K X : Type 0} (seen : X → Version K) (cmp : K → K → Ordering) where
   -- a version that was taken is this one, or a greater one of its key
   abbrev pub counts_for : X → X → Bool
@@ -237,17 +221,6 @@ module _ {K X : Type 0} (seen : X → Version K) (cmp : K → K → Ordering) wh
   comes spread q v w [] = true
   comes spread q v w (step ∷ steps) = not (is_wanting ((seen v).updated + spread) w (moment step))
       && comes spread q v (watch_after q v w step) steps
-
-  -- a step brings a member a version, or a greater one of its key, before that should have come
-  abbrev pub brings : ℕ → ℕ → X → RunStep X → Bool
-  brings spread q v (Took place now source versions frames) = place ==
-      q && (not (nat_le ((seen v).updated + spread) now) && list_any (counts_for v) versions)
-  brings spread q v (Ticked place now) = false
-  brings spread q v (Back place now) = false
-  brings spread q v (Refused now) = false
-  brings spread q v (Saved place) = false
-  brings spread q v (Stopped place) = false
-  brings spread q v (Started place now) = false
 
   -- it comes to each of so many members
   abbrev pub ComesToAll : ℕ → ℕ → List (RunStep X) → X → Type 0

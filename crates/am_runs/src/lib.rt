@@ -3,21 +3,14 @@
 #![tactic(auto)]
 
 mod calm;
-mod flight;
-mod follow;
 pub mod laws;
-mod maxima;
 pub mod plain;
-mod position;
 mod run;
 mod running;
 mod spans;
-mod spread;
 mod standing;
 mod step;
 mod timely;
-mod trails;
-mod uptimes;
 
 pub use run::Run;
 pub use step::{RunStep, Source};

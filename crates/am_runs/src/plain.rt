@@ -1,4 +1,3 @@
-//! The questions about steps as plain loops over them: what a `Run` answers is compared with these in tests.
+//! The question of calm as plain loops over steps: what a `Run` answers is compared with it in tests.
 
 pub use crate::calm::first_fault;
-pub use crate::timely::is_timely;

@@ -1,22 +1,19 @@
 //! The record of a run.
 
-ghost use Rattle.std.specs.Prelude.{◌≡◌, ◌++◌, ℕ, [], ◌∷◌, ◌+◌, ◌<◌, ◌≤◌, length, map, MatchOption, IsTrue, ◌↔◌, OnOk, All};
+ghost use Rattle.std.specs.Prelude.{◌≡◌, ◌++◌, ℕ, [], ◌∷◌, ◌+◌, ◌<◌, ◌≤◌, map, MatchOption, IsTrue, ◌↔◌, OnOk, All};
 ghost use Rattle.am_runs.specs.Members.{last_of, member_of};
 ghost use Rattle.am_runs.specs.Records.{step_of};
 ghost use Rattle.am_runs.specs.Runs.{IsPossible, IsRun, IsCalmAt, IsFirstFault};
-ghost use Rattle.am_runs.specs.Steps.{delivered_by, delivered_in};
+ghost use Rattle.am_runs.specs.Steps.{delivered_in};
 ghost use Rattle.am_runs.specs.Timely.{IsTimely};
 
 use crate::calm::first_fault;
-use crate::follow::write_down;
 use crate::laws::{one_step_more, timely_runs_are_calm};
-use crate::maxima::{Maxima, make_rows, no_maxima};
 use crate::running::{last_from, runs_from};
 use crate::spans::is_some_time;
-use crate::spread::is_timely;
-use crate::standing::{Standing, fill_first};
+use crate::standing::{Standing, fill_first, note};
 use crate::step::RunStep;
-use crate::trails::{Trails, make_trails, no_trails};
+use crate::timely::is_timely;
 use am_version_order::{Interval, Moment, Version, versions_are_values};
 use std::alloc::{AllocError, Global};
 use std::marker::Model;
@@ -27,11 +24,9 @@ use std::marker::Model;
 pub struct Run<V: Version> {
     members: usize,
     steps: Vec<RunStep<V>>,
-    maxima: Maxima,
-    standings: Vec<Standing>,
-    trails: Trails,
-    // For how many more versions there is room.
-    spare: usize,
+    // (none, where memory ran out in noting a step: then the plain loops answer)
+    standings: Vec<Standing<V>>,
+    alloc: Global,
 }
 
 // (so that crates above cite one drop, and don't prove those of all that is inside)
@@ -40,10 +35,8 @@ impl<V: Version> Drop for Run<V> {
         let Run {
             members: _,
             steps: _,
-            maxima: _,
             standings: _,
-            trails: _,
-            spare: _,
+            alloc: _,
         } = self;
     }
 }
@@ -59,11 +52,10 @@ impl<V: Version> Model for Run<V> {
       members = run.members;
       steps = map step_of run.steps.items;
       room = vec_capacity run.steps - vec_len run.steps;
-      spare = run.spare;
     } };
 
     ghost invariant = { λ run. IsAccount V.seen V.Key.cmp V.is_value run.members
-        (map step_of run.steps.items) run.maxima run.standings.items run.spare };
+        (map step_of run.steps.items) run.standings.items };
 }
 
 impl<V: Version> Run<V> {
@@ -75,10 +67,8 @@ impl<V: Version> Run<V> {
         Run {
             members,
             steps: Vec::new(alloc),
-            maxima: no_maxima(alloc),
             standings: Vec::new(alloc),
-            trails: no_trails(alloc),
-            spare: 0,
+            alloc,
         }
     }
 
@@ -105,53 +95,33 @@ impl<V: Version> Run<V> {
         let _steps = &self.steps;
     }
 
-    /// Makes room for so many steps, which deliver at most so many versions in all. A save and a start deliver none, and
-    /// need room for their step alone.
+    /// Makes room for so many steps.
     ///
     /// # Errors
     ///
     /// [`AllocError`] where memory runs out. There is no less room then than before.
-    pub fn make_room(&mut self, steps: usize, versions: usize) -> Result<(), AllocError>
+    pub fn make_room(&mut self, steps: usize) -> Result<(), AllocError>
         ensures members { self.new.members ≡ self.old.members }
         ensures steps { self.new.steps ≡ self.old.steps }
         ensures room { OnOk result (steps ≤ self.new.room) }
-        ensures spare { OnOk result (versions ≤ self.new.spare) }
         ensures kept_room { self.old.room ≤ self.new.room }
-        ensures kept_spare { self.old.spare ≤ self.new.spare }
     {
-        fill_first(&mut self.standings, self.members, &self.steps)?;
-        make_trails(&mut self.trails, versions)?;
-        self.steps.reserve(steps)?;
-        make_rows(&mut self.maxima, versions)?;
-        if self.spare < versions {
-            self.spare = versions;
-        }
-        Ok(())
+        fill_first(self.alloc, &mut self.standings, self.members, &self.steps)?;
+        self.steps.reserve(steps)
     }
 
-    /// Writes down what happened. It takes no memory.
+    /// Writes down what happened. Where no memory is found for what makes answers quick, they take longer.
     pub fn append(&mut self, step: RunStep<V>)
         requires room { 0 < self.old.room }
-        requires spare { length (delivered_by (step_of step)) ≤ self.old.spare }
         requires possible { IsPossible V.seen V.Key.cmp self.old.members self.old.steps (step_of step) }
         ensures members { self.new.members ≡ self.old.members }
         ensures steps { self.new.steps ≡ self.old.steps ++ step_of step ∷ [] }
         ensures room { self.old.room ≤ self.new.room + 1 }
-        ensures spare { self.old.spare ≤ self.new.spare + length (delivered_by (step_of step)) }
     {
         one_step_more::<V>();
-        let number = self.steps.len();
-        let versions = step.versions();
-        versions_are_values(versions);
-        self.spare -= versions.len();
+        versions_are_values(step.versions());
+        note(&mut self.standings, &self.steps, &step);
         self.steps.push_reserved(step);
-        write_down(
-            &mut self.maxima,
-            &mut self.standings,
-            &mut self.trails,
-            &self.steps,
-            number,
-        );
     }
 
     /// Whether a member runs. It takes no memory.
@@ -194,12 +164,6 @@ impl<V: Version> Run<V> {
     {
         timely_runs_are_calm::<V>();
         is_some_time(spread);
-        is_timely(
-            spread,
-            flight,
-            self.members,
-            &self.steps,
-            &self.trails.cells,
-        )
+        is_timely(spread, flight, self.members, &self.steps)
     }
 }

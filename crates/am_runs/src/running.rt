@@ -1,11 +1,9 @@
 //! Whether a member runs, and its moments.
 
-ghost use Rattle.std.specs.Prelude.{◌≡◌, None, true, map};
+ghost use Rattle.std.specs.Prelude.{◌≡◌, map};
 ghost use Rattle.am_runs.specs.Records.{step_of};
-ghost use Rattle.am_runs.specs.Uptimes.{starts, saves};
-ghost use Rattle.am_runs.specs.Tests.{runs_after, runs_from, last_after, last_from, ran_after, ran_from};
+ghost use Rattle.am_runs.specs.Tests.{runs_after, runs_from, last_after, last_from};
 
-use crate::calm::later;
 use crate::step::RunStep;
 use am_version_order::Moment;
 
@@ -54,46 +52,4 @@ pub fn last_from<V>(member: usize, steps: &[RunStep<V>]) -> Moment
         last = last_after(member, last, step);
     }
     last
-}
-
-fn ran_after(runs: bool, ran: Option<Moment>, now: Option<Moment>) -> Option<Moment>
-    ensures { result ≡ ran_after runs ran now }
-{
-    match now {
-        Some(now) if runs => later(ran, now),
-        _ => ran,
-    }
-}
-
-/// The latest moment at which a member ran as one of the steps began, where it runs at first.
-pub fn ran_in<V>(member: usize, steps: &[RunStep<V>]) -> Option<Moment>
-    ensures { result ≡ ran_from member true None (map step_of steps.now) }
-{
-    let mut runs = true;
-    let mut ran = None;
-    for step in steps {
-        ran = ran_after(runs, ran, step.moment());
-        runs = runs_after(member, runs, step);
-    }
-    ran
-}
-
-/// Whether a step starts a member.
-pub fn starts<V>(member: usize, step: &RunStep<V>) -> bool
-    ensures { result ≡ starts member (step_of step.now) }
-{
-    match step {
-        RunStep::Started { place, .. } => *place == member,
-        _ => false,
-    }
-}
-
-/// Whether a step saves a member.
-pub fn saves<V>(member: usize, step: &RunStep<V>) -> bool
-    ensures { result ≡ saves member (step_of step.now) }
-{
-    match step {
-        RunStep::Saved { place } => *place == member,
-        _ => false,
-    }
 }

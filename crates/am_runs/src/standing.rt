@@ -1,26 +1,32 @@
-//! What stands of a member: its last collection, and the first step with which it isn't calm.
+//! What stands of a member: what it took, its last collection, and the first step with which it isn't calm.
 
-ghost use Rattle.std.specs.Prelude.{◌≡◌, ℕ, ◌+◌, ◌++◌, ◌∷◌, [], ◌↔◌, IsTrue, true, false, map, length, MatchOption};
+ghost use Rattle.std.specs.Prelude.{◌≡◌, ℕ, ◌++◌, ◌∷◌, [], ◌↔◌, IsTrue, true, map, IfOk, OnOk};
+ghost use Rattle.am_merge.specs.Maps.{at};
 ghost use Rattle.am_runs.specs.Records.{step_of, lasts_seen};
-ghost use Rattle.am_runs.specs.Steps.{is_at};
-ghost use Rattle.am_runs.specs.Tests.{last_in, last_after, lasts_after, runs_after, StaysCalm};
-ghost use Rattle.am_runs.specs.Standings.{AreStandings, fault_after};
+ghost use Rattle.am_runs.specs.Steps.{EachStep, is_at};
+ghost use Rattle.am_runs.specs.Tests.{last_after, lasts_after, runs_after, top_among, in_time};
+ghost use Rattle.am_runs.specs.Standings.{AreStandings, IsStanding, IsJudged, fault_after};
 
-use crate::calm::{Lasts, last_in, lasts_after};
+use crate::calm::{Lasts, in_time, lasts_after};
 use crate::running::{last_after, runs_after};
 use crate::step::RunStep;
+use am_merge::Held;
 use am_version_order::{Moment, Version};
-use std::alloc::AllocError;
+use std::alloc::{AllocError, Global};
 
 /// What stands of a member.
-#[derive(Clone, Copy)]
-pub struct Standing {
+#[derive(Drop)]
+pub struct Standing<V: Version> {
     pub runs: bool,
     /// The moment of its last event or start.
     pub acted: Moment,
     pub lasts: Lasts,
     /// The number of the first step with which it is not calm.
     pub fault: Option<usize>,
+    /// The greatest version of each key that it took; none is ever dropped.
+    pub taken: Held<V>,
+    /// What is saved of that.
+    pub saved: Held<V>,
 }
 
 /// Makes what stands of so many members where there is no step yet.
@@ -29,7 +35,8 @@ pub struct Standing {
 ///
 /// [`AllocError`] where memory runs out. What was made stands.
 pub fn fill_first<V: Version>(
-    standings: &mut Vec<Standing>,
+    alloc: Global,
+    standings: &mut Vec<Standing<V>>,
     members: usize,
     steps: &[RunStep<V>],
 ) -> Result<(), AllocError>
@@ -39,11 +46,15 @@ pub fn fill_first<V: Version>(
     if !steps.is_empty() {
         return Ok(());
     }
-    fill::<V>(standings, members)
+    fill(alloc, standings, members)
 }
 
 /// Makes what stands of so many members, of which nothing is known yet.
-fn fill<V: Version>(standings: &mut Vec<Standing>, members: usize) -> Result<(), AllocError>
+fn fill<V: Version>(
+    alloc: Global,
+    standings: &mut Vec<Standing<V>>,
+    members: usize,
+) -> Result<(), AllocError>
     ensures { AreStandings V.seen V.Key.cmp standings.old.items [] → AreStandings V.seen V.Key.cmp standings.new.items [] }
 {
     for _member in standings.len()..members {
@@ -55,23 +66,54 @@ fn fill<V: Version>(standings: &mut Vec<Standing>, members: usize) -> Result<(),
                 saved: None,
             },
             fault: None,
+            taken: Held::new(alloc),
+            saved: Held::new(alloc),
         })?;
     }
     Ok(())
 }
 
-/// The last collection of a member in steps.
-pub fn last_collection<V: Version>(
-    standings: &[Standing],
-    member: usize,
-    steps: &[RunStep<V>],
-) -> Option<Moment>
-    requires { AreStandings V.seen V.Key.cmp standings.now (map step_of steps.now) }
-    ensures { result ≡ last_in member (map step_of steps.now) }
+/// Whether each version that a member takes in an event comes in time; and all of them are taken.
+fn take_all<V: Version>(
+    taken: &mut Held<V>,
+    last: Option<Moment>,
+    now: Moment,
+    versions: &[V],
+) -> Result<bool, AllocError>
+    ensures calm { IfOk result (λ calm. IsTrue calm ↔ EachStep versions.now (λ done v.
+        in_time V.seen (top_among V.seen V.Key.cmp (V.seen v).key
+        (at V.seen V.Key.cmp taken.old (V.seen v).key) done) last now v ≡ true)) }
+    ensures taken { OnOk result ((key : V.Key) →
+        at V.seen V.Key.cmp taken.new key ≡ top_among V.seen V.Key.cmp key (at V.seen V.Key.cmp taken.old key) versions.now) }
 {
-    match standings.get(member) {
-        Some(standing) => standing.lasts.last,
-        None => last_in(member, steps),
+    let alloc = taken.allocator();
+    let mut calm = true;
+    for number in 0..versions.len() {
+        let version = &versions[number];
+        calm &= in_time(taken.get(version.key()), last, now, version);
+        taken.take(version.try_clone(alloc)?, now)?;
+    }
+    Ok(calm)
+}
+
+/// Whether a member stays calm with a step of it; and what it took, and what is saved of that, is kept.
+fn judge<V: Version>(standing: &mut Standing<V>, step: &RunStep<V>) -> Result<bool, AllocError>
+    ensures { IfOk result (IsJudged V.seen V.Key.cmp standing.old standing.new (step_of step.now)) }
+{
+    match step {
+        RunStep::Took { now, versions, .. } => {
+            take_all(&mut standing.taken, standing.lasts.last, *now, versions)
+        }
+        RunStep::Back { .. } => Ok(false),
+        RunStep::Saved { .. } => {
+            standing.saved = standing.taken.try_clone()?;
+            Ok(true)
+        }
+        RunStep::Started { .. } => {
+            standing.taken = standing.saved.try_clone()?;
+            Ok(true)
+        }
+        _ => Ok(true),
     }
 }
 
@@ -84,43 +126,35 @@ fn fault_after(fault: Option<usize>, stays: bool, number: usize) -> Option<usize
     Some(number)
 }
 
-/// What stands of a member after one more step of it.
-fn standing_after<V>(
-    standing: &Standing,
+/// Notes a step of this number, which is one of the member.
+fn follow<V: Version>(
+    standing: &mut Standing<V>,
     member: usize,
-    step: &RunStep<V>,
-    number: usize,
-    stays: bool,
-) -> Standing
-    ensures runs { result.runs ≡ runs_after member standing.now.runs (step_of step.now) }
-    ensures acted { result.acted ≡ last_after member standing.now.acted (step_of step.now) }
-    ensures lasts { lasts_seen result.lasts ≡ lasts_after member (lasts_seen standing.now.lasts) (step_of step.now) }
-    ensures fault { result.fault ≡ fault_after standing.now.fault stays number }
-{
-    Standing {
-        runs: runs_after(member, standing.runs, step),
-        acted: last_after(member, standing.acted, step),
-        lasts: lasts_after(member, standing.lasts, step),
-        fault: fault_after(standing.fault, stays, number),
-    }
-}
-
-/// Notes a step of this number, with which its member stays calm or not.
-pub fn note<V: Version>(
-    standings: &mut Vec<Standing>,
     before: &[RunStep<V>],
     step: &RunStep<V>,
-    stays: bool,
-)
-    requires standings { AreStandings V.seen V.Key.cmp standings.old.items (map step_of before.now) }
-    requires stays { (q : ℕ) → is_at q (step_of step.now) ≡ true
-        → IsTrue stays ↔ StaysCalm V.seen V.Key.cmp q (map step_of before.now) (step_of step.now) }
-    ensures { AreStandings V.seen V.Key.cmp standings.new.items (map step_of before.now ++ step_of step.now ∷ []) }
+) -> Result<(), AllocError>
+    requires at { is_at member (step_of step.now) ≡ true }
+    ensures { OnOk result (IsStanding V.seen V.Key.cmp member standing.old (map step_of before.now)
+        → IsStanding V.seen V.Key.cmp member standing.new (map step_of before.now ++ step_of step.now ∷ [])) }
+{
+    let stays = judge(standing, step)?;
+    standing.runs = runs_after(member, standing.runs, step);
+    standing.acted = last_after(member, standing.acted, step);
+    standing.lasts = lasts_after(member, standing.lasts, step);
+    standing.fault = fault_after(standing.fault, stays, before.len());
+    Ok(())
+}
+
+/// Notes a step behind those before it. Where memory runs out nothing stands of any member any more.
+pub fn note<V: Version>(standings: &mut Vec<Standing<V>>, before: &[RunStep<V>], step: &RunStep<V>)
+    ensures { AreStandings V.seen V.Key.cmp standings.old.items (map step_of before.now)
+        → AreStandings V.seen V.Key.cmp standings.new.items (map step_of before.now ++ step_of step.now ∷ []) }
 {
     if let Some(member) = step.place() {
         if member < standings.len() {
-            let standing = standing_after(&standings[member], member, step, before.len(), stays);
-            standings[member] = standing;
+            if follow(&mut standings[member], member, before, step).is_err() {
+                standings.clear();
+            }
         }
     }
 }

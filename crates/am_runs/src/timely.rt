@@ -4,7 +4,7 @@ ghost use Rattle.std.specs.Prelude.{◌≡◌, ◌+◌, ◌<◌, ◌≤◌, ◌�
 ghost use Rattle.std.specs.List.{list_all, list_any};
 ghost use Rattle.am_runs.specs.Records.{step_of, watch_seen};
 ghost use Rattle.am_runs.specs.Steps.{clock_after, delivered_by, delivered_in, moment};
-ghost use Rattle.am_runs.specs.Tests.{is_monotone, are_monotone, sent_in, sent_at, flies_short, is_due, is_swift, is_wanting};
+ghost use Rattle.am_runs.specs.Tests.{is_monotone, are_monotone, sent_in, sent_at, flies_short, is_swift, is_wanting};
 ghost use Rattle.am_runs.specs.Tests.{counts_for, watched, watch_after, comes, ComesToAll};
 ghost use Rattle.am_runs.specs.Runs.{IsRun};
 ghost use Rattle.am_runs.specs.Timely.{IsTimely};
@@ -24,7 +24,7 @@ fn is_monotone(clock: Moment, now: Option<Moment>) -> bool
 }
 
 /// Whether the moments written in steps never fall.
-pub fn are_monotone<V>(steps: &[RunStep<V>]) -> bool
+fn are_monotone<V>(steps: &[RunStep<V>]) -> bool
     ensures { result ≡ are_monotone 0 (map step_of steps.now) }
 {
     let mut clock = Moment::LEAST;
@@ -57,7 +57,7 @@ fn are_lasting<V: Version>(versions: &[V], spread: Interval, flight: Interval) -
 }
 
 /// Whether each version delivered in steps does.
-pub fn all_lasting<V: Version>(steps: &[RunStep<V>], spread: Interval, flight: Interval) -> bool
+fn all_lasting<V: Version>(steps: &[RunStep<V>], spread: Interval, flight: Interval) -> bool
     ensures { IsTrue result ↔ All (λ v. ((V.seen v).updated + spread) + flight ≤ (V.seen v).expires)
         (delivered_in (map step_of steps.now)) }
 {
@@ -70,7 +70,7 @@ pub fn all_lasting<V: Version>(steps: &[RunStep<V>], spread: Interval, flight: I
 }
 
 /// When the frame of this number was sent.
-pub fn sent_in<V>(number: usize, steps: &[RunStep<V>]) -> Option<Moment>
+fn sent_in<V>(number: usize, steps: &[RunStep<V>]) -> Option<Moment>
     ensures { result ≡ sent_in number (map step_of steps.now) }
 {
     let mut left = number;
@@ -85,7 +85,7 @@ pub fn sent_in<V>(number: usize, steps: &[RunStep<V>]) -> Option<Moment>
 }
 
 /// When the versions of a source were sent, if they were.
-pub fn sent_at<V>(steps: &[RunStep<V>], source: Source) -> Option<Moment>
+fn sent_at<V>(steps: &[RunStep<V>], source: Source) -> Option<Moment>
     ensures { result ≡ sent_at (map step_of steps.now) source }
 {
     match source {
@@ -95,7 +95,7 @@ pub fn sent_at<V>(steps: &[RunStep<V>], source: Source) -> Option<Moment>
     }
 }
 
-pub fn flies_short(flight: Interval, now: Moment, sent: Option<Moment>) -> bool
+fn flies_short(flight: Interval, now: Moment, sent: Option<Moment>) -> bool
     ensures { result ≡ flies_short flight now sent }
 {
     match sent {
@@ -114,7 +114,8 @@ fn is_swift<V>(flight: Interval, steps: &[RunStep<V>], step: &RunStep<V>) -> boo
     }
 }
 
-pub fn are_swift<V>(flight: Interval, steps: &[RunStep<V>]) -> bool
+/// Whether what each step delivered came in time.
+fn are_swift<V>(flight: Interval, steps: &[RunStep<V>]) -> bool
     ensures { result ≡ list_all (is_swift flight (map step_of steps.now)) (map step_of steps.now) }
 {
     for step in steps {
@@ -133,28 +134,21 @@ struct Watch {
     saved: bool,
 }
 
-/// Whether a version should have come by a moment.
-pub fn is_due<V: Version>(spread: Interval, version: &V, now: Option<Moment>) -> bool
-    ensures { result ≡ is_due ((V.seen version.now).updated + spread) now }
+/// Whether a version should have come by a moment, and the member runs without it.
+fn is_wanting<V: Version>(spread: Interval, version: &V, watch: Watch, now: Option<Moment>) -> bool
+    ensures { result ≡ is_wanting ((V.seen version.now).updated + spread) (watch_seen watch) now }
 {
     match now {
-        Some(now) => ends_by(version.updated(), spread, now),
+        Some(now) => watch.runs && !watch.has && ends_by(version.updated(), spread, now),
         None => false,
     }
 }
 
-/// Whether it should, and the member runs without it.
-fn is_wanting<V: Version>(spread: Interval, version: &V, watch: Watch, now: Option<Moment>) -> bool
-    ensures { result ≡ is_wanting ((V.seen version.now).updated + spread) (watch_seen watch) now }
-{
-    is_due(spread, version, now) && watch.runs && !watch.has
-}
-
 /// Whether a version that was taken is this one, or a greater one of its key.
-pub fn counts_for<V: Version>(version: &V, taken: &V) -> bool
+fn counts_for<V: Version>(version: &V, taken: &V) -> bool
     ensures { result ≡ counts_for V.seen V.Key.cmp version.now taken.now }
 {
-    has_key(version.key(), taken) && !is_below(taken, version)
+    !is_below(taken, version) && has_key(version.key(), taken)
 }
 
 fn any_counts<V: Version>(version: &V, taken: &[V]) -> bool
@@ -202,7 +196,7 @@ fn watch_after<V: Version>(member: usize, version: &V, watch: Watch, step: &RunS
 }
 
 /// Whether at no step that begins when a version should have come the member runs without it.
-pub fn comes<V: Version>(spread: Interval, member: usize, version: &V, steps: &[RunStep<V>]) -> bool
+fn comes<V: Version>(spread: Interval, member: usize, version: &V, steps: &[RunStep<V>]) -> bool
     ensures { result ≡ comes V.seen V.Key.cmp spread member version.now
         (record { runs = true; has = false; saved = false }) (map step_of steps.now) }
 {
@@ -255,7 +249,7 @@ fn come_to_all<V: Version>(
 }
 
 /// Whether each version delivered in some of the steps does.
-pub fn all_come_to_all<V: Version>(spread: Interval, members: usize, steps: &[RunStep<V>]) -> bool
+fn all_come_to_all<V: Version>(spread: Interval, members: usize, steps: &[RunStep<V>]) -> bool
     ensures { IsTrue result ↔ All (ComesToAll V.seen V.Key.cmp spread members (map step_of steps.now))
         (delivered_in (map step_of steps.now)) }
 {

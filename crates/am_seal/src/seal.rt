@@ -16,19 +16,19 @@ pub struct Lock<'a> {
     pub name: &'a str,
 }
 
-/// Why a sealed frame isn't taken.
+/// Why a sealed frame isn't taken. It is printed as its name.
 #[derive(Clone, Copy, Debug, PartialEq, Eq, Error)]
 pub enum SealError {
     /// Its length is over the limit of frames.
-    #[error("a sealed frame is too long")]
+    #[error("Length")]
     Length,
     /// Its sum isn't that of its sender, its addressee and its bytes under the secret.
-    #[error("a sum is wrong")]
+    #[error("Sum")]
     Sum,
     /// Its sum is right, and its bytes aren't one frame.
-    #[error("what is sealed is no frame")]
+    #[error("Text")]
     Text,
-    #[error("out of memory")]
+    #[error("Memory")]
     Memory,
 }
 

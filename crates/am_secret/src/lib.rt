@@ -17,21 +17,22 @@ pub const MOST: usize = 4_096;
 /// What others than the owner and the group of a file may do (chmod(1)).
 const OTHERS: u32 = 0o7;
 
-/// Why a secret isn't read.
+/// Why a secret isn't read. It is printed as its name and number.
 #[derive(Clone, Copy, Debug, PartialEq, Eq, Error)]
 pub enum SecretFault {
-    #[error("the system refuses the file: {0}")]
+    /// The system refuses the file.
+    #[error("File {0:?}")]
     File(ErrorKind),
     /// A read failed, after so many bytes.
-    #[error("a read failed after {0} bytes")]
+    #[error("Read {0}")]
     Read(u64),
     /// It has fewer than 16 bytes.
-    #[error("the secret is too short")]
+    #[error("Short")]
     Short,
     /// It has over 4,096 bytes.
-    #[error("the secret is too long")]
+    #[error("Long")]
     Long,
-    #[error("out of memory")]
+    #[error("Memory")]
     Memory,
 }
 

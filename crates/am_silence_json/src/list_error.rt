@@ -9,18 +9,18 @@ use thiserror::Error;
 #[derive(Clone, Copy, Debug, PartialEq, Eq, Error)]
 pub enum ListError {
     /// It is no JSON.
-    #[error("bad JSON")]
+    #[error("BadJson")]
     BadJson,
     /// It is JSON, and no array.
-    #[error("no list")]
+    #[error("NoList")]
     NoList,
     /// What stands at this key of the silence at this place is wanting or of another kind.
-    #[error("bad silence {0}: {1}")]
+    #[error("Silence {0} {1}")]
     Wrong(usize, ShownKey),
     /// The silence at this place has over 67,108,864 bytes.
-    #[error("silence {0} too large")]
+    #[error("Silence {0} TooLarge")]
     TooLarge(usize),
-    #[error("out of memory")]
+    #[error("Memory")]
     Memory,
 }
 

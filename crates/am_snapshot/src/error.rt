@@ -10,17 +10,22 @@ use thiserror::Error;
 /// The first fault that stands.
 #[derive(Clone, Copy, Debug, PartialEq, Eq, Error)]
 pub enum SnapshotError {
-    #[error("a read failed after {at} bytes")]
+    /// A read failed after so many bytes.
+    #[error("Read {at}")]
     Read { at: usize },
-    #[error("a write failed after {written} bytes")]
+    /// A write failed after so many bytes, which went out.
+    #[error("Write {written}")]
     Write { written: u64 },
+    /// A message is at fault.
     #[error("{0}")]
     Wire(WireError),
-    #[error("a key comes twice")]
+    /// A key comes twice.
+    #[error("DuplicateKey")]
     DuplicateKey,
-    #[error("the snapshot is too large")]
+    /// The row, or a message in it, is over its limit.
+    #[error("TooLarge")]
     TooLarge,
-    #[error("out of memory")]
+    #[error("Memory")]
     Memory,
 }
 

@@ -21,26 +21,23 @@ use Rattle.am_gossip.specs.declared.frame.Part.{Part}
 use Rattle.am_gossip.specs.declared.frame.StateKey.TheVariants.{Sil, Nfl}
 use Rattle.am_instance.specs.Deliveries.{Delivery, before_fault, first_fault, read_as, rows_of}
 use Rattle.am_instance.specs.Deliveries.Delivery.{OfSilence, OfEntry}
+use Rattle.am_steps.specs.Versions.{IsReadAgain}
+use Rattle.am_steps.proofs.RoundTrip.{all_before, none_at_fault, read_each}
 
 module _ {K X : Type 0} (seen : X → Version K) (reads : ℕ → List ℕ → Result X WireError) where
-  -- the version is read of its content wherever that stands, and is not too large for a row
-  pub record IsReadAgain (v : X) : Type 0 where
-    pub reads_as : (at : ℕ) → reads at (seen v).content ≡ Ok v
-    pub within : length (seen v).content ≤ most
-
-  rows_read : (versions : List X) (at : ℕ) → All IsReadAgain versions → messages_from reads at (row_text seen versions) ≡ map sound versions
+  rows_read : (versions : List X) (at : ℕ) → All (IsReadAgain seen reads) versions → messages_from reads at (row_text seen versions) ≡ map sound versions
   rows_read versions at good = versions_read seen reads versions at (λ k v inside place small. (good k v inside).reads_as place) (λ k v inside. (good k v inside).within)
 
   -- what was written of lines, and that it is read again
   pub record IsRowOf {L : Type 0} (version : L → X) (lines : List L) (row : List ℕ) : Type 0 where
     pub text : row ≡ row_text seen (map version lines)
-    pub good : All IsReadAgain (map version lines)
+    pub good : All (IsReadAgain seen reads) (map version lines)
 
   module _ {L : Type 0} (version : L → X) (lines : List L) where
     pub row_none : IsRowOf version (take 0 lines) []
-    row_none = record { text = refl; good = All-nil IsReadAgain }
+    row_none = record { text = refl; good = All-nil (IsReadAgain seen reads) }
 
-    pub row_more : (i : ℕ) (row next : List ℕ) (x : L) (v : X) → i < length lines → x ≡ get_or lines i x → v ≡ version x → IsReadAgain v
+    pub row_more : (i : ℕ) (row next : List ℕ) (x : L) (v : X) → i < length lines → x ≡ get_or lines i x → v ≡ version x → IsReadAgain seen reads v
         → IsRowOf version (take i lines) row → next ≡ row ++ delimited (seen v).content → IsRowOf version (take (i + 1) lines) next
     row_more i row next x v within is same good so_far written =
         let here : take (i + 1) lines ≡ take i lines ++ x ∷ [] = take_more lines i x within ∙ ap (λ (y : L). take i lines ++ y ∷ []) (sym is) in
@@ -52,7 +49,7 @@ module _ {K X : Type 0} (seen : X → Version K) (reads : ℕ → List ℕ → R
               ∙ ap (λ (bytes : List ℕ). row_text seen (map version (take i lines)) ++ bytes) (sym (append-nil (delimited (seen v).content)))
               ∙ sym (flat_map-append (λ (w : X). delimited (seen w).content) (map version (take i lines)) (v ∷ []))
               ∙ ap (row_text seen) (sym behind);
-          good = subst (All IsReadAgain) (sym behind) (All-append IsReadAgain (map version (take i lines)) (v ∷ []) so_far.good (All-cons IsReadAgain v [] good (All-nil IsReadAgain)));
+          good = subst (All (IsReadAgain seen reads)) (sym behind) (All-append (IsReadAgain seen reads) (map version (take i lines)) (v ∷ []) so_far.good (All-cons (IsReadAgain seen reads) v [] good (All-nil (IsReadAgain seen reads))));
         }
 
     pub row_end : (i : ℕ) (row bytes : List ℕ) → length lines ≤ i → IsRowOf version (take i lines) row → bytes ≡ row → messages_from reads 0 bytes ≡ map sound (map version lines)
@@ -73,20 +70,11 @@ pub record IsPartOf (part : Part) (versions : List Delivery) : Type 0 where
   pub clean : first_fault (rows_of part ++ []) ≡ None
   pub read : before_fault (rows_of part ++ []) ≡ versions
 
-module _ {A : Type 0} (of_version : A → Delivery) where
-  no_fault : (versions : List A) → first_fault (map (read_as of_version) (map sound versions) ++ []) ≡ None
-  no_fault [] = refl
-  no_fault (v ∷ versions) = no_fault versions
-
-  all_before : (versions : List A) → before_fault (map (read_as of_version) (map sound versions) ++ []) ≡ map of_version versions
-  all_before [] = refl
-  all_before (v ∷ versions) = ap (λ (vs : List Delivery). of_version v ∷ vs) (all_before versions)
-
-  sound_part : (part : Part) (versions : List A) → rows_of part ≡ map (read_as of_version) (map sound versions) → IsPartOf part (map of_version versions)
-  sound_part part versions rows = record {
-    clean = ap (λ (items : List (Result Delivery WireError)). first_fault (items ++ [])) rows ∙ no_fault versions;
-    read = ap (λ (items : List (Result Delivery WireError)). before_fault (items ++ [])) rows ∙ all_before versions;
-  }
+sound_part : {A : Type 0} (of_version : A → Delivery) (part : Part) (versions : List A) → rows_of part ≡ map (read_as of_version) (map sound versions)
+    → IsPartOf part (map of_version versions)
+sound_part of_version part versions rows =
+    let all = append-nil (rows_of part) ∙ rows ∙ read_each of_version versions in
+    record { clean = ap first_fault all ∙ none_at_fault (map of_version versions); read = ap before_fault all ∙ all_before (map of_version versions) }
 
 pub silences_part : (bytes : List ℕ) (versions : List Mesh) → AreMessages reads_mesh_silence bytes versions → IsPartOf (record { key = Sil; bytes = bytes }) (map OfSilence versions)
 unfolding rows_of

@@ -40,7 +40,7 @@ pub none_at_fault : (ds : List Delivery) → first_fault (map read ds) ≡ None
 none_at_fault [] = refl
 none_at_fault (d ∷ ds) = none_at_fault ds
 
-read_each : {V : Type 0} (of_version : V → Delivery) (vs : List V) → map (read_as of_version) (map sound vs) ≡ map read (map of_version vs)
+pub read_each : {V : Type 0} (of_version : V → Delivery) (vs : List V) → map (read_as of_version) (map sound vs) ≡ map read (map of_version vs)
 read_each of_version [] = refl
 read_each of_version (v ∷ vs) = ap (λ items. Ok (of_version v) ∷ items) (read_each of_version vs)
 

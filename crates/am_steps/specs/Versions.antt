@@ -1,6 +1,9 @@
 -- The versions that the lines of a schedule write.
-use Rattle.std.specs.Prelude.{ℕ, List, [], ◌∷◌, map, min, false}
+use Rattle.std.specs.Prelude.{◌≡◌, ◌≤◌, ℕ, List, [], ◌∷◌, length, map, min, false, Result, Ok}
 use Rattle.am_version_order.specs.Moments.{greatest}
+use Rattle.am_version_order.specs.Versions.{Version}
+use Rattle.am_wire.specs.Limits.{most}
+use Rattle.am_wire.specs.declared.error.WireError.{WireError}
 use Rattle.am_silence.specs.declared.matcher.Matcher.{Matcher}
 use Rattle.am_silence.specs.declared.matcher.MatcherKind.TheVariants as kinds
 use Rattle.am_silence.specs.Mesh.{Mesh, mesh_version}
@@ -15,6 +18,11 @@ use Rattle.am_schedule.specs.declared.step.SilenceLine.{SilenceLine}
 use Rattle.am_schedule.specs.declared.step.LogLine.{LogLine}
 use Rattle.am_schedule.specs.declared.step.Versions.{Versions}
 use Rattle.am_schedule.specs.declared.step.Versions.TheVariants as states
+
+-- a version is read of its content wherever that stands, and is not too large for a row
+pub record IsReadAgain {K X : Type 0} (seen : X → Version K) (reads : ℕ → List ℕ → Result X WireError) (v : X) : Type 0 where
+  pub reads_as : (at : ℕ) → reads at (seen v).content ≡ Ok v
+  pub within : length (seen v).content ≤ most
 
 -- one matcher, which wants the value of a label
 abbrev pub wants : List ℕ → List ℕ → List Matcher

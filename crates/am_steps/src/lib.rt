@@ -9,6 +9,7 @@ mod events;
 mod groups;
 pub mod laws;
 pub mod line_laws;
+mod lines;
 mod log;
 mod sent;
 mod silences;

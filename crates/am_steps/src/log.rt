@@ -1,21 +1,16 @@
 //! The log versions of lines.
 
-ghost use Rattle.std.specs.Prelude.{◌≡◌, ◌++◌, ◌≤◌, length, map, IfOk, IfErr, OnOk};
-ghost use Rattle.am_wire.specs.Inputs.{AreMessages};
+ghost use Rattle.std.specs.Prelude.{◌≡◌, ◌≤◌, length, IfOk, OnOk};
 ghost use Rattle.am_wire.specs.Limits.{most};
-ghost use Rattle.am_wire.specs.Writing.{delimited};
-ghost use Rattle.am_wire.specs.declared.error.WireError.TheVariants as errors;
-ghost use Rattle.am_snapshot.specs.Texts.{row_text};
-ghost use Rattle.am_nflog.specs.Mesh.{IsMesh, mesh_version, writes_mesh_entry};
-ghost use Rattle.am_nflog.specs.MeshTable.{reads_mesh_entry};
+ghost use Rattle.am_nflog.specs.Mesh.{writes_mesh_entry};
 ghost use Rattle.am_steps.specs.Versions.{entry_of};
 
+use crate::lines::VersionLine;
 use crate::texts::hashes_of;
 use am_nflog::{Entry, LogKey, MeshEntry};
-use am_schedule::{LogLine, Shared};
-use am_version_order::Version;
-use am_wire::writing::append_delimited;
-use am_wire::{Bytes, WireError};
+use am_schedule::LogLine;
+use am_version_order::Moment;
+use am_wire::Bytes;
 use std::alloc::{AllocError, Global};
 
 /// The entry of a line.
@@ -40,37 +35,22 @@ fn entry(alloc: Global, line: &LogLine) -> Result<Entry, AllocError>
     })
 }
 
-/// The version of a line.
-fn version(alloc: Global, line: &LogLine) -> Result<MeshEntry, WireError>
-    ensures version { IfOk result (λ version. version ≡ entry_of line.now) }
-    ensures value { IfOk result IsMesh }
-    ensures within { IfOk result (λ version. length (writes_mesh_entry version) ≤ most) }
-    ensures memory { IfErr result (λ e. e ≡ errors.Memory) }
-{
-    let entry = entry(alloc, line)?;
-    MeshEntry::new(alloc, entry, line.expires)
-}
+impl VersionLine<MeshEntry> for LogLine {
+    ghost version_of = { entry_of };
 
-/// Writes the version of a line at the end of a row.
-fn append(alloc: Global, row: &mut Vec<u8>, line: &LogLine) -> Result<(), AllocError>
-    ensures row { OnOk result (row.new.items ≡ row.old.items ++ delimited (writes_mesh_entry (entry_of line.now))) }
-    ensures value { OnOk result (IsMesh (entry_of line.now)) }
-    ensures within { OnOk result (length (writes_mesh_entry (entry_of line.now)) ≤ most) }
-{
-    match version(alloc, line) {
-        Ok(version) => append_delimited(row, version.canonical()),
-        Err(_) => Err(AllocError),
-    }
-}
+    ghost updated_of = { λ line. line.updated };
 
-/// The row of the versions of lines.
-pub(crate) fn log_row(alloc: Global, lines: &[Shared<LogLine>]) -> Result<Bytes, AllocError>
-    ensures row { IfOk result (λ row. row ≡ row_text mesh_version (map entry_of lines.now)) }
-    ensures read { IfOk result (λ row. AreMessages reads_mesh_entry row (map entry_of lines.now)) }
-{
-    let mut row = Vec::new(alloc);
-    for line in lines {
-        append(alloc, &mut row, line.get())?;
+    fn updated(&self) -> Moment {
+        self.updated
     }
-    Ok(Bytes::new(row))
+
+    #[tactic(auto, using(crate::proofs::ReadAgain::entry_again))]
+    fn version(&self, alloc: Global) -> Result<MeshEntry, AllocError> {
+        let entry = entry(alloc, self)?;
+        // It fits, so what is refused is for want of memory.
+        match MeshEntry::new(alloc, entry, self.expires) {
+            Ok(version) => Ok(version),
+            Err(_) => Err(AllocError),
+        }
+    }
 }

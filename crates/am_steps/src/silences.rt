@@ -1,22 +1,17 @@
 //! The silences of lines: versions that are written, and what is posted.
 
-ghost use Rattle.std.specs.Prelude.{◌≡◌, ◌++◌, ◌≤◌, length, map, IfOk, IfErr, OnOk};
-ghost use Rattle.am_wire.specs.Inputs.{AreMessages};
+ghost use Rattle.std.specs.Prelude.{◌≡◌, ◌≤◌, length, IfOk, OnOk};
 ghost use Rattle.am_wire.specs.Limits.{most};
-ghost use Rattle.am_wire.specs.Writing.{delimited};
-ghost use Rattle.am_wire.specs.declared.error.WireError.TheVariants as errors;
-ghost use Rattle.am_snapshot.specs.Texts.{row_text};
-ghost use Rattle.am_silence.specs.Mesh.{IsMesh, mesh_version, writes_mesh_silence};
-ghost use Rattle.am_silence.specs.MeshTable.{reads_mesh_silence};
+ghost use Rattle.am_silence.specs.Mesh.{writes_mesh_silence};
 ghost use Rattle.am_steps.specs.Versions.{wants, silence_of};
 ghost use Rattle.am_steps.specs.Events.{posted};
 
+use crate::lines::VersionLine;
 use crate::texts::{no_text, text_of};
-use am_schedule::{PostLine, Shared, SilenceLine, Word};
+use am_schedule::{PostLine, SilenceLine, Word};
 use am_silence::{MatcherKind, MatcherRef, Matchers, MeshSilence, Posted, Silence};
-use am_version_order::Version;
-use am_wire::writing::append_delimited;
-use am_wire::{Bytes, Text, WireError};
+use am_version_order::Moment;
+use am_wire::Text;
 use std::alloc::{AllocError, Global};
 
 /// The one matcher, which wants the value of a label.
@@ -47,39 +42,24 @@ fn silence(alloc: Global, line: &SilenceLine) -> Result<Silence, AllocError>
     })
 }
 
-/// The version of a line.
-fn version(alloc: Global, line: &SilenceLine) -> Result<MeshSilence, WireError>
-    ensures version { IfOk result (λ version. version ≡ silence_of line.now) }
-    ensures value { IfOk result IsMesh }
-    ensures within { IfOk result (λ version. length (writes_mesh_silence version) ≤ most) }
-    ensures memory { IfErr result (λ e. e ≡ errors.Memory) }
-{
-    let silence = silence(alloc, line)?;
-    MeshSilence::new(alloc, silence, line.expires)
-}
+impl VersionLine<MeshSilence> for SilenceLine {
+    ghost version_of = { silence_of };
 
-/// Writes the version of a line at the end of a row.
-fn append(alloc: Global, row: &mut Vec<u8>, line: &SilenceLine) -> Result<(), AllocError>
-    ensures row { OnOk result (row.new.items ≡ row.old.items ++ delimited (writes_mesh_silence (silence_of line.now))) }
-    ensures value { OnOk result (IsMesh (silence_of line.now)) }
-    ensures within { OnOk result (length (writes_mesh_silence (silence_of line.now)) ≤ most) }
-{
-    match version(alloc, line) {
-        Ok(version) => append_delimited(row, version.canonical()),
-        Err(_) => Err(AllocError),
-    }
-}
+    ghost updated_of = { λ line. line.updated };
 
-/// The row of the versions of lines.
-pub(crate) fn silence_row(alloc: Global, lines: &[Shared<SilenceLine>]) -> Result<Bytes, AllocError>
-    ensures row { IfOk result (λ row. row ≡ row_text mesh_version (map silence_of lines.now)) }
-    ensures read { IfOk result (λ row. AreMessages reads_mesh_silence row (map silence_of lines.now)) }
-{
-    let mut row = Vec::new(alloc);
-    for line in lines {
-        append(alloc, &mut row, line.get())?;
+    fn updated(&self) -> Moment {
+        self.updated
     }
-    Ok(Bytes::new(row))
+
+    #[tactic(auto, using(crate::proofs::ReadAgain::silence_again))]
+    fn version(&self, alloc: Global) -> Result<MeshSilence, AllocError> {
+        let silence = silence(alloc, self)?;
+        // It fits, so what is refused is for want of memory.
+        match MeshSilence::new(alloc, silence, self.expires) {
+            Ok(version) => Ok(version),
+            Err(_) => Err(AllocError),
+        }
+    }
 }
 
 /// The identifier that is posted, if one is.

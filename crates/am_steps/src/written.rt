@@ -1,43 +1,20 @@
 //! What a `from` line writes.
 
-ghost use Rattle.std.specs.Prelude.{◌≡◌, [], ◌∷◌, map, Some, None, IfOk};
+ghost use Rattle.std.specs.Prelude.{◌≡◌, [], ◌∷◌, Some, None, IfOk};
 ghost use Rattle.am_instance.specs.Deliveries.{before_fault, first_fault, rows_in};
-ghost use Rattle.am_steps.specs.Versions.{least, part_of, sent_at, versions_of};
+ghost use Rattle.am_steps.specs.Versions.{part_of, sent_at, versions_of};
 ghost use Rattle.am_steps.specs.Events.{Brings, IsSentBefore, IsSound, from};
 
 use crate::asked::Asked;
-use crate::log::log_row;
-use crate::silences::silence_row;
+use crate::lines::{first_updated, row};
 use am_gossip::{Frame, Part, StateKey};
 use am_instance::{Event, Place};
+use am_nflog::MeshEntry;
 use am_runs::Source;
-use am_schedule::{LogLine, Shared, SilenceLine, Versions};
+use am_schedule::{LogLine, SilenceLine, Versions};
+use am_silence::MeshSilence;
 use am_version_order::Moment;
 use std::alloc::{AllocError, Global};
-
-/// The least update moment of silences.
-#[tactic(auto, using(crate::proofs::Least::least_low))]
-fn first_silence(lines: &[Shared<SilenceLine>]) -> Moment
-    ensures { result ≡ least (map (λ line. line.updated) lines.now) }
-{
-    let mut first = Moment::GREATEST;
-    for line in lines {
-        first = first.min(line.get().updated);
-    }
-    first
-}
-
-/// The least update moment of log versions.
-#[tactic(auto, using(crate::proofs::Least::least_low))]
-fn first_entry(lines: &[Shared<LogLine>]) -> Moment
-    ensures { result ≡ least (map (λ line. line.updated) lines.now) }
-{
-    let mut first = Moment::GREATEST;
-    for line in lines {
-        first = first.min(line.get().updated);
-    }
-    first
-}
 
 /// When the frame of these versions counts as sent.
 #[tactic(auto, using(crate::proofs::Least::silence_updates, crate::proofs::Least::entry_updates))]
@@ -45,8 +22,8 @@ fn sent_at(versions: &Versions) -> Moment
     ensures { result ≡ sent_at (versions_of versions.now) }
 {
     match versions {
-        Versions::Silences(lines) => first_silence(lines.as_slice()),
-        Versions::Log(lines) => first_entry(lines.as_slice()),
+        Versions::Silences(lines) => first_updated::<MeshSilence, SilenceLine>(lines.as_slice()),
+        Versions::Log(lines) => first_updated::<MeshEntry, LogLine>(lines.as_slice()),
     }
 }
 
@@ -59,11 +36,11 @@ fn part(alloc: Global, versions: &Versions) -> Result<Part, AllocError>
     match versions {
         Versions::Silences(lines) => Ok(Part {
             key: StateKey::Sil,
-            bytes: silence_row(alloc, lines.as_slice())?,
+            bytes: row::<MeshSilence, SilenceLine>(alloc, lines.as_slice())?,
         }),
         Versions::Log(lines) => Ok(Part {
             key: StateKey::Nfl,
-            bytes: log_row(alloc, lines.as_slice())?,
+            bytes: row::<MeshEntry, LogLine>(alloc, lines.as_slice())?,
         }),
     }
 }

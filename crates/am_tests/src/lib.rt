@@ -1,10 +1,12 @@
 //! Tests of what no case of text reaches: impls at types of a test's own, lists in blocks, versions of 64 MiB, connections of
-//! 128 MiB, random runs, and a member's clock. What they see is public, so they stand here, and no other proof
+//! 128 MiB, random runs, a log in a file, and a member's clock. What they see is public, so they stand here, and no other proof
 //! waits for them.
 #![tactic(auto)]
 
 #[cfg(test)]
 mod blocks;
+#[cfg(test)]
+mod journal;
 #[cfg(test)]
 mod limits;
 #[cfg(test)]

@@ -5,6 +5,7 @@ use am_faults::{Fault, report, status};
 use am_snapshot::SnapshotError;
 use am_streams::send;
 use clap::error::ErrorKind;
+use std::alloc::AllocError;
 
 /// Prints why there is no job: a help text and the version on standard output, all else on standard error. Answers the exit
 /// status of the program.
@@ -20,7 +21,7 @@ pub fn refuse(rt: &HostRuntime, error: &WordsError) -> u8 {
             status::WORDS
         }
         WordsError::Peer => report(rt, Fault::Peer),
-        WordsError::Memory => report(rt, Fault::from(SnapshotError::Memory)),
+        WordsError::Memory => report(rt, Fault::Memory(AllocError)),
     }
 }
 
@@ -32,7 +33,7 @@ fn is_asked_for(kind: ErrorKind) -> bool {
 /// Prints a text that was asked for on standard output.
 fn print_help(rt: &HostRuntime, help: &clap::Error) -> u8 {
     let Ok(text) = help.to_string(rt.alloc()) else {
-        return report(rt, Fault::from(SnapshotError::Memory));
+        return report(rt, Fault::Memory(AllocError));
     };
     let mut output = rt.stdout();
     match send(&mut output, text.as_bytes()) {

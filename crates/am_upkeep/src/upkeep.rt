@@ -22,7 +22,6 @@ use std::rt::Clock;
 use std::time::{Duration, Instant};
 
 /// The files of what a member holds, and what it prints and counts.
-#[derive(Drop)]
 pub struct Upkeep<'a, R> {
     pub rt: &'a R,
     pub options: &'a Options<'a>,
@@ -47,6 +46,27 @@ pub struct Upkeep<'a, R> {
     pub figures: Figures,
     /// Something may have changed since the last save, or since one was begun.
     pub is_changed: bool,
+}
+
+// (so that crates above cite one drop, and don't prove those of all that is inside)
+impl<R> Drop for Upkeep<'_, R> {
+    fn drop(self) {
+        let Upkeep {
+            rt: _,
+            options: _,
+            secret: _,
+            silences: _,
+            log: _,
+            room: _,
+            keeping: _,
+            compacting: _,
+            queue: _,
+            lines: _,
+            watch: _,
+            figures: _,
+            is_changed: _,
+        } = self;
+    }
 }
 
 /// The shorter one of two times, where there are such.

@@ -9,27 +9,37 @@ use thiserror::Error;
 /// The first fault in reading order; `at` is an offset in the outermost input.
 #[derive(Clone, Copy, Debug, PartialEq, Eq, Error)]
 pub enum WireError {
-    #[error("the input ends in the field at byte {at}")]
+    /// The input ends in the field at this byte.
+    #[error("Wire Truncated {at}")]
     Truncated { at: usize },
-    #[error("a number at byte {at} has more than 64 bits")]
+    /// The number at this byte has more than 64 bits.
+    #[error("Wire LongVarint {at}")]
     LongVarint { at: usize },
-    #[error("the field at byte {at} has no possible number")]
+    /// The field at this byte has no possible number.
+    #[error("Wire FieldNumber {at}")]
     FieldNumber { at: usize },
-    #[error("the field at byte {at} has no known wire type")]
+    /// The field at this byte has no known wire type.
+    #[error("Wire WireType {at}")]
     WireType { at: usize },
-    #[error("the field at byte {at} has another wire type than its number asks for")]
+    /// The field at this byte has another wire type than its number asks for.
+    #[error("Wire WrongType {at}")]
     WrongType { at: usize },
-    #[error("the text at byte {at} is not UTF-8")]
+    /// The text at this byte is not UTF-8.
+    #[error("Wire NotUtf8 {at}")]
     NotUtf8 { at: usize },
-    #[error("the timestamp at byte {at} is out of range")]
+    /// The timestamp at this byte is out of range.
+    #[error("Wire Timestamp {at}")]
     Timestamp { at: usize },
-    #[error("the matcher type at byte {at} is unknown")]
+    /// The matcher at this byte is of no known type.
+    #[error("Wire MatcherType {at}")]
     MatcherType { at: usize },
-    #[error("field {field} is missing")]
+    /// The field of this number is missing.
+    #[error("Wire MissingMessage {field}")]
     MissingMessage { field: u32 },
-    #[error("the message is too large")]
+    /// The message has over 67,108,864 bytes.
+    #[error("Wire TooLarge")]
     TooLarge,
-    #[error("out of memory")]
+    #[error("Memory")]
     Memory,
 }
 

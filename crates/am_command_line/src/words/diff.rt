@@ -1,15 +1,13 @@
 //! The words of `diff`.
 
-use super::instance::{flag, option, time_limit};
-use super::{
-    JSON, LOG, LOG_HELP, WordsError, form_of, json_flag, log_mistake, mistake, now_flag, now_of,
-    state_flag, state_of,
-};
+use super::instance::time_limit;
+use super::options::{Named, Takes, Words, command_of};
+use super::{JSON, LOG, LOG_HELP, WordsError, form_of, log_mistake, mistake, now_of, state_of};
 use am_jobs::{DiffJob, STANDARD_INPUT, SourceWord, StateName, are_live};
 use am_peers::port_of;
 use am_told::Compared;
 use am_version_order::Moment;
-use clap::{Arg, ArgAction, ArgMatches, Command};
+use clap::{ArgMatches, Command};
 use std::alloc::{AllocError, Global};
 use std::time::Duration;
 
@@ -21,26 +19,7 @@ const OTHER_SCHEME: &str = "https://";
 
 /// The command with its options, under a name.
 pub fn command<'a>(alloc: Global, name: &'a str) -> Result<Command<'a>, AllocError> {
-    Command::new(alloc, name)
-        .about(ABOUT)
-        .after_help(AFTER)
-        .arg(state_flag(alloc, STATE_HELP))?
-        .arg(now_flag(alloc, NOW_HELP))?
-        .arg(flag(alloc, HELD, HELD_HELP))?
-        .arg(flag(alloc, LONG, LONG_HELP).conflicts_with(JSON)?)?
-        .arg(json_flag(alloc, JSON_HELP))?
-        .arg(option(alloc, "time-limit", "S", TIME_LIMIT_HELP).default_value("5"))?
-        .arg(flag(alloc, LOG, LOG_HELP))?
-        .arg(sources(alloc))
-}
-
-fn sources<'a>(alloc: Global) -> Arg<'a> {
-    Arg::new(alloc, SOURCES)
-        .value_name("SOURCE")
-        .help(SOURCES_HELP)
-        .required(true)
-        .num_args(1..)
-        .action(ArgAction::Append)
+    command_of(alloc, name, ABOUT, AFTER, &OPTIONS)
 }
 
 /// The job that the words name. The moment is judged first, and then the sources.
@@ -208,24 +187,59 @@ const MOST_SOURCES: usize = 16;
 const ABOUT: &str =
     "Reads what several replicas hold, and prints in key order at which keys they differ, and which of them counts";
 
-const STATE_HELP: &str = "The state that the sources are of: silences or the notification log";
-
-const NOW_HELP: &str =
-    "The moment of the views, in nanoseconds since 1970 or as 2026-11-26T12:00:00Z; without it, the clock's";
-
-const HELD_HELP: &str =
-    "Compares all that the sources hold, what has expired too, and not only what they show";
-
-const LONG_HELP: &str =
-    "Also prints below each line the matchers, author and comment of a silence and what changed, or receiver and group of an entry";
-
-const JSON_HELP: &str =
-    "Prints the differences as a list in JSON, on one line, in place of the lines";
-
-const TIME_LIMIT_HELP: &str = "For how many seconds a connection to a server may last, 1 to 3600";
-
-const SOURCES_HELP: &str =
-    "NAME=FILE, cut at its first '=', or FILE, which is then its own name; '-' is standard input, gossip://HOST:PORT an Alertmanager asked by its gossip, and http://HOST:PORT a server, perhaps with a path; 2 to 16 of them";
+static OPTIONS: [Named; 8] = [
+    Named {
+        name: "state",
+        value: "STATE",
+        takes: Takes::State,
+        help: "The state that the sources are of: silences or the notification log",
+    },
+    Named {
+        name: "now",
+        value: "MOMENT",
+        takes: Takes::One,
+        help: "The moment of the views, in nanoseconds since 1970 or as 2026-11-26T12:00:00Z; without it, the clock's",
+    },
+    Named {
+        name: HELD,
+        value: "",
+        takes: Takes::Nothing,
+        help: "Compares all that the sources hold, what has expired too, and not only what they show",
+    },
+    Named {
+        name: LONG,
+        value: "",
+        takes: Takes::NothingBeside(JSON),
+        help: "Also prints below each line the matchers, author and comment of a silence and what changed, or receiver and group of an entry",
+    },
+    Named {
+        name: JSON,
+        value: "",
+        takes: Takes::Nothing,
+        help: "Prints the differences as a list in JSON, on one line, in place of the lines",
+    },
+    Named {
+        name: "time-limit",
+        value: "S",
+        takes: Takes::Default("5"),
+        help: "For how many seconds a connection to a server may last, 1 to 3600",
+    },
+    Named {
+        name: LOG,
+        value: "",
+        takes: Takes::Nothing,
+        help: LOG_HELP,
+    },
+    Named {
+        name: SOURCES,
+        value: "SOURCE",
+        takes: Takes::Word(Words {
+            are_wanted: true,
+            are_many: true,
+        }),
+        help: "NAME=FILE, cut at its first '=', or FILE, which is then its own name; '-' is standard input, gossip://HOST:PORT an Alertmanager asked by its gossip, and http://HOST:PORT a server, perhaps with a path; 2 to 16 of them",
+    },
+];
 
 const AFTER: &str = "\
 Of each key that differs there is a line for each group of sources that hold the same there: first those that have the

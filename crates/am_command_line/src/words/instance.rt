@@ -2,13 +2,16 @@
 
 ghost use Rattle.std.specs.Prelude.{◌≤◌, IfSome};
 
+mod options;
+
 use super::{WordsError, mistake};
 use am_address::{Peer, address_of, is_loopback, peer_of};
 use am_disk::are_one_file;
 use am_jobs::Options;
 use am_peers::number_within;
 use am_version_order::Interval;
-use clap::{Arg, ArgAction, ArgMatches, Command};
+use clap::ArgMatches;
+pub use options::command;
 use std::alloc::{AllocError, Global};
 use std::net::SocketAddr;
 use std::rt::Files;
@@ -20,18 +23,36 @@ pub const NAME: &str = "instance";
 /// The numbers among the options.
 #[derive(Clone, Copy)]
 struct Numbers {
+    place: Place,
+    kept: Kept,
+    limits: Limits,
+    own: OwnNumbers,
+}
+
+/// Where it listens.
+#[derive(Clone, Copy)]
+struct Place {
     address: SocketAddr,
     peers_address: Option<SocketAddr>,
+}
+
+/// How long it keeps things, waits for others, and serves.
+#[derive(Clone, Copy)]
+struct Kept {
     retention: Interval,
     peer_timeout: Interval,
     connections: u64,
     time_limit: Duration,
+}
+
+/// How much it takes at once.
+#[derive(Clone, Copy)]
+struct Limits {
     at_once: u16,
     waiting: u16,
     most_unfinished: usize,
     most_bytes: u32,
     lines: u32,
-    own: OwnNumbers,
 }
 
 /// The numbers of what a member does by itself.
@@ -43,74 +64,6 @@ struct OwnNumbers {
     gossip_every: Duration,
     pull_first_limit: Duration,
     least_repeat: Option<u64>,
-}
-
-/// The command with its options, under a name.
-pub fn command<'a>(alloc: Global, name: &'a str) -> Result<Command<'a>, AllocError> {
-    let command = Command::new(alloc, name)
-        .about(ABOUT)
-        .after_help(AFTER)
-        .arg(option(alloc, "name", "NAME", NAME_HELP).required(true))?
-        .arg(option(alloc, "listen", "ADDRESS:PORT", LISTEN_HELP).required(true))?
-        .arg(option(alloc, "peer", "NAME=ADDRESS:PORT", PEER_HELP).action(ArgAction::Append))?;
-    let command = between(alloc, command)?
-        .arg(option(alloc, "host", "NAME", HOST_HELP).action(ArgAction::Append))?
-        .arg(option(alloc, "sil", "FILE", SIL_HELP).required(true))?
-        .arg(option(alloc, "nfl", "FILE", NFL_HELP).required(true))?;
-    own(alloc, limits(alloc, command)?)
-}
-
-/// The options of what goes between members.
-fn between<'a>(alloc: Global, command: Command<'a>) -> Result<Command<'a>, AllocError> {
-    command
-        .arg(option(alloc, "peers-listen", "ADDRESS:PORT", PEERS_LISTEN_HELP))?
-        .arg(option(alloc, "secret", "FILE", SECRET_HELP))?
-        .arg(flag(alloc, "open-peers", OPEN_PEERS_HELP))?
-        .arg(option(alloc, "gossip", "NAME=ADDRESS:PORT", GOSSIP_HELP).action(ArgAction::Append))
-}
-
-/// The options that have a default.
-fn limits<'a>(alloc: Global, command: Command<'a>) -> Result<Command<'a>, AllocError> {
-    command
-        .arg(option(alloc, "retention", "S", RETENTION_HELP).default_value("432000"))?
-        .arg(option(alloc, "peer-timeout", "S", PEER_TIMEOUT_HELP).default_value("15"))?
-        .arg(option(alloc, "connections", "N", CONNECTIONS_HELP))?
-        .arg(option(alloc, "time-limit", "S", TIME_LIMIT_HELP).default_value("5"))?
-        .arg(option(alloc, "at-once", "N", AT_ONCE_HELP).default_value("256"))?
-        .arg(option(alloc, "waiting", "N", WAITING_HELP).default_value("128"))?
-        .arg(option(alloc, "most-unfinished", "BYTES", UNFINISHED_HELP).default_value("134217728"))?
-        .arg(option(alloc, "most-bytes", "BYTES", MOST_BYTES_HELP).default_value("1073741824"))?
-        .arg(option(alloc, "lines-a-second", "N", LINES_HELP).default_value("10"))
-}
-
-/// The options of what it does by itself.
-fn own<'a>(alloc: Global, command: Command<'a>) -> Result<Command<'a>, AllocError> {
-    command
-        .arg(option(alloc, "tick-every", "S", TICK_EVERY_HELP))?
-        .arg(option(alloc, "pull-every", "S", PULL_EVERY_HELP))?
-        .arg(option(alloc, "save-every", "S", SAVE_EVERY_HELP))?
-        .arg(option(alloc, "gossip-every", "S", GOSSIP_EVERY_HELP).default_value("60"))?
-        .arg(flag(alloc, "log", LOG_HELP))?
-        .arg(flag(alloc, "pull-first", PULL_FIRST_HELP))?
-        .arg(option(alloc, "pull-first-limit", "S", PULL_FIRST_LIMIT_HELP).default_value("30"))?
-        .arg(flag(alloc, "stop-at-input-end", STOP_HELP))?
-        .arg(option(alloc, "least-repeat", "S", LEAST_REPEAT_HELP))
-}
-
-/// An option without a value.
-pub fn flag<'a>(alloc: Global, name: &'a str, help: &'a str) -> Arg<'a> {
-    Arg::new(alloc, name)
-        .long(name)
-        .help(help)
-        .action(ArgAction::SetTrue)
-}
-
-pub fn option<'a>(alloc: Global, name: &'a str, value: &'a str, help: &'a str) -> Arg<'a> {
-    Arg::new(alloc, name)
-        .long(name)
-        .value_name(value)
-        .help(help)
-        .action(ArgAction::Set)
 }
 
 /// The options that the words name. Numbers are judged in the order in which the help has them, then the hosts, the files,
@@ -126,45 +79,96 @@ pub fn read_options<'a, R: Files + AllocGlobal>(
     if let Some(text) = between_mistake(flags, &numbers) {
         return Err(wrong(rt.alloc(), text));
     }
-    let hosts = hosts(rt.alloc(), flags.get_strs("host").unwrap_or(&[]))?;
-    if !hosts.iter().all(|host| is_host(host)) {
+    judge_words(rt, flags)?;
+    let named = named(rt.alloc(), flags)?;
+    Ok(options_of(flags, numbers, named))
+}
+
+/// The hosts, peers and Alertmanagers that the words name.
+#[derive(Drop)]
+struct NamedHosts<'a> {
+    hosts: Vec<&'a str>,
+    peers: Vec<Peer<'a>>,
+    replicas: Vec<Peer<'a>>,
+}
+
+/// Judges the hosts, and then the files.
+fn judge_words<R: Files + AllocGlobal>(rt: &R, flags: &ArgMatches<'_>) -> Result<(), WordsError> {
+    if !are_hosts(flags.get_strs("host").unwrap_or(&[])) {
         return Err(wrong(rt.alloc(), BAD_HOST));
     }
     if are_one_file(rt, text(flags, "sil"), text(flags, "nfl"))? {
         return Err(wrong(rt.alloc(), ONE_FILE));
     }
-    Ok(Options {
+    Ok(())
+}
+
+/// Whether words are names of hosts.
+fn are_hosts(words: &[&str]) -> bool {
+    words.iter().all(|host| is_host(host))
+}
+
+/// Whom the words name.
+fn named<'a>(alloc: Global, flags: &ArgMatches<'a>) -> Result<NamedHosts<'a>, WordsError> {
+    let peers = peers(alloc, flags.get_strs("peer").unwrap_or(&[]))?;
+    let (replicas, hosts) = beside(alloc, flags)?;
+    Ok(NamedHosts {
+        hosts,
+        peers,
+        replicas,
+    })
+}
+
+/// The Alertmanagers beside it, and the hosts.
+fn beside<'a>(
+    alloc: Global,
+    flags: &ArgMatches<'a>,
+) -> Result<(Vec<Peer<'a>>, Vec<&'a str>), WordsError> {
+    let replicas = peers(alloc, flags.get_strs("gossip").unwrap_or(&[]))?;
+    let hosts = Vec::from_slice(alloc, flags.get_strs("host").unwrap_or(&[]))?;
+    Ok((replicas, hosts))
+}
+
+/// The options that have these numbers and names.
+fn options_of<'a>(flags: &ArgMatches<'a>, numbers: Numbers, named: NamedHosts<'a>) -> Options<'a> {
+    let Numbers {
+        place,
+        kept,
+        limits,
+        own,
+    } = numbers;
+    Options {
         name: text(flags, "name"),
-        address: numbers.address,
+        address: place.address,
         own_host: own_host(text(flags, "listen")),
-        peers_address: numbers.peers_address,
+        peers_address: place.peers_address,
         secret: flags.get_str("secret"),
         opens_peers: flags.get_flag("open-peers"),
-        peers: peers(rt.alloc(), flags.get_strs("peer").unwrap_or(&[]))?,
-        replicas: peers(rt.alloc(), flags.get_strs("gossip").unwrap_or(&[]))?,
-        gossip_every: numbers.own.gossip_every,
-        hosts,
+        peers: named.peers,
+        replicas: named.replicas,
+        gossip_every: own.gossip_every,
+        hosts: named.hosts,
         silences: text(flags, "sil"),
         log: text(flags, "nfl"),
-        retention: numbers.retention,
+        retention: kept.retention,
         retention_seconds: number(flags, "retention", MOST_SECONDS).unwrap_or(0),
-        peer_timeout: numbers.peer_timeout,
-        connections: numbers.connections,
-        time_limit: numbers.time_limit,
-        at_once: numbers.at_once,
-        waiting: numbers.waiting,
-        most_unfinished: numbers.most_unfinished,
-        most_bytes: numbers.most_bytes,
-        lines: numbers.lines,
-        tick_every: numbers.own.tick_every,
-        pull_every: numbers.own.pull_every,
-        save_every: numbers.own.save_every,
+        peer_timeout: kept.peer_timeout,
+        connections: kept.connections,
+        time_limit: kept.time_limit,
+        at_once: limits.at_once,
+        waiting: limits.waiting,
+        most_unfinished: limits.most_unfinished,
+        most_bytes: limits.most_bytes,
+        lines: limits.lines,
+        tick_every: own.tick_every,
+        pull_every: own.pull_every,
+        save_every: own.save_every,
         keeps_log: flags.get_flag("log"),
         pull_first: flags.get_flag("pull-first"),
-        pull_first_limit: numbers.own.pull_first_limit,
+        pull_first_limit: own.pull_first_limit,
         stop_at_input_end: flags.get_flag("stop-at-input-end"),
-        least_repeat: numbers.own.least_repeat,
-    })
+        least_repeat: own.least_repeat,
+    }
 }
 
 /// That a value is wrong, in a text.
@@ -179,30 +183,45 @@ fn text<'a>(flags: &ArgMatches<'a>, name: &str) -> &'a str {
 
 /// The numbers among the options, or what is said of the first one that is none.
 fn read_numbers(flags: &ArgMatches<'_>) -> Result<Numbers, &'static str> {
-    let address = address_of(text(flags, "listen")).ok_or(BAD_LISTEN)?;
-    let peers_address = peers_address(flags).ok_or(BAD_PEERS_LISTEN)?;
-    let retention = seconds(flags, "retention").ok_or(BAD_RETENTION)?;
-    let peer_timeout = seconds(flags, "peer-timeout").ok_or(BAD_PEER_TIMEOUT)?;
-    let connections = connections(flags).ok_or(BAD_CONNECTIONS)?;
-    let time_limit = time_limit(flags)?;
+    Ok(Numbers {
+        place: read_place(flags)?,
+        kept: read_kept(flags)?,
+        limits: read_limits(flags)?,
+        own: read_own(flags)?,
+    })
+}
+
+/// Where it listens, or what is said of the first word that is no address.
+fn read_place(flags: &ArgMatches<'_>) -> Result<Place, &'static str> {
+    Ok(Place {
+        address: address_of(text(flags, "listen")).ok_or(BAD_LISTEN)?,
+        peers_address: peers_address(flags).ok_or(BAD_PEERS_LISTEN)?,
+    })
+}
+
+/// How long it keeps things, waits for others, and serves, or what is said of the first word that is no number.
+fn read_kept(flags: &ArgMatches<'_>) -> Result<Kept, &'static str> {
+    Ok(Kept {
+        retention: seconds(flags, "retention").ok_or(BAD_RETENTION)?,
+        peer_timeout: seconds(flags, "peer-timeout").ok_or(BAD_PEER_TIMEOUT)?,
+        connections: connections(flags).ok_or(BAD_CONNECTIONS)?,
+        time_limit: time_limit(flags)?,
+    })
+}
+
+/// How much it takes at once, or what is said of the first word that is no number.
+fn read_limits(flags: &ArgMatches<'_>) -> Result<Limits, &'static str> {
     let at_once = number(flags, "at-once", 65_535).ok_or(BAD_AT_ONCE)?;
     let waiting = number(flags, "waiting", 65_535).ok_or(BAD_WAITING)?;
     let most_unfinished = number(flags, "most-unfinished", u64::MAX).ok_or(BAD_UNFINISHED)?;
     let most_bytes = number(flags, "most-bytes", 4_294_967_295).ok_or(BAD_MOST_BYTES)?;
     let lines = number(flags, "lines-a-second", 65_535).ok_or(BAD_LINES)?;
-    Ok(Numbers {
-        address,
-        peers_address,
-        retention,
-        peer_timeout,
-        connections,
-        time_limit,
+    Ok(Limits {
         at_once: at_once as u16,
         waiting: waiting as u16,
         most_unfinished: most_unfinished as usize,
         most_bytes: most_bytes as u32,
         lines: lines as u32,
-        own: read_own(flags)?,
     })
 }
 
@@ -226,7 +245,7 @@ fn between_mistake(flags: &ArgMatches<'_>, numbers: &Numbers) -> Option<&'static
     if flags.get_str("secret").is_some() {
         return if is_open { Some(BOTH_WAYS) } else { None };
     }
-    match numbers.peers_address {
+    match numbers.place.peers_address {
         Some(address) if !is_open && !is_loopback(address) => Some(NOBODY_HEARD),
         _ => None,
     }
@@ -292,11 +311,6 @@ fn connections(flags: &ArgMatches<'_>) -> Option<u64> {
     }
 }
 
-/// The names of hosts that the words are.
-fn hosts<'a>(alloc: Global, words: &[&'a str]) -> Result<Vec<&'a str>, AllocError> {
-    Vec::from_slice(alloc, words)
-}
-
 /// Whether a word is the name of a host, without a port.
 fn is_host(word: &str) -> bool {
     !word.is_empty()
@@ -322,114 +336,6 @@ fn push<'a>(peers: &mut Vec<Peer<'a>>, peer: Peer<'a>) -> Result<(), AllocError>
 
 /// The longest retention and peer timeout, in seconds.
 const MOST_SECONDS: u64 = 999_999_999;
-
-const ABOUT: &str =
-    "Runs one member: serves the silences of API v2 to people and tools, and frames to its peers";
-
-const NAME_HELP: &str = "Its name among the members, 1 to 255 bytes";
-
-const LISTEN_HELP: &str =
-    "The address at which it listens, for HTTP and for the frames of peers alike, as 10.0.0.1:9093 or [::1]:9093; a port \
-    alone is one of 127.0.0.1";
-
-const PEER_HELP: &str =
-    "Another member and the address at which it listens, or its port alone on 127.0.0.1, cut at the last '='; any number of \
-    times";
-
-const PEERS_LISTEN_HELP: &str =
-    "The address at which it listens for the frames of peers, and for nothing else; --listen then hears no frames";
-
-const SECRET_HELP: &str =
-    "The file of a secret that all members have, 16 to 4096 bytes: frames go out sealed by it, and others are refused";
-
-const OPEN_PEERS_HELP: &str =
-    "Hears frames without --secret also at an address that other machines reach: whoever reaches it can change silences";
-
-const GOSSIP_HELP: &str =
-    "An Alertmanager beside which it runs, and the address of its gossip (--cluster.listen-address), or its port alone on \
-    127.0.0.1: each holds what the other does; any number of times, each by a name of its own";
-
-const HOST_HELP: &str =
-    "A name by which it is asked beside 127.0.0.1, localhost and the address of --listen, as that of a proxy; any number of \
-    times. \
-    Under any other it answers 403, and so it does the page of another site";
-
-const SIL_HELP: &str = "The file of the silences; where there is none, it holds none";
-
-const NFL_HELP: &str = "The file of the notification log; where there is none, it is empty";
-
-const RETENTION_HELP: &str = "For how many seconds a silence is kept after its end, 1 to 999999999";
-
-const PEER_TIMEOUT_HELP: &str =
-    "For how many seconds members wait for one another before they notify, 1 to 999999999";
-
-const CONNECTIONS_HELP: &str =
-    "After how many connections it saves both files and ends, 1 to 18446744073709551615; \
-    without it, it goes on";
-
-const TIME_LIMIT_HELP: &str =
-    "For how many seconds a connection may last, of a client or to a peer, 1 to 3600";
-
-const AT_ONCE_HELP: &str =
-    "How many connections it serves at once, 1 to 65535; one that comes beyond gets the place of the one on which nothing \
-    has moved for longest";
-
-const WAITING_HELP: &str =
-    "How many requests for a decision wait for its turn, 1 to 65535, and no more than half of --at-once; one that comes \
-    beyond is answered 503";
-
-const UNFINISHED_HELP: &str =
-    "How many bytes of unfinished requests and frames it keeps in all, 1 to 18446744073709551615; beyond, the connection \
-    that has most of them is closed";
-
-const MOST_BYTES_HELP: &str =
-    "How many bytes a file may have, of the silences or of the log, 1 to 4294967295; a post for which there is no room is \
-    answered 500";
-
-const LINES_HELP: &str =
-    "How many lines of one kind of fault it prints in a second, 1 to 65535; further ones are counted in a line";
-
-const TICK_EVERY_HELP: &str =
-    "Ticks by itself every so many seconds, 1 to 999999999: drops what has expired, and saves both files";
-
-const PULL_EVERY_HELP: &str =
-    "Asks each peer for all it has every so many seconds, 1 to 999999999, and says at the start which spread and flight \
-    time that keeps";
-
-const SAVE_EVERY_HELP: &str =
-    "Saves both files every so many seconds, 1 to 999999999, where something may have changed";
-
-const GOSSIP_EVERY_HELP: &str =
-    "Asks each --gossip for all it has every so many seconds, 1 to 999999999, and gives back what it lacks; new versions go \
-    to it at once";
-
-const LOG_HELP: &str =
-    "Keeps a log beside each file, and has all it takes there, on the disk, before it is answered or sent on";
-
-const PULL_FIRST_HELP: &str =
-    "Answers no request, and no peer that asks for all, before a peer or a --gossip has sent all it has";
-
-const PULL_FIRST_LIMIT_HELP: &str =
-    "For how many seconds --pull-first waits at the most, 1 to 999999999";
-
-const STOP_HELP: &str = "Saves both files and ends where standard input ends";
-
-const LEAST_REPEAT_HELP: &str =
-    "The smallest repeat interval in seconds, 1 to 999999999: warns where --pull-every asks for more";
-
-const AFTER: &str = "\
-Without --tick-every, what has expired is dropped, and both files are saved, when a peer sends a Tick frame, and when the
-member ends: after --connections, at --stop-at-input-end, or by SIGTERM or SIGINT where it was started with them blocked:
-  env --block-signal=TERM --block-signal=INT am_tool instance --name a --listen 9101 --peer b=9102 \\
-    --sil a.sil --nfl a.nfl --tick-every 60 --pull-every 60 --save-every 5 --pull-first
-Three machines, a on 10.0.0.1, b on 10.0.0.2 and c on 10.0.0.3, each with the same file of a secret; this is a:
-  head -c 32 /dev/urandom | base64 > members.secret && chmod 600 members.secret
-  am_tool instance --name a --listen 127.0.0.1:9093 --peers-listen 10.0.0.1:9094 --secret members.secret \\
-    --peer b=10.0.0.2:9094 --peer c=10.0.0.3:9094 --sil a.sil --nfl a.nfl --tick-every 60 --pull-every 60 --pull-first
-Beside an Alertmanager that gossips on port 9094 of this machine:
-  am_tool instance --name a --listen 9101 --gossip am=9094 --sil a.sil --nfl a.nfl --tick-every 60 --save-every 5
-A Tick is a greeting with a peer's name and the bytes 4 and 0, sent to the port; for a peer b:
-  printf '\\0\\1b\\4\\0' >/dev/tcp/127.0.0.1/PORT";
 
 const BAD_LISTEN: &str =
     "invalid value for '--listen <ADDRESS:PORT>': an address and a port are wanted, as 10.0.0.1:9093 or [::1]:9093, or a port \

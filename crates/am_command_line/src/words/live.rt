@@ -1,9 +1,10 @@
 //! The words of `pull` and of `push`.
 
-use super::instance::{flag, option, time_limit};
-use super::{WordsError, mistake, now_flag, now_of, state_flag, state_of};
+use super::instance::time_limit;
+use super::options::{Named, Takes, Words, command_of};
+use super::{WordsError, mistake, now_of, state_of};
 use am_jobs::{PullJob, PushJob, SourceWord};
-use clap::{Arg, ArgAction, ArgMatches, Command};
+use clap::{ArgMatches, Command};
 use std::alloc::{AllocError, Global};
 
 /// The names of the commands.
@@ -13,36 +14,12 @@ pub const PUSH: &str = "push";
 
 /// `pull` with its options, under a name.
 pub fn pull_command<'a>(alloc: Global, name: &'a str) -> Result<Command<'a>, AllocError> {
-    Command::new(alloc, name)
-        .about(PULL_ABOUT)
-        .after_help(AFTER_PULL)
-        .arg(state_flag(alloc, PULL_STATE_HELP))?
-        .arg(time_flag(alloc))?
-        .arg(replica_word(alloc))
+    command_of(alloc, name, PULL_ABOUT, AFTER_PULL, &PULL_OPTIONS)
 }
 
 /// `push` with its options, under a name.
 pub fn push_command<'a>(alloc: Global, name: &'a str) -> Result<Command<'a>, AllocError> {
-    Command::new(alloc, name)
-        .about(PUSH_ABOUT)
-        .after_help(AFTER_PUSH)
-        .arg(state_flag(alloc, PUSH_STATE_HELP))?
-        .arg(now_flag(alloc, NOW_HELP))?
-        .arg(flag(alloc, DRY_RUN, DRY_RUN_HELP))?
-        .arg(time_flag(alloc))?
-        .arg(replica_word(alloc))
-}
-
-fn time_flag<'a>(alloc: Global) -> Arg<'a> {
-    option(alloc, "time-limit", "S", TIME_LIMIT_HELP).default_value("10")
-}
-
-fn replica_word<'a>(alloc: Global) -> Arg<'a> {
-    Arg::new(alloc, REPLICA)
-        .value_name("REPLICA")
-        .help(REPLICA_HELP)
-        .required(true)
-        .action(ArgAction::Set)
+    command_of(alloc, name, PUSH_ABOUT, AFTER_PUSH, &PUSH_OPTIONS)
 }
 
 /// The state that is to be read.
@@ -95,21 +72,58 @@ const PULL_ABOUT: &str =
 const PUSH_ABOUT: &str =
     "Sends a running Alertmanager by its gossip those of the versions on standard input that it lacks, and tells which it doesn't hold then";
 
-const PULL_STATE_HELP: &str = "The state that is read: silences or the notification log";
+/// How long a connection to the replica may last.
+const TIME_LIMIT: Named = Named {
+    name: "time-limit",
+    value: "S",
+    takes: Takes::Default("10"),
+    help: "For how many seconds a connection to the replica may last, 1 to 3600",
+};
 
-const PUSH_STATE_HELP: &str =
-    "The state that the versions are of: silences or the notification log";
+/// The replica that is asked.
+const REPLICA_WORD: Named = Named {
+    name: REPLICA,
+    value: "REPLICA",
+    takes: Takes::Word(Words {
+        are_wanted: true,
+        are_many: false,
+    }),
+    help: "gossip://HOST:PORT, where the replica listens for others (--cluster.listen-address), with an address of IPv4, of IPv6 in brackets, or localhost",
+};
 
-const NOW_HELP: &str =
-    "The moment, in nanoseconds since 1970 or as 2026-11-26T12:00:00Z; without it, the clock's";
+static PULL_OPTIONS: [Named; 3] = [
+    Named {
+        name: "state",
+        value: "STATE",
+        takes: Takes::State,
+        help: "The state that is read: silences or the notification log",
+    },
+    TIME_LIMIT,
+    REPLICA_WORD,
+];
 
-const DRY_RUN_HELP: &str = "Sends nothing, and tells what it would send";
-
-const TIME_LIMIT_HELP: &str =
-    "For how many seconds a connection to the replica may last, 1 to 3600";
-
-const REPLICA_HELP: &str =
-    "gossip://HOST:PORT, where the replica listens for others (--cluster.listen-address), with an address of IPv4, of IPv6 in brackets, or localhost";
+static PUSH_OPTIONS: [Named; 5] = [
+    Named {
+        name: "state",
+        value: "STATE",
+        takes: Takes::State,
+        help: "The state that the versions are of: silences or the notification log",
+    },
+    Named {
+        name: "now",
+        value: "MOMENT",
+        takes: Takes::One,
+        help: "The moment, in nanoseconds since 1970 or as 2026-11-26T12:00:00Z; without it, the clock's",
+    },
+    Named {
+        name: DRY_RUN,
+        value: "",
+        takes: Takes::Nothing,
+        help: "Sends nothing, and tells what it would send",
+    },
+    TIME_LIMIT,
+    REPLICA_WORD,
+];
 
 const BAD_REPLICA: &str =
     "invalid value for '<REPLICA>': gossip://HOST:PORT is wanted, with an address or localhost as HOST";

@@ -9,9 +9,10 @@ use am_address::is_loopback;
 use am_dialogue::Dialogue;
 use am_faults::Fault;
 use am_gate::{Heard, Hears};
+use am_gossip::FrameError;
 use am_instance::Instance;
 use am_jobs::Options;
-use am_peers::{SendError, greeting};
+use am_peers::greeting;
 use am_reactor::Entrance;
 use am_seal::{Lock, SEALED};
 use am_upkeep::{Host, Upkeep, lock_of, place_of};
@@ -56,8 +57,8 @@ pub fn hosts_of<'a>(alloc: Global, options: &Options<'a>) -> Result<Vec<&'a str>
 ///
 /// # Errors
 ///
-/// [`SendError`] where the name is none, or memory ran out.
-pub fn opening(alloc: Global, name: &str, is_sealed: bool) -> Result<Vec<u8>, SendError> {
+/// [`FrameError`] where the name is none, or memory ran out.
+pub fn opening(alloc: Global, name: &str, is_sealed: bool) -> Result<Vec<u8>, FrameError> {
     let greeting = greeting(alloc, name)?;
     if !is_sealed {
         return Ok(greeting);

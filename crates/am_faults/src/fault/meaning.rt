@@ -53,6 +53,7 @@ const UNSENT_LIMIT: &str =
 /// What a fault means.
 pub fn meaning_of(fault: &Fault) -> &'static str {
     match *fault {
+        Fault::Memory(_) => MEMORY,
         Fault::Snapshot(error) => meaning_of_snapshot(error),
         Fault::File(fault) => meaning_of_file(fault),
         Fault::Silences(fault) | Fault::Log(fault) => meaning_of_state(fault),

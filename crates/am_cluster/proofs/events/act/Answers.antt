@@ -1,4 +1,4 @@
-use Rattle.std.proofs.Common.{◌≡◌, ◌≤◌, [], true, length}
+use Rattle.std.proofs.Common.{◌≡◌, [], true}
 use Rattle.std.specs.Prelude.{All}
 use Rattle.am_instance.specs.Replies.{IsNothing}
 use Rattle.am_instance.specs.Steps.{collects}
@@ -19,9 +19,7 @@ write_answer-requires c =
       c.args.event,
       c.requires.coming,
       record {
-        room_for_it = c.requires.enough.0;
-        spare_for_it = c.requires.enough.1;
-        spare_for_made = c.requires.enough.2;
+        room_for_it = c.requires.enough;
         silences =
             can_be_next silence_state c.steps_are_possible.ensures.silences c.args.journal.now.members c.args.journal.now.silences c.args.entry.now c.args.event c.args.instance.now c.step_of-answer.new.instance c.step_of-answer.result
             c.requires.ready.silences c.step_of-answer.ensures.step values;
@@ -29,7 +27,6 @@ write_answer-requires c =
             can_be_next log_state c.steps_are_possible.ensures.log c.args.journal.now.members c.args.journal.now.log c.args.entry.now c.args.event c.args.instance.now c.step_of-answer.new.instance c.step_of-answer.result
             c.requires.ready.log c.step_of-answer.ensures.step values;
         not_refused = c.step_of-answer.ensures.not_refused;
-        few = on_ok (λ o. length o.made.silences.items ≤ 2) c.args.instance.now c.step_of-answer.new.instance c.args.event c.args.entry.now.moment c.step_of-answer.result (λ o step. c.few_are_made.ensures.silences c.args.instance.now c.step_of-answer.new.instance c.args.event c.args.entry.now.moment o step) c.step_of-answer.ensures.step;
         idle = on_ok (λ o. collects c.args.event ≡ true → (o.frames.items ≡ []) × (o.unsent.memory ≡ 0)) c.args.instance.now c.step_of-answer.new.instance c.args.event c.args.entry.now.moment c.step_of-answer.result
             (λ o step collecting. (c.collecting_leaves_nothing_out.ensures.frames c.args.instance.now c.step_of-answer.new.instance c.args.event c.args.entry.now.moment o collecting step, c.collecting_leaves_nothing_out.ensures.memory c.args.instance.now c.step_of-answer.new.instance c.args.event c.args.entry.now.moment o collecting step)) c.step_of-answer.ensures.step;
         brings = on_ok (λ o. brings_or_makes c.args.event ≡ kinds.Brings → IsNothing o.made) c.args.instance.now c.step_of-answer.new.instance c.args.event c.args.entry.now.moment c.step_of-answer.result
@@ -44,9 +41,7 @@ returns c =
     (λ made silences log. c.values_are_delivered.ensures c.args.event made c.requires.values silences log) c.step_of-answer.ensures.silences c.step_of-answer.ensures.log
     c.step_of-answer.ensures.held_silences c.step_of-answer.ensures.held_log c.step_of-answer.ensures.maps in
     let recorded = c.write_answer.ensures c.args.event c.requires.coming (record {
-      room_for_it = c.requires.enough.0;
-      spare_for_it = c.requires.enough.1;
-      spare_for_made = c.requires.enough.2;
+      room_for_it = c.requires.enough;
       silences =
           can_be_next silence_state c.steps_are_possible.ensures.silences c.args.journal.now.members c.args.journal.now.silences c.args.entry.now c.args.event c.args.instance.now c.step_of-answer.new.instance c.step_of-answer.result
           c.requires.ready.silences c.step_of-answer.ensures.step values;
@@ -54,7 +49,6 @@ returns c =
           can_be_next log_state c.steps_are_possible.ensures.log c.args.journal.now.members c.args.journal.now.log c.args.entry.now c.args.event c.args.instance.now c.step_of-answer.new.instance c.step_of-answer.result
           c.requires.ready.log c.step_of-answer.ensures.step values;
       not_refused = c.step_of-answer.ensures.not_refused;
-      few = on_ok (λ o. length o.made.silences.items ≤ 2) c.args.instance.now c.step_of-answer.new.instance c.args.event c.args.entry.now.moment c.step_of-answer.result (λ o step. c.few_are_made.ensures.silences c.args.instance.now c.step_of-answer.new.instance c.args.event c.args.entry.now.moment o step) c.step_of-answer.ensures.step;
       idle = on_ok (λ o. collects c.args.event ≡ true → (o.frames.items ≡ []) × (o.unsent.memory ≡ 0)) c.args.instance.now c.step_of-answer.new.instance c.args.event c.args.entry.now.moment c.step_of-answer.result
           (λ o step collecting. (c.collecting_leaves_nothing_out.ensures.frames c.args.instance.now c.step_of-answer.new.instance c.args.event c.args.entry.now.moment o collecting step, c.collecting_leaves_nothing_out.ensures.memory c.args.instance.now c.step_of-answer.new.instance c.args.event c.args.entry.now.moment o collecting step)) c.step_of-answer.ensures.step;
       brings = on_ok (λ o. brings_or_makes c.args.event ≡ kinds.Brings → IsNothing o.made) c.args.instance.now c.step_of-answer.new.instance c.args.event c.args.entry.now.moment c.step_of-answer.result

@@ -2,7 +2,7 @@ use Rattle.std.proofs.Common.{sym, ◌∙◌, subst, map, length}
 use Rattle.std.proofs.lemmas.Bool.{eqb-true}
 use Rattle.am_runs.specs.Records.{step_of}
 use Rattle.am_runs.specs.Standings.{AreStandings}
-use Rattle.am_runs.proofs.Follows.{nil_of}
+use Rattle.am_runs.proofs.Stands.{nil_of}
 use Rattle.am_runs.proofs.standing.fill_first.Goals as goal
 
 pub returns : goal.returns

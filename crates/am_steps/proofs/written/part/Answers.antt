@@ -4,18 +4,18 @@ use Rattle.am_steps.specs.Versions.{silence_of, entry_of, versions_of}
 use Rattle.am_steps.proofs.ReadAgain.{silences_part, log_part}
 use Rattle.am_steps.proofs.written.part.Goals as goal
 
-pub returns-in_ok-silence_row-in-Silences-clause-clean : goal.returns-in_ok-silence_row-in-Silences-clause-clean
-returns-in_ok-silence_row-in-Silences-clause-clean c = (silences_part c.in_ok-silence_row-in-Silences.field-0 (map silence_of c.as_slice.result.now) c.in_ok-silence_row-in-Silences.ensures.read).clean
+pub returns-in_ok-row-in-Silences-clause-clean : goal.returns-in_ok-row-in-Silences-clause-clean
+returns-in_ok-row-in-Silences-clause-clean c = (silences_part c.in_ok-row-in-Silences.field-0 (map silence_of c.as_slice.result.now) c.in_ok-row-in-Silences.ensures.read).clean
 
-pub returns-in_ok-silence_row-in-Silences-clause-read : goal.returns-in_ok-silence_row-in-Silences-clause-read
-returns-in_ok-silence_row-in-Silences-clause-read c =
-    let part = silences_part c.in_ok-silence_row-in-Silences.field-0 (map silence_of c.as_slice.result.now) c.in_ok-silence_row-in-Silences.ensures.read in
+pub returns-in_ok-row-in-Silences-clause-read : goal.returns-in_ok-row-in-Silences-clause-read
+returns-in_ok-row-in-Silences-clause-read c =
+    let part = silences_part c.in_ok-row-in-Silences.field-0 (map silence_of c.as_slice.result.now) c.in_ok-row-in-Silences.ensures.read in
     part.read ∙ ap (λ lines. map OfSilence (map silence_of lines)) c.as_slice.ensures ∙ sym (ap versions_of c.in-Silences.is)
 
-pub returns-in_ok-log_row-in-Log-clause-clean : goal.returns-in_ok-log_row-in-Log-clause-clean
-returns-in_ok-log_row-in-Log-clause-clean c = (log_part c.in_ok-log_row-in-Log.field-0 (map entry_of c.as_slice-in-Log.result.now) c.in_ok-log_row-in-Log.ensures.read).clean
+pub returns-in_ok-row-in-Log-clause-clean : goal.returns-in_ok-row-in-Log-clause-clean
+returns-in_ok-row-in-Log-clause-clean c = (log_part c.in_ok-row-in-Log.field-0 (map entry_of c.as_slice-in-Log.result.now) c.in_ok-row-in-Log.ensures.read).clean
 
-pub returns-in_ok-log_row-in-Log-clause-read : goal.returns-in_ok-log_row-in-Log-clause-read
-returns-in_ok-log_row-in-Log-clause-read c =
-    let part = log_part c.in_ok-log_row-in-Log.field-0 (map entry_of c.as_slice-in-Log.result.now) c.in_ok-log_row-in-Log.ensures.read in
+pub returns-in_ok-row-in-Log-clause-read : goal.returns-in_ok-row-in-Log-clause-read
+returns-in_ok-row-in-Log-clause-read c =
+    let part = log_part c.in_ok-row-in-Log.field-0 (map entry_of c.as_slice-in-Log.result.now) c.in_ok-row-in-Log.ensures.read in
     part.read ∙ ap (λ lines. map OfEntry (map entry_of lines)) c.as_slice-in-Log.ensures ∙ sym (ap versions_of c.in-Log.is)

@@ -22,7 +22,7 @@ act-requires c =
       coming = c.in_ok-coming.ensures.coming;
       values = c.in_ok-coming.ensures.values;
       room = c.in_ok-coming.ensures.room;
-      enough = (let room = c.in_ok-make_room.ensures.room in omega arith, let spare = c.in_ok-make_room.ensures.spare in let len = c.len.ensures in let most = c.max.ensures in omega arith, let spare = c.in_ok-make_room.ensures.spare in let len = c.len.ensures in let most = c.max.ensures in omega arith);
+      enough = (let room = c.in_ok-make_room.ensures.room in omega arith);
     }
 
 pub invariant_of-self-2 : goal.invariant_of-self-2

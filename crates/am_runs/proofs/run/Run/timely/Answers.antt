@@ -6,4 +6,4 @@ pub returns-clause-calm : goal.returns-clause-calm
 returns-clause-calm g c =
     rw (← c.self.view_is)
     (λ t place. c.timely_runs_are_calm.ensures c.self.inside.members c.args.spread c.args.flight (map step_of c.self.inside.steps.items) c.is_some_time.ensures c.self.invariant.run
-    ((rw c.deref.ensures.value at c.is_timely.ensures).0 t) place)
+    (((rw c.deref.ensures.value at c.is_timely.ensures) c.self.invariant.run).0 t) place)

@@ -1,0 +1,12 @@
+use Rattle.std.proofs.Common.{refl}
+use Rattle.am_reactor.proofs.Moves.{moves_more, moves_none}
+use Rattle.am_reactor.proofs.links.expire.Goals as goal
+
+pub loop-init : goal.loop-init
+loop-init g c = (moves_none _ _ _ _ _, λ first acts. acts)
+
+pub loop-preserved : goal.loop-preserved
+loop-preserved g c = (
+  moves_more _ _ _ _ _ _ _ _ _ _ _ c.loop.invariant.0 (λ _. refl) c.give_up.ensures.others c.give_up.ensures.moved,
+  λ first acts. c.give_up.ensures.acted first (c.loop.invariant.1 first acts),
+)

@@ -1,0 +1,12 @@
+use Rattle.std.proofs.Common.{refl}
+use Rattle.am_reactor.proofs.Moves.{moves_more, moves_none}
+use Rattle.am_reactor.proofs.links.push_all.Goals as goal
+
+pub loop-init : goal.loop-init
+loop-init g c = (moves_none _ _ _ _ _, λ first acts. acts)
+
+pub loop-preserved : goal.loop-preserved
+loop-preserved g c = (
+  moves_more _ _ _ _ _ _ _ _ _ _ _ c.loop.invariant.0 (λ _. refl) c.push_on.ensures.others c.push_on.ensures.moved,
+  λ first acts. c.push_on.ensures.acted first (c.loop.invariant.1 first acts),
+)
