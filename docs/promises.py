@@ -32,7 +32,7 @@ PARTS = {
         "am_figures", "am_gossip", "am_seal", "am_gate", "am_address", "am_secret", "am_peers", "am_member", "am_reactor", "am_living", "am_attendant",
         "am_dialogue", "am_upkeep", "am_self", "am_daemon",
     ],
-    "Files, comparing and mending": ["am_snapshot", "am_told", "am_lzw", "am_memberlist", "am_mend", "am_beside", "am_commands", "am_disk", "am_journal", "am_files"],
+    "Files, comparing and mending": ["am_snapshot", "am_report", "am_lzw", "am_memberlist", "am_mend", "am_beside", "am_commands", "am_disk", "am_journal", "am_files"],
     "Rules": ["am_version_order", "am_merge", "am_silence", "am_nflog", "am_dedup", "am_alert_hash", "am_matcher", "am_wire", "am_streams"],
     "Schedules": ["am_schedule", "am_steps", "am_replay", "am_picture", "am_player"],
 }  # fmt: skip

@@ -15,8 +15,8 @@ use Rattle.am_nflog.specs.Mesh.{Mesh}
 use Rattle.am_silence_json.specs.Tokens.{Adds, data_tokens, row_tokens}
 use Rattle.am_silence_json.proofs.Bodies.{items_are}
 use Rattle.am_silence_json.proofs.Rows.{one_more}
-use Rattle.am_told.specs.Json.Values.{entry_data}
-use Rattle.am_told.specs.Json.Views.{list_line}
+use Rattle.am_report.specs.Json.Values.{entry_data}
+use Rattle.am_report.specs.Json.Views.{list_line}
 use Rattle.am_api_decisions.specs.Entries.{AreWritten}
 
 -- the next entry is added

@@ -3,8 +3,8 @@ use Rattle.std.specs.Prelude.{◌≡◌, ℕ, List, ◌∷◌, map}
 use Rattle.json.specs.Token.{Token, begin_array}
 use Rattle.am_nflog.specs.Mesh.{Mesh}
 use Rattle.am_silence_json.specs.Tokens.{row_tokens}
-use Rattle.am_told.specs.Json.Values.{entry_data}
-use Rattle.am_told.specs.Json.Views.{list_line}
+use Rattle.am_report.specs.Json.Values.{entry_data}
+use Rattle.am_report.specs.Json.Views.{list_line}
 use Rattle.am_api_silences.specs.Replies.{good_bytes}
 
 -- entries that are being told, and how many of them are left to be written

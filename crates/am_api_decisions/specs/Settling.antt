@@ -17,7 +17,7 @@ use Rattle.am_instance.specs.declared.reply.Reply.{Reply}
 use Rattle.am_instance.specs.declared.reply.Reply.TheVariants as replies
 use Rattle.am_nflog.specs.declared.receiver.Receiver.{Receiver}
 use Rattle.serde_json.specs.Written.{compact_text}
-use Rattle.am_api_silences.specs.Making.{IsNoMemory}
+use Rattle.am_api_silences.specs.PendingReply.{IsNoMemory}
 use Rattle.am_api_silences.specs.Replies.{Says, good_bytes, line_bytes}
 use Rattle.am_api_silences.specs.declared.replies.ReplyBytes.{ReplyBytes}
 use Rattle.am_api_decisions.specs.Asking.{AskedAlert, Counted, IsAskedOn, IsStopped, silenced_in}

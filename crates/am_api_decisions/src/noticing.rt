@@ -3,15 +3,15 @@
 ghost use Rattle.std.specs.Prelude.{◌≡◌, IfOk, Ok, Err};
 ghost use Rattle.serde_json.specs.Written.{compact_text};
 ghost use Rattle.am_decision_json.specs.Answers.{logged_data};
-ghost use Rattle.am_api_silences.specs.Answers.{Becomes};
+ghost use Rattle.am_api_silences.specs.Answers.{WhenMade};
 ghost use Rattle.am_api_silences.specs.Replies.{Says, good_bytes};
 ghost use Rattle.am_api_decisions.specs.Noticing.{IsLogged, IsLoggedBytes, TellsNotice, notified_event};
 
 use crate::replies::{good, short, tell};
 use crate::table;
-use am_api_silences::{Begun, Making, ReplyBytes};
+use am_api_silences::{PendingAnswer, PendingReply, ReplyBytes};
 use am_decision_json::{Notice, write_logged};
-use am_instance::{Event, Instance, Outbox, Outcome, Reply, StepError};
+use am_instance::{Event, FrameSender, Instance, Outcome, Reply, StepError};
 use am_version_order::Moment;
 use am_wire::Bytes;
 use std::alloc::{AllocError, Global};
@@ -52,23 +52,23 @@ fn told_by(alloc: Global, reply: Reply) -> ReplyBytes
 }
 
 /// The answer where the step was made.
-fn done(alloc: Global, outcome: Outcome) -> Begun
-    ensures { Becomes (TellsNotice (Ok outcome)) result }
+fn done(alloc: Global, outcome: Outcome) -> PendingAnswer
+    ensures { WhenMade (TellsNotice (Ok outcome)) result }
 {
     let (reply, outbox) = outcome.into_parts();
-    Begun {
-        making: Making::Whole(told_by(alloc, reply)),
+    PendingAnswer {
+        making: PendingReply::Whole(told_by(alloc, reply)),
         outbox,
     }
 }
 
 /// The answer where the step was refused.
-fn stopped(alloc: Global, error: StepError) -> Begun
-    ensures { Becomes (TellsNotice (Err error)) result }
+fn stopped(alloc: Global, error: StepError) -> PendingAnswer
+    ensures { WhenMade (TellsNotice (Err error)) result }
 {
-    Begun {
-        making: Making::Whole(tell(alloc, &table::refused(error))),
-        outbox: Outbox::new(alloc),
+    PendingAnswer {
+        making: PendingReply::Whole(tell(alloc, &table::refused(error))),
+        outbox: FrameSender::new(alloc),
     }
 }
 
@@ -77,9 +77,14 @@ fn stopped(alloc: Global, error: StepError) -> Begun
 ///
 /// Where the step is refused that is answered, and nothing is sent: `entry too large`, `clock ran back`, or `out of memory`.
 /// Where memory runs out once the step is made, that is what is answered; the entry stands then, and its frames are answered.
-pub fn log_notice(alloc: Global, instance: &mut Instance, notice: Notice, now: Moment) -> Begun
+pub fn log_notice(
+    alloc: Global,
+    instance: &mut Instance,
+    notice: Notice,
+    now: Moment,
+) -> PendingAnswer
     // PROMISE: A notice is logged by one step, and its frames are handed on.
-    ensures { Becomes (λ answered. IsLogged now notice instance.old answered instance.new) result }
+    ensures { WhenMade (λ answered. IsLogged now notice instance.old answered instance.new) result }
 {
     match instance.step(event_of(notice), now) {
         Ok(outcome) => done(alloc, outcome),

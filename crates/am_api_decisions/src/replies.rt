@@ -2,7 +2,7 @@
 
 ghost use Rattle.std.specs.Prelude.{◌≡◌, IfOk};
 ghost use Rattle.am_http.specs.Lines.{line_seen};
-ghost use Rattle.am_api_silences.specs.Making.{IsNoMemory};
+ghost use Rattle.am_api_silences.specs.PendingReply.{IsNoMemory};
 ghost use Rattle.am_api_silences.specs.Replies.{Says, good_bytes, line_bytes, memory_bytes};
 
 use am_api_silences::{ReplyBytes, to_bytes};

@@ -15,8 +15,8 @@ use Rattle.am_api_silences.specs.Events.{IsEventOf}
 use Rattle.am_api_silences.specs.Replies.{IsReplyBytes, Says, line_bytes}
 use Rattle.am_instance.specs.OneStep.{IsStep}
 use Rattle.am_api_silences.specs.Table.{clock_line, memory_line}
-use Rattle.am_api_silences.specs.Making.{Makes}
-use Rattle.am_api_silences.specs.declared.answering.Begun.{Begun}
+use Rattle.am_api_silences.specs.PendingReply.{Makes}
+use Rattle.am_api_silences.specs.declared.answering.PendingAnswer.{PendingAnswer}
 use Rattle.am_api_silences.specs.declared.replies.ReplyBytes.{ReplyBytes}
 
 -- the answer to a request: its reply, once that is whole, and what its step sends
@@ -53,12 +53,12 @@ IsAnswered old request bits now answered new =
 -- ---- an answer whose reply is being made
 
 -- the answer that it becomes with this reply
-abbrev pub with_reply : Begun → ReplyBytes → Answered
+abbrev pub with_reply : PendingAnswer → ReplyBytes → Answered
 with_reply begun reply = record { reply = reply; sent = begun.outbox }
 
 -- whatever its reply is finished with, it becomes such an answer
-abbrev pub Becomes : (Answered → Type 0) → Begun → Type 0
-Becomes IsSuch begun = Makes (λ reply. IsSuch (with_reply begun reply)) begun.making
+abbrev pub WhenMade : (Answered → Type 0) → PendingAnswer → Type 0
+WhenMade IsSuch begun = Makes (λ reply. IsSuch (with_reply begun reply)) begun.making
 
 -- ---- what was read
 

@@ -2,5 +2,5 @@ pub mod Filters
 pub mod Events
 pub mod Table
 pub mod Replies
-pub mod Making
+pub mod PendingReply
 pub mod Answers

@@ -3,55 +3,55 @@
 ghost use Rattle.std.specs.Prelude.{◌≡◌, Ok, Err};
 ghost use Rattle.am_instance.specs.Sendings.{nothing_sent};
 ghost use Rattle.am_instance.specs.InstanceStates.{InstanceState};
-ghost use Rattle.am_api_silences.specs.Answers.{Becomes, ComesOf, IsAnswered, IsTurnedAway, TellsStep};
+ghost use Rattle.am_api_silences.specs.Answers.{WhenMade, ComesOf, IsAnswered, IsTurnedAway, TellsStep};
 
 use crate::events::event_by;
-use crate::making::{Making, make};
+use crate::pending_reply::{PendingReply, make};
 use crate::replies::{ReplyBytes, no_memory, tell};
 use crate::table;
 use am_http::{Refusal, Request};
-use am_instance::{Event, Instance, Outbox, Outcome, StepError};
+use am_instance::{Event, FrameSender, Instance, Outcome, StepError};
 use am_version_order::Moment;
 use std::alloc::Global;
 
 /// The answer to a request whose reply is being made, and what its step sends.
 #[derive(Drop)]
-pub struct Begun {
-    pub making: Making,
-    pub outbox: Outbox,
+pub struct PendingAnswer {
+    pub making: PendingReply,
+    pub outbox: FrameSender,
 }
 
 /// An answer whose reply is whole already, and with which nothing is sent.
-fn quiet(alloc: Global, reply: ReplyBytes) -> Begun
-    ensures { Becomes (λ answered. answered ≡ record { reply = reply; sent = nothing_sent }) result }
+fn quiet(alloc: Global, reply: ReplyBytes) -> PendingAnswer
+    ensures { WhenMade (λ answered. answered ≡ record { reply = reply; sent = nothing_sent }) result }
 {
-    Begun {
-        making: Making::Whole(reply),
-        outbox: Outbox::new(alloc),
+    PendingAnswer {
+        making: PendingReply::Whole(reply),
+        outbox: FrameSender::new(alloc),
     }
 }
 
 /// The answer to a request that is refused before its step.
-pub fn turn_away(alloc: Global, refusal: &Refusal) -> Begun
-    ensures { (stand : InstanceState) → Becomes (λ answered. IsTurnedAway refusal.now stand answered stand) result }
+pub fn refuse(alloc: Global, refusal: &Refusal) -> PendingAnswer
+    ensures { (stand : InstanceState) → WhenMade (λ answered. IsTurnedAway refusal.now stand answered stand) result }
 {
     quiet(alloc, tell(alloc, Err(refusal)))
 }
 
 /// The answer to a request whose step was made.
-fn done(alloc: Global, outcome: Outcome) -> Begun
-    ensures { Becomes (TellsStep (Ok outcome)) result }
+fn done(alloc: Global, outcome: Outcome) -> PendingAnswer
+    ensures { WhenMade (TellsStep (Ok outcome)) result }
 {
     let (reply, outbox) = outcome.into_parts();
-    Begun {
+    PendingAnswer {
         making: make(alloc, reply),
         outbox,
     }
 }
 
 /// The answer to a request whose step was refused.
-fn stopped(alloc: Global, error: StepError) -> Begun
-    ensures { Becomes (TellsStep (Err error)) result }
+fn stopped(alloc: Global, error: StepError) -> PendingAnswer
+    ensures { WhenMade (TellsStep (Err error)) result }
 {
     match error {
         StepError::MomentBack { .. } => {
@@ -63,8 +63,8 @@ fn stopped(alloc: Global, error: StepError) -> Begun
 }
 
 /// Makes the step of an event, and begins to answer it.
-fn step(alloc: Global, instance: &mut Instance, event: Event, now: Moment) -> Begun
-    ensures { Becomes (λ answered. ComesOf (Ok event) instance.old now answered instance.new) result }
+fn step(alloc: Global, instance: &mut Instance, event: Event, now: Moment) -> PendingAnswer
+    ensures { WhenMade (λ answered. ComesOf (Ok event) instance.old now answered instance.new) result }
 {
     match instance.step(event, now) {
         Ok(outcome) => done(alloc, outcome),
@@ -83,12 +83,12 @@ pub fn begin_answer(
     request: &Request,
     bits: u128,
     now: Moment,
-) -> Begun
+) -> PendingAnswer
     // PROMISE: A request is answered by one step and that step's reply, or refused with nothing changed.
-    ensures { Becomes (λ answered. IsAnswered instance.old request.now bits now answered instance.new) result }
+    ensures { WhenMade (λ answered. IsAnswered instance.old request.now bits now answered instance.new) result }
 {
     match event_by(alloc, instance.patterns(), request, bits) {
         Ok(event) => step(alloc, instance, event, now),
-        Err(refusal) => turn_away(alloc, &refusal),
+        Err(refusal) => refuse(alloc, &refusal),
     }
 }

@@ -5,14 +5,14 @@
 mod answering;
 mod events;
 mod filters;
-mod making;
 mod patterns;
+mod pending_reply;
 mod replies;
 mod table;
 
 pub use am_http::{Read, Refusal, Request, read_request};
-pub use answering::{Begun, begin_answer, turn_away};
+pub use answering::{PendingAnswer, begin_answer, refuse};
 pub use events::to_event;
-pub use making::Making;
 pub use patterns::patterns_of;
+pub use pending_reply::PendingReply;
 pub use replies::{ReplyBytes, to_bytes};

@@ -3,7 +3,7 @@ use Rattle.std.specs.Prelude.{ℕ, Bool, true, false, List, [], map, codes}
 use Rattle.serde_json.specs.Data.{Data, string, array, object, member, no_members}
 use Rattle.serde_json.specs.View.{items_of}
 use Rattle.am_api_status.specs.declared.status.Peer.{Peer}
-use Rattle.am_api_status.specs.declared.status.Standing.{Standing}
+use Rattle.am_api_status.specs.declared.status.MemberStatus.{MemberStatus}
 
 -- a member of the cluster: peerStatus
 abbrev pub peer_data : Peer → Data
@@ -15,7 +15,7 @@ status_word true = codes "ready"
 status_word false = codes "settling"
 
 -- the cluster: clusterStatus
-abbrev pub cluster_data : Standing → Data
+abbrev pub cluster_data : MemberStatus → Data
 cluster_data s =
     object (
     member (codes "name") (string s.name) (
@@ -38,7 +38,7 @@ versions_data version =
     member (codes "version") (string version) no_members))))))
 
 -- all of it, with the text of the moment of the start
-unfoldable pub standing_data : Standing → List ℕ → Data
+unfoldable pub standing_data : MemberStatus → List ℕ → Data
 standing_data s start =
     object (
     member (codes "cluster") (cluster_data s) (

@@ -29,7 +29,7 @@ pub struct Peer {
 
 /// What a member says of itself.
 #[derive(Drop)]
-pub struct Standing {
+pub struct MemberStatus {
     /// Its name among the members.
     pub name: Text,
     /// It answers requests.
@@ -85,7 +85,7 @@ const fn status_word(is_ready: bool) -> &'static str
 }
 
 /// Adds what is said of the cluster.
-fn add_cluster(out: &mut Writer, standing: &Standing) -> Result<(), AllocError>
+fn add_cluster(out: &mut Writer, standing: &MemberStatus) -> Result<(), AllocError>
     ensures { OnOk result (Adds out.old out.new (key (codes "cluster") ∷ data_tokens (cluster_data standing.now))) }
 {
     add(out, Token::Key("cluster"))?;
@@ -125,7 +125,7 @@ fn add_versions(out: &mut Writer, version: &str) -> Result<(), AllocError>
 }
 
 /// Adds what a member says of itself, where this is the text of its start.
-fn add_standing(out: &mut Writer, standing: &Standing, start: &str) -> Result<(), AllocError>
+fn add_standing(out: &mut Writer, standing: &MemberStatus, start: &str) -> Result<(), AllocError>
     ensures { OnOk result (Adds out.old out.new (data_tokens (standing_data standing.now start.now))) }
 {
     add(out, Token::BeginObject)?;
@@ -138,7 +138,11 @@ fn add_standing(out: &mut Writer, standing: &Standing, start: &str) -> Result<()
 }
 
 /// What a member says of itself, in JSON, where this is the text of its start.
-fn write_standing(alloc: Global, standing: &Standing, start: &str) -> Result<Vec<u8>, AllocError>
+fn write_standing(
+    alloc: Global,
+    standing: &MemberStatus,
+    start: &str,
+) -> Result<Vec<u8>, AllocError>
     ensures { IfOk result (λ body. body.items ≡ compact_text (standing_data standing.now start.now)) }
 {
     let mut writer = Writer::new(Vec::new(alloc));
@@ -153,7 +157,7 @@ fn write_standing(alloc: Global, standing: &Standing, start: &str) -> Result<Vec
 /// [`AllocError`] where memory ran out.
 pub fn status_reply(
     alloc: Global,
-    standing: &Standing,
+    standing: &MemberStatus,
     is_bare: bool,
 ) -> Result<Vec<u8>, AllocError>
     // PROMISE: The status reply is the compact JSON of its value.

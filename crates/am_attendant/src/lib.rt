@@ -9,7 +9,7 @@ ghost use Rattle.am_living.specs.Talking.{IsInAccord};
 
 mod member;
 
-use am_dialogue::Dialogue;
+use am_dialogue::Conversation;
 use am_reactor::{Entrances, Limits, Peers};
 pub use member::{Attendant, Member};
 use mio::net::TcpStream;
@@ -32,8 +32,8 @@ pub fn live<A: Attendant, R: Net + Clock + Input>(
     limits: Limits,
 ) -> io::Result<()>
     // PROMISE: What the program's member holds comes of one life: turns of its connections, each in accord with what was fed to it, and steps that it makes by itself.
-    ensures lived { (happenings : List Happening) × (left : ℕ → Option (Line Dialogue TcpStream))
-        × IsLived (λ (m : Member A). m.instance) (λ (dialogue : Dialogue). IsInAccord (talk_of dialogue)) member.old happenings member.new left }
+    ensures lived { (happenings : List Happening) × (left : ℕ → Option (Line Conversation TcpStream))
+        × IsLived (λ (m : Member A). m.instance) (λ (dialogue : Conversation). IsInAccord (talk_of dialogue)) member.old happenings member.new left }
 {
     am_living::run(alloc, rt, entrances, peers, member, limits)
 }

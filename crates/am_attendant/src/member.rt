@@ -7,10 +7,10 @@ ghost use Rattle.am_dialogue.specs.Talks.{Rests, closed, talk_of};
 ghost use Rattle.am_http.specs.Sessions.{SaysEnd, Spoken, name_of, over as ended_under};
 ghost use Rattle.am_living.specs.Talking.{Does, IsLetIn, IsScreened, IsTakenUp, fresh_talk};
 
-use am_dialogue::Dialogue;
+use am_dialogue::Conversation;
 use am_instance::{Config, Instance};
 use am_living::Living;
-use am_reactor::{Broken, Entrance, LinkFault, Outgoing, Service, Wake};
+use am_reactor::{Broken, Entrance, LinkFault, PeerBytes, Service, Wake};
 use std::io::ErrorKind;
 use std::time::Instant;
 
@@ -26,48 +26,48 @@ pub struct Member<A> {
 /// Who attends to what a member holds. Each method is a call of [`Service`], and only one that is handed the instance to be
 /// changed makes steps of it.
 pub trait Attendant {
-    fn begin(&mut self, entrance: Entrance) -> Dialogue
+    fn begin(&mut self, entrance: Entrance) -> Conversation
         ensures { talk_of result ≡ fresh_talk };
 
-    fn feed(&mut self, instance: &mut Instance, dialogue: &mut Dialogue, piece: &[u8])
+    fn feed(&mut self, instance: &mut Instance, dialogue: &mut Conversation, piece: &[u8])
         ensures { IsScreened instance.old (talk_of dialogue.old) instance.new (talk_of dialogue.new)
             ⊎ IsLetIn piece.now instance.old (talk_of dialogue.old) instance.new (talk_of dialogue.new) };
 
-    fn end(&mut self, instance: &mut Instance, dialogue: &mut Dialogue)
+    fn end(&mut self, instance: &mut Instance, dialogue: &mut Conversation)
         ensures { (said : Spoken) × SaysEnd dialogue.old.session said × IsAnswered said instance.old
             (record (talk_of dialogue.old) { session = ended_under (name_of dialogue.old.session) }) instance.new (talk_of dialogue.new) };
 
-    fn broken(&mut self, config: &Config, dialogue: &mut Dialogue, broken: Broken)
+    fn broken(&mut self, config: &Config, dialogue: &mut Conversation, broken: Broken)
         ensures { talk_of dialogue.new ≡ talk_of dialogue.old };
 
     fn may_resume(&self) -> bool;
 
-    fn resume(&mut self, instance: &mut Instance, dialogue: &mut Dialogue)
+    fn resume(&mut self, instance: &mut Instance, dialogue: &mut Conversation)
         ensures { IsTakenUp (talk_of dialogue.old).waiting instance.old (talk_of dialogue.old) instance.new (talk_of dialogue.new) };
 
     fn has_uncommitted(&self) -> bool;
 
     fn commit(&mut self, instance: &Instance);
 
-    fn release(&mut self, dialogue: &mut Dialogue)
+    fn release(&mut self, dialogue: &mut Conversation)
         ensures { Rests (talk_of dialogue.old) (talk_of dialogue.new) };
 
-    fn come_due(&mut self, instance: &mut Instance, dialogue: &mut Dialogue)
+    fn come_due(&mut self, instance: &mut Instance, dialogue: &mut Conversation)
         ensures own { ByItself instance.old instance.new }
         ensures rests { Rests (talk_of dialogue.old) (talk_of dialogue.new) };
 
-    fn hurry(&mut self, dialogue: &mut Dialogue)
+    fn hurry(&mut self, dialogue: &mut Conversation)
         ensures { Rests (talk_of dialogue.old) (talk_of dialogue.new) };
 
     /// What of a connection is done is counted.
-    fn count_done(&mut self, dialogue: &mut Dialogue)
+    fn count_done(&mut self, dialogue: &mut Conversation)
         ensures reply { dialogue.new.reply ≡ dialogue.old.reply }
         ensures written { dialogue.new.written ≡ dialogue.old.written }
         ensures talk { talk_of dialogue.new ≡ talk_of dialogue.old };
 
-    fn outgoing(&mut self, config: &Config) -> Option<Outgoing>;
+    fn outgoing(&mut self, config: &Config) -> Option<PeerBytes>;
 
-    fn question(&mut self, instance: &Instance) -> Option<Outgoing>;
+    fn question(&mut self, instance: &Instance) -> Option<PeerBytes>;
 
     fn answered(&mut self, peer: usize, answer: Vec<u8>);
 
@@ -84,7 +84,7 @@ pub trait Attendant {
 }
 
 impl<A: Attendant> Service for Member<A> {
-    type Session = Dialogue;
+    type Session = Conversation;
 
     ghost pending = { λ dialogue. drop dialogue.written (bytes_of dialogue.reply) };
 
@@ -108,24 +108,24 @@ impl<A: Attendant> Service for Member<A> {
 
     ghost does = { λ member dialogue deed member' dialogue'. Does deed member.instance (talk_of dialogue) member'.instance (talk_of dialogue') };
 
-    fn begin(&mut self, entrance: Entrance) -> Dialogue {
+    fn begin(&mut self, entrance: Entrance) -> Conversation {
         self.attendant.begin(entrance)
     }
 
-    fn feed(&mut self, session: &mut Dialogue, piece: &[u8]) {
+    fn feed(&mut self, session: &mut Conversation, piece: &[u8]) {
         self.attendant.feed(&mut self.instance, session, piece);
     }
 
-    fn end(&mut self, session: &mut Dialogue) {
+    fn end(&mut self, session: &mut Conversation) {
         self.attendant.end(&mut self.instance, session);
     }
 
-    fn broken(&mut self, session: &mut Dialogue, broken: Broken) {
+    fn broken(&mut self, session: &mut Conversation, broken: Broken) {
         self.attendant
             .broken(self.instance.config(), session, broken);
     }
 
-    fn waits(&self, session: &Dialogue) -> bool {
+    fn waits(&self, session: &Conversation) -> bool {
         session.waits()
     }
 
@@ -133,7 +133,7 @@ impl<A: Attendant> Service for Member<A> {
         self.attendant.may_resume()
     }
 
-    fn resume(&mut self, session: &mut Dialogue) {
+    fn resume(&mut self, session: &mut Conversation) {
         self.attendant.resume(&mut self.instance, session);
     }
 
@@ -145,48 +145,48 @@ impl<A: Attendant> Service for Member<A> {
         self.attendant.commit(&self.instance);
     }
 
-    fn is_held_back(&self, session: &Dialogue) -> bool {
+    fn is_held_back(&self, session: &Conversation) -> bool {
         session.is_held_back()
     }
 
-    fn release(&mut self, session: &mut Dialogue) {
+    fn release(&mut self, session: &mut Conversation) {
         self.attendant.release(session);
     }
 
-    fn due(&self, session: &Dialogue) -> Option<Instant> {
+    fn due(&self, session: &Conversation) -> Option<Instant> {
         session.due()
     }
 
-    fn come_due(&mut self, session: &mut Dialogue) {
+    fn come_due(&mut self, session: &mut Conversation) {
         self.attendant.come_due(&mut self.instance, session);
     }
 
-    fn hurry(&mut self, session: &mut Dialogue) {
+    fn hurry(&mut self, session: &mut Conversation) {
         self.attendant.hurry(session);
     }
 
-    fn output<'a>(&self, session: &'a Dialogue) -> &'a [u8] {
+    fn output<'a>(&self, session: &'a Conversation) -> &'a [u8] {
         session.output()
     }
 
-    fn sent(&mut self, session: &mut Dialogue, count: usize) {
+    fn sent(&mut self, session: &mut Conversation, count: usize) {
         session.sent(count);
         self.attendant.count_done(session);
     }
 
-    fn is_over(&self, session: &Dialogue) -> bool {
+    fn is_over(&self, session: &Conversation) -> bool {
         session.session.is_over()
     }
 
-    fn held(&self, session: &Dialogue) -> usize {
+    fn held(&self, session: &Conversation) -> usize {
         session.held()
     }
 
-    fn outgoing(&mut self) -> Option<Outgoing> {
+    fn outgoing(&mut self) -> Option<PeerBytes> {
         self.attendant.outgoing(self.instance.config())
     }
 
-    fn question(&mut self) -> Option<Outgoing> {
+    fn question(&mut self) -> Option<PeerBytes> {
         self.attendant.question(&self.instance)
     }
 

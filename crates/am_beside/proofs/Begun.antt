@@ -7,11 +7,11 @@ use Rattle.am_snapshot.proofs.Bests.{IsBestAt}
 use Rattle.am_snapshot.proofs.RowReads.{ReadsSoFar}
 use Rattle.am_wire.specs.Limits.{most}
 use Rattle.am_wire.specs.declared.error.WireError.{WireError}
-use Rattle.am_wire.specs.declared.reader.Standing.{Standing}
+use Rattle.am_wire.specs.declared.reader.RowPosition.{RowPosition}
 use Rattle.am_beside.specs.Reading.{IsReadFrom}
 
 module _ {K X : Type 0} (reads : ℕ → List ℕ → Result X WireError) (seen : X → Version K) (cmp : K → K → Ordering)
-    (start now : Option (List ℕ)) (standing : Standing) where
+    (start now : Option (List ℕ)) (standing : RowPosition) where
   pub as_read : (bytes : List ℕ) (versions map : List X) → ReadsSoFar reads most start now standing bytes versions
       → IsMap seen cmp map → ((key : K) → IsBestAt seen versions key (at seen cmp map key)) → IsReadFrom reads seen cmp start now standing map
   as_read bytes versions map read order best = record {

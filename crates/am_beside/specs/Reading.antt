@@ -8,8 +8,8 @@ use Rattle.am_merge.specs.Views.{IsBest}
 use Rattle.am_wire.specs.Inputs.{messages_from, messages_of, sound}
 use Rattle.am_wire.specs.Limits.{most}
 use Rattle.am_wire.specs.declared.error.WireError.{WireError}
-use Rattle.am_wire.specs.declared.reader.Standing.{Standing}
-use Rattle.am_wire.specs.declared.reader.Standing.TheVariants.{Before}
+use Rattle.am_wire.specs.declared.reader.RowPosition.{RowPosition}
+use Rattle.am_wire.specs.declared.reader.RowPosition.TheVariants.{Before}
 
 -- the best version of the key, or none where no version has it
 abbrev pub IsGreatest : {K X : Type 0} → (X → Version K) → List X → K → Option X → Type 0
@@ -18,7 +18,7 @@ IsGreatest {K} {X} seen set key found = MatchOption found ((v : X) → Contains 
 -- What was read since the start is a row of versions, whatever follows, behind which the reader stands, and of each key the map holds
 -- the greatest of them.
 pub record IsReadFrom {K X : Type 0} (reads : ℕ → List ℕ → Result X WireError) (seen : X → Version K) (cmp : K → K → Ordering)
-    (start now : Option (List ℕ)) (standing : Standing) (map_read : List X) : Type 0 where
+    (start now : Option (List ℕ)) (standing : RowPosition) (map_read : List X) : Type 0 where
   pub bytes : List ℕ
   pub versions : List X
   pub consumed : Consumes start now bytes

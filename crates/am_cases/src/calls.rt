@@ -4,9 +4,9 @@ use crate::members::print_held;
 use am_api_decisions::{
     Asked, Deciding, Question, asked_of, begin_log, is_for_decisions, log_notice,
 };
-use am_api_silences::{Begun, Making, ReplyBytes, turn_away};
+use am_api_silences::{PendingAnswer, PendingReply, ReplyBytes, refuse};
 use am_http::{Read, Refusal, Request, read_request};
-use am_instance::{Instance, Outbox};
+use am_instance::{FrameSender, Instance};
 use am_part_cases::common::{Case, Fault, cut, phrase};
 use am_part_cases::put;
 use am_version_order::Moment;
@@ -23,16 +23,16 @@ struct Calling {
 }
 
 /// An answer with which nothing is sent.
-fn quiet(case: &Case, reply: ReplyBytes) -> Begun {
-    Begun {
-        making: Making::Whole(reply),
-        outbox: Outbox::new(case.alloc),
+fn quiet(case: &Case, reply: ReplyBytes) -> PendingAnswer {
+    PendingAnswer {
+        making: PendingReply::Whole(reply),
+        outbox: FrameSender::new(case.alloc),
     }
 }
 
 /// What a request is told that is refused.
 fn refused(case: &Case, refusal: &Refusal) -> ReplyBytes {
-    turn_away(case.alloc, refusal).making.finish(case.alloc)
+    refuse(case.alloc, refusal).making.finish(case.alloc)
 }
 
 /// What is decided: the first alerts are asked, and then the others.
@@ -57,9 +57,14 @@ fn told(case: &Case, instance: &Instance, calling: Calling) -> Result<ReplyBytes
 }
 
 /// What a request is answered.
-fn answered(case: &Case, instance: &mut Instance, request: &Request, calling: Calling) -> Begun {
+fn answered(
+    case: &Case,
+    instance: &mut Instance,
+    request: &Request,
+    calling: Calling,
+) -> PendingAnswer {
     match asked_of(case.alloc, request) {
-        Err(refusal) => turn_away(case.alloc, &refusal),
+        Err(refusal) => refuse(case.alloc, &refusal),
         Ok(Asked::Decide(question)) => {
             let waits = question.waits();
             let reply = decided(case, instance, question, calling);
@@ -71,7 +76,7 @@ fn answered(case: &Case, instance: &mut Instance, request: &Request, calling: Ca
         Ok(Asked::Notified(notice)) => log_notice(case.alloc, instance, notice, calling.now),
         Ok(Asked::Log) => match told(case, instance, calling) {
             Ok(reply) => quiet(case, reply),
-            Err(refusal) => turn_away(case.alloc, &refusal),
+            Err(refusal) => refuse(case.alloc, &refusal),
         },
     }
 }
@@ -124,7 +129,7 @@ pub fn call(case: &Case, instance: &mut Instance, rest: &str) {
             case.number(most) as usize
         },
     };
-    let Begun { making, outbox } = answered(case, instance, &request, calling);
+    let PendingAnswer { making, outbox } = answered(case, instance, &request, calling);
     let reply = making.finish(case.alloc);
     if reply.as_slice().ends_with(b"\"out of memory\"") {
         case.fail(Fault::Memory);

@@ -9,7 +9,7 @@ use am_part_cases::{given, put, say};
 use am_replay::{OutputLine, Refusal, ReplayError, append_line, run};
 use am_schedule::Line;
 use am_silence::SilenceError::{BadPattern, Memory, NoMatcher, TooLarge};
-use am_steps::carried::{AnyVersion, ByState, carried_by};
+use am_steps::carried::{AnyVersion, SplitVersions, versions_in_frame};
 
 fn made(case: &Case, words: &str) -> Option<Cluster> {
     let (retention, peer_timeout) = times(case)?;
@@ -148,13 +148,13 @@ pub fn carried(case: &Case, rest: &str) {
     };
     given!(fed = fed(case, digits));
     for frame in &fed.frames {
-        given!(versions = case.made(carried_by(case.alloc, frame)));
+        given!(versions = case.made(versions_in_frame(case.alloc, frame)));
         say_first(case, versions, case.number(count) as usize);
     }
 }
 
 fn say_first(case: &Case, versions: Vec<AnyVersion>, count: usize) {
-    let Ok(mut sorted) = ByState::with_room(case.alloc, versions.len()) else {
+    let Ok(mut sorted) = SplitVersions::with_room(case.alloc, versions.len()) else {
         return case.fail(Fault::Memory);
     };
     sorted.put_first(versions, count);

@@ -5,8 +5,8 @@ use crate::members::{copied, name_at, print_held};
 use crate::steps::print_error;
 use am_gossip::FrameError;
 use am_http::session::Session;
-use am_instance::{Instance, Outbox, StepError};
-use am_member::exchange;
+use am_instance::{FrameSender, Instance, StepError};
+use am_member::apply_session_output;
 use am_part_cases::common::{Brittle, Call, Case, Cut, Fault, Pieces, cut, phrase};
 use am_part_cases::{given, put, say};
 use am_peers::{Fault as Cause, frames_text, greeting};
@@ -27,7 +27,7 @@ struct Coming<'a> {
 /// What is told of a connection beside the reply.
 #[derive(Drop)]
 struct Seen {
-    sent: Outbox,
+    sent: FrameSender,
     ticked: bool,
     stop: Option<Cause>,
 }
@@ -42,7 +42,7 @@ impl Coming<'_> {
         reply: &mut Vec<u8>,
     ) -> Seen {
         let mut session = Session::new(case.alloc);
-        let (mut sent, mut ticked, mut stop) = (Outbox::new(case.alloc), false, None);
+        let (mut sent, mut ticked, mut stop) = (FrameSender::new(case.alloc), false, None);
         for number in 0..=reader.left.len() {
             if session.is_over() {
                 break;
@@ -50,7 +50,14 @@ impl Coming<'_> {
             let is_first = number == 0 && self.first > 0;
             let most = if is_first { self.first } else { reader.step };
             let said = reader.feed(&mut session, most);
-            let came = exchange(case.alloc, member, &mut session, said, self.bits, self.now);
+            let came = apply_session_output(
+                case.alloc,
+                member,
+                &mut session,
+                said,
+                self.bits,
+                self.now,
+            );
             ticked |= came.effects.ticked;
             sent.add(came.effects.outbox);
             stop = stop.or(came.fault);

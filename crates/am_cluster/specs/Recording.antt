@@ -22,7 +22,7 @@ use Rattle.am_cluster.specs.declared.error.ClusterError.{ClusterError}
 use Rattle.am_cluster.specs.declared.flight.Flight.{Flight}
 use Rattle.am_cluster.specs.declared.recording.Kind.{Kind}
 use Rattle.am_cluster.specs.declared.recording.Kind.TheVariants as kinds
-use Rattle.am_cluster.specs.declared.recording.Coming.{Coming}
+use Rattle.am_cluster.specs.declared.recording.PendingDelivery.{PendingDelivery}
 use Rattle.am_cluster.specs.declared.writing.Delivered.{Delivered}
 use Rattle.am_cluster.specs.declared.writing.Entry.{Entry}
 use Rattle.am_cluster.specs.Events.{IsTold}
@@ -51,7 +51,7 @@ pub record IsRoomFor (parted : Sorted) (count : ℕ) : Type 0 where
   pub room_for_one : 1 ≤ parted.room
 
 -- the event is of this kind, and brings these versions
-pub record ComesWith (coming : Coming) (event : Event) : Type 0 where
+pub record ComesWith (coming : PendingDelivery) (event : Event) : Type 0 where
   pub kind_is : coming.kind ≡ kind_of event
   pub brought_are : map delivery_of coming.versions.items ≡ brought event
 

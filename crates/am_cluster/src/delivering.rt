@@ -87,6 +87,6 @@ impl Cluster {
             return Err(self.refuse_at(place, cause, now, line));
         }
         let event = self.event_of(&arrival)?;
-        self.happen(place, event, Source::Arrived(arrival.index), now, line)
+        self.apply_event(place, event, Source::Arrived(arrival.index), now, line)
     }
 }

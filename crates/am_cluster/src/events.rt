@@ -18,11 +18,11 @@ use crate::cluster::Cluster;
 use crate::error::ClusterError;
 use crate::flight::Flight;
 use crate::journal::Journal;
-use crate::recording::{Coming, kind_of, write_answer};
+use crate::recording::{PendingDelivery, kind_of, write_answer};
 use crate::writing::Entry;
 use am_instance::{Event, Instance, Outcome, Reply, StepError};
 use am_runs::Source;
-use am_steps::carried::{AnyVersion, ByState, carried_by};
+use am_steps::carried::{AnyVersion, SplitVersions, versions_in_frame};
 use am_steps::laws::{
     collecting_leaves_nothing_out, few_are_made, sent_frames_are_sound, steps_are_possible,
     values_are_delivered,
@@ -36,20 +36,20 @@ fn brought_by(alloc: Global, event: &Event) -> Result<Vec<AnyVersion>, AllocErro
     ensures values { IfOk result (λ versions. All IsValue (map delivery_of versions.items)) }
 {
     match event {
-        Event::Frame { frame, .. } => carried_by(alloc, frame),
+        Event::Frame { frame, .. } => versions_in_frame(alloc, frame),
         _ => Ok(Vec::new(alloc)),
     }
 }
 
 /// What comes with an event, with all room that writing it down takes.
-fn coming_with(alloc: Global, event: &Event) -> Result<Coming, AllocError>
+fn coming_with(alloc: Global, event: &Event) -> Result<PendingDelivery, AllocError>
     ensures coming { IfOk result (λ coming. ComesWith coming event.now) }
     ensures values { IfOk result (λ coming. All IsValue (brought event.now)) }
     ensures room { IfOk result (λ coming. IsRoomFor coming.parted (length coming.versions.items)) }
 {
     let versions = brought_by(alloc, event)?;
-    let parted = ByState::with_room(alloc, versions.len().max(1))?;
-    Ok(Coming {
+    let parted = SplitVersions::with_room(alloc, versions.len().max(1))?;
+    Ok(PendingDelivery {
         kind: kind_of(event),
         versions,
         parted,
@@ -88,13 +88,13 @@ fn step_of(instance: &mut Instance, event: Event, now: Moment) -> Result<Outcome
 }
 
 /// Has an instance make its step, and writes it down.
-fn act(
+fn step_and_record(
     alloc: Global,
     instance: &mut Instance,
     journal: &mut Journal,
     flights: &mut Vec<Flight>,
     entry: &Entry,
-    coming: Coming,
+    coming: PendingDelivery,
     event: Event,
 ) -> Result<Reply, ClusterError>
     requires ready { CanHappen journal.old entry.now event instance.old }
@@ -115,7 +115,7 @@ fn act(
 
 impl Cluster {
     /// Has an event happen at the member at a place, which can have it.
-    pub(crate) fn happen(
+    pub(crate) fn apply_event(
         &mut self,
         place: usize,
         event: Event,
@@ -140,7 +140,7 @@ impl Cluster {
         };
         let instance = &mut self.members[place].instance;
         let (journal, flights) = (&mut self.journal, &mut self.flights);
-        act(
+        step_and_record(
             self.alloc, instance, journal, flights, &entry, coming, event,
         )
     }

@@ -21,7 +21,7 @@ use am_gossip::Frame;
 use am_instance::{Event, Made, Outcome, Place, Reply, StepError, Unsent};
 use am_nflog::MeshEntry;
 use am_runs::Source;
-use am_steps::carried::{AnyVersion, ByState};
+use am_steps::carried::{AnyVersion, SplitVersions};
 use std::alloc::{AllocError, Global};
 
 /// What an event has to do with versions.
@@ -50,7 +50,7 @@ pub(crate) fn kind_of(event: &Event) -> Kind
 }
 
 /// The first so many versions that came, by state.
-fn first_brought(parted: ByState, versions: Vec<AnyVersion>, count: usize) -> Delivered
+fn first_brought(parted: SplitVersions, versions: Vec<AnyVersion>, count: usize) -> Delivered
     requires { IsRoomFor parted (length versions.items) }
     ensures silences { result.silences.items ≡ silences_in (take count (map delivery_of versions.items)) }
     ensures log { result.log.items ≡ entries_in (take count (map delivery_of versions.items)) }
@@ -62,7 +62,7 @@ fn first_brought(parted: ByState, versions: Vec<AnyVersion>, count: usize) -> De
 }
 
 /// The entry that was made, if one was.
-fn entry_made(parted: ByState, log: Option<MeshEntry>) -> Vec<MeshEntry>
+fn entry_made(parted: SplitVersions, log: Option<MeshEntry>) -> Vec<MeshEntry>
     requires { (count : ℕ) × IsRoomFor parted count }
     ensures { result.items ≡ listed log }
 {
@@ -77,7 +77,7 @@ fn entry_made(parted: ByState, log: Option<MeshEntry>) -> Vec<MeshEntry>
 }
 
 /// The versions that were made, by state.
-fn all_made(parted: ByState, made: Made) -> Delivered
+fn all_made(parted: SplitVersions, made: Made) -> Delivered
     requires { (count : ℕ) × IsRoomFor parted count }
     ensures silences { result.silences.items ≡ silences_in (made_here made) }
     ensures log { result.log.items ≡ entries_in (made_here made) }
@@ -116,19 +116,19 @@ fn write_sent(
 
 /// The versions that came with an event, and room to part them.
 #[derive(Drop)]
-pub(crate) struct Coming {
+pub(crate) struct PendingDelivery {
     pub kind: Kind,
     pub versions: Vec<AnyVersion>,
-    pub parted: ByState,
+    pub parted: SplitVersions,
 }
 
 /// All versions that an event delivered, by state: those that it brought, or those that were made.
-fn all_delivered(coming: Coming, made: Made) -> Delivered
+fn all_delivered(coming: PendingDelivery, made: Made) -> Delivered
     requires { IsRoomFor coming.parted (length coming.versions.items) }
     ensures { (event : Event) → ComesWith coming event → (brings_or_makes event ≡ kinds.Brings → IsNothing made) →
         collects event ≡ false → AreDelivered event made result }
 {
-    let Coming {
+    let PendingDelivery {
         kind,
         versions,
         parted,
@@ -155,7 +155,7 @@ fn write_outcome(
     journal: &mut Journal,
     flights: &mut Vec<Flight>,
     entry: &Entry,
-    coming: Coming,
+    coming: PendingDelivery,
     outcome: Outcome,
 ) -> Result<Reply, ClusterError>
     requires { IsRoomFor coming.parted (length coming.versions.items)
@@ -191,7 +191,7 @@ fn write_refusal(
     alloc: Global,
     journal: &mut Journal,
     entry: &Entry,
-    coming: Coming,
+    coming: PendingDelivery,
     error: StepError,
 ) -> ClusterError
     requires { IsRoomFor coming.parted (length coming.versions.items)
@@ -218,7 +218,7 @@ pub(crate) fn write_answer(
     journal: &mut Journal,
     flights: &mut Vec<Flight>,
     entry: &Entry,
-    coming: Coming,
+    coming: PendingDelivery,
     answer: Result<Outcome, StepError>,
 ) -> Result<Reply, ClusterError>
     requires { IsRoomFor coming.parted (length coming.versions.items)

@@ -11,7 +11,7 @@ use am_gossip::Frame;
 use am_instance::Place;
 use am_nflog::MeshEntry;
 use am_silence::MeshSilence;
-use am_steps::carried::{ByState, carried_by};
+use am_steps::carried::{SplitVersions, versions_in_frame};
 use am_version_order::Moment;
 use std::alloc::{AllocError, Global};
 
@@ -30,9 +30,9 @@ fn versions_in(
     ensures silences { IfOk result (λ parts. parts.0.items ≡ silences_in (carries frame.now)) }
     ensures log { IfOk result (λ parts. parts.1.items ≡ entries_in (carries frame.now)) }
 {
-    let versions = carried_by(alloc, frame)?;
+    let versions = versions_in_frame(alloc, frame)?;
     let count = versions.len();
-    let mut parted = ByState::with_room(alloc, count)?;
+    let mut parted = SplitVersions::with_room(alloc, count)?;
     parted.put_first(versions, count);
     Ok(parted.into_parts())
 }

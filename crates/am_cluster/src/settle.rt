@@ -80,7 +80,7 @@ impl Cluster {
         requires ready { CanSettle self.old now }
         ensures { AreTurns self.old (Collects place ∷ []) now line result self.new }
     {
-        match self.happen(place, Event::Tick, Source::Made, now, line) {
+        match self.apply_event(place, Event::Tick, Source::Made, now, line) {
             Ok(_reply) => Ok(()),
             Err(_) => Err(SettleError::Memory),
         }
@@ -102,7 +102,7 @@ impl Cluster {
     {
         let _ = &self.alloc;
         let event = self.lent_by(lender)?;
-        match self.happen(borrower, event, Source::Lent(lender), now, line) {
+        match self.apply_event(borrower, event, Source::Lent(lender), now, line) {
             Ok(_reply) => Ok(()),
             Err(_) => Err(SettleError::Memory),
         }

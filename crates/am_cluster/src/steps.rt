@@ -64,7 +64,7 @@ impl Cluster {
             return Err(self.refuse_at(place, cause, now, line));
         }
         match self.asked(place, event)? {
-            Asked::Event { event, source } => self.happen(place, event, source, now, line),
+            Asked::Event { event, source } => self.apply_event(place, event, source, now, line),
             Asked::Start => quiet(self.start_at(place, now, line)),
             Asked::NoMember => unreachable!(),
         }

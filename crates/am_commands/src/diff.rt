@@ -9,12 +9,12 @@ use am_faults::{Fault, report, status};
 use am_jobs::{DiffJob, Form, PullJob, SourceWord, StateName};
 use am_merge::Held;
 use am_nflog::MeshEntry;
-use am_silence::MeshSilence;
-use am_snapshot::SnapshotError;
-use am_told::{
-    DiffError, DiffOutcome, InJson, Input, Manner, Replica, Told, diff_json, diff_rows,
+use am_report::{
+    DiffError, DiffOutcome, InJson, Input, Manner, Replica, ReportLine, diff_json, diff_rows,
     has_later_source, write_differences, write_differences_json,
 };
+use am_silence::MeshSilence;
+use am_snapshot::SnapshotError;
 use am_version_order::{Moment, Version};
 use am_wire::Message;
 use std::alloc::{AllocError, Global};
@@ -152,7 +152,7 @@ pub fn pull_of<'a>(job: &DiffJob<'a>, source: &SourceWord<'a>) -> Option<PullJob
 
 /// Writes all differences of files, each joined with the logs beside it, to standard output. What was read is forgotten: the
 /// process ends then, and its memory with it.
-fn compare_logged<'a, R: Host, V: Told + InJson + Message>(
+fn compare_logged<'a, R: Host, V: ReportLine + InJson + Message>(
     rt: &R,
     streams: Streams,
     job: &DiffJob<'a>,
@@ -225,7 +225,7 @@ fn manner_of(job: &DiffJob<'_>, now: Moment) -> Manner {
 }
 
 /// Writes all differences of what sources hold.
-fn compare_held<V: Told + InJson, W: Write>(
+fn compare_held<V: ReportLine + InJson, W: Write>(
     alloc: Global,
     job: &DiffJob<'_>,
     now: Moment,

@@ -10,10 +10,10 @@ use am_memberlist::states_text;
 use am_mend::{Refused, is_lacked, lacked, why_refused};
 use am_merge::Held;
 use am_nflog::MeshEntry;
+use am_report::{Manner, ReportLine};
 use am_silence::MeshSilence;
 use am_snapshot::{SnapshotError, take_row};
 use am_streams::{Stop, fill, send};
-use am_told::{Manner, Told};
 use am_version_order::{Moment, Version};
 use am_wire::{MOST_MESSAGE_BYTES, Message, RowFault, Rows, write_varint};
 use std::alloc::{AllocError, Global};
@@ -37,7 +37,7 @@ pub fn run_push<R: Host>(rt: &R, streams: Streams, job: &PushJob<'_>) -> u8 {
 }
 
 /// Sends a replica what it lacks. Answers whether it lacks something then, or would be sent something.
-fn push<'a, R: Host, V: Told + Message>(
+fn push<'a, R: Host, V: ReportLine + Message>(
     rt: &R,
     streams: Streams,
     job: &PushJob<'a>,
@@ -93,7 +93,7 @@ struct Mending<V: Version> {
     now: Moment,
 }
 
-impl<V: Told + Message> Mending<V> {
+impl<V: ReportLine + Message> Mending<V> {
     /// Reads the row on an input.
     fn read<I: Read>(
         alloc: Global,
@@ -204,7 +204,7 @@ fn cause(why: Refused) -> &'static str {
 }
 
 /// Appends the line of a version: its key, what is said of it, the version, and the cause.
-fn append_line<V: Told>(
+fn append_line<V: ReportLine>(
     out: &mut String,
     version: &V,
     relation: &str,

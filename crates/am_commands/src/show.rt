@@ -7,9 +7,11 @@ use am_faults::{report, status};
 use am_jobs::{Form, ShowJob, StateName};
 use am_merge::Held;
 use am_nflog::MeshEntry;
+use am_report::{
+    Shown, has_later, show_json, show_log, show_silences, write_view, write_view_json,
+};
 use am_silence::MeshSilence;
 use am_snapshot::SnapshotError;
-use am_told::{Shown, has_later, show_json, show_log, show_silences, write_view, write_view_json};
 use am_version_order::Moment;
 use std::alloc::Global;
 use std::io::{BufReader, Read, Write};

@@ -4,7 +4,7 @@ use Rattle.am_http.specs.Sessions.{Spoken, name_of}
 use Rattle.am_instance.specs.InstanceStates.{InstanceState}
 use Rattle.am_instance.specs.Laws.{Happened}
 use Rattle.am_instance.specs.OneStep.{IsStep}
-use Rattle.am_member.specs.Exchanging.{Answer, IsExchanged, left_at}
+use Rattle.am_member.specs.Exchanging.{Answer, IsSessionAnswer, left_at}
 use Rattle.am_member.specs.Lives.{IsOwnEvent}
 use Rattle.am_member.specs.Sparing.{spared}
 use Rattle.am_dialogue.specs.Talks.{Closes, IsRequest, Talk, WaitsNoMore}
@@ -24,12 +24,12 @@ pub record ByItself (old new : InstanceState) : Type 0 where
 
 -- ---- what comes of what was said
 
--- Its steps were made, as the contract of `exchange` says, but for what its frames ask for.
+-- Its steps were made, as the contract of `apply_session_output` says, but for what its frames ask for.
 pub record IsTaken (said : Spoken) (old : InstanceState) (talk : Talk) (new : InstanceState) (talk' : Talk) : Type 0 where
   pub bits : ℕ
   pub now : ℕ
   pub answer : Answer
-  pub exchanged : IsExchanged (name_of talk.session) bits now (spared said) old new answer
+  pub exchanged : IsSessionAnswer (name_of talk.session) bits now (spared said) old new answer
   pub way : talk'.way ≡ talk.way
   pub session : talk'.session ≡ left_at answer.fault talk.session
   pub waiting : WaitsNoMore talk talk'

@@ -3,9 +3,9 @@ use Rattle.std.specs.Prelude.{◌≡◌, ◌⊎◌, List, Option, Some, None}
 use Rattle.am_gate.specs.Gates.{Way, shut}
 use Rattle.am_http.specs.declared.request.Read.{Read}
 use Rattle.am_http.specs.Sessions.{Spoken, Standing, name_of, over, spoken}
-use Rattle.am_dialogue.specs.declared.dialogue.Dialogue.{Dialogue}
-use Rattle.am_dialogue.specs.declared.dialogue.Work.{Work}
-use Rattle.am_dialogue.specs.declared.dialogue.Work.TheVariants as works
+use Rattle.am_dialogue.specs.declared.conversation.Conversation.{Conversation}
+use Rattle.am_dialogue.specs.declared.conversation.Work.{Work}
+use Rattle.am_dialogue.specs.declared.conversation.Work.TheVariants as works
 
 -- a connection, as a life goes by it
 pub record Talk : Type 0 where
@@ -20,7 +20,7 @@ waiting_in (works.Judging said judging) = Some (spoken said)
 waiting_in _ = None
 
 -- what the code holds
-abbrev pub talk_of : Dialogue → Talk
+abbrev pub talk_of : Conversation → Talk
 talk_of dialogue = record { way = dialogue.gate.way; session = dialogue.session; waiting = waiting_in dialogue.work }
 
 -- the same, of which no more is heard, and nothing waits

@@ -7,7 +7,7 @@ use am_api_silences::Read;
 use am_api_status::{Resource, resource_of};
 use am_figures::Request;
 use am_http as silences;
-use am_http::session::Said;
+use am_http::session::SessionOutput;
 use am_merge::Held;
 use am_silence::{MeshSilence, State};
 use am_version_order::{Moment, Version};
@@ -19,7 +19,7 @@ use std::time::{Duration, Instant};
 const STRETCH: usize = 8_192;
 
 /// What was asked of the member itself, where that is what was said.
-pub fn asked_of_itself(said: &Said) -> Option<Resource> {
+pub fn asked_of_itself(said: &SessionOutput) -> Option<Resource> {
     match &said.request {
         Some(Read::Whole(request)) => resource_of(&request.target),
         _ => None,
@@ -71,7 +71,7 @@ fn kind_of(request: &silences::Request) -> Request {
 }
 
 /// What was asked, where that was said.
-pub fn request_of(said: &Said) -> Option<Request> {
+pub fn request_of(said: &SessionOutput) -> Option<Request> {
     match &said.request {
         Some(Read::Whole(request)) => Some(kind_of(request)),
         Some(_) => Some(Request::Other),

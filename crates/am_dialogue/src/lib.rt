@@ -2,16 +2,16 @@
 //! be done by itself, and when; and what goes to each peer.
 #![tactic(auto)]
 
+mod conversation;
 mod counting;
-mod dialogue;
-mod duties;
 mod room;
 mod share;
+mod timers;
 mod turns;
 
+pub use conversation::{Conversation, Work, ends_pull, is_nothing, may_change};
 pub use counting::{Account, Census, asked_of_itself, request_of};
-pub use dialogue::{Dialogue, Work, ends_pull, is_nothing, may_change};
-pub use duties::{Duties, Intervals};
 pub use room::{bytes_said, post_bytes};
 pub use share::Share;
+pub use timers::{Intervals, Timers};
 pub use turns::{Turn, Turns, is_call};

@@ -2,7 +2,7 @@
 
 use am_api_silences::Read;
 use am_gossip::{Frame, Part, StateKey};
-use am_http::session::Said;
+use am_http::session::SessionOutput;
 use am_http::{Call, call_of};
 
 /// How many bytes a post may add to the row of the silences beside those of its body.
@@ -35,7 +35,7 @@ fn frame_bytes(frame: &Frame) -> u64 {
 }
 
 /// By how many bytes a post lets the row grow at the most, where something is posted.
-pub fn post_bytes(said: &Said) -> Option<u64> {
+pub fn post_bytes(said: &SessionOutput) -> Option<u64> {
     let Some(Read::Whole(request)) = &said.request else {
         return None;
     };
@@ -46,7 +46,7 @@ pub fn post_bytes(said: &Said) -> Option<u64> {
 }
 
 /// By how many bytes what was said lets the row grow at the most, but for the ends of silences.
-pub fn bytes_said(said: &Said) -> u64 {
+pub fn bytes_said(said: &SessionOutput) -> u64 {
     let mut bytes = post_bytes(said).unwrap_or(0);
     for frame in &said.frames {
         bytes = bytes.saturating_add(frame_bytes(frame));

@@ -2,7 +2,7 @@
 
 use am_api_decisions::is_for_decisions;
 use am_api_silences::{Read, Request};
-use am_http::session::Said;
+use am_http::session::SessionOutput;
 use std::time::Instant;
 
 /// The most bytes of a body that is read as soon as its turn has come. A larger one waits for its place in the line, so that
@@ -77,7 +77,7 @@ impl Turns {
 }
 
 /// Whether what was said is a call of a program that sends pages.
-pub fn is_call(said: &Said) -> bool {
+pub fn is_call(said: &SessionOutput) -> bool {
     match &said.request {
         Some(Read::Whole(request)) => is_for_decisions(request),
         _ => false,

@@ -1,7 +1,7 @@
 //! When a fault of a member that runs is told, and of which peer.
 
+use am_report::Word;
 use am_silence_json::moments::write_moment;
-use am_told::Word;
 use am_version_order::Moment;
 use std::fmt;
 

@@ -5,7 +5,7 @@ ghost use Rattle.am_http.specs.Sessions.{nothing};
 ghost use Rattle.am_gate.specs.Gates.{IsTurnedBack, PassesOn, told, told_by, way_of};
 
 use crate::fault::GateFault;
-use am_http::session::{Said, Session};
+use am_http::session::{Session, SessionOutput};
 use std::alloc::Global;
 
 /// What is heard of those who come by an entrance.
@@ -19,7 +19,7 @@ pub enum Hears {
 /// What a piece of a connection said.
 #[derive(Drop)]
 pub struct Heard {
-    pub said: Said,
+    pub said: SessionOutput,
     /// Why no more is heard behind that.
     pub fault: Option<GateFault>,
 }
@@ -53,7 +53,7 @@ pub fn turn_back(alloc: Global, session: &mut Session, fault: GateFault) -> (Hea
 {
     session.stop();
     let heard = Heard {
-        said: Said::nothing(alloc),
+        said: SessionOutput::nothing(alloc),
         fault: Some(fault),
     };
     (heard, State::Closed)
@@ -65,7 +65,7 @@ pub fn wait(alloc: Global, state: State) -> (Heard, State)
     ensures state { way_of result.1 ≡ way_of state }
 {
     let heard = Heard {
-        said: Said::nothing(alloc),
+        said: SessionOutput::nothing(alloc),
         fault: None,
     };
     (heard, state)

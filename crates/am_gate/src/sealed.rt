@@ -6,7 +6,7 @@ ghost use Rattle.am_gate.specs.Gates.{Greets, IsFailed, IsGreeted, IsKept, Unsea
 use crate::fault::GateFault;
 use crate::passing::{Heard, State, turn_back, wait};
 use am_gossip::{FrameError, read_hello};
-use am_http::session::{Said, Session};
+use am_http::session::{Session, SessionOutput};
 use am_seal::{Lock, Opened, open_piece};
 use std::alloc::Global;
 
@@ -15,7 +15,7 @@ fn keep(session: &mut Session, opened: Opened, waiting: Vec<u8>) -> (Heard, Stat
     ensures { IsKept opened.frames.items opened.fault waiting.items session.old (told_by result.0) (way_of result.1) session.new }
 {
     let Opened { frames, fault } = opened;
-    let said = Said::heard(frames, None);
+    let said = SessionOutput::heard(frames, None);
     match fault {
         None => (Heard { said, fault: None }, State::Sealed(waiting)),
         Some(error) => {
@@ -97,7 +97,7 @@ fn fail(alloc: Global, session: &mut Session, error: FrameError) -> (Heard, Stat
 {
     session.stop();
     let heard = Heard {
-        said: Said::failed(alloc, error),
+        said: SessionOutput::failed(alloc, error),
         fault: None,
     };
     (heard, State::Closed)

@@ -7,8 +7,8 @@ use Rattle.am_wire.proofs.Items.{rest_is}
 use Rattle.am_gossip.specs.declared.error.FrameError.{FrameError}
 use Rattle.am_gossip.specs.declared.frame.Frame as frame
 use Rattle.am_gossip.specs.declared.head.Head.{Head}
-use Rattle.am_gossip.specs.declared.header.Standing.{Standing}
-use Rattle.am_gossip.specs.declared.header.Standing.TheVariants.{Before, InLength, InPayload}
+use Rattle.am_gossip.specs.declared.header.HeaderProgress.{HeaderProgress}
+use Rattle.am_gossip.specs.declared.header.HeaderProgress.TheVariants.{Before, InLength, InPayload}
 use Rattle.am_gossip.specs.declared.reading.Read.{Read}
 use Rattle.am_gossip.specs.declared.reading.Read.TheVariants.{Frame, Waits, Fault}
 use Rattle.am_gossip.specs.Frames.{reads_payload}
@@ -31,13 +31,13 @@ bytes_before before bytes i = append_assoc before (take i bytes) (drop i bytes) 
 pub bad_before : (before bytes : List ℕ) (i : ℕ) (e : FrameError) → i < length bytes → header_of ((before ++ take i bytes) ++ get_or bytes i 0 ∷ []) ≡ bad e → header_of (before ++ bytes) ≡ bad e
 bad_before before bytes i e lt h = ap header_of (sym (one_byte before bytes i lt)) ∙ bad_stays _ (drop (suc i) bytes) e h
 
-pub payload_before : (before bytes : List ℕ) (i : ℕ) (s : Standing) (h : Head) → s ≡ InPayload h → IsAt s (before ++ take i bytes) → IsAt s (before ++ bytes)
+pub payload_before : (before bytes : List ℕ) (i : ℕ) (s : HeaderProgress) (h : Head) → s ≡ InPayload h → IsAt s (before ++ take i bytes) → IsAt s (before ++ bytes)
 payload_before before bytes i s h is at =
     let here : header_of (before ++ take i bytes) ≡ head h.kind h.size h.len = rw is at at in
     rw is (ap header_of (sym (bytes_before before bytes i)) ∙ header_stays (before ++ take i bytes) (drop i bytes) _ _ _ here)
 
 -- ---- what waits
-pub waits_in_header : (s : Standing) (bytes : List ℕ) → ((h : Head) → s ≡ InPayload h → ⊥) → IsAt s bytes → IsWaiting s bytes
+pub waits_in_header : (s : HeaderProgress) (bytes : List ℕ) → ((h : Head) → s ≡ InPayload h → ⊥) → IsAt s bytes → IsWaiting s bytes
 unfolding header_of
 waits_in_header Before bytes other at = record { at = at; unfinished = front_more_wanted bytes (ap header_of at) }
 waits_in_header (InLength kind groups) bytes other at =

@@ -1,8 +1,8 @@
 -- How far the frame at the front of a stream was read.
 use Rattle.std.specs.Prelude.{◌≡◌, ℕ, ◌+◌, ◌≤◌, List, [], ◌∷◌, length, take, drop, ⊤, Result, Ok, Err}
 use Rattle.am_gossip.specs.declared.error.FrameError.{FrameError}
-use Rattle.am_gossip.specs.declared.header.Standing.{Standing}
-use Rattle.am_gossip.specs.declared.header.Standing.TheVariants.{Before, InLength, InPayload}
+use Rattle.am_gossip.specs.declared.header.HeaderProgress.{HeaderProgress}
+use Rattle.am_gossip.specs.declared.header.HeaderProgress.TheVariants.{Before, InLength, InPayload}
 use Rattle.am_gossip.specs.declared.reading.Read.{Read}
 use Rattle.am_gossip.specs.declared.reading.Read.TheVariants.{Frame, Waits, Fault}
 use Rattle.am_gossip.specs.declared.reading.End.{End}
@@ -14,18 +14,18 @@ use Rattle.am_gossip.specs.Streams.{whole, fault, incomplete, front_of}
 use Rattle.am_gossip.specs.Lengths.{IsGroups}
 
 -- this is how far these bytes go
-abbrev pub IsAt : Standing → List ℕ → Type 0
+abbrev pub IsAt : HeaderProgress → List ℕ → Type 0
 IsAt Before bytes = bytes ≡ []
 IsAt (InLength kind groups) bytes = (text : List ℕ) × (bytes ≡ code_of kind ∷ text) × IsGroups groups text
 IsAt (InPayload h) bytes = header_of bytes ≡ head h.kind h.size h.len
 
 -- what the bytes leave, or the fault in their header
-abbrev pub Stands : Result Standing FrameError → List ℕ → Type 0
+abbrev pub Stands : Result HeaderProgress FrameError → List ℕ → Type 0
 Stands (Ok s) bytes = IsAt s bytes
 Stands (Err e) bytes = header_of bytes ≡ bad e
 
 -- the bytes are the beginning of a frame, and go so far
-pub record IsWaiting (s : Standing) (bytes : List ℕ) : Type 0 where
+pub record IsWaiting (s : HeaderProgress) (bytes : List ℕ) : Type 0 where
   pub at : IsAt s bytes
   pub unfinished : front_of bytes ≡ incomplete
 

@@ -6,7 +6,7 @@ ghost use Rattle.am_gossip.specs.Streams.{stream_of, waiting_rest, fault_in, res
 
 use crate::error::FrameError;
 use crate::frame::Frame;
-use crate::header::Standing;
+use crate::header::HeaderProgress;
 use crate::reading::{End, Read, finish_frame, read_frames};
 use std::alloc::Global;
 use std::marker::Model;
@@ -43,7 +43,7 @@ fn take_rest(
 fn take_piece(
     alloc: Global,
     held: &mut Vec<u8>,
-    standing: Standing,
+    standing: HeaderProgress,
     piece: &[u8],
 ) -> Result<(Vec<Frame>, End), FrameError>
     requires { IsWaiting standing held.old.items }
@@ -75,7 +75,7 @@ fn take_piece(
 pub struct Feeder {
     alloc: Global,
     held: Vec<u8>,
-    standing: Option<Standing>,
+    standing: Option<HeaderProgress>,
 }
 
 impl Model for Feeder {
@@ -98,7 +98,7 @@ impl Feeder {
         Feeder {
             alloc,
             held: Vec::new(alloc),
-            standing: Some(Standing::Before),
+            standing: Some(HeaderProgress::Before),
         }
     }
 

@@ -2,7 +2,7 @@
 
 ghost use Rattle.std.specs.Prelude.{◌++◌, ◌∷◌, [], List, ℕ};
 ghost use Rattle.am_gossip.specs.Standings.{IsAt, Stands};
-ghost use Rattle.am_gossip.specs.declared.header.Standing.TheVariants.{InLength};
+ghost use Rattle.am_gossip.specs.declared.header.HeaderProgress.TheVariants.{InLength};
 
 use crate::error::FrameError;
 use crate::groups::Groups;
@@ -12,7 +12,7 @@ use crate::length::{Next, next_group};
 
 /// How far the frame at the front of a stream was read.
 #[derive(Clone, Copy)]
-pub enum Standing {
+pub enum HeaderProgress {
     /// No byte of it came.
     Before,
     /// Its kind was read, and these groups of its length.
@@ -22,11 +22,11 @@ pub enum Standing {
 }
 
 /// Reads a frame's first byte.
-fn read_kind(code: u8) -> Result<Standing, FrameError>
+fn read_kind(code: u8) -> Result<HeaderProgress, FrameError>
     ensures { Stands result (code ∷ []) }
 {
     match FrameKind::from_code(code) {
-        Some(kind) => Ok(Standing::InLength {
+        Some(kind) => Ok(HeaderProgress::InLength {
             kind,
             groups: Groups::none(),
         }),
@@ -35,17 +35,17 @@ fn read_kind(code: u8) -> Result<Standing, FrameError>
 }
 
 /// Reads on in the length of a frame of this kind.
-fn read_length(kind: FrameKind, groups: Groups, byte: u8) -> Result<Standing, FrameError>
+fn read_length(kind: FrameKind, groups: Groups, byte: u8) -> Result<HeaderProgress, FrameError>
     ensures { (bytes : List ℕ) → IsAt (InLength kind groups) bytes → Stands result (bytes ++ byte ∷ []) }
 {
     match next_group(groups, byte) {
-        Next::More(groups) => Ok(Standing::InLength { kind, groups }),
+        Next::More(groups) => Ok(HeaderProgress::InLength { kind, groups }),
         Next::TooLong => Err(FrameError::Length),
         Next::Whole(size) => {
             if size > kind.limit() {
                 return Err(FrameError::Length);
             }
-            Ok(Standing::InPayload(Head {
+            Ok(HeaderProgress::InPayload(Head {
                 kind,
                 size: size as usize,
                 len: groups.places + 2,
@@ -55,23 +55,23 @@ fn read_length(kind: FrameKind, groups: Groups, byte: u8) -> Result<Standing, Fr
 }
 
 /// Reads one more byte of a frame; behind its header nothing changes.
-fn read_byte(standing: Standing, byte: u8) -> Result<Standing, FrameError>
+fn read_byte(standing: HeaderProgress, byte: u8) -> Result<HeaderProgress, FrameError>
     ensures { (before : List ℕ) → IsAt standing before → Stands result (before ++ byte ∷ []) }
 {
     match standing {
-        Standing::Before => read_kind(byte),
-        Standing::InLength { kind, groups } => read_length(kind, groups, byte),
-        Standing::InPayload(_) => Ok(standing),
+        HeaderProgress::Before => read_kind(byte),
+        HeaderProgress::InLength { kind, groups } => read_length(kind, groups, byte),
+        HeaderProgress::InPayload(_) => Ok(standing),
     }
 }
 
 /// Reads on in a header, up to its end or to that of the bytes.
-pub fn read_header(standing: Standing, bytes: &[u8]) -> Result<Standing, FrameError>
+pub fn read_header(standing: HeaderProgress, bytes: &[u8]) -> Result<HeaderProgress, FrameError>
     ensures { (before : List ℕ) → IsAt standing before → Stands result (before ++ bytes.now) }
 {
     let mut standing = standing;
     for byte in bytes {
-        if let Standing::InPayload(_) = standing {
+        if let HeaderProgress::InPayload(_) = standing {
             return Ok(standing);
         }
         standing = read_byte(standing, *byte)?;

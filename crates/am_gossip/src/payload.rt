@@ -11,7 +11,7 @@ ghost use Rattle.am_gossip.specs.Frames.{reads_payload};
 use crate::error::FrameError;
 use crate::frame::{Frame, FullState, Part, StateKey};
 use crate::kind::FrameKind;
-use am_wire::reading::{Draft, LastBytes, LastText, Scan, Schema, read_message};
+use am_wire::reading::{LastBytes, LastText, MessageReader, Scan, Schema, read_message};
 use am_wire::{Bytes, Field, Value, WireError, WireType};
 use std::alloc::Global;
 
@@ -35,7 +35,7 @@ impl Schema for PartDraft<'_> {
     }
 }
 
-impl<'a> Draft<'a> for PartDraft<'a> {
+impl<'a> MessageReader<'a> for PartDraft<'a> {
     ghost use Rattle.am_gossip.specs.Parts.{part_value, part_tests};
     ghost use Rattle.am_gossip.specs.Drafts.{IsPartDraft};
 

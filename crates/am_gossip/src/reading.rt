@@ -8,7 +8,7 @@ ghost use Rattle.am_gossip.specs.declared.error.FrameError.TheVariants.{Memory};
 use crate::error::FrameError;
 use crate::frame::Frame;
 use crate::head::Head;
-use crate::header::{Standing, read_header};
+use crate::header::{HeaderProgress, read_header};
 use crate::payload::read_payload;
 use std::alloc::Global;
 
@@ -18,7 +18,7 @@ pub enum Read {
     /// A frame of so many bytes.
     Frame { frame: Frame, len: usize },
     /// The beginning of a frame.
-    Waits(Standing),
+    Waits(HeaderProgress),
     Fault(FrameError),
 }
 
@@ -26,7 +26,7 @@ pub enum Read {
 #[derive(Clone, Copy)]
 pub enum End {
     /// With the beginning of a frame, or nothing.
-    Waits(Standing),
+    Waits(HeaderProgress),
     Fault(FrameError),
 }
 
@@ -52,11 +52,11 @@ pub fn read_frame(alloc: Global, bytes: &[u8]) -> Result<Read, FrameError>
     ensures read { IfOk result (λ read. IsRead read bytes.now) }
     ensures refused { IfErr result (λ e. e ≡ Memory) }
 {
-    let standing = match read_header(Standing::Before, bytes) {
+    let standing = match read_header(HeaderProgress::Before, bytes) {
         Ok(standing) => standing,
         Err(e) => return Ok(Read::Fault(e)),
     };
-    let Standing::InPayload(head) = standing else {
+    let HeaderProgress::InPayload(head) = standing else {
         return Ok(Read::Waits(standing));
     };
     let len = head.len + head.size;
@@ -71,7 +71,7 @@ pub fn read_frame(alloc: Global, bytes: &[u8]) -> Result<Read, FrameError>
 pub fn finish_frame(
     alloc: Global,
     held: &mut Vec<u8>,
-    standing: Standing,
+    standing: HeaderProgress,
     piece: &[u8],
 ) -> Result<Read, FrameError>
     requires { IsWaiting standing held.old.items }
@@ -84,7 +84,7 @@ pub fn finish_frame(
         Ok(standing) => standing,
         Err(e) => return Ok(Read::Fault(e)),
     };
-    let Standing::InPayload(head) = standing else {
+    let HeaderProgress::InPayload(head) = standing else {
         held.extend_from_slice(piece)?;
         return Ok(Read::Waits(standing));
     };

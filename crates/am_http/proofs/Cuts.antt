@@ -16,7 +16,7 @@ use Rattle.am_http.specs.declared.request.Read.{Read}
 use Rattle.am_http.specs.declared.request.Read.TheVariants.{More, Whole, Refused}
 use Rattle.am_http.specs.declared.session.fault.SessionFault.{SessionFault}
 use Rattle.am_http.specs.declared.session.fault.SessionFault.TheVariants.{TooLarge, Frame as InFrame}
-use Rattle.am_http.specs.Sessions.{Standing, fresh, asks, greets, hears, over, Spoken, heard, nothing, asked, and_then, most_bytes, Asks, IsHeard, Hears, IsGreeted, Greets, Says, SaysAll}
+use Rattle.am_http.specs.Sessions.{Standing, fresh, InRequest, InGreeting, InFrames, over, Spoken, heard, nothing, asked, and_then, most_bytes, Asks, IsHeard, Hears, IsGreeted, Greets, Says, SaysAll}
 use Rattle.am_http.proofs.Decided.{whole_stays, refusal_stays}
 
 -- ---- what is said
@@ -189,11 +189,11 @@ cut fresh mid new (b ∷ bytes) second said later h says = record {
   peer = λ lt. greets_cut (b ∷ bytes) second said later mid new (h.peer lt) says;
   request = λ le. asks_cut (b ∷ bytes) second said later mid new (h.request le) says;
 }
-cut (asks bytes) mid new first second said later h says =
+cut (InRequest bytes) mid new first second said later h says =
     subst (λ (x : List ℕ). Asks x (and_then said later) new) (append_assoc bytes first second) (asks_cut (bytes ++ first) second said later mid new h says)
-cut (greets bytes) mid new first second said later h says =
+cut (InGreeting bytes) mid new first second said later h says =
     subst (λ (x : List ℕ). Greets x (and_then said later) new) (append_assoc bytes first second) (greets_cut (bytes ++ first) second said later mid new h says)
-cut (hears name count rest) mid new first second said later h says = hears_cut name count rest first second said later mid new h says
+cut (InFrames name count rest) mid new first second said later h says = hears_cut name count rest first second said later mid new h says
 cut (over name) mid new first second said later h says =
     let l = last name second said later nothing mid new h.0 h.1 says in
     (l.saying, l.standing)

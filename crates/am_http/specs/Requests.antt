@@ -7,8 +7,8 @@ use Rattle.am_http.specs.Bodies.{NamesLength, IsBodyLength}
 use Rattle.am_http.specs.declared.cause.Cause.{Cause}
 use Rattle.am_http.specs.declared.cause.Cause.TheVariants.{HeadTooLarge, BadHead, TransferEncoding, BadContentLength}
 use Rattle.am_http.specs.declared.cause.Cause.TheVariants.{BodyTooLarge, EndedEarly, Memory}
-use Rattle.am_http.specs.declared.standing.Standing.{Standing}
-use Rattle.am_http.specs.declared.standing.Standing.TheVariants as at
+use Rattle.am_http.specs.declared.progress.RequestProgress.{RequestProgress}
+use Rattle.am_http.specs.declared.progress.RequestProgress.TheVariants as at
 use Rattle.am_http.specs.declared.request.Request.{Request}
 use Rattle.am_http.specs.declared.request.Read.{Read}
 use Rattle.am_http.specs.declared.request.Read.TheVariants.{More, Whole, Refused}
@@ -55,7 +55,7 @@ HasFault bytes BodyTooLarge = HasBodyFault bytes BodyTooLarge
 HasFault bytes _ = ⊥
 
 -- how far the request has come
-abbrev pub IsStandingOf : List ℕ → Standing → Type 0
+abbrev pub IsStandingOf : List ℕ → RequestProgress → Type 0
 IsStandingOf bytes at.Head = (length bytes < 16384) × IsOpenHead bytes
 IsStandingOf bytes (at.Body end) = IsOpenBody bytes end
 IsStandingOf bytes (at.Whole parts) = IsRequestIn bytes parts.method.now parts.target.now parts.body.now

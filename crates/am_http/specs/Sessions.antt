@@ -17,31 +17,31 @@ use Rattle.am_http.specs.Lines.{line_seen, line_of}
 use Rattle.am_http.specs.Requests.{IsReadOf}
 use Rattle.am_http.specs.declared.session.fault.SessionFault.{SessionFault}
 use Rattle.am_http.specs.declared.session.fault.SessionFault.TheVariants.{TooLarge, Frame as InFrame}
-use Rattle.am_http.specs.declared.session.said.Said.{Said}
+use Rattle.am_http.specs.declared.session.output.SessionOutput.{SessionOutput}
 
 -- How far a connection has come. No byte came; or the beginning of a request came, or of a greeting. Or a greeting of this
 -- name came, so many bytes in all, the last of which are the beginning of a frame. Or no more is heard of it, and this is
 -- the name of its greeting, where one came.
 pub data Standing : Type 0 where
   fresh : Standing
-  asks : List ℕ → Standing
-  greets : List ℕ → Standing
-  hears : List ℕ → ℕ → List ℕ → Standing
+  InRequest : List ℕ → Standing
+  InGreeting : List ℕ → Standing
+  InFrames : List ℕ → ℕ → List ℕ → Standing
   over : Option (List ℕ) → Standing
 
 -- the name of the greeting, where it came
 abbrev pub name_of : Standing → Option (List ℕ)
 name_of fresh = None
-name_of (asks bytes) = None
-name_of (greets bytes) = None
-name_of (hears name count rest) = Some name
+name_of (InRequest bytes) = None
+name_of (InGreeting bytes) = None
+name_of (InFrames name count rest) = Some name
 name_of (over name) = name
 
 -- the bytes that wait for the rest of their request, greeting or frame
 abbrev pub waiting_in : Standing → List ℕ
-waiting_in (asks bytes) = bytes
-waiting_in (greets bytes) = bytes
-waiting_in (hears name count rest) = rest
+waiting_in (InRequest bytes) = bytes
+waiting_in (InGreeting bytes) = bytes
+waiting_in (InFrames name count rest) = rest
 waiting_in _ = []
 
 -- what was said: frames in their order, what was read of a request, and why no more is heard
@@ -51,7 +51,7 @@ pub record Spoken : Type 0 where
   pub fault : Option SessionFault
 
 -- what the code returns
-abbrev pub spoken : Said → Spoken
+abbrev pub spoken : SessionOutput → Spoken
 spoken said = record { frames = said.frames.items; request = said.request; fault = said.fault }
 
 -- frames, and why there are no more, where there is a fault
@@ -82,7 +82,7 @@ most_bytes = 134217728
 
 -- the bytes that came decide nothing yet; or the request that they are is told, and no more is heard
 abbrev pub IsAsked : List ℕ → Read → Spoken → Standing → Type 0
-IsAsked bytes More said new = (said ≡ nothing) × (new ≡ asks bytes)
+IsAsked bytes More said new = (said ≡ nothing) × (new ≡ InRequest bytes)
 IsAsked bytes read said new = (said ≡ asked read) × (new ≡ over None)
 
 -- what all the bytes of a request say that came so far
@@ -94,7 +94,7 @@ Asks bytes said new = (read : Read) × IsReadOf bytes false read × IsAsked byte
 -- What the frames of the bytes say that were taken, behind which come those beyond the limit: the stream goes on, or it ends at
 -- a byte too many or at its fault. So many bytes came in all.
 abbrev pub IsHeard : List ℕ → ℕ → List Frame → Result (List ℕ) FrameError → List ℕ → Spoken → Standing → Type 0
-IsHeard name count frames (Ok rest) [] said new = (said ≡ heard frames None) × (new ≡ hears name count rest)
+IsHeard name count frames (Ok rest) [] said new = (said ≡ heard frames None) × (new ≡ InFrames name count rest)
 IsHeard name count frames (Ok rest) (_ ∷ _) said new = (said ≡ heard frames (Some TooLarge)) × (new ≡ over (Some name))
 IsHeard name count frames (Err e) lost said new = (said ≡ heard frames (Some (InFrame e))) × (new ≡ over (Some name))
 
@@ -109,7 +109,7 @@ Hears name count rest piece said new =
 
 -- the greeting isn't whole; or it is, and the bytes behind it are a piece of its stream; or it is at fault
 abbrev pub IsGreeted : List ℕ → Result (Option (List ℕ × ℕ)) FrameError → Spoken → Standing → Type 0
-IsGreeted bytes (Ok None) said new = (said ≡ nothing) × (new ≡ greets bytes)
+IsGreeted bytes (Ok None) said new = (said ≡ nothing) × (new ≡ InGreeting bytes)
 IsGreeted bytes (Ok (Some greeting)) said new = Hears greeting.0 greeting.1 [] (drop greeting.1 bytes) said new
 IsGreeted bytes (Err e) said new = (said ≡ heard [] (Some (InFrame e))) × (new ≡ over None)
 
@@ -128,9 +128,9 @@ pub record Begins (first : ℕ) (bytes : List ℕ) (said : Spoken) (new : Standi
 abbrev pub Says : Standing → List ℕ → Spoken → Standing → Type 0
 Says fresh [] said new = (said ≡ nothing) × (new ≡ fresh)
 Says fresh (first ∷ bytes) said new = Begins first (first ∷ bytes) said new
-Says (asks bytes) piece said new = Asks (bytes ++ piece) said new
-Says (greets bytes) piece said new = Greets (bytes ++ piece) said new
-Says (hears name count rest) piece said new = Hears name count rest piece said new
+Says (InRequest bytes) piece said new = Asks (bytes ++ piece) said new
+Says (InGreeting bytes) piece said new = Greets (bytes ++ piece) said new
+Says (InFrames name count rest) piece said new = Hears name count rest piece said new
 Says (over name) piece said new = (said ≡ nothing) × (new ≡ over name)
 
 -- pieces that come one after the other
@@ -171,9 +171,9 @@ pub record LacksToBegin (first : ℕ) (said : Spoken) (new : Standing) : Type 0 
 abbrev pub LacksMemory : Standing → List ℕ → Spoken → Standing → Type 0
 LacksMemory fresh [] said new = ⊥
 LacksMemory fresh (first ∷ bytes) said new = LacksToBegin first said new
-LacksMemory (asks bytes) piece said new = LacksToAsk said new
-LacksMemory (greets bytes) piece said new = LacksToGreet said new
-LacksMemory (hears name count rest) piece said new = IsUnheard said × (new ≡ over (Some name))
+LacksMemory (InRequest bytes) piece said new = LacksToAsk said new
+LacksMemory (InGreeting bytes) piece said new = LacksToGreet said new
+LacksMemory (InFrames name count rest) piece said new = IsUnheard said × (new ≡ over (Some name))
 LacksMemory (over name) piece said new = ⊥
 
 -- what feeding a piece says: what the piece says, or that there was no memory for it
@@ -191,7 +191,7 @@ pub record IsCutShort (bytes : List ℕ) (said : Spoken) : Type 0 where
 
 -- what the end of the input says: of a request that isn't whole, that it is cut; else nothing
 abbrev pub SaysEnd : Standing → Spoken → Type 0
-SaysEnd (asks bytes) said = IsCutShort bytes said
+SaysEnd (InRequest bytes) said = IsCutShort bytes said
 SaysEnd _ said = said ≡ nothing
 
 -- ---- where it comes from
@@ -199,5 +199,5 @@ SaysEnd _ said = said ≡ nothing
 -- what is known of that once the next piece is there, by the head of the request that its bytes begin
 abbrev pub Screens : Standing → List ℕ → List (List ℕ) → Screened → Type 0
 Screens fresh piece names result = IsScreened names piece result
-Screens (asks bytes) piece names result = IsScreened names (bytes ++ piece) result
+Screens (InRequest bytes) piece names result = IsScreened names (bytes ++ piece) result
 Screens _ piece names result = result ≡ screened.Known

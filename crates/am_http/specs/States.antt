@@ -8,14 +8,14 @@ use Rattle.am_http.specs.declared.session.fault.SessionFault.{SessionFault}
 use Rattle.am_http.specs.declared.session.fault.SessionFault.TheVariants.{TooLarge, Frame as InFrame}
 use Rattle.am_http.specs.declared.session.state.State.{State}
 use Rattle.am_http.specs.declared.session.state.State.TheVariants.{Fresh, Asking, Greeting, Hearing, Over}
-use Rattle.am_http.specs.Sessions.{Standing, fresh, asks, greets, hears, over}
+use Rattle.am_http.specs.Sessions.{Standing, fresh, InRequest, InGreeting, InFrames, over}
 
 -- how far the connection has come
 abbrev pub standing_in : State → Standing
 standing_in Fresh = fresh
-standing_in (Asking bytes) = asks bytes.items
-standing_in (Greeting bytes) = greets bytes.items
-standing_in (Hearing h) = hears (string_bytes h.name) h.count (rest_bytes h.feeder)
+standing_in (Asking bytes) = InRequest bytes.items
+standing_in (Greeting bytes) = InGreeting bytes.items
+standing_in (Hearing h) = InFrames (string_bytes h.name) h.count (rest_bytes h.feeder)
 standing_in (Over name) = over (option_map string_bytes name)
 
 -- a request that was begun isn't decided, and a stream that goes on had no fault

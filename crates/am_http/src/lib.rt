@@ -8,12 +8,12 @@ mod filters;
 mod head;
 mod hosts;
 pub mod laws;
+mod progress;
 mod refusal;
 mod replies;
 mod request;
 mod routes;
 pub mod session;
-mod standing;
 
 pub use cause::{Cause, Resource};
 pub use filters::filter_texts;

@@ -4,8 +4,8 @@ ghost use Rattle.std.specs.Prelude.{◌≡◌, IfOk, string_bytes};
 ghost use Rattle.am_http.specs.Requests.{IsReadOf, IsTakenFrom, IsUnfinished};
 
 use crate::cause::Cause;
+use crate::progress::{Parts, RequestProgress, standing_of};
 use crate::refusal::Refusal;
-use crate::standing::{Parts, Standing, standing_of};
 use std::alloc::{AllocError, Global};
 
 /// A whole request.
@@ -69,8 +69,8 @@ pub fn read_request(alloc: Global, bytes: &[u8], ended: bool) -> Read
     ensures { IsReadOf bytes.now ended result }
 {
     match standing_of(bytes) {
-        Standing::Head | Standing::Body { .. } => unfinished(bytes, ended),
-        Standing::Whole(parts) => taken(alloc, parts),
-        Standing::Refused(cause) => Read::Refused(cause.refusal()),
+        RequestProgress::Head | RequestProgress::Body { .. } => unfinished(bytes, ended),
+        RequestProgress::Whole(parts) => taken(alloc, parts),
+        RequestProgress::Refused(cause) => Read::Refused(cause.refusal()),
     }
 }

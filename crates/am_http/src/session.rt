@@ -12,14 +12,14 @@ mod feeding;
 mod greeting;
 mod hearing;
 pub mod laws;
-mod said;
+mod output;
 mod screening;
 mod state;
 
 use crate::Screened;
 pub use fault::SessionFault;
 use feeding::{end_of, next_of};
-pub use said::Said;
+pub use output::SessionOutput;
 use screening::screened;
 use state::State;
 use std::alloc::{AllocError, Global};
@@ -61,7 +61,7 @@ impl Session {
     /// Takes the next piece: what it says.
     ///
     /// Where the pieces are cut makes no difference. Where memory runs out, that is said, and no more is heard.
-    pub fn feed(&mut self, piece: &[u8]) -> Said
+    pub fn feed(&mut self, piece: &[u8]) -> SessionOutput
         // PROMISE: A piece of a connection says the frames or the request that end in it.
         ensures { Feeds self.old piece.now (spoken result) self.new }
     {
@@ -91,7 +91,7 @@ impl Session {
     }
 
     /// The input ended: a request that isn't whole is refused, and no more is heard. It takes no memory.
-    pub fn end(&mut self) -> Said
+    pub fn end(&mut self) -> SessionOutput
         ensures said { SaysEnd self.old (spoken result) }
         ensures over { self.new ≡ over (name_of self.old) }
     {

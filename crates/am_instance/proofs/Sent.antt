@@ -10,8 +10,8 @@ use Rattle.am_gossip.specs.declared.frame.Frame.{Frame}
 use Rattle.am_gossip.specs.declared.frame.Frame.TheVariants.{Push}
 use Rattle.am_gossip.specs.declared.frame.Part.{Part}
 use Rattle.am_gossip.specs.Frames.{fits}
-use Rattle.am_instance.specs.declared.outbox.Exchange.{Exchange}
-use Rattle.am_instance.specs.declared.outbox.Exchange.TheVariants.{Ask, Answer}
+use Rattle.am_instance.specs.declared.frame_sender.Exchange.{Exchange}
+use Rattle.am_instance.specs.declared.frame_sender.Exchange.TheVariants.{Ask, Answer}
 use Rattle.am_instance.specs.Configs.{is_other, places_but}
 use Rattle.am_instance.specs.Changes.{only_if}
 use Rattle.am_instance.specs.Sendings.{Sent, Sends, addressed, states_frame}

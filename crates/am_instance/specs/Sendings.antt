@@ -12,8 +12,8 @@ use Rattle.am_gossip.specs.declared.frame.StateKey.{StateKey}
 use Rattle.am_gossip.specs.declared.frame.StateKey.TheVariants.{Sil, Nfl}
 use Rattle.am_gossip.specs.Frames.{fits, states}
 use Rattle.am_snapshot.specs.Texts.{row_text}
-use Rattle.am_instance.specs.declared.outbox.Exchange.{Exchange}
-use Rattle.am_instance.specs.declared.outbox.Exchange.TheVariants.{Ask, Answer}
+use Rattle.am_instance.specs.declared.frame_sender.Exchange.{Exchange}
+use Rattle.am_instance.specs.declared.frame_sender.Exchange.TheVariants.{Ask, Answer}
 use Rattle.am_instance.specs.declared.reply.Outcome.{Outcome}
 use Rattle.am_instance.specs.Deliveries.{Delivery}
 use Rattle.am_instance.specs.Deliveries.Delivery.{OfSilence, OfEntry}

@@ -16,10 +16,10 @@ ghost use Rattle.am_instance.specs.Sendings.{Sends, deltas_to, nothing_sent, sen
 ghost use Rattle.am_instance.specs.Replies.{IsNothing};
 ghost use Rattle.am_instance.specs.Steps.{Delivers, IsArrival, IsJudgement, IsWork, StopsDelivering};
 
+use crate::frame_sender::{Exchange, FrameSender, Route};
 use crate::instance::Instance;
-use crate::outbox::{Exchange, Outbox, Route};
 use crate::reply::{Made, Outcome, Reply};
-use crate::rows::{Taking, judge_row, take_row};
+use crate::rows::{Taking, merge_row, validate_row};
 use am_gossip::{Frame, Part, StateKey};
 use am_matcher::PatternCache;
 use am_merge::Held;
@@ -63,25 +63,30 @@ impl Instance {
         ensures frame { (sender : ℕ) → IsWork self.old (events.Frame sender frames.Tick) now (Ok result) self.new }
     {
         sweep(&mut self.silences, &mut self.log, &mut self.patterns, now);
-        outcome(self.alloc, Reply::Nothing, Outbox::new(self.alloc))
+        outcome(self.alloc, Reply::Nothing, FrameSender::new(self.alloc))
     }
 
     /// Sends both states to a peer, which answers with its own.
     pub(crate) fn pull_from(&mut self, place: Place, now: Moment) -> Outcome
         ensures { IsWork self.old (events.PullFrom place) now (Ok result) self.new }
     {
-        let mut outbox = Outbox::new(self.alloc);
+        let mut outbox = FrameSender::new(self.alloc);
         outbox.send_states(place, &self.silences, &self.log, Exchange::Ask);
         outcome(self.alloc, Reply::Nothing, outbox)
     }
 
     /// Takes the versions in the parts of a frame, once all of them were read. Those that change a map go to all peers
     /// but the sender.
-    fn take_in(&mut self, sender: Place, parts: &[Part], now: Moment) -> Result<Outbox, StepError>
+    fn take_in(
+        &mut self,
+        sender: Place,
+        parts: &[Part],
+        now: Moment,
+    ) -> Result<FrameSender, StepError>
         ensures { IsArrival self.old sender parts.now now result self.new }
     {
         judge_parts(self.alloc, parts)?;
-        let mut outbox = Outbox::new(self.alloc);
+        let mut outbox = FrameSender::new(self.alloc);
         let mut taken = 0;
         match self.take_parts(sender, parts, now, &mut outbox, &mut taken) {
             Ok(()) => Ok(outbox),
@@ -99,7 +104,7 @@ impl Instance {
         sender: Place,
         parts: &[Part],
         now: Moment,
-        outbox: &mut Outbox,
+        outbox: &mut FrameSender,
         taken: &mut usize,
     ) -> Result<(), AllocError>
         requires { first_fault (rows_in parts.now) ≡ None }
@@ -122,7 +127,7 @@ impl Instance {
         sender: Place,
         part: &Part,
         now: Moment,
-        outbox: &mut Outbox,
+        outbox: &mut FrameSender,
         taken: &mut usize,
     ) -> Result<(), AllocError>
         requires { first_fault (rows_of part.now) ≡ None }
@@ -140,7 +145,7 @@ impl Instance {
         };
         let row = part.bytes.as_slice();
         match part.key {
-            StateKey::Sil => take_row::<MeshSilence>(
+            StateKey::Sil => merge_row::<MeshSilence>(
                 self.alloc,
                 &mut self.silences,
                 row,
@@ -148,7 +153,7 @@ impl Instance {
                 outbox,
                 taken,
             ),
-            StateKey::Nfl => take_row::<MeshEntry>(
+            StateKey::Nfl => merge_row::<MeshEntry>(
                 self.alloc,
                 &mut self.log,
                 row,
@@ -213,18 +218,18 @@ fn judge_part(alloc: Global, part: &Part) -> Result<(), StepError>
 {
     let row = part.bytes.as_slice();
     match part.key {
-        StateKey::Sil => Ok(judge_row::<MeshSilence>(alloc, row)?),
-        StateKey::Nfl => Ok(judge_row::<MeshEntry>(alloc, row)?),
+        StateKey::Sil => Ok(validate_row::<MeshSilence>(alloc, row)?),
+        StateKey::Nfl => Ok(validate_row::<MeshEntry>(alloc, row)?),
     }
 }
 
 /// An outcome in which nothing was made here.
-pub(crate) fn outcome(alloc: Global, reply: Reply, outbox: Outbox) -> Outcome
+pub(crate) fn outcome(alloc: Global, reply: Reply, outbox: FrameSender) -> Outcome
     ensures reply { result.reply ≡ reply }
     ensures sent { sent_by result ≡ outbox }
     ensures made { IsNothing result.made }
 {
-    let Outbox { frames, unsent } = outbox;
+    let FrameSender { frames, unsent } = outbox;
     Outcome {
         reply,
         frames,

@@ -10,8 +10,8 @@ ghost use Rattle.am_snapshot.specs.Texts.{row_text};
 ghost use Rattle.am_snapshot.specs.Pieces.{IsPiece};
 ghost use Rattle.am_instance.specs.Handings.{HandsLog, HandsSilences, IsHandedOut, alone, is_nfl, is_sil, left_of, names_both};
 
+use crate::frame_sender::both_parts;
 use crate::instance::Instance;
-use crate::outbox::both_parts;
 use am_gossip::{FullState, Part, StateKey};
 use am_merge::{Held, Iter};
 use am_nflog::{LogKey, MeshEntry};

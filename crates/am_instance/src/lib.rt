@@ -3,12 +3,12 @@
 
 mod config;
 mod event;
+mod frame_sender;
 mod frames;
 mod handing;
 mod instance;
 pub mod laws;
 mod notices;
-mod outbox;
 mod reply;
 mod requests;
 mod rows;
@@ -17,7 +17,7 @@ mod views;
 pub use am_refusals::{ConfigError, Place, StepError};
 pub use config::Config;
 pub use event::{Event, Request};
+pub use frame_sender::{FrameSender, whole_state};
 pub use handing::{HandedPart, Handout, names_both};
 pub use instance::Instance;
-pub use outbox::{Outbox, whole_state};
 pub use reply::{Made, Outcome, Reply, Unsent};

@@ -10,8 +10,8 @@ ghost use Rattle.am_instance.specs.Deliveries.Delivery.{OfEntry};
 ghost use Rattle.am_instance.specs.Sendings.{Sends, deltas_to, sent_by};
 ghost use Rattle.am_instance.specs.Steps.{IsLoggedHere, IsWork, is_changed};
 
+use crate::frame_sender::FrameSender;
 use crate::instance::Instance;
-use crate::outbox::Outbox;
 use crate::reply::{Made, Outcome, Reply};
 use crate::requests::{is_changed, quiet};
 use crate::views::{entry_in_view, log_shown, silences_shown};
@@ -56,13 +56,13 @@ impl Instance {
     {
         let copy = entry.try_clone(self.alloc)?;
         let taken = self.log.take(entry, now)?;
-        let mut outbox = Outbox::new(self.alloc);
+        let mut outbox = FrameSender::new(self.alloc);
         self.send_entry_on(taken, &copy, &mut outbox);
         Ok(logged_outcome(self.alloc, is_changed(taken), outbox, copy))
     }
 
     /// Sends an entry that was made here to all peers, where its taking changed the log.
-    fn send_entry_on(&self, taken: Taken, entry: &MeshEntry, outbox: &mut Outbox)
+    fn send_entry_on(&self, taken: Taken, entry: &MeshEntry, outbox: &mut FrameSender)
         ensures { Sends (deltas_to (peers_but self.now.config self.now.config.place)
             (only_if (is_changed taken) (OfEntry entry.now))) outbox.old outbox.new }
     {
@@ -120,13 +120,13 @@ impl Instance {
 }
 
 /// An outcome in which an entry was made here.
-fn logged_outcome(alloc: Global, is_changed: bool, outbox: Outbox, entry: MeshEntry) -> Outcome
+fn logged_outcome(alloc: Global, is_changed: bool, outbox: FrameSender, entry: MeshEntry) -> Outcome
     ensures reply { result.reply ≡ replies.Logged is_changed }
     ensures sent { sent_by result ≡ outbox }
     ensures silences { result.made.silences.items ≡ [] }
     ensures log { result.made.log ≡ Some entry }
 {
-    let Outbox { frames, unsent } = outbox;
+    let FrameSender { frames, unsent } = outbox;
     Outcome {
         reply: Reply::Logged(is_changed),
         frames,

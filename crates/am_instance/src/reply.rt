@@ -3,7 +3,7 @@
 ghost use Rattle.std.specs.Prelude.{◌≡◌};
 ghost use Rattle.am_instance.specs.Sendings.{sent_by};
 
-use crate::outbox::Outbox;
+use crate::frame_sender::FrameSender;
 use am_dedup::Decision;
 use am_gossip::Frame;
 use am_matcher::Mutes;
@@ -63,11 +63,11 @@ pub struct Outcome {
 
 impl Outcome {
     /// The reply, and what the step sends.
-    pub fn into_parts(self) -> (Reply, Outbox)
+    pub fn into_parts(self) -> (Reply, FrameSender)
         ensures reply { result.0 ≡ self.reply }
         ensures sent { result.1 ≡ sent_by self }
     {
-        let outbox = Outbox {
+        let outbox = FrameSender {
             frames: self.frames,
             unsent: self.unsent,
         };

@@ -20,9 +20,9 @@ ghost use Rattle.am_instance.specs.Replies.{AreSilencesMade, IsNothing, posted_i
 ghost use Rattle.am_instance.specs.Steps.{IsPlanned, IsPutHere, IsTurnedAway, IsWork, is_changed, post_refusal};
 
 use crate::event::Request;
+use crate::frame_sender::FrameSender;
 use crate::frames::outcome;
 use crate::instance::Instance;
-use crate::outbox::Outbox;
 use crate::reply::{Made, Outcome, Reply};
 use crate::views::{silence_in_view, silences_shown};
 use am_gossip::StateKey;
@@ -75,12 +75,12 @@ impl Instance {
         ensures { IsWork self.old (events.Request (requests.Post posted bits)) now result self.new }
     {
         if let Some(error) = self.refused_unread(&posted, now) {
-            return self.turn_away(error);
+            return self.refuse(error);
         }
         let verdict = self.judge(&posted.matchers)?;
         match self.plan(posted, verdict, bits, now) {
             Ok(plan) => self.carry_out(plan, now),
-            Err(error) => self.turn_away(error),
+            Err(error) => self.refuse(error),
         }
     }
 
@@ -93,7 +93,7 @@ impl Instance {
     }
 
     /// Answers why a request is refused.
-    fn turn_away(&self, error: SilenceError) -> Result<Outcome, StepError>
+    fn refuse(&self, error: SilenceError) -> Result<Outcome, StepError>
         ensures refused { IfOk result (IsTurnedAway error) }
         ensures memory { IfErr result (λ e. (e ≡ errors.Memory 0) × (error ≡ silence_errors.Memory)) }
     {
@@ -166,7 +166,7 @@ impl Instance {
         let held = silence_in_view(&self.silences, id, now);
         match plan_expire(self.alloc, held, now, self.config.retention()) {
             Ok(version) => self.put_one(version, Reply::Deleted, now),
-            Err(error) => self.turn_away(error),
+            Err(error) => self.refuse(error),
         }
     }
 
@@ -183,7 +183,7 @@ impl Instance {
     {
         let made = copies_of_one(self.alloc, &version)?;
         let taken = self.silences.take(version, now)?;
-        let mut outbox = Outbox::new(self.alloc);
+        let mut outbox = FrameSender::new(self.alloc);
         self.send_on(taken, &made[0], &mut outbox);
         Ok(made_outcome(reply, outbox, made))
     }
@@ -203,14 +203,14 @@ impl Instance {
         let alloc = self.alloc;
         let made = copies_of_pair(alloc, &new, &old)?;
         let (first, second) = self.silences.take_pair(new, old, now)?;
-        let mut outbox = Outbox::new(alloc);
+        let mut outbox = FrameSender::new(alloc);
         self.send_on(first, &made[0], &mut outbox);
         self.send_on(second, &made[1], &mut outbox);
         Ok(made_outcome(reply, outbox, made))
     }
 
     /// Sends a version that was made here to all peers, where its taking changed the map.
-    fn send_on(&self, taken: Taken, version: &MeshSilence, outbox: &mut Outbox)
+    fn send_on(&self, taken: Taken, version: &MeshSilence, outbox: &mut FrameSender)
         ensures { Sends (deltas_to (peers_but self.now.config self.now.config.place)
             (only_if (is_changed taken) (OfSilence version.now))) outbox.old outbox.new }
     {
@@ -303,16 +303,16 @@ pub(crate) fn quiet(alloc: Global, reply: Reply) -> Outcome
     ensures sent { sent_by result ≡ nothing_sent }
     ensures made { IsNothing result.made }
 {
-    outcome(alloc, reply, Outbox::new(alloc))
+    outcome(alloc, reply, FrameSender::new(alloc))
 }
 
 /// An outcome in which these silences were made here.
-fn made_outcome(reply: Reply, outbox: Outbox, silences: Vec<MeshSilence>) -> Outcome
+fn made_outcome(reply: Reply, outbox: FrameSender, silences: Vec<MeshSilence>) -> Outcome
     ensures reply { result.reply ≡ reply }
     ensures sent { sent_by result ≡ outbox }
     ensures made { AreSilencesMade result.made silences.items }
 {
-    let Outbox { frames, unsent } = outbox;
+    let FrameSender { frames, unsent } = outbox;
     Outcome {
         reply,
         frames,

@@ -12,7 +12,7 @@ ghost use Rattle.am_instance.specs.Deliveries.{before_fault, first_fault};
 ghost use Rattle.am_instance.specs.Changes.{IsStoppedRow, changed, changes, only_if, takings};
 ghost use Rattle.am_instance.specs.Sendings.{Sends, deltas_of};
 
-use crate::outbox::{Outbox, Route};
+use crate::frame_sender::{FrameSender, Route};
 use am_gossip::StateKey;
 use am_merge::Held;
 use am_version_order::{Moment, Version};
@@ -24,7 +24,7 @@ use std::alloc::{AllocError, Global};
 /// # Errors
 ///
 /// The row's first fault, or [`WireError::Memory`].
-pub fn judge_row<V: Message>(alloc: Global, row: &[u8]) -> Result<(), WireError>
+pub fn validate_row<V: Message>(alloc: Global, row: &[u8]) -> Result<(), WireError>
     ensures sound { OnOk result (first_fault (messages_of V.reads row.now) ≡ None) }
     ensures fault { IfErr result (λ e. e ≢ wire_errors.Memory → first_fault (messages_of V.reads row.now) ≡ Some e) }
 {
@@ -65,7 +65,7 @@ fn take_one<V: Version>(
     held: &mut Held<V>,
     version: V,
     taking: &Taking,
-    outbox: &mut Outbox,
+    outbox: &mut FrameSender,
     taken: &mut usize,
 ) -> Result<(), AllocError>
     ensures map { OnOk result ((key : V.Key) →
@@ -94,12 +94,12 @@ fn take_one<V: Version>(
 /// # Errors
 ///
 /// [`AllocError`] where memory runs out; the versions counted so far were taken.
-pub fn take_row<V: Record>(
+pub fn merge_row<V: Record>(
     alloc: Global,
     held: &mut Held<V>,
     row: &[u8],
     taking: &Taking,
-    outbox: &mut Outbox,
+    outbox: &mut FrameSender,
     taken: &mut usize,
 ) -> Result<(), AllocError>
     requires { first_fault (messages_of V.reads row.now) ≡ None }

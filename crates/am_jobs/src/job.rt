@@ -3,7 +3,7 @@
 use crate::options::Options;
 use crate::source::{SourceWord, are_live};
 use am_peers::Server;
-use am_told::Compared;
+use am_report::Compared;
 use am_version_order::Moment;
 use std::time::Duration;
 

@@ -20,11 +20,11 @@ use Rattle.am_http.specs.declared.request.Read.{Read}
 use Rattle.am_http.specs.declared.request.Read.TheVariants.{More, Whole, Refused}
 use Rattle.am_http.specs.declared.session.fault.SessionFault.{SessionFault}
 use Rattle.am_http.specs.Sessions.{Asks, Begins, Feeds, Greets, Hears as HearsPiece, IsAsked, IsGreeted, IsHeard as IsHeardStream, LacksMemory, Says, SaysEnd, Spoken, Standing, heard, name_of, nothing}
-use Rattle.am_http.specs.Sessions.Standing.{fresh, asks, greets, hears, over}
+use Rattle.am_http.specs.Sessions.Standing.{fresh, InRequest, InGreeting, InFrames, over}
 use Rattle.am_instance.specs.InstanceStates.{InstanceState}
 use Rattle.am_instance.specs.Laws.{Happened}
-use Rattle.am_member.specs.declared.exchanged.Effects.{Effects}
-use Rattle.am_member.specs.Exchanging.{Answer, AreHeard, AreStepped, IsExchanged, MakesNamed, left_at}
+use Rattle.am_member.specs.declared.session_answer.StepEffects.{StepEffects}
+use Rattle.am_member.specs.Exchanging.{Answer, AreHeard, AreStepped, IsSessionAnswer, MakesNamed, left_at}
 use Rattle.am_member.specs.Incoming.{StopsAt, no_effects}
 use Rattle.am_member.specs.Lives.{Came, Deed as LifeDeed, IsGreetedBy, IsLife, Tells, Turn, bytes_in, bytes_of, standings_in, turns_of}
 use Rattle.am_member.specs.Lives.Came.{Heard, Fed as FedAnyhow, AtEnd, Opened}
@@ -83,9 +83,9 @@ says_over fresh (first ∷ bytes) said new says request = elim (cases_lt first 3
   | inl below ↦ no_request _ said (greets_frames (first ∷ bytes) said new (says.peer below)) request
   | inr from ↦ let is = says.request from in asked_over is.0 (first ∷ bytes) said new is.2 request
 ]
-says_over (asks bytes) piece said new says request = asked_over says.0 (bytes ++ piece) said new says.2 request
-says_over (greets bytes) piece said new says request = no_request _ said (greets_frames (bytes ++ piece) said new says) request
-says_over (hears name count rest) piece said new says request = no_request _ said (hears_frames name count rest piece said new says) request
+says_over (InRequest bytes) piece said new says request = asked_over says.0 (bytes ++ piece) said new says.2 request
+says_over (InGreeting bytes) piece said new says request = no_request _ said (greets_frames (bytes ++ piece) said new says) request
+says_over (InFrames name count rest) piece said new says request = no_request _ said (hears_frames name count rest piece said new says) request
 says_over (over name) piece said new says request = no_request _ said (request_of said nothing says.0) request
 
 lacks_over : (old : Standing) (piece : List ℕ) (said : Spoken) (new : Standing) → LacksMemory old piece said new → new ≡ over (name_of new)
@@ -94,9 +94,9 @@ lacks_over fresh (first ∷ bytes) said new lacks = elim (cases_lt first 32) [
   | inl below ↦ let greet = lacks.peer below in over_name new greet.1.0 greet.1.1
   | inr from ↦ over_name new None (lacks.request from).1
 ]
-lacks_over (asks bytes) piece said new lacks = over_name new None lacks.1
-lacks_over (greets bytes) piece said new lacks = over_name new lacks.1.0 lacks.1.1
-lacks_over (hears name count rest) piece said new lacks = over_name new (Some name) lacks.1
+lacks_over (InRequest bytes) piece said new lacks = over_name new None lacks.1
+lacks_over (InGreeting bytes) piece said new lacks = over_name new lacks.1.0 lacks.1.1
+lacks_over (InFrames name count rest) piece said new lacks = over_name new (Some name) lacks.1
 lacks_over (over name) piece said new lacks = absurd lacks
 
 told_over : (old : Standing) (came : Came) (said : Spoken) (new : Standing) → Tells old came said new → IsRequest said → new ≡ over (name_of new)
@@ -112,11 +112,11 @@ nil_parts : (frame : Frame) (made others : List Frame) → [] ≡ made ++ frame 
 nil_parts frame [] others e = cc
 nil_parts frame (first ∷ made) others e = cc
 
-stepped_nothing : (name : Option (List ℕ)) (now : ℕ) (old new : InstanceState) (effects : Effects) → MakesNamed name now [] old no_effects new effects → new ≡ old
+stepped_nothing : (name : Option (List ℕ)) (now : ℕ) (old new : InstanceState) (effects : StepEffects) → MakesNamed name now [] old no_effects new effects → new ≡ old
 stepped_nothing None now old new effects made = made.1
 stepped_nothing (Some name) now old new effects made = made.2.0
 
-stopped_nothing : (name : Option (List ℕ)) (now : ℕ) (old new : InstanceState) (effects : Effects) (stop : Fault) → AreStepped name now [] old no_effects new effects (Err stop) → new ≡ old
+stopped_nothing : (name : Option (List ℕ)) (now : ℕ) (old new : InstanceState) (effects : StepEffects) (stop : Fault) → AreStepped name now [] old no_effects new effects (Err stop) → new ≡ old
 stopped_nothing name now old new effects UnknownName stepped = stepped.1
 stopped_nothing name now old new effects (Step error) stepped = absurd (nil_parts stepped.2.frame stepped.2.made stepped.2.others stepped.2.frames_are)
 stopped_nothing name now old new effects (InRead at) stepped = absurd stepped
@@ -124,13 +124,13 @@ stopped_nothing name now old new effects (Write written) stepped = absurd steppe
 stopped_nothing name now old new effects TooLarge stepped = absurd stepped
 stopped_nothing name now old new effects (InFrame error) stepped = absurd stepped
 
-heard_nothing : (name : Option (List ℕ)) (now : ℕ) (fault : Option SessionFault) (old new : InstanceState) (effects : Effects) (told : Option Fault) →
+heard_nothing : (name : Option (List ℕ)) (now : ℕ) (fault : Option SessionFault) (old new : InstanceState) (effects : StepEffects) (told : Option Fault) →
     AreHeard name now [] fault old new effects told → new ≡ old
 heard_nothing name now fault old new effects told (inl all) = stepped_nothing name now old new effects all.0
 heard_nothing name now fault old new effects told (inr stops) = stopped_nothing name now old new effects stops.0 stops.1
 
 exchanged_nothing : (name : Option (List ℕ)) (bits now : ℕ) (fault : Option SessionFault) (old new : InstanceState) (answer : Answer) →
-    IsExchanged name bits now (spared (heard [] fault)) old new answer → new ≡ old
+    IsSessionAnswer name bits now (spared (heard [] fault)) old new answer → new ≡ old
 exchanged_nothing name bits now fault old new answer done = heard_nothing name now fault old new answer.effects answer.fault (done.heard refl).1
 
 -- it is heard on, or no more
@@ -152,7 +152,7 @@ taken_rests said old new talk talk' taken = elim (left_rests taken.answer.fault 
 silent_alone : (fault : Option SessionFault) (said : Spoken) (old new : InstanceState) (talk talk' : Talk) → said ≡ heard [] fault → IsAnswered said old talk new talk' → IsAlone old talk new talk'
 silent_alone fault said old new talk talk' says (inl taken) = record {
   own = nothing_made old new (exchanged_nothing (name_of talk.session) taken.bits taken.now fault old new taken.answer
-      (subst (λ (s : Spoken). IsExchanged (name_of talk.session) taken.bits taken.now (spared s) old new taken.answer) says taken.exchanged));
+      (subst (λ (s : Spoken). IsSessionAnswer (name_of talk.session) taken.bits taken.now (spared s) old new taken.answer) says taken.exchanged));
   rests = taken_rests said old new talk talk' taken;
 }
 silent_alone fault said old new talk talk' says (inr (inl kept)) = no_request _ said (request_of said _ says) kept.request

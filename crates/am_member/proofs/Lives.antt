@@ -20,7 +20,7 @@ use Rattle.am_http.specs.Sessions.{Standing, name_of}
 use Rattle.am_member.specs.Sparing.{spared}
 use Rattle.am_peers.specs.declared.fault.Fault.{Fault}
 use Rattle.am_peers.specs.declared.fault.Fault.TheVariants.{Read as InRead, Write, TooLarge, Frame as InFrame, UnknownName, Step}
-use Rattle.am_member.specs.declared.exchanged.Effects.{Effects}
+use Rattle.am_member.specs.declared.session_answer.StepEffects.{StepEffects}
 use Rattle.am_member.specs.Incoming.{MakesAll, StopsAt, no_effects}
 use Rattle.am_member.specs.Exchanging.{Answer, AreHeard, AreStepped, IsAnsweredTo, IsFromNobody, MakesNamed, is_stopped}
 use Rattle.am_member.specs.Lives.{AreEventsOf, AreEventsOfFrames, AreEventsOfRead, AreStepsOf, AreStepsOfAll, Deed, IsLife, IsTurn, Turn, listed, standings_after}
@@ -64,7 +64,7 @@ none_at : (now : ℕ) (old new : InstanceState) → new ≡ old → (steps : Lis
 none_at now old new same = ([], record { asks = refl; moments = tt; made = same })
 
 -- the steps of frames
-pub all_steps : (sender now : ℕ) (frames : List Frame) (old : InstanceState) (before : Effects) (new : InstanceState) (after : Effects) →
+pub all_steps : (sender now : ℕ) (frames : List Frame) (old : InstanceState) (before : StepEffects) (new : InstanceState) (after : StepEffects) →
     MakesAll sender now frames old before new after → (steps : List Happened) × AreStepsAt now (sent_from sender frames) old steps new
 all_steps sender now [] old before new after made = none_at now old new made.0
 all_steps sender now (frame ∷ frames) old before new after made =
@@ -107,7 +107,7 @@ whole_steps now asked stopped old new all = (
 )
 
 -- the steps up to the first one that is refused
-stop_steps : (sender now : ℕ) (frames : List Frame) (old : InstanceState) (before : Effects) (new : InstanceState) (after : Effects) (error : StepError) →
+stop_steps : (sender now : ℕ) (frames : List Frame) (old : InstanceState) (before : StepEffects) (new : InstanceState) (after : StepEffects) (error : StepError) →
     StopsAt sender now frames old before new after error → (steps : List Happened) × AreStepsUpTo now (sent_from sender frames) true old steps new
 stop_steps sender now frames old before new after error stop =
     let event : Event = events.Frame sender stop.frame in
@@ -141,7 +141,7 @@ no_frame name now frames stopped old new why same =
     record { asked = []; are = inl (refl, why); steps = whole_steps now [] stopped old new (none_at now old new same) }
 
 -- all steps were made
-named_steps : (name : Option (List ℕ)) (now : ℕ) (frames : List Frame) (stopped : Bool) (old : InstanceState) (before : Effects) (new : InstanceState) (after : Effects) →
+named_steps : (name : Option (List ℕ)) (now : ℕ) (frames : List Frame) (stopped : Bool) (old : InstanceState) (before : StepEffects) (new : InstanceState) (after : StepEffects) →
     MakesNamed name now frames old before new after → FrameSteps name now frames stopped old new
 named_steps None now frames stopped old before new after made = no_frame None now frames stopped old new (inl made.0) made.1
 named_steps (Some name) now frames stopped old before new after made = record {
@@ -151,7 +151,7 @@ named_steps (Some name) now frames stopped old before new after made = record {
 }
 
 -- the steps stopped
-stepped_steps : (name : Option (List ℕ)) (now : ℕ) (frames : List Frame) (old : InstanceState) (before : Effects) (new : InstanceState) (after : Effects) (stop : Fault) →
+stepped_steps : (name : Option (List ℕ)) (now : ℕ) (frames : List Frame) (old : InstanceState) (before : StepEffects) (new : InstanceState) (after : StepEffects) (stop : Fault) →
     AreStepped name now frames old before new after (Err stop) → FrameSteps name now frames (is_stopped (Some stop)) old new
 stepped_steps name now frames old before new after UnknownName stepped = no_frame name now frames true old new (inr stepped.0) stepped.1
 stepped_steps name now frames old before new after (Step error) stepped = record {
@@ -165,7 +165,7 @@ stepped_steps name now frames old before new after TooLarge stepped = absurd ste
 stepped_steps name now frames old before new after (InFrame error) stepped = absurd stepped
 
 -- whatever came of them
-heard_steps : (name : Option (List ℕ)) (now : ℕ) (frames : List Frame) (fault : Option SessionFault) (old new : InstanceState) (effects : Effects) (told : Option Fault) →
+heard_steps : (name : Option (List ℕ)) (now : ℕ) (frames : List Frame) (fault : Option SessionFault) (old new : InstanceState) (effects : StepEffects) (told : Option Fault) →
     AreHeard name now frames fault old new effects told → FrameSteps name now frames (is_stopped told) old new
 heard_steps name now frames fault old new effects told (inl all) = named_steps name now frames (is_stopped told) old no_effects new effects all.0
 heard_steps name now frames fault old new effects told (inr stops) =

@@ -5,11 +5,11 @@ use Rattle.am_refusals.specs.declared.error.StepError.{StepError}
 use Rattle.am_instance.specs.declared.event.Event.TheVariants as events
 use Rattle.am_instance.specs.InstanceStates.{InstanceState}
 use Rattle.am_instance.specs.OneStep.{IsStep}
-use Rattle.am_member.specs.declared.exchanged.Effects.{Effects}
+use Rattle.am_member.specs.declared.session_answer.StepEffects.{StepEffects}
 use Rattle.am_member.specs.Incoming.{MakesAll, MakesStep, StopsAt}
 
 -- one more
-pub all_more : (sender now : ℕ) (frames : List Frame) (frame : Frame) (old : InstanceState) (before : Effects) (mid : InstanceState) (between : Effects) (new : InstanceState) (after : Effects) →
+pub all_more : (sender now : ℕ) (frames : List Frame) (frame : Frame) (old : InstanceState) (before : StepEffects) (mid : InstanceState) (between : StepEffects) (new : InstanceState) (after : StepEffects) →
     MakesAll sender now frames old before mid between → MakesStep sender now frame mid between new after →
     MakesAll sender now (frames ++ frame ∷ []) old before new after
 all_more sender now [] frame old before mid between new after made step = (new, after, rw (made.0, made.1) at step, (refl, refl))
@@ -17,7 +17,7 @@ all_more sender now (f ∷ fs) frame old before mid between new after made step 
     (made.0, made.1, made.2, all_more sender now fs frame made.0 made.1 mid between new after made.3 step)
 
 -- others behind them
-pub all_append : (sender now : ℕ) (frames others : List Frame) (old : InstanceState) (before : Effects) (mid : InstanceState) (between : Effects) (new : InstanceState) (after : Effects) →
+pub all_append : (sender now : ℕ) (frames others : List Frame) (old : InstanceState) (before : StepEffects) (mid : InstanceState) (between : StepEffects) (new : InstanceState) (after : StepEffects) →
     MakesAll sender now frames old before mid between → MakesAll sender now others mid between new after →
     MakesAll sender now (frames ++ others) old before new after
 all_append sender now [] others old before mid between new after made more = rw (made.0, made.1) at more
@@ -29,14 +29,14 @@ pub one_on : {A : Type 0} → (all taken left rest : List A) (x : A) → all ≡
 one_on all taken left rest x is next = is ∙ (ap (λ xs. taken ++ xs) next ∙ sym (append_assoc taken (x ∷ []) rest))
 
 -- the first step that is refused, behind others
-pub stops : (sender now : ℕ) (frames made others : List Frame) (frame : Frame) (old : InstanceState) (before : Effects) (mid : InstanceState) (between : Effects) (new : InstanceState) (after : Effects) (error : StepError) →
+pub stops : (sender now : ℕ) (frames made others : List Frame) (frame : Frame) (old : InstanceState) (before : StepEffects) (mid : InstanceState) (between : StepEffects) (new : InstanceState) (after : StepEffects) (error : StepError) →
     frames ≡ made ++ frame ∷ others → MakesAll sender now made old before mid between → IsStep mid (events.Frame sender frame) now (Err error) new → after ≡ between →
     StopsAt sender now frames old before new after error
 stops sender now frames made others frame old before mid between new after error is made_all step kept =
-    record { made = made; frame = frame; others = others; frames_are = is; mid = mid; made_all = subst (λ (e : Effects). MakesAll sender now made old before mid e) (sym kept) made_all; refused = step }
+    record { made = made; frame = frame; others = others; frames_are = is; mid = mid; made_all = subst (λ (e : StepEffects). MakesAll sender now made old before mid e) (sym kept) made_all; refused = step }
 
 -- the same behind others that were answered
-pub stops_later : (sender now : ℕ) (first frames : List Frame) (old : InstanceState) (before : Effects) (mid : InstanceState) (between : Effects) (new : InstanceState) (after : Effects) (error : StepError) →
+pub stops_later : (sender now : ℕ) (first frames : List Frame) (old : InstanceState) (before : StepEffects) (mid : InstanceState) (between : StepEffects) (new : InstanceState) (after : StepEffects) (error : StepError) →
     MakesAll sender now first old before mid between → StopsAt sender now frames mid between new after error → StopsAt sender now (first ++ frames) old before new after error
 stops_later sender now first frames old before mid between new after error made stop =
     record {

@@ -1,11 +1,11 @@
 -- What comes of what a connection said: the answer to its request, or the steps of its frames.
 use Rattle.std.specs.Prelude.{◌≡◌, ◌≢◌, ◌⊎◌, ℕ, Bool, true, false, List, [], Option, None, Some, option_map, Result, Ok, Err, ⊤}
-use Rattle.am_api_silences.specs.declared.answering.Begun.{Begun}
-use Rattle.am_api_silences.specs.declared.making.Making.{Making}
+use Rattle.am_api_silences.specs.declared.answering.PendingAnswer.{PendingAnswer}
+use Rattle.am_api_silences.specs.declared.pending_reply.PendingReply.{PendingReply}
 use Rattle.am_api_silences.specs.declared.replies.ReplyBytes.{ReplyBytes}
 use Rattle.am_api_silences.specs.Answers.{Answered, IsAnswerTo, with_reply as answered_with}
 use Rattle.am_api_silences.specs.Events.{IsCall}
-use Rattle.am_api_silences.specs.Making.{IsMadeOf}
+use Rattle.am_api_silences.specs.PendingReply.{IsMadeOf}
 use Rattle.am_gossip.specs.declared.frame.Frame.{Frame}
 use Rattle.am_http.specs.declared.cause.Cause.{Cause}
 use Rattle.am_http.specs.declared.request.Read.{Read}
@@ -17,8 +17,8 @@ use Rattle.am_instance.specs.InstanceStates.{InstanceState}
 use Rattle.am_http.specs.declared.session.fault.SessionFault.{SessionFault}
 use Rattle.am_http.specs.declared.session.fault.SessionFault.TheVariants as session_faults
 use Rattle.am_http.specs.Sessions.{Spoken, Standing, name_of, over}
-use Rattle.am_member.specs.declared.exchanged.Effects.{Effects}
-use Rattle.am_member.specs.declared.exchanged.Exchanged.{Exchanged}
+use Rattle.am_member.specs.declared.session_answer.StepEffects.{StepEffects}
+use Rattle.am_member.specs.declared.session_answer.SessionAnswer.{SessionAnswer}
 use Rattle.am_peers.specs.declared.fault.Fault.{Fault}
 use Rattle.am_peers.specs.declared.fault.Fault.TheVariants.{TooLarge, Frame as InFrame, UnknownName, Step}
 use Rattle.am_member.specs.Incoming.{IsOnlyPeerOf, IsPeerOf, MakesAll, StopsAt, no_effects}
@@ -29,22 +29,22 @@ use Rattle.am_member.specs.Incoming.{IsOnlyPeerOf, IsPeerOf, MakesAll, StopsAt, 
 -- effects besides those on the instance; and why no more is heard of it.
 pub record Answer : Type 0 where
   pub reply : Option ReplyBytes
-  pub effects : Effects
+  pub effects : StepEffects
   pub fault : Option Fault
 
 -- what a reply that is being made is finished with, where there is one
-abbrev pub IsFinished : Option Making → Option ReplyBytes → Type 0
+abbrev pub IsFinished : Option PendingReply → Option ReplyBytes → Type 0
 IsFinished None None = ⊤
 IsFinished (Some making) (Some reply) = IsMadeOf making reply
 IsFinished _ _ = ⊥
 
 -- what comes of an exchange with this reply
-abbrev pub with_reply : Exchanged → Option ReplyBytes → Answer
+abbrev pub with_reply : SessionAnswer → Option ReplyBytes → Answer
 with_reply exchanged reply = record { reply = reply; effects = exchanged.effects; fault = exchanged.fault }
 
 -- whatever its reply is finished with, such an answer comes of an exchange
-abbrev pub Comes : (Answer → Type 0) → Exchanged → Type 0
-Comes IsSuch exchanged = (reply : Option ReplyBytes) → IsFinished exchanged.reply reply → IsSuch (with_reply exchanged reply)
+abbrev pub WhenFinished : (Answer → Type 0) → SessionAnswer → Type 0
+WhenFinished IsSuch exchanged = (reply : Option ReplyBytes) → IsFinished exchanged.reply reply → IsSuch (with_reply exchanged reply)
 
 -- ---- a request
 
@@ -62,7 +62,7 @@ pub record IsReplied (answered : Answered) (answer : Answer) : Type 0 where
   pub no_fault : answer.fault ≡ None
 
 -- so is one that is begun, with what its reply is finished with
-abbrev pub IsHandedOn : Begun → Answer → Type 0
+abbrev pub IsHandedOn : PendingAnswer → Answer → Type 0
 IsHandedOn begun answer = (reply : ReplyBytes) × IsMadeOf begun.making reply × IsReplied (answered_with begun reply) answer
 
 -- what was read is answered; nothing is where it decides nothing yet
@@ -84,14 +84,14 @@ IsFromNobody config None frames = frames ≢ []
 IsFromNobody config (Some name) frames = (place : ℕ) → ¬ IsPeerOf config name place
 
 -- the steps of the frames of the peer of this name; where no name came, there is no frame
-abbrev pub MakesNamed : Option (List ℕ) → ℕ → List Frame → InstanceState → Effects → InstanceState → Effects → Type 0
+abbrev pub MakesNamed : Option (List ℕ) → ℕ → List Frame → InstanceState → StepEffects → InstanceState → StepEffects → Type 0
 MakesNamed None now frames old before new after = (frames ≡ []) × (new ≡ old) × (after ≡ before)
 MakesNamed (Some name) now frames old before new after =
     (sender : ℕ) × IsOnlyPeerOf old.config name sender × MakesAll sender now frames old before new after
 
 -- What the frames of a connection with this name did: each step was made; or no peer has the name, or a step is refused, and the
 -- connection is not heard on.
-abbrev pub AreStepped : Option (List ℕ) → ℕ → List Frame → InstanceState → Effects → InstanceState → Effects → Result Unit Fault → Type 0
+abbrev pub AreStepped : Option (List ℕ) → ℕ → List Frame → InstanceState → StepEffects → InstanceState → StepEffects → Result Unit Fault → Type 0
 AreStepped name now frames old before new after (Ok _) = MakesNamed name now frames old before new after
 AreStepped name now frames old before new after (Err UnknownName) =
     IsFromNobody old.config name frames × (new ≡ old) × (after ≡ before)
@@ -106,7 +106,7 @@ fault_heard (session_faults.Frame error) = InFrame error
 
 -- What comes of frames, behind which the session is at fault or goes on: all their steps, and the session's own fault is told;
 -- or the first of them that can't be made is told.
-abbrev pub AreHeard : Option (List ℕ) → ℕ → List Frame → Option SessionFault → InstanceState → InstanceState → Effects → Option Fault → Type 0
+abbrev pub AreHeard : Option (List ℕ) → ℕ → List Frame → Option SessionFault → InstanceState → InstanceState → StepEffects → Option Fault → Type 0
 AreHeard name now frames fault old new effects told =
     (AreStepped name now frames old no_effects new effects (Ok tt) × (told ≡ option_map fault_heard fault))
     ⊎ ((stop : Fault) × AreStepped name now frames old no_effects new effects (Err stop) × (told ≡ Some stop))
@@ -115,7 +115,7 @@ AreHeard name now frames fault old new effects told =
 
 -- What comes of what a connection with this name said: of a request its answer, else the steps of the frames. (A session never
 -- says both.)
-pub record IsExchanged (name : Option (List ℕ)) (bits now : ℕ) (said : Spoken) (old new : InstanceState) (answer : Answer) : Type 0 where
+pub record IsSessionAnswer (name : Option (List ℕ)) (bits now : ℕ) (said : Spoken) (old new : InstanceState) (answer : Answer) : Type 0 where
   pub asked : (read : Read) → said.request ≡ Some read → IsAnsweredTo read bits now old new answer
   pub heard : said.request ≡ None →
       (answer.reply ≡ None) × AreHeard name now said.frames said.fault old new answer.effects answer.fault
@@ -140,6 +140,6 @@ is_list (Ok (ListCall query)) = true
 is_list _ = false
 
 -- whether what was read is a whole request for a list
-abbrev pub IsDear : Read → Bool → Type 0
-IsDear (Whole request) dear = (call : Result Call Cause) × IsCall request call × (dear ≡ is_list call)
-IsDear _ dear = dear ≡ false
+abbrev pub IsListRequest : Read → Bool → Type 0
+IsListRequest (Whole request) dear = (call : Result Call Cause) × IsCall request call × (dear ≡ is_list call)
+IsListRequest _ dear = dear ≡ false

@@ -9,32 +9,32 @@ use Rattle.am_instance.specs.InstanceStates.{InstanceState}
 use Rattle.am_instance.specs.Sendings.{Gathers, Sent, nothing_sent, sent_by}
 use Rattle.am_instance.specs.Steps.{collects}
 use Rattle.am_instance.specs.OneStep.{IsStep}
-use Rattle.am_member.specs.declared.exchanged.Effects.{Effects}
+use Rattle.am_member.specs.declared.session_answer.StepEffects.{StepEffects}
 
 -- no step was made
-abbrev pub no_effects : Effects
+abbrev pub no_effects : StepEffects
 no_effects = record { outbox = nothing_sent; ticked = false }
 
 -- what one more step adds: what it sends, and whether it was a Tick
-pub record Adds (more : Sent) (ticks : Bool) (before after : Effects) : Type 0 where
+pub record Adds (more : Sent) (ticks : Bool) (before after : StepEffects) : Type 0 where
   pub sent : Gathers more before.outbox after.outbox
   pub ticked : after.ticked ≡ (before.ticked || ticks)
 
 -- the step of a frame that came from a peer is answered
-pub record MakesStep (sender now : ℕ) (frame : Frame) (old : InstanceState) (before : Effects) (new : InstanceState) (after : Effects) : Type 0 where
+pub record MakesStep (sender now : ℕ) (frame : Frame) (old : InstanceState) (before : StepEffects) (new : InstanceState) (after : StepEffects) : Type 0 where
   pub outcome : Outcome
   pub step : IsStep old (events.Frame sender frame) now (Ok outcome) new
   pub adds : Adds (sent_by outcome) (collects (events.Frame sender frame)) before after
 
 -- so is that of each frame, from where the one before it left the instance
-abbrev pub MakesAll : ℕ → ℕ → List Frame → InstanceState → Effects → InstanceState → Effects → Type 0
+abbrev pub MakesAll : ℕ → ℕ → List Frame → InstanceState → StepEffects → InstanceState → StepEffects → Type 0
 MakesAll sender now [] old before new after = (new ≡ old) × (after ≡ before)
 MakesAll sender now (frame ∷ frames) old before new after =
-    (mid : InstanceState) × (between : Effects) × MakesStep sender now frame old before mid between
+    (mid : InstanceState) × (between : StepEffects) × MakesStep sender now frame old before mid between
     × MakesAll sender now frames mid between new after
 
 -- the steps up to the first one that is refused
-pub record StopsAt (sender now : ℕ) (frames : List Frame) (old : InstanceState) (before : Effects) (new : InstanceState) (after : Effects)
+pub record StopsAt (sender now : ℕ) (frames : List Frame) (old : InstanceState) (before : StepEffects) (new : InstanceState) (after : StepEffects)
     (error : StepError) : Type 0 where
   pub made : List Frame
   pub frame : Frame

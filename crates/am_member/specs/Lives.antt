@@ -27,7 +27,7 @@ use Rattle.am_api_silences.specs.Replies.{IsReplyBytes, Says, line_bytes, memory
 use Rattle.am_api_silences.specs.Table.{clock_line}
 use Rattle.am_api_silences.specs.declared.replies.ReplyBytes.{ReplyBytes}
 use Rattle.am_http.specs.Sessions.{Feeds, Says as SaysPiece, SaysEnd, Spoken, Standing, and_then, name_of, nothing, over}
-use Rattle.am_member.specs.Exchanging.{Answer, IsExchanged, IsFromNobody, IsSender, is_stopped, left_at}
+use Rattle.am_member.specs.Exchanging.{Answer, IsSessionAnswer, IsFromNobody, IsSender, is_stopped, left_at}
 use Rattle.am_member.specs.Sparing.{spared}
 
 -- what came of a connection: a piece that there was memory for, any piece, or the end of its input; or frames that were sealed, with the
@@ -76,10 +76,10 @@ pub record Turn : Type 0 where
   pub left : InstanceState
 
 -- What came is told by the connection's own session; what its frames ask for is left to the member's own steps, and the rest is
--- answered as the contract of `exchange` says.
+-- answered as the contract of `apply_session_output` says.
 pub record IsTurn (standing : Standing) (old : InstanceState) (turn : Turn) : Type 0 where
   pub tells : Tells standing turn.came turn.said turn.heard
-  pub answered : IsExchanged (name_of turn.heard) turn.bits turn.now (spared turn.said) old turn.left turn.answer
+  pub answered : IsSessionAnswer (name_of turn.heard) turn.bits turn.now (spared turn.said) old turn.left turn.answer
 
 -- how far its connection has come after a turn, and each other one as before
 abbrev pub standings_after : (ℕ → Standing) → Turn → ℕ → Standing

@@ -3,14 +3,14 @@
 ghost use Rattle.std.specs.Prelude.{◌≡◌, None, option_map};
 ghost use Rattle.std.specs.Option.{option_copied};
 ghost use Rattle.am_http.specs.Sessions.{name_of, spoken};
-ghost use Rattle.am_member.specs.Exchanging.{AreHeard, AreStepped, Comes, IsAnsweredTo, IsDear, IsExchanged, IsHandedOn, fault_heard, is_list, left_at};
+ghost use Rattle.am_member.specs.Exchanging.{AreHeard, AreStepped, WhenFinished, IsAnsweredTo, IsListRequest, IsSessionAnswer, IsHandedOn, fault_heard, is_list, left_at};
 
-use crate::exchanged::{Effects, Exchanged};
 use crate::sender::peer_named;
+use crate::session_answer::{SessionAnswer, StepEffects};
 use crate::steps::make_steps;
-use am_api_silences::{Begun, begin_answer, turn_away};
+use am_api_silences::{PendingAnswer, begin_answer, refuse};
 use am_gossip::Frame;
-use am_http::session::{Said, Session, SessionFault};
+use am_http::session::{Session, SessionFault, SessionOutput};
 use am_http::{Call, Cause, Read, call_of};
 use am_instance::Instance;
 use am_peers::Fault;
@@ -18,14 +18,14 @@ use am_version_order::Moment;
 use std::alloc::Global;
 
 /// Hands on an answer.
-fn replied(begun: Begun) -> Exchanged
-    ensures handed { Comes (IsHandedOn begun) result }
+fn replied(begun: PendingAnswer) -> SessionAnswer
+    ensures handed { WhenFinished (IsHandedOn begun) result }
     ensures no_fault { result.fault ≡ None }
 {
-    let Begun { making, outbox } = begun;
-    Exchanged {
+    let PendingAnswer { making, outbox } = begun;
+    SessionAnswer {
         reply: Some(making),
-        effects: Effects {
+        effects: StepEffects {
             outbox,
             ticked: false,
         },
@@ -40,14 +40,14 @@ fn reply_to(
     read: Read,
     bits: u128,
     now: Moment,
-) -> Exchanged
-    ensures answered { Comes (IsAnsweredTo read bits now instance.old instance.new) result }
+) -> SessionAnswer
+    ensures answered { WhenFinished (IsAnsweredTo read bits now instance.old instance.new) result }
     ensures no_fault { result.fault ≡ None }
 {
     match read {
         Read::Whole(request) => replied(begin_answer(alloc, instance, &request, bits, now)),
-        Read::Refused(refusal) => replied(turn_away(alloc, &refusal)),
-        Read::More => Exchanged::nothing(alloc),
+        Read::Refused(refusal) => replied(refuse(alloc, &refusal)),
+        Read::More => SessionAnswer::nothing(alloc),
     }
 }
 
@@ -59,7 +59,7 @@ fn reply_to(
 /// before it stand.
 fn step_named(
     instance: &mut Instance,
-    effects: &mut Effects,
+    effects: &mut StepEffects,
     name: Option<&str>,
     frames: Vec<Frame>,
     now: Moment,
@@ -99,12 +99,12 @@ fn hear(
     frames: Vec<Frame>,
     fault: Option<SessionFault>,
     now: Moment,
-) -> Exchanged
+) -> SessionAnswer
     ensures heard { AreHeard (name_of session.old) now frames.items fault instance.old instance.new result.effects result.fault }
     ensures silent { result.reply ≡ None }
     ensures session { session.new ≡ left_at result.fault session.old }
 {
-    let mut exchanged = Exchanged::nothing(alloc);
+    let mut exchanged = SessionAnswer::nothing(alloc);
     match step_named(
         instance,
         &mut exchanged.effects,
@@ -130,19 +130,19 @@ fn hear(
 ///
 /// No more is heard of the connection where no peer has that name, which is told once the name came, or a step is refused;
 /// the steps before it stand. Where nothing was said, nothing else changes.
-pub fn exchange(
+pub fn apply_session_output(
     alloc: Global,
     instance: &mut Instance,
     session: &mut Session,
-    said: Said,
+    said: SessionOutput,
     bits: u128,
     now: Moment,
-) -> Exchanged
+) -> SessionAnswer
     // PROMISE: A request is answered by one step at its moment, a peer's frames by one step each.
-    ensures exchanged { Comes (IsExchanged (name_of session.old) bits now (spoken said) instance.old instance.new) result }
+    ensures exchanged { WhenFinished (IsSessionAnswer (name_of session.old) bits now (spoken said) instance.old instance.new) result }
     ensures session { session.new ≡ left_at result.fault session.old }
 {
-    let Said {
+    let SessionOutput {
         frames,
         request,
         fault,
@@ -160,8 +160,8 @@ fn is_list(call: Result<Call<'_>, Cause>) -> bool
 }
 
 /// Whether a request asks for a list, whose reply may take long to make.
-pub fn is_dear(read: &Read) -> bool
-    ensures { IsDear read.now result }
+pub fn is_list_request(read: &Read) -> bool
+    ensures { IsListRequest read.now result }
 {
     match read {
         Read::Whole(request) => is_list(call_of(&request.method, &request.target)),

@@ -2,14 +2,14 @@
 #![tactic(auto)]
 
 mod answering;
-mod exchanged;
 mod judging;
 pub mod laws;
 mod sender;
+mod session_answer;
 mod sparing;
 mod steps;
 
-pub use answering::{exchange, is_dear};
-pub use exchanged::{Effects, Exchanged};
+pub use answering::{apply_session_output, is_list_request};
 pub use judging::{Judged, Judging};
+pub use session_answer::{SessionAnswer, StepEffects};
 pub use sparing::{Spared, spare};

@@ -6,13 +6,13 @@ ghost use Rattle.am_http.specs.Sessions.{spoken};
 ghost use Rattle.am_member.specs.Sparing.{brings, is_push, is_tick, quiet, spared};
 
 use am_gossip::Frame;
-use am_http::session::Said;
+use am_http::session::SessionOutput;
 use std::mem;
 
 /// What was said, without what its frames ask for.
 #[derive(Drop)]
 pub struct Spared {
-    pub said: Said,
+    pub said: SessionOutput,
     /// A Push asks for all that is held here.
     pub asks: bool,
     /// A Tick asks for a collection.
@@ -84,7 +84,7 @@ fn any_tick(frames: &[Frame]) -> bool
 
 /// Parts what was said: what its frames bring is to be taken at once, and what they ask for is owed once, however often they
 /// do. It takes no memory.
-pub fn spare(said: Said) -> Spared
+pub fn spare(said: SessionOutput) -> Spared
     ensures said { spoken result.said ≡ spared (spoken said) }
     ensures asks { result.asks ≡ list_any is_push said.frames.items }
     ensures ticks { result.ticks ≡ list_any is_tick said.frames.items }

@@ -6,7 +6,7 @@ ghost use Rattle.am_instance.specs.Steps.{collects};
 ghost use Rattle.am_instance.specs.declared.event.Event.TheVariants as events;
 ghost use Rattle.am_member.specs.Incoming.{MakesAll, MakesStep, StopsAt};
 
-use crate::exchanged::Effects;
+use crate::session_answer::StepEffects;
 use am_gossip::Frame;
 use am_instance::{Event, Instance, Place, StepError};
 use am_version_order::Moment;
@@ -20,7 +20,7 @@ fn is_tick(frame: &Frame) -> bool
 /// Makes the step of a frame.
 fn make_step(
     instance: &mut Instance,
-    effects: &mut Effects,
+    effects: &mut StepEffects,
     sender: Place,
     frame: Frame,
     now: Moment,
@@ -42,7 +42,7 @@ fn make_step(
 /// Why that one is refused. The steps before it stand.
 pub fn make_steps(
     instance: &mut Instance,
-    effects: &mut Effects,
+    effects: &mut StepEffects,
     sender: Place,
     frames: Vec<Frame>,
     now: Moment,

@@ -10,7 +10,7 @@ ghost use Rattle.am_memberlist.specs.Seen.{row_seen, found_seen};
 
 use crate::error::AnswerError;
 use am_gossip::StateKey;
-use am_wire::reading::{Draft, LastBytes, LastText, Scan, Schema, take_fields};
+use am_wire::reading::{LastBytes, LastText, MessageReader, Scan, Schema, take_fields};
 use am_wire::writing::{write_delimited, write_text};
 use am_wire::{Field, Value, WireError, WireType};
 use std::alloc::{AllocError, Global};
@@ -35,7 +35,7 @@ impl Schema for PartDraft<'_> {
     }
 }
 
-impl<'a> Draft<'a> for PartDraft<'a> {
+impl<'a> MessageReader<'a> for PartDraft<'a> {
     ghost use Rattle.std.specs.Prelude.{None};
     ghost use Rattle.am_memberlist.specs.Rows.{nothing_of, IsPartDraft};
 

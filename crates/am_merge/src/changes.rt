@@ -185,7 +185,7 @@ pub fn order_by_key<V: Version>(versions: &mut Vec<V>) -> bool
 }
 
 /// The store of versions that are in the order of their keys.
-pub fn shelve<V: Version>(alloc: Global, sorted: Vec<V>) -> Result<Store<V>, AllocError>
+pub fn from_sorted<V: Version>(alloc: Global, sorted: Vec<V>) -> Result<Store<V>, AllocError>
     requires { IsMap V.seen V.Key.cmp sorted.items }
     ensures store { IfOk result (IsStore V.seen V.head_of V.Key.cmp V.bucket_of) }
     ensures all { IfOk result (λ store. versions store ≡ sorted.items) }

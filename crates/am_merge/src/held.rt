@@ -6,8 +6,8 @@ ghost use Rattle.std.specs.Option.{option_copied};
 ghost use Rattle.am_merge.specs.Maps.{IsMap, IsJoin, IsLeastExpiry, HasTwice, at, from_key, if_live, in_bucket, replaces, swept};
 
 use crate::changes::{
-    copy_store, drop_expired, merge_in, needs, needs_after, order_by_key, put, put_new, shelve,
-    taken_as,
+    copy_store, drop_expired, from_sorted, merge_in, needs, needs_after, order_by_key, put,
+    put_new, taken_as,
 };
 use crate::iter::{InBucket, Iter, walk_bucket, walk_store, walk_store_from};
 use crate::store::{Store, empty_store, find, reserve, version_at};
@@ -97,7 +97,7 @@ impl<V: Version> Held<V> {
         if !order_by_key(&mut versions) {
             return Err(FromVersionsError::DuplicateKey);
         }
-        match shelve(alloc, versions) {
+        match from_sorted(alloc, versions) {
             Ok(store) => Ok(Held { store, alloc }),
             Err(_) => Err(FromVersionsError::Memory),
         }

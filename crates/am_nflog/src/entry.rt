@@ -10,8 +10,8 @@ use crate::key::LogKey;
 use crate::receiver::{ReceiverDraft, ReceiverRef};
 use am_version_order::Moment;
 use am_wire::reading::{
-    Draft, LastBytes, LastNumber, Schema, Submessage, TimestampDraft, moment_in, read_message,
-    take_numbers,
+    LastBytes, LastNumber, MessageReader, Schema, Submessage, TimestampDraft, moment_in,
+    read_message, take_numbers,
 };
 use am_wire::{Bytes, Field, Message, WireError, WireType};
 use std::alloc::{AllocError, Global};
@@ -134,7 +134,7 @@ impl Schema for EntryDraft<'_> {
     }
 }
 
-impl<'a> Draft<'a> for EntryDraft<'a> {
+impl<'a> MessageReader<'a> for EntryDraft<'a> {
     ghost use Rattle.am_nflog.specs.Entries.{entry_value, entry_tests};
     ghost use Rattle.am_nflog.specs.Drafts.{IsEntryDraft};
 

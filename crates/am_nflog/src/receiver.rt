@@ -4,7 +4,7 @@ ghost use Rattle.std.specs.Prelude.{◌≡◌, ℕ, List, [], ◌∷◌, ◌++�
 ghost use Rattle.am_wire.specs.Sizes.{counted};
 ghost use Rattle.am_nflog.specs.Receivers.{receiver, writes_receiver, IsReceiver};
 
-use am_wire::reading::{Draft, LastNumber, LastText, Schema, read_message};
+use am_wire::reading::{LastNumber, LastText, MessageReader, Schema, read_message};
 use am_wire::writing::{number_size, text_size, write_number, write_text};
 use am_wire::{Field, Message, Text, WireError, WireType};
 use std::alloc::{AllocError, Global};
@@ -150,7 +150,7 @@ impl Schema for ReceiverDraft<'_> {
     }
 }
 
-impl<'a> Draft<'a> for ReceiverDraft<'a> {
+impl<'a> MessageReader<'a> for ReceiverDraft<'a> {
     ghost use Rattle.am_nflog.specs.Receivers.{receiver_value, receiver_tests};
     ghost use Rattle.am_nflog.specs.Drafts.{IsReceiverDraft};
 

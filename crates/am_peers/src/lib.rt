@@ -19,7 +19,7 @@ pub use error::ServerFault;
 pub use fault::Fault;
 pub use fetching::{Server, ask, fetch, server_of};
 pub use peer::{number_within, port_of};
-pub use queue::{Parted, part_frames};
+pub use queue::{Parted, split_by_peer};
 pub use reply::body_of;
 pub use shown::{held_of, shown_of_row};
 pub use times::{Times, times_of};

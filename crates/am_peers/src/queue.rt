@@ -19,7 +19,7 @@ pub struct Parted {
 /// # Errors
 ///
 /// [`AllocError`] where memory runs out.
-pub fn part_frames(
+pub fn split_by_peer(
     alloc: Global,
     place: Place,
     frames: Vec<(Place, Frame)>,

@@ -5,7 +5,7 @@ use crate::layout::{edge_of, end_of};
 use crate::sheet::{Sheet, append_text, append_title};
 use crate::times::append_time;
 use am_instance::{Instance, Place};
-use am_told::append_view;
+use am_report::append_view;
 use am_version_order::Moment;
 use std::alloc::AllocError;
 

@@ -4,8 +4,8 @@ use Rattle.std.proofs.KnownBytes.{Consumes-nil, Consumes-trans}
 use Rattle.std.proofs.lemmas.Bool.{false≢true}
 use Rattle.std.specs.Io.KnownBytes.{Consumes, IsAtEnd}
 use Rattle.am_reactor.specs.declared.connection.Connection.{Connection}
-use Rattle.am_reactor.specs.declared.reading.Brought.{Brought}
-use Rattle.am_reactor.specs.declared.reading.Brought.TheVariants.{Bytes, End, Nothing, Interrupted, Failed}
+use Rattle.am_reactor.specs.declared.reading.ReadResult.{ReadResult}
+use Rattle.am_reactor.specs.declared.reading.ReadResult.TheVariants.{Bytes, End, Nothing, Interrupted, Failed}
 use Rattle.am_reactor.specs.Deeds.{Deed, Did, ending, feeds, sends}
 use Rattle.am_reactor.specs.Deeds.Deed.{Fed, Ended, Sent}
 use Rattle.am_reactor.specs.Reading.{EndsWith, FitsPiece, Hears, brought_by, joined, told_of}
@@ -54,7 +54,7 @@ module _ {S T : Type 0} (does : S → T → Deed → S → T → Type 0) where
 -- ---- reads one after the other
 
 -- whether the end is met in a read
-abbrev pub ended_by : Brought → Bool
+abbrev pub ended_by : ReadResult → Bool
 ended_by (Bytes count) = false
 ended_by End = true
 ended_by Nothing = false
@@ -122,7 +122,7 @@ module _ {S T C : Type 0} (does : S → T → Deed → S → T → Type 0) (comi
       (ap joined (append-nil h.pieces) ∙ sym (append-nil (joined h.pieces))) did came read end unwritten written phase
 
   -- one read more
-  pub hears_once : (s : S) (c : Connection T C) (m : S) (n : Connection T C) (s' : S) (c' : Connection T C) (piece : List ℕ) (brought : Brought)
+  pub hears_once : (s : S) (c : Connection T C) (m : S) (n : Connection T C) (s' : S) (c' : Connection T C) (piece : List ℕ) (brought : ReadResult)
       → Hears does coming gone room s c m n → n.ended ≡ false → FitsPiece piece brought → Did does m n.session (told_of piece brought) s' c'.session
       → Consumes (coming n.stream) (coming c'.stream) (take (brought_by brought) piece) → c'.read ≡ counted n.read (brought_by brought)
       → (0 < room → EndsWith (coming c'.stream) piece brought) → (0 < room → 0 < length piece)

@@ -8,7 +8,7 @@ use Rattle.am_reactor.specs.Deeds.{Deed, Did, ending, feeds, sends}
 use Rattle.am_reactor.specs.Deeds.Deed.{Fed, Ended, Sent}
 use Rattle.am_reactor.specs.declared.connection.Connection.{Connection}
 use Rattle.am_reactor.specs.declared.connection.Phase.{Phase}
-use Rattle.am_reactor.specs.declared.connection.Phase.TheVariants.{Open, Leaving}
+use Rattle.am_reactor.specs.declared.connection.Phase.TheVariants.{Open, Lingering}
 use Rattle.am_reactor.specs.Connections.{KeepsOthers}
 use Rattle.am_reactor.specs.History.{Line, Happening, line_of, lines, leaves_in, AreSame, fed_in, sent_in, with_line, Acts, ActsOn, Calls, Closes, Stays, StaysUnder, Throws, Makes, Happens, Leads, LeadsOn, LeadsUnder}
 use Rattle.am_reactor.specs.History.Happening.{Came, TurnedAway, Called, Thrown, Closed, Acted}
@@ -227,7 +227,7 @@ module _ {S T C : Type 0} (does : S → T → Deed → S → T → Type 0) (begi
 
 leaves_here : (phase : Phase) → phase ≢ Open → leaves_in phase ≡ true
 leaves_here Open stays = absurd (stays refl)
-leaves_here (Leaving end) stays = refl
+leaves_here (Lingering end) stays = refl
 
 module _ {T C : Type 0} (coming gone : C → Option (List ℕ)) where
   -- nothing was thrown away yet

@@ -5,7 +5,7 @@ use Rattle.am_reactor.specs.declared.fault.LinkFault.{LinkFault}
 use Rattle.am_reactor.specs.declared.link.Link.{Link}
 use Rattle.am_reactor.specs.declared.links.Links.{Links}
 use Rattle.am_reactor.specs.Links.{IsMoved, KeepsLinks, Moves, link_to}
-use Rattle.am_reactor.specs.Outbox.{Empties}
+use Rattle.am_reactor.specs.SendBuffer.{Empties}
 
 module _ {S C : Type 0} (gone : C → Option (List ℕ)) (loses : S → ℕ → LinkFault → S → Type 0) (gives : S → ℕ → Option (List ℕ) → S → Type 0) where
   -- what the links are matters by the one to the peer alone
@@ -16,7 +16,7 @@ module _ {S C : Type 0} (gone : C → Option (List ℕ)) (loses : S → ℕ → 
     record {
       mid = pushed.1.mid;
       went = subst (λ (o : Option (Link C)). IfSome o (λ before. IfSome (link_to pushed.1.mid peer)
-          (λ after. Empties (gone before.stream) (gone after.stream) before.outbox after.outbox))) e pushed.1.went;
+          (λ after. Empties (gone before.stream) (gone after.stream) before.buffer after.buffer))) e pushed.1.went;
       next = pushed.1.next;
     },
   ))

@@ -4,7 +4,7 @@ use Rattle.std.specs.Io.KnownBytes.{Consumes}
 use Rattle.am_reactor.specs.declared.exchange.Exchange.{Exchange}
 use Rattle.am_reactor.specs.declared.exchanges.Exchanges.{Exchanges}
 use Rattle.am_reactor.specs.declared.fault.LinkFault.{LinkFault}
-use Rattle.am_reactor.specs.Outbox.{Advances}
+use Rattle.am_reactor.specs.SendBuffer.{Advances}
 
 -- bytes came over a stream, and just these stand behind what came before
 pub record ComesBack (old new : Option (List ℕ)) (before after : List ℕ) : Type 0 where
@@ -28,17 +28,17 @@ KeepsExchanges peer old new = (other : ℕ) → other ≢ peer → exchange_with
 
 -- an exchange has just begun: these bytes are to be asked, and nothing has come back
 pub record IsBegun (exchange : Exchange) (bytes : List ℕ) : Type 0 where
-  pub gone : exchange.outbox.gone ≡ []
-  pub waiting : exchange.outbox.waiting ≡ bytes
+  pub gone : exchange.buffer.gone ≡ []
+  pub waiting : exchange.buffer.waiting ≡ bytes
   pub silent : exchange.answer.items ≡ []
 
 -- An exchange goes on: so many of the bytes that are to be asked went out, the first ones; and behind all of them more came back, perhaps none.
 pub record GoesOn (before after : Exchange) : Type 0 where
   pub count : ℕ
-  pub asked : Advances count before.outbox after.outbox
+  pub asked : Advances count before.buffer after.buffer
   pub more : List ℕ
   pub answer : after.answer.items ≡ before.answer.items ++ more
-  pub behind : more ≢ [] → after.outbox.waiting ≡ []
+  pub behind : more ≢ [] → after.buffer.waiting ≡ []
 
 -- so it does with a peer
 abbrev pub GoesOnWith : Exchanges → Exchanges → ℕ → Type 0
@@ -47,7 +47,7 @@ GoesOnWith old new peer = IfSome (exchange_with old peer) (λ before. IfSome (ex
 module _ {S : Type 0} (answers : S → ℕ → List ℕ → S → Type 0) (loses : S → ℕ → LinkFault → S → Type 0) where
   -- the service is told of all that came back of an exchange, once all was asked
   pub record IsTold (peer : ℕ) (service service' : S) (exchange : Exchange) : Type 0 where
-    pub asked : exchange.outbox.waiting ≡ []
+    pub asked : exchange.buffer.waiting ≡ []
     pub told : answers service peer exchange.answer.items service'
 
   -- An exchange with a peer goes on; or it has ended, and the service is told of what came back; or it is closed, and the service is told that

@@ -4,7 +4,7 @@ use Rattle.std.specs.Io.KnownBytes.{Appends, Consumes}
 use Rattle.slab.specs.Slab.{Slab, get}
 use Rattle.am_reactor.specs.declared.connection.Connection.{Connection}
 use Rattle.am_reactor.specs.declared.connection.Phase.{Phase}
-use Rattle.am_reactor.specs.declared.connection.Phase.TheVariants.{Open, Leaving}
+use Rattle.am_reactor.specs.declared.connection.Phase.TheVariants.{Open, Lingering}
 use Rattle.am_reactor.specs.Deeds.{Deed, Did}
 use Rattle.am_reactor.specs.Deeds.Deed.{Fed, Sent}
 
@@ -17,7 +17,7 @@ pub record Line (T C : Type 0) : Type 0 where
 -- a connection in this phase is let go
 abbrev pub leaves_in : Phase → Bool
 leaves_in Open = false
-leaves_in (Leaving end) = true
+leaves_in (Lingering end) = true
 
 -- what a connection is to its service
 abbrev pub line_of : {T C : Type 0} → Connection T C → Line T C

@@ -3,14 +3,14 @@ use Rattle.std.specs.Prelude.{◌≡◌, ◌<◌, ◌≤◌, ℕ, true, false, L
 use Rattle.std.specs.List.{flat_map}
 use Rattle.std.specs.Io.KnownBytes.{Consumes, IsAtEnd}
 use Rattle.am_reactor.specs.declared.connection.Connection.{Connection}
-use Rattle.am_reactor.specs.declared.reading.Brought.{Brought}
-use Rattle.am_reactor.specs.declared.reading.Brought.TheVariants.{Bytes, End, Nothing, Interrupted, Failed}
+use Rattle.am_reactor.specs.declared.reading.ReadResult.{ReadResult}
+use Rattle.am_reactor.specs.declared.reading.ReadResult.TheVariants.{Bytes, End, Nothing, Interrupted, Failed}
 use Rattle.am_reactor.specs.Deeds.{Deed, Did, ending, feeds}
 use Rattle.am_reactor.specs.Deeds.Deed.{Fed, Ended}
 use Rattle.am_reactor.specs.Sending.{counted}
 
 -- how many bytes a read brought
-abbrev pub brought_by : Brought → ℕ
+abbrev pub brought_by : ReadResult → ℕ
 brought_by (Bytes count) = count
 brought_by End = 0
 brought_by Nothing = 0
@@ -18,7 +18,7 @@ brought_by Interrupted = 0
 brought_by (Failed kind) = 0
 
 -- bytes that a read brought are one at least, and stand within the piece
-abbrev pub FitsPiece : List ℕ → Brought → Type 0
+abbrev pub FitsPiece : List ℕ → ReadResult → Type 0
 FitsPiece piece (Bytes count) = (0 < count) × (count ≤ length piece)
 FitsPiece piece End = Unit {0}
 FitsPiece piece Nothing = Unit {0}
@@ -26,11 +26,11 @@ FitsPiece piece Interrupted = Unit {0}
 FitsPiece piece (Failed kind) = Unit {0}
 
 -- the end is met only where no more comes, if there is room in the piece
-abbrev pub EndsWith : Option (List ℕ) → List ℕ → Brought → Type 0
+abbrev pub EndsWith : Option (List ℕ) → List ℕ → ReadResult → Type 0
 EndsWith coming piece brought = brought ≡ End → 0 < length piece → IsAtEnd coming
 
 -- what is told of a read: just the bytes that came, or the end
-abbrev pub told_of : List ℕ → Brought → List Deed
+abbrev pub told_of : List ℕ → ReadResult → List Deed
 told_of piece (Bytes count) = Fed (take count piece) ∷ []
 told_of piece End = Ended ∷ []
 told_of piece Nothing = []

@@ -3,11 +3,11 @@
 ghost use Rattle.std.specs.Prelude.{◌≡◌, ◌≤◌, [], length, Ok, IfOk};
 ghost use Rattle.am_reactor.specs.Exchanges.{GoesOn, IsBegun};
 
-use crate::connection::Pace;
+use crate::connection::Readiness;
 use crate::fault::LinkFault;
 use crate::inbox::hear_on;
 use crate::link::stands;
-use crate::outbox::{Outbox, Progress};
+use crate::send_buffer::{Progress, SendBuffer};
 use mio::net::TcpStream;
 use std::alloc::Global;
 use std::net::{Net, SocketAddr};
@@ -17,7 +17,7 @@ use std::time::Instant;
 #[derive(Drop)]
 pub struct Exchange {
     pub stream: TcpStream,
-    outbox: Outbox,
+    buffer: SendBuffer,
     answer: Vec<u8>,
     /// When its time is over.
     pub end: Instant,
@@ -39,11 +39,11 @@ impl Exchange {
     ) -> Result<Exchange, LinkFault>
         ensures { IfOk result (λ exchange. IsBegun exchange request.now) }
     {
-        let outbox = Outbox::new(alloc, &[], request)?;
+        let buffer = SendBuffer::new(alloc, &[], request)?;
         match TcpStream::connect(rt, address) {
             Ok(stream) => Ok(Exchange {
                 stream,
-                outbox,
+                buffer,
                 answer: Vec::new(alloc),
                 end,
                 is_connected: false,
@@ -58,7 +58,7 @@ impl Exchange {
     ///
     /// [`LinkFault::Connect`] where it was refused.
     fn connected(&mut self) -> Result<bool, LinkFault>
-        ensures outbox { self.new.outbox ≡ self.old.outbox }
+        ensures buffer { self.new.buffer ≡ self.old.buffer }
         ensures answer { self.new.answer ≡ self.old.answer }
     {
         self.is_connected = stands(&self.stream, self.is_connected)?;
@@ -73,13 +73,13 @@ impl Exchange {
     /// [`LinkFault::Connect`], [`LinkFault::Write`], [`LinkFault::Read`], [`LinkFault::TooLong`] and [`LinkFault::Memory`].
     pub fn advance(&mut self, piece: &mut [u8], most: usize) -> Result<Progress, LinkFault>
         ensures went { GoesOn self.old self.new }
-        ensures done { result ≡ Ok Progress.Done → self.new.outbox.waiting ≡ [] }
+        ensures done { result ≡ Ok Progress.Done → self.new.buffer.waiting ≡ [] }
         ensures within { length self.old.answer.items ≤ most → length self.new.answer.items ≤ most }
     {
         if !self.connected()? {
-            return Ok(Progress::Going(Pace::Idle));
+            return Ok(Progress::Going(Readiness::Idle));
         }
-        match self.outbox.send_on(&mut self.stream)? {
+        match self.buffer.send_on(&mut self.stream)? {
             Progress::Done => hear_on(&mut self.answer, &mut self.stream, piece, most),
             going => Ok(going),
         }
@@ -87,9 +87,9 @@ impl Exchange {
 
     /// How many bytes went out.
     pub fn written(&self) -> u64
-        ensures { result ≡ length self.now.outbox.gone }
+        ensures { result ≡ length self.now.buffer.gone }
     {
-        self.outbox.written() as u64
+        self.buffer.written() as u64
     }
 
     /// What came back.
@@ -98,7 +98,7 @@ impl Exchange {
     {
         let Exchange {
             stream: _,
-            outbox: _,
+            buffer: _,
             answer,
             end: _,
             is_connected: _,

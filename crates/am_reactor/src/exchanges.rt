@@ -5,12 +5,12 @@ ghost use Rattle.std.specs.Option.{IsSome};
 ghost use Rattle.am_reactor.specs.Exchanges.{GoesOnWith, IsAskedOf, IsBegun, IsHeard, IsTold, KeepsExchanges, exchange_with};
 ghost use Rattle.am_reactor.specs.History.{ActsOn};
 
-use crate::connection::Pace;
+use crate::connection::Readiness;
 use crate::exchange::Exchange;
 use crate::fault::LinkFault;
-use crate::outbox::Progress;
 use crate::queue::Queue;
-use crate::service::{Outgoing, Service};
+use crate::send_buffer::Progress;
+use crate::service::{PeerBytes, Service};
 use crate::source::Source;
 use mio::{Interest, Registry};
 use std::alloc::{AllocError, Global};
@@ -109,7 +109,7 @@ impl Exchanges {
         &mut self,
         rt: &R,
         registry: &Registry,
-        asked: &Outgoing,
+        asked: &PeerBytes,
         end: Instant,
     ) -> Result<(), LinkFault>
         ensures none { OnOk result (exchange_with self.old asked.now.peer ≡ None) }
@@ -169,13 +169,13 @@ impl Exchanges {
         requires { IsSome (exchange_with self.old peer) }
         ensures open { IsSome (exchange_with self.new peer) }
         ensures went { GoesOnWith self.old self.new peer }
-        ensures done { result ≡ Ok Progress.Done → IfSome (exchange_with self.new peer) (λ exchange. exchange.outbox.waiting ≡ []) }
+        ensures done { result ≡ Ok Progress.Done → IfSome (exchange_with self.new peer) (λ exchange. exchange.buffer.waiting ≡ []) }
         ensures others { KeepsExchanges peer self.old self.new }
     {
         let most = self.most;
         match &mut self.open[peer] {
             Some(exchange) => exchange.advance(piece, most),
-            None => Ok(Progress::Going(Pace::Idle)),
+            None => Ok(Progress::Going(Readiness::Idle)),
         }
     }
 
@@ -208,7 +208,7 @@ pub fn ask<S: Service, R: Net>(
     service: &mut S,
     rt: &R,
     registry: &Registry,
-    asked: &Outgoing,
+    asked: &PeerBytes,
     end: Instant,
 )
     ensures others { KeepsExchanges asked.now.peer exchanges.old exchanges.new }
@@ -221,9 +221,9 @@ pub fn ask<S: Service, R: Net>(
 }
 
 /// Tells the service of all that came back from a peer, and closes the exchange with it.
-fn tell<S: Service>(exchanges: &mut Exchanges, service: &mut S, peer: usize)
+fn deliver_answer<S: Service>(exchanges: &mut Exchanges, service: &mut S, peer: usize)
     requires open { IsSome (exchange_with exchanges.old peer) }
-    requires asked { IfSome (exchange_with exchanges.old peer) (λ exchange. exchange.outbox.waiting ≡ []) }
+    requires asked { IfSome (exchange_with exchanges.old peer) (λ exchange. exchange.buffer.waiting ≡ []) }
     ensures told { IfSome (exchange_with exchanges.old peer) (IsTold S.answers S.loses peer service.old service.new) }
     ensures closed { exchange_with exchanges.new peer ≡ None }
     ensures others { KeepsExchanges peer exchanges.old exchanges.new }
@@ -236,7 +236,12 @@ fn tell<S: Service>(exchanges: &mut Exchanges, service: &mut S, peer: usize)
 
 /// Has the exchange with a peer go on as far as it can now. Tells the service of what came back, once all did, and why it is
 /// lost, where it fails.
-pub fn hear<S: Service>(exchanges: &mut Exchanges, service: &mut S, peer: usize, piece: &mut [u8])
+pub fn drive_exchange<S: Service>(
+    exchanges: &mut Exchanges,
+    service: &mut S,
+    peer: usize,
+    piece: &mut [u8],
+)
     ensures others { KeepsExchanges peer exchanges.old exchanges.new }
     // PROMISE: What a peer answered is told once, whole, once all was asked of it; or it is told that it is lost.
     ensures heard { IsSome (exchange_with exchanges.old peer)
@@ -248,9 +253,9 @@ pub fn hear<S: Service>(exchanges: &mut Exchanges, service: &mut S, peer: usize,
         return;
     }
     match exchanges.advance(peer, piece) {
-        Ok(Progress::Going(Pace::Idle)) => {}
-        Ok(Progress::Going(Pace::Busy)) => exchanges.busy.push(peer),
-        Ok(Progress::Done) => tell(exchanges, service, peer),
+        Ok(Progress::Going(Readiness::Idle)) => {}
+        Ok(Progress::Going(Readiness::Busy)) => exchanges.busy.push(peer),
+        Ok(Progress::Done) => deliver_answer(exchanges, service, peer),
         Err(fault) => {
             let _ = exchanges.close(peer);
             service.lost(peer, fault);
@@ -264,14 +269,14 @@ pub fn hear_all<S: Service>(exchanges: &mut Exchanges, service: &mut S, piece: &
 {
     for _ in 0..exchanges.busy.len() {
         match exchanges.busy.pop() {
-            Some(peer) => hear(exchanges, service, peer, piece),
+            Some(peer) => drive_exchange(exchanges, service, peer, piece),
             None => break,
         }
     }
 }
 
 /// Closes the exchange with a peer, whose time is over.
-fn give_up<S: Service>(exchanges: &mut Exchanges, service: &mut S, peer: usize)
+fn time_out_exchange<S: Service>(exchanges: &mut Exchanges, service: &mut S, peer: usize)
     ensures closed { exchange_with exchanges.new peer ≡ None }
     ensures others { KeepsExchanges peer exchanges.old exchanges.new }
     ensures told { (written : ℕ) × S.loses service.old peer (LinkFault.Time written) service.new }
@@ -288,7 +293,7 @@ pub fn expire<S: Service>(exchanges: &mut Exchanges, service: &mut S, now: Insta
 {
     for _ in 0..u16::MAX {
         match exchanges.overdue(now) {
-            Some(peer) => give_up(exchanges, service, peer),
+            Some(peer) => time_out_exchange(exchanges, service, peer),
             None => break,
         }
     }
@@ -300,7 +305,7 @@ pub fn give_up_all<S: Service>(exchanges: &mut Exchanges, service: &mut S)
 {
     for _ in 0..u16::MAX {
         match exchanges.by_end.first() {
-            Some(peer) => give_up(exchanges, service, peer),
+            Some(peer) => time_out_exchange(exchanges, service, peer),
             None => break,
         }
     }

@@ -4,10 +4,10 @@ ghost use Rattle.std.specs.Prelude.{◌≡◌, ◌++◌, ◌<◌, ◌≤◌, Ok,
 ghost use Rattle.std.specs.Io.KnownBytes.{IsAtEnd};
 ghost use Rattle.am_reactor.specs.Exchanges.{ComesBack, IsTooMuch};
 
-use crate::connection::Pace;
+use crate::connection::Readiness;
 use crate::fault::LinkFault;
-use crate::outbox::Progress;
-use crate::reading::{Brought, PIECES, read_once};
+use crate::reading::{PIECES, ReadResult, read_once};
+use crate::send_buffer::Progress;
 use crate::stream::Stream;
 
 /// Reads once, and adds what came, where that is at most `most` bytes in all.
@@ -15,22 +15,22 @@ use crate::stream::Stream;
 /// # Errors
 ///
 /// [`LinkFault::TooLong`] and [`LinkFault::Memory`]; nothing is added then.
-fn hear_once<C: Stream>(
+fn read_piece<C: Stream>(
     answer: &mut Vec<u8>,
     stream: &mut C,
     piece: &mut [u8],
     most: usize,
-) -> Result<Brought, LinkFault>
+) -> Result<ReadResult, LinkFault>
     ensures came { OnOk result (ComesBack (C.coming stream.old) (C.coming stream.new) answer.old.items answer.new.items) }
     ensures kept { OnErr result (answer.new.items ≡ answer.old.items) }
     ensures too_long { IsErrOf result LinkFault.TooLong
         → IsTooMuch most (C.coming stream.old) (C.coming stream.new) answer.old.items }
     ensures within { length answer.old.items ≤ most → length answer.new.items ≤ most }
-    ensures ended { result ≡ Ok Brought.End → 0 < length piece.old → IsAtEnd (C.coming stream.new) }
+    ensures ended { result ≡ Ok ReadResult.End → 0 < length piece.old → IsAtEnd (C.coming stream.new) }
     ensures gone { C.gone stream.new ≡ C.gone stream.old }
 {
     let brought = read_once(stream, piece);
-    if let Brought::Bytes(count) = brought {
+    if let ReadResult::Bytes(count) = brought {
         if count > most.saturating_sub(answer.len()) {
             return Err(LinkFault::TooLong);
         }
@@ -58,11 +58,11 @@ pub fn hear_on<C: Stream>(
     ensures gone { C.gone stream.new ≡ C.gone stream.old }
 {
     for _ in 0..PIECES {
-        match hear_once(answer, stream, piece, most)? {
-            Brought::Bytes(_) | Brought::Interrupted => {}
-            Brought::End => return Ok(Progress::Done),
-            Brought::Nothing => return Ok(Progress::Going(Pace::Idle)),
-            Brought::Failed(kind) => {
+        match read_piece(answer, stream, piece, most)? {
+            ReadResult::Bytes(_) | ReadResult::Interrupted => {}
+            ReadResult::End => return Ok(Progress::Done),
+            ReadResult::Nothing => return Ok(Progress::Going(Readiness::Idle)),
+            ReadResult::Failed(kind) => {
                 return Err(LinkFault::Read {
                     read: answer.len() as u64,
                     kind,
@@ -70,5 +70,5 @@ pub fn hear_on<C: Stream>(
             }
         }
     }
-    Ok(Progress::Going(Pace::Busy))
+    Ok(Progress::Going(Readiness::Busy))
 }

@@ -6,7 +6,7 @@ ghost use Rattle.am_reactor.specs.Deeds.{Did};
 ghost use Rattle.am_reactor.specs.Reading.{EndsWith, FitsPiece, Hears, brought_by, told_of};
 ghost use Rattle.am_reactor.specs.Sending.{counted};
 
-use crate::connection::{Connection, Pace, count_on};
+use crate::connection::{Connection, Readiness, count_on};
 use crate::fault::Failure;
 use crate::service::Service;
 use crate::stream::Stream;
@@ -17,7 +17,7 @@ pub const PIECES: u32 = 16;
 
 /// What one read brought.
 #[derive(Clone, Copy, Debug, PartialEq, Eq)]
-pub enum Brought {
+pub enum ReadResult {
     /// So many bytes, at least one.
     Bytes(usize),
     /// The end of the input.
@@ -30,31 +30,31 @@ pub enum Brought {
 }
 
 /// Reads once.
-pub fn read_once<C: Stream>(stream: &mut C, piece: &mut [u8]) -> Brought
+pub fn read_once<C: Stream>(stream: &mut C, piece: &mut [u8]) -> ReadResult
     ensures fits { FitsPiece piece.new result }
     ensures came { Consumes (C.coming stream.old) (C.coming stream.new) (take (brought_by result) piece.new) }
     ensures ended { EndsWith (C.coming stream.new) piece.new result }
     ensures gone { C.gone stream.new ≡ C.gone stream.old }
 {
     match stream.read(piece) {
-        Ok(0) => Brought::End,
-        Ok(count) => Brought::Bytes(count),
+        Ok(0) => ReadResult::End,
+        Ok(count) => ReadResult::Bytes(count),
         Err(error) => match error.kind() {
-            ErrorKind::WouldBlock => Brought::Nothing,
-            ErrorKind::Interrupted => Brought::Interrupted,
-            kind => Brought::Failed(kind),
+            ErrorKind::WouldBlock => ReadResult::Nothing,
+            ErrorKind::Interrupted => ReadResult::Interrupted,
+            kind => ReadResult::Failed(kind),
         },
     }
 }
 
 /// Reads once, and tells the service what came. Counts the bytes.
-fn hear_once<S: Service, C: Stream>(
+fn read_piece<S: Service, C: Stream>(
     session: &mut S::Session,
     service: &mut S,
     stream: &mut C,
     piece: &mut [u8],
     read: &mut u64,
-) -> Brought
+) -> ReadResult
     requires { ¬ S.over session.old }
     ensures came { Consumes (C.coming stream.old) (C.coming stream.new) (take (brought_by result) piece.new) }
     ensures ended { EndsWith (C.coming stream.new) piece.new result }
@@ -65,12 +65,12 @@ fn hear_once<S: Service, C: Stream>(
 {
     let brought = read_once(stream, piece);
     match brought {
-        Brought::Bytes(count) => {
+        ReadResult::Bytes(count) => {
             count_on(read, count);
             service.feed(session, &piece[..count]);
         }
-        Brought::End => service.end(session),
-        Brought::Nothing | Brought::Interrupted | Brought::Failed(_) => {}
+        ReadResult::End => service.end(session),
+        ReadResult::Nothing | ReadResult::Interrupted | ReadResult::Failed(_) => {}
     }
     brought
 }
@@ -81,19 +81,19 @@ fn hear_once<S: Service, C: Stream>(
 /// # Errors
 ///
 /// A read that failed.
-pub fn hear<S: Service, C: Stream>(
+pub fn read_available<S: Service, C: Stream>(
     connection: &mut Connection<S::Session, C>,
     service: &mut S,
     piece: &mut [u8],
-) -> Result<Pace, Failure>
+) -> Result<Readiness, Failure>
     // PROMISE: The bytes of a connection reach its own session, in order, each once.
     ensures heard { Hears S.does C.coming C.gone (length piece.old) service.old connection.old service.new connection.new }
 {
     for _ in 0..PIECES {
         if connection.ended || service.is_over(&connection.session) {
-            return Ok(Pace::Idle);
+            return Ok(Readiness::Idle);
         }
-        let brought = hear_once(
+        let brought = read_piece(
             &mut connection.session,
             service,
             &mut connection.stream,
@@ -101,11 +101,11 @@ pub fn hear<S: Service, C: Stream>(
             &mut connection.read,
         );
         match brought {
-            Brought::Bytes(_) | Brought::Interrupted => {}
-            Brought::End => connection.ended = true,
-            Brought::Nothing => return Ok(Pace::Idle),
-            Brought::Failed(kind) => return Err(Failure::Read(kind)),
+            ReadResult::Bytes(_) | ReadResult::Interrupted => {}
+            ReadResult::End => connection.ended = true,
+            ReadResult::Nothing => return Ok(Readiness::Idle),
+            ReadResult::Failed(kind) => return Err(Failure::Read(kind)),
         }
     }
-    Ok(Pace::Busy)
+    Ok(Readiness::Busy)
 }

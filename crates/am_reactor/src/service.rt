@@ -15,7 +15,7 @@ use std::time::{Duration, Instant};
 
 /// What goes to a peer.
 #[derive(Drop)]
-pub struct Outgoing {
+pub struct PeerBytes {
     /// The peer's place among the addresses of the loop.
     pub peer: usize,
     pub bytes: Vec<u8>,
@@ -149,7 +149,7 @@ pub trait Service {
     fn held(&self, session: &Self::Session) -> usize;
 
     /// What goes to a peer next. It is asked after each call that may bring something, until there is nothing.
-    fn outgoing(&mut self) -> Option<Outgoing>
+    fn outgoing(&mut self) -> Option<PeerBytes>
         ensures { acts self.old self.new };
 
     /// What goes to a peer behind all that went out, over the link that is open to it; the link's time begins anew then. It is
@@ -161,7 +161,7 @@ pub trait Service {
     /// What is asked of a peer next, over a connection of its own: behind these bytes the peer is heard until it ends its
     /// stream. It is asked for once in each turn of the loop, until there is nothing. What is asked of a peer while it hasn't
     /// answered is lost.
-    fn question(&mut self) -> Option<Outgoing>
+    fn question(&mut self) -> Option<PeerBytes>
         ensures { acts self.old self.new };
 
     /// A peer took all that was asked of it, answered with these bytes, perhaps none, and ended its stream.

@@ -12,7 +12,7 @@ use Rattle.am_instance.specs.declared.reply.Made.{Made}
 use Rattle.am_instance.specs.declared.reply.Reply.{Reply}
 use Rattle.am_instance.specs.declared.reply.Reply.TheVariants as replies
 use Rattle.am_schedule.specs.declared.step.LineEvent.{LineEvent}
-use Rattle.am_told.specs.Views.{entry_line, shown_text, shows_line, silence_line, state_lines, view_text}
+use Rattle.am_report.specs.Views.{entry_line, shown_text, shows_line, silence_line, state_lines, view_text}
 use Rattle.am_replay.specs.Texts.{reply_text}
 
 -- a filter that all pass

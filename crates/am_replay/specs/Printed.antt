@@ -7,9 +7,9 @@ use Rattle.am_dedup.specs.declared.decision.Decision.TheVariants.{Skip, Notify}
 use Rattle.am_dedup.specs.declared.decision.Reason.TheVariants.{First, NewFiring, AllResolved, NewResolved, Repeat}
 use Rattle.am_gossip.specs.declared.kind.FrameKind.{FrameKind}
 use Rattle.am_gossip.specs.declared.kind.FrameKind.TheVariants as kinds
-use Rattle.am_told.specs.Words.{word_of}
-use Rattle.am_told.specs.Lists.{texts_word}
-use Rattle.am_told.specs.Views.{owner_words}
+use Rattle.am_report.specs.Words.{word_of}
+use Rattle.am_report.specs.Lists.{texts_word}
+use Rattle.am_report.specs.Views.{owner_words}
 use Rattle.am_replay.specs.declared.refusal.Refusal.{Refusal}
 use Rattle.am_replay.specs.declared.refusal.Refusal.TheVariants as refusals
 use Rattle.am_replay.specs.declared.line.OutputLine.{OutputLine}

@@ -15,7 +15,7 @@ use Rattle.am_cluster.specs.declared.error.SettleError.{SettleError}
 use Rattle.am_cluster.specs.declared.error.SettleError.TheVariants as settle_errors
 use Rattle.am_cluster.specs.declared.flight.Flight.{Flight}
 use Rattle.am_cluster.specs.Worlds.{World}
-use Rattle.am_told.specs.Views.{shown_text}
+use Rattle.am_report.specs.Views.{shown_text}
 use Rattle.am_replay.specs.declared.line.OutputLine.{OutputLine}
 use Rattle.am_replay.specs.declared.line.OutputLine.TheVariants as lines
 use Rattle.am_replay.specs.declared.refusal.Refusal.{Refusal}

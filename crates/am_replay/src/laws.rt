@@ -8,7 +8,7 @@ ghost use Rattle.am_instance.specs.declared.event.Event.TheVariants as events;
 ghost use Rattle.am_instance.specs.declared.reply.Made.{Made};
 ghost use Rattle.am_instance.specs.declared.reply.Reply.{Reply};
 ghost use Rattle.am_schedule.specs.declared.step.LineEvent.{LineEvent};
-ghost use Rattle.am_told.specs.Views.{view_text};
+ghost use Rattle.am_report.specs.Views.{view_text};
 ghost use Rattle.am_replay.specs.Texts.{reply_text};
 
 pub use am_cluster::laws::{

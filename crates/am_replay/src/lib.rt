@@ -17,7 +17,7 @@ mod replies;
 mod reports;
 
 pub use am_cluster::{CalmReport, Cluster, ClusterError, Flight, SettleError};
-pub use am_told::write_view;
+pub use am_report::write_view;
 pub use error::{Halt, ReplayError};
 pub use input::read_input;
 pub use line::{OutputLine, append_line};

@@ -7,7 +7,7 @@ use crate::names::{decision_name, kind_name, refusal_name, yes_or_no};
 use crate::refusal::Refusal;
 use am_dedup::Decision;
 use am_gossip::FrameKind;
-use am_told::{Owner, Texts, Word};
+use am_report::{Owner, Texts, Word};
 use am_wire::Text;
 use std::alloc::AllocError;
 use std::fmt::{self, Display};

@@ -12,8 +12,8 @@ use crate::refusal::Refusal;
 use am_cluster::ClusterError;
 use am_instance::Reply;
 use am_matcher::Mutes;
+use am_report::append_shown;
 use am_schedule::{Action, LineEvent};
-use am_told::append_shown;
 use std::alloc::AllocError;
 
 /// Appends that the silence was ended whose end the event asks for.

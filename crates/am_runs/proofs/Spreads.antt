@@ -17,7 +17,7 @@ use Rattle.am_runs.specs.Steps.RunStep.{Took, Ticked, Back, Refused, Saved, Stop
 use Rattle.am_runs.specs.Members.{Member, stepped, member_after, member_from, member_of, set_of}
 use Rattle.am_runs.specs.Runs.{IsPossible, IsRun}
 use Rattle.am_runs.specs.Timely.{IsSwift, HasCaughtUp, IsSpread, IsTimely}
-use Rattle.am_runs.specs.Tests.{Watched, is_monotone, are_monotone, sent_in, flies_short, is_swift, is_wanting, counts_for, watched, watch_after, comes, ComesToAll}
+use Rattle.am_runs.specs.Tests.{Watched, is_monotone, are_monotone, sent_in, flies_short, arrived_in_time, is_wanting, counts_for, watched, watch_after, comes, ComesToAll}
 use Rattle.am_runs.proofs.Cuts.{carried, each_cons, each_nil, each_rest}
 use Rattle.am_runs.proofs.Loops.{all_from}
 use Rattle.am_runs.proofs.Pasts.{member_of-push, taken-passes, taken-tick, taken-pass}
@@ -120,7 +120,7 @@ module _ {K X : Type 0} (seen : X → Version K) (cmp : K → K → Ordering) (m
   swift_arrived now None told same P is = absurd is
   swift_arrived now (Some f) told same P is = let e = same f refl in (λ t. leb-true now (f.sent + flight) (subst (λ o. flies_short flight now o ≡ true) e t), λ h. subst (λ o. flies_short flight now o ≡ true) (sym e) (le-leb now (f.sent + flight) h))
 
-  swift_one : (before : List (RunStep X)) (s : RunStep X) (rest steps : List (RunStep X)) → before ++ s ∷ rest ≡ steps → IsPossible seen cmp members before s → (is_swift flight steps s ≡ true) ↔ IsSwift flight before s
+  swift_one : (before : List (RunStep X)) (s : RunStep X) (rest steps : List (RunStep X)) → before ++ s ∷ rest ≡ steps → IsPossible seen cmp members before s → (arrived_in_time flight steps s ≡ true) ↔ IsSwift flight before s
   swift_one before (Took place now Made versions frames) rest steps e can = (λ t. tt, λ h. refl)
   swift_one before (Took place now (Written sent) versions frames) rest steps e can = (leb-true now (sent + flight), le-leb now (sent + flight))
   swift_one before (Took place now (Arrived number) versions frames) rest steps e can = swift_arrived now (slice_get (flights_of before) number) (sent_in number steps) (λ f found. same_flight before rest (Took place now (Arrived number) versions frames) steps number f e found) _ can.from
@@ -132,11 +132,11 @@ module _ {K X : Type 0} (seen : X → Version K) (cmp : K → K → Ordering) (m
   swift_one before (Stopped place) rest steps e can = (λ t. tt, λ h. refl)
   swift_one before (Started place now) rest steps e can = (λ t. tt, λ h. refl)
 
-  pub to_swift : (steps : List (RunStep X)) → IsRun seen cmp members steps → list_all (is_swift flight steps) steps ≡ true → EachStep steps (IsSwift flight)
-  to_swift steps run test before s rest e = (swift_one before s rest steps e (run before s rest e)).0 (to_each (is_swift flight steps) steps test before s rest e)
+  pub to_swift : (steps : List (RunStep X)) → IsRun seen cmp members steps → list_all (arrived_in_time flight steps) steps ≡ true → EachStep steps (IsSwift flight)
+  to_swift steps run test before s rest e = (swift_one before s rest steps e (run before s rest e)).0 (to_each (arrived_in_time flight steps) steps test before s rest e)
 
-  pub from_swift : (steps : List (RunStep X)) → IsRun seen cmp members steps → EachStep steps (IsSwift flight) → list_all (is_swift flight steps) steps ≡ true
-  from_swift steps run each = from_each (is_swift flight steps) steps (λ before s rest e. (swift_one before s rest steps e (run before s rest e)).1 (each before s rest e))
+  pub from_swift : (steps : List (RunStep X)) → IsRun seen cmp members steps → EachStep steps (IsSwift flight) → list_all (arrived_in_time flight steps) steps ≡ true
+  from_swift steps run each = from_each (arrived_in_time flight steps) steps (λ before s rest e. (swift_one before s rest steps e (run before s rest e)).1 (each before s rest e))
 
 -- ---- spread
 
@@ -302,7 +302,7 @@ module _ {K X : Type 0} (seen : X → Version K) where
         (λ before s rest e. if_some (HasCome spread v (member_of members q before)) (moment s) (λ now at old runs. some_if (IsSpread seen spread members (delivered_in steps) before) (moment s) now (each before s rest e) at v has old q runs)))
 
     -- all of it
-    pub timely_from : (spread flight members : ℕ) (steps : List (RunStep X)) → IsRun seen cmp members steps → are_monotone 0 steps ≡ true → All (λ v. ((seen v).updated + spread) + flight ≤ (seen v).expires) (delivered_in steps) → list_all (is_swift flight steps) steps ≡ true → All (ComesToAll seen cmp spread members steps) (delivered_in steps) → IsTimely seen spread flight members steps
+    pub timely_from : (spread flight members : ℕ) (steps : List (RunStep X)) → IsRun seen cmp members steps → are_monotone 0 steps ≡ true → All (λ v. ((seen v).updated + spread) + flight ≤ (seen v).expires) (delivered_in steps) → list_all (arrived_in_time flight steps) steps ≡ true → All (ComesToAll seen cmp spread members steps) (delivered_in steps) → IsTimely seen spread flight members steps
     timely_from spread flight members steps run onward lasting swift comes = record {
       onward = to_onward 0 steps onward;
       lasting = lasting;

@@ -176,14 +176,14 @@ sent_at steps (Arrived number) = sent_in number steps
 sent_at steps (Lent place) = None
 
 -- a step, among all steps
-abbrev pub is_swift : {X : Type 0} → ℕ → List (RunStep X) → RunStep X → Bool
-is_swift flight steps (Took place now source versions frames) = flies_short flight now (sent_at steps source)
-is_swift flight steps (Ticked place now) = true
-is_swift flight steps (Back place now) = true
-is_swift flight steps (Refused now) = true
-is_swift flight steps (Saved place) = true
-is_swift flight steps (Stopped place) = true
-is_swift flight steps (Started place now) = true
+abbrev pub arrived_in_time : {X : Type 0} → ℕ → List (RunStep X) → RunStep X → Bool
+arrived_in_time flight steps (Took place now source versions frames) = flies_short flight now (sent_at steps source)
+arrived_in_time flight steps (Ticked place now) = true
+arrived_in_time flight steps (Back place now) = true
+arrived_in_time flight steps (Refused now) = true
+arrived_in_time flight steps (Saved place) = true
+arrived_in_time flight steps (Stopped place) = true
+arrived_in_time flight steps (Started place now) = true
 
 -- of a member and of what is saved of it: it runs, and its set has a version or a greater one of its key
 pub record Watched : Type 0 where

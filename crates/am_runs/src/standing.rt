@@ -127,7 +127,7 @@ fn fault_after(fault: Option<usize>, stays: bool, number: usize) -> Option<usize
 }
 
 /// Notes a step of this number, which is one of the member.
-fn follow<V: Version>(
+fn update_indexes<V: Version>(
     standing: &mut Standing<V>,
     member: usize,
     before: &[RunStep<V>],
@@ -152,7 +152,7 @@ pub fn note<V: Version>(standings: &mut Vec<Standing<V>>, before: &[RunStep<V>],
 {
     if let Some(member) = step.place() {
         if member < standings.len() {
-            if follow(&mut standings[member], member, before, step).is_err() {
+            if update_indexes(&mut standings[member], member, before, step).is_err() {
                 standings.clear();
             }
         }

@@ -4,7 +4,7 @@ ghost use Rattle.std.specs.Prelude.{◌≡◌, ◌+◌, ◌<◌, ◌≤◌, ◌�
 ghost use Rattle.std.specs.List.{list_all, list_any};
 ghost use Rattle.am_runs.specs.Records.{step_of, watch_seen};
 ghost use Rattle.am_runs.specs.Steps.{clock_after, delivered_by, delivered_in, moment};
-ghost use Rattle.am_runs.specs.Tests.{is_monotone, are_monotone, sent_in, sent_at, flies_short, is_swift, is_wanting};
+ghost use Rattle.am_runs.specs.Tests.{is_monotone, are_monotone, sent_in, sent_at, flies_short, arrived_in_time, is_wanting};
 ghost use Rattle.am_runs.specs.Tests.{counts_for, watched, watch_after, comes, ComesToAll};
 ghost use Rattle.am_runs.specs.Runs.{IsRun};
 ghost use Rattle.am_runs.specs.Timely.{IsTimely};
@@ -105,8 +105,8 @@ fn flies_short(flight: Interval, now: Moment, sent: Option<Moment>) -> bool
 }
 
 /// Whether what a step delivered came in time.
-fn is_swift<V>(flight: Interval, steps: &[RunStep<V>], step: &RunStep<V>) -> bool
-    ensures { result ≡ is_swift flight (map step_of steps.now) (step_of step.now) }
+fn arrived_in_time<V>(flight: Interval, steps: &[RunStep<V>], step: &RunStep<V>) -> bool
+    ensures { result ≡ arrived_in_time flight (map step_of steps.now) (step_of step.now) }
 {
     match step {
         RunStep::Took { now, source, .. } => flies_short(flight, *now, sent_at(steps, *source)),
@@ -116,10 +116,10 @@ fn is_swift<V>(flight: Interval, steps: &[RunStep<V>], step: &RunStep<V>) -> boo
 
 /// Whether what each step delivered came in time.
 fn are_swift<V>(flight: Interval, steps: &[RunStep<V>]) -> bool
-    ensures { result ≡ list_all (is_swift flight (map step_of steps.now)) (map step_of steps.now) }
+    ensures { result ≡ list_all (arrived_in_time flight (map step_of steps.now)) (map step_of steps.now) }
 {
     for step in steps {
-        if !is_swift(flight, steps, step) {
+        if !arrived_in_time(flight, steps, step) {
             return false;
         }
     }

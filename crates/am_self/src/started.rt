@@ -2,7 +2,7 @@
 
 use am_address::{AddressWord, Peer};
 use am_jobs::Options;
-use am_told::Word;
+use am_report::Word;
 use std::fmt;
 
 /// A member that listens, and how many versions it has loaded.

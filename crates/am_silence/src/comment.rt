@@ -6,7 +6,7 @@ ghost use Rattle.am_wire.specs.Reading.{FailsUnlessMemory, item_fault};
 ghost use Rattle.am_silence.specs.Comments.{comment, comment_tests};
 
 use am_wire::reading::{
-    Draft, LastText, Schema, Submessage, TimestampDraft, moment_in, take_fields,
+    LastText, MessageReader, Schema, Submessage, TimestampDraft, moment_in, take_fields,
 };
 use am_wire::{Field, Value, WireError, WireType};
 use std::alloc::Global;
@@ -32,7 +32,7 @@ impl Schema for CommentDraft<'_> {
     }
 }
 
-impl<'a> Draft<'a> for CommentDraft<'a> {
+impl<'a> MessageReader<'a> for CommentDraft<'a> {
     ghost use Rattle.std.specs.Prelude.{⊤};
     ghost use Rattle.am_silence.specs.Drafts.{IsCommentDraft};
 

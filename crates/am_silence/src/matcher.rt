@@ -7,7 +7,7 @@ ghost use Rattle.am_silence.specs.Kinds.{kind_code, kind_of, is_regexp};
 ghost use Rattle.am_wire.specs.Sizes.{counted};
 ghost use Rattle.am_silence.specs.Matchers.{matcher, wants_label, writes_matcher, IsMatcher};
 
-use am_wire::reading::{Draft, LastNumber, LastText, Schema, read_message};
+use am_wire::reading::{LastNumber, LastText, MessageReader, Schema, read_message};
 use am_wire::writing::{number_size, text_size, write_number, write_text};
 use am_wire::{Field, Message, Text, WireError, WireType};
 use std::alloc::{AllocError, Global};
@@ -219,7 +219,7 @@ impl Schema for MatcherDraft<'_> {
     }
 }
 
-impl<'a> Draft<'a> for MatcherDraft<'a> {
+impl<'a> MessageReader<'a> for MatcherDraft<'a> {
     ghost use Rattle.am_silence.specs.Matchers.{matcher_value, matcher_tests};
     ghost use Rattle.am_silence.specs.Drafts.{IsMatcherDraft};
 

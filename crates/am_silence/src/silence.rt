@@ -11,7 +11,7 @@ use crate::offsets::write_silence;
 use crate::sizes::SilenceFields;
 use am_version_order::Moment;
 use am_wire::reading::{
-    Draft, LastText, Schema, Submessage, TimestampDraft, moment_in, read_message,
+    LastText, MessageReader, Schema, Submessage, TimestampDraft, moment_in, read_message,
 };
 use am_wire::{Field, Message, Text, WireError, WireType};
 use std::alloc::{AllocError, Global};
@@ -133,7 +133,7 @@ impl Schema for SilenceDraft<'_> {
     }
 }
 
-impl<'a> Draft<'a> for SilenceDraft<'a> {
+impl<'a> MessageReader<'a> for SilenceDraft<'a> {
     ghost use Rattle.am_silence.specs.Silences.{silence_value, silence_tests};
     ghost use Rattle.am_silence.specs.Drafts.{IsSilenceDraft};
 

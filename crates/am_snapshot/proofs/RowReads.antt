@@ -8,8 +8,8 @@ use Rattle.am_wire.specs.declared.error.WireError.{WireError}
 use Rattle.am_wire.specs.declared.error.WireError.TheVariants.{Truncated}
 use Rattle.am_wire.specs.declared.reader.RowFault.{RowFault}
 use Rattle.am_wire.specs.declared.reader.RowFault.TheVariants.{Read, Wire, TooLarge, Ended, Memory}
-use Rattle.am_wire.specs.declared.reader.Standing.{Standing}
-use Rattle.am_wire.specs.declared.reader.Standing.TheVariants.{Before, Over, Refused}
+use Rattle.am_wire.specs.declared.reader.RowPosition.{RowPosition}
+use Rattle.am_wire.specs.declared.reader.RowPosition.TheVariants.{Before, Over, Refused}
 use Rattle.am_wire.specs.Varint.{varint_within}
 use Rattle.am_wire.specs.Fields.{row_at, pieces}
 use Rattle.am_wire.specs.RoundTrip.Pieces.{pieces-first}
@@ -19,7 +19,7 @@ use Rattle.am_snapshot.proofs.Whole.{row_at-whole, row_at-fails}
 use Rattle.am_snapshot.proofs.Ends.{ends_once}
 
 -- where the next row begins
-abbrev pub offset : Standing → ℕ
+abbrev pub offset : RowPosition → ℕ
 offset (Before at limit) = at
 offset Over = 0
 offset Refused = 0
@@ -27,7 +27,7 @@ offset Refused = 0
 abbrev rest_is : List ℕ → Option (List ℕ)
 rest_is bytes = Some bytes
 
-abbrev standing_at : ℕ → ℕ → Standing
+abbrev standing_at : ℕ → ℕ → RowPosition
 standing_at limit at = Before at limit
 
 -- what holds of all known bytes, by those that were read and those that are left
@@ -191,7 +191,7 @@ module _ {A : Type 0} (reads : ℕ → List ℕ → Result A WireError) where
           not_too_large bytes row messages e left so_far fault small,
         )
 
-    stops_at : (bytes row : List ℕ) (messages : List A) (left : List ℕ) (fault : RowFault) (next : Standing) → HasRead bytes messages → length bytes ≤ limit
+    stops_at : (bytes row : List ℕ) (messages : List A) (left : List ℕ) (fault : RowFault) (next : RowPosition) → HasRead bytes messages → length bytes ≤ limit
         → Answers reads (Before (length bytes) limit) row (Some left) (Err fault) next → StopsWithin reads limit ((bytes ++ row) ++ left) messages (Some left) fault
     stops_at bytes row messages left (Wire e) next so_far small answer =
         ⊎_elim (λ stop. faults_twice bytes row messages e left so_far (inl stop.0) stop.1) (λ gives. faults_twice bytes row messages e left so_far (inr gives.0) gives.1) answer.0
@@ -214,18 +214,18 @@ module _ {A : Type 0} (reads : ℕ → List ℕ → Result A WireError) where
 
     -- ---- a loop of calls
     -- the bytes were read, which are a row of these messages, and the reader of rows stands behind them
-    pub record ReadsSoFar (start now : Option (List ℕ)) (standing : Standing) (bytes : List ℕ) (messages : List A) : Type 0 where
+    pub record ReadsSoFar (start now : Option (List ℕ)) (standing : RowPosition) (bytes : List ℕ) (messages : List A) : Type 0 where
       pub consumed : Consumes start now bytes
       pub read : HasRead bytes messages
       pub stands : standing ≡ Before (length bytes) limit
       pub small : length bytes ≤ limit
 
-    pub reads_none : (start : Option (List ℕ)) (standing : Standing) → standing ≡ Before 0 limit → ReadsSoFar start start standing [] []
+    pub reads_none : (start : Option (List ℕ)) (standing : RowPosition) → standing ≡ Before 0 limit → ReadsSoFar start start standing [] []
     reads_none start standing stands = record { consumed = Consumes-nil start; read = HasRead-nil; stands = stands; small = omega arith }
 
-    module _ (start now left : Option (List ℕ)) (standing next : Standing) (bytes row : List ℕ) (messages : List A) (so_far : ReadsSoFar start now standing bytes messages) (read : Consumes now left row) where
+    module _ (start now left : Option (List ℕ)) (standing next : RowPosition) (bytes row : List ℕ) (messages : List A) (so_far : ReadsSoFar start now standing bytes messages) (read : Consumes now left row) where
       stands_before : (r : Result (Option A) RowFault) → Answers reads standing row left r next → Answers reads (Before (length bytes) limit) row left r next
-      stands_before r answer = subst (λ (s : Standing). Answers reads s row left r next) so_far.stands answer
+      stands_before r answer = subst (λ (s : RowPosition). Answers reads s row left r next) so_far.stands answer
 
       both : Consumes start left (bytes ++ row)
       both = Consumes-trans start now left bytes row so_far.consumed read

@@ -9,7 +9,7 @@ use Rattle.am_wire.specs.declared.reader.RowFault.{RowFault}
 use Rattle.am_wire.specs.declared.reader.RowFault.TheVariants as reading
 use Rattle.am_merge.specs.Maps.{IsMap}
 use Rattle.am_wire.specs.Limits.{most}
-use Rattle.am_wire.specs.declared.reader.Standing.{Standing}
+use Rattle.am_wire.specs.declared.reader.RowPosition.{RowPosition}
 use Rattle.am_wire.specs.Fields.{pieces}
 use Rattle.am_wire.specs.Inputs.{sound, message_at, messages_of, AreMessages, StopsAfter, StopsWithin}
 use Rattle.am_snapshot.specs.Texts.{row_text}
@@ -82,7 +82,7 @@ module _ {K X : Type 0} (seen : X → Version K) (reads : ℕ → List ℕ → R
       → IfSome start (λ input. (all : List X) × AreMessages reads input all × AreDistinct seen all × IsPermutation all held)
   load_end versions held all distinct members = some_then _ _ (λ input one. (versions, one, distinct, members)) start all
 
-pub load_repeat : {K X : Type 0} (seen : X → Version K) (reads : ℕ → List ℕ → Result X WireError) (limit : ℕ) (start left : Option (List ℕ)) (standing : Standing) (bytes : List ℕ) (versions : List X) (version earlier : X)
+pub load_repeat : {K X : Type 0} (seen : X → Version K) (reads : ℕ → List ℕ → Result X WireError) (limit : ℕ) (start left : Option (List ℕ)) (standing : RowPosition) (bytes : List ℕ) (versions : List X) (version earlier : X)
     → ReadsSoFar reads limit start left standing bytes (versions ++ version ∷ []) → AreDistinct seen versions → Contains versions earlier → (seen earlier).key ≡ (seen version).key
     → IfSome start (λ input. RepeatsKey seen reads limit input left)
 load_repeat seen reads limit None left standing bytes versions version earlier so_far distinct among same = tt

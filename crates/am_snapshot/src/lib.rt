@@ -1,12 +1,12 @@
 //! Held versions as a row of messages: how long it is, the row in memory, and how it is written and read again.
 #![tactic(auto)]
 
+mod counting_writer;
 mod error;
 mod folding;
 mod in_memory;
 pub mod laws;
 mod loading;
-mod outgoing;
 mod pieces;
 mod reading;
 mod saving;

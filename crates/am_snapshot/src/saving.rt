@@ -9,9 +9,9 @@ ghost use Rattle.am_snapshot.specs.Texts.{row_text};
 ghost use Rattle.am_snapshot.specs.Writing.{Passes, TakesPart};
 ghost use Rattle.am_snapshot.specs.Saving.{FitsRow, IsSavable, IsSavableWithin, StopsSaving};
 
+use crate::counting_writer::CountingWriter;
 use crate::error::SnapshotError;
 use crate::in_memory::row_length_within;
-use crate::outgoing::Outgoing;
 use am_merge::Held;
 use am_streams::WriteFault;
 use am_version_order::Version;
@@ -21,7 +21,7 @@ use std::io::Write;
 
 /// Sends bytes behind their length on their way.
 fn send_delimited<W: Write>(
-    out: &mut Outgoing,
+    out: &mut CountingWriter,
     writer: &mut W,
     bytes: &[u8],
 ) -> Result<(), WriteFault>
@@ -37,7 +37,7 @@ fn send_delimited<W: Write>(
 
 /// Sends the held versions on their way, each behind its length.
 fn send_versions<V: Version, W: Write>(
-    out: &mut Outgoing,
+    out: &mut CountingWriter,
     writer: &mut W,
     held: &Held<V>,
 ) -> Result<(), WriteFault>
@@ -99,7 +99,7 @@ pub fn save_within<V: Version, W: Write>(
     let Some(length) = row_length_within(held, limit) else {
         return Err(SnapshotError::TooLarge);
     };
-    let mut out = Outgoing::new(alloc)?;
+    let mut out = CountingWriter::new(alloc)?;
     send_versions(&mut out, writer, held)?;
     out.flush(writer)?;
     Ok(length)

@@ -3,7 +3,7 @@
 use crate::members::{PEER, at, instance};
 use am_http::session::Session;
 use am_instance::Instance;
-use am_member::{Spared, exchange, spare};
+use am_member::{Spared, apply_session_output, spare};
 use am_peers::Fault;
 use std::alloc::{AllocError, Global};
 use std::io::{self, Read};
@@ -68,7 +68,7 @@ fn connected(alloc: Global, instance: &mut Instance, frame: &[u8], bytes: usize)
             session.feed(piece)
         };
         let Spared { said, .. } = spare(said);
-        let exchanged = exchange(alloc, instance, &mut session, said, 0, at(11));
+        let exchanged = apply_session_output(alloc, instance, &mut session, said, 0, at(11));
         sent = sent.max(exchanged.effects.outbox.frames.len());
         fault = exchanged.fault;
     }

@@ -8,7 +8,7 @@ use crate::upkeep::Upkeep;
 use am_faults::Fault;
 use am_gossip::{Frame, Part, StateKey};
 use am_instance::{Config, Instance, Place};
-use am_peers::{Parted, part_frames};
+use am_peers::{Parted, split_by_peer};
 
 impl<R: Host> Upkeep<'_, R> {
     /// Puts what goes to the disk into the logs, and gives what goes to peers.
@@ -22,7 +22,7 @@ impl<R: Host> Upkeep<'_, R> {
         };
         let alloc = self.rt.alloc();
         let count = frames.len();
-        let Ok(Parted { own, others }) = part_frames(alloc, disk, frames) else {
+        let Ok(Parted { own, others }) = split_by_peer(alloc, disk, frames) else {
             self.keeping.lose();
             self.tell(config, Fault::UnsentMemory(count));
             return Vec::new(alloc);

@@ -6,8 +6,8 @@ use am_faults::Fault;
 use am_gossip::Frame;
 use am_instance::{Config, Place};
 use am_jobs::Options;
-use am_peers::{Parted, frames_text, part_frames};
-use am_reactor::Outgoing;
+use am_peers::{Parted, frames_text, split_by_peer};
+use am_reactor::PeerBytes;
 use am_seal::{Lock, sealed_text};
 use am_secret::Secret;
 
@@ -52,7 +52,7 @@ impl<R: Host> Upkeep<'_, R> {
         let alloc = self.rt.alloc();
         let frames = std::mem::replace(&mut self.queue, Vec::new(alloc));
         let count = frames.len();
-        let Ok(Parted { own, others }) = part_frames(alloc, place, frames) else {
+        let Ok(Parted { own, others }) = split_by_peer(alloc, place, frames) else {
             self.tell(config, Fault::UnsentMemory(count));
             return None;
         };
@@ -66,10 +66,10 @@ impl<R: Host> Upkeep<'_, R> {
         config: &Config,
         place: Place,
         frames: &[Frame],
-    ) -> Option<Outgoing> {
+    ) -> Option<PeerBytes> {
         let bytes = self.text_of(config, place, frames)?;
         let peer = place as usize;
-        Some(Outgoing { peer, bytes })
+        Some(PeerBytes { peer, bytes })
     }
 
     /// The text of frames for a peer. Where there is none, they are told unsent.

@@ -13,7 +13,7 @@ use am_faults::Fault;
 use am_figures::Figures;
 use am_files::StateFile;
 use am_gossip::Frame;
-use am_instance::{Config, Event, Instance, Outbox, Place, Unsent};
+use am_instance::{Config, Event, FrameSender, Instance, Place, Unsent};
 use am_jobs::Options;
 use am_lines::{Lines, Told, Watch};
 use am_peers::{Fault as ConnectionFault, next_moment};
@@ -137,7 +137,7 @@ impl<R: Host> Upkeep<'_, R> {
         &mut self,
         config: &Config,
         peer: Option<Place>,
-        outbox: Outbox,
+        outbox: FrameSender,
         fault: Option<ConnectionFault>,
     ) {
         if let Some(fault) = fault {
@@ -147,8 +147,8 @@ impl<R: Host> Upkeep<'_, R> {
     }
 
     /// What follows steps: their frames go out.
-    pub fn follow_step(&mut self, config: &Config, outbox: Outbox) {
-        let Outbox { frames, unsent } = outbox;
+    pub fn follow_step(&mut self, config: &Config, outbox: FrameSender) {
+        let FrameSender { frames, unsent } = outbox;
         if unsent.memory > 0 || unsent.limit > 0 {
             self.keeping.lose();
         }

@@ -8,8 +8,8 @@ use Rattle.am_wire.specs.declared.error.WireError.TheVariants.{Truncated, LongVa
 use Rattle.am_wire.specs.declared.error.WireError.TheVariants as errors
 use Rattle.am_wire.specs.declared.reader.RowFault.{RowFault}
 use Rattle.am_wire.specs.declared.reader.RowFault.TheVariants.{Read, Wire, TooLarge, Ended, Memory}
-use Rattle.am_wire.specs.declared.reader.Standing.{Standing}
-use Rattle.am_wire.specs.declared.reader.Standing.TheVariants.{Before, Refused}
+use Rattle.am_wire.specs.declared.reader.RowPosition.{RowPosition}
+use Rattle.am_wire.specs.declared.reader.RowPosition.TheVariants.{Before, Refused}
 use Rattle.am_wire.specs.Varint.{one_more, varint_within, varint_at}
 use Rattle.am_wire.specs.Fields.{row_at, ◌>>=◌}
 use Rattle.std.specs.Io.KnownBytes.{Consumes, Keeps, IsAtEnd}
@@ -298,7 +298,7 @@ module _ (at size start : ℕ) (text : List ℕ) (h : IsLength at size start tex
         (inr (row_cut more lt, omega (arith, n, length_some), end, refl), omega (arith, n, small, h.place))
 
 -- ---- a call's answer
-abbrev standing : ℕ → ℕ → Standing
+abbrev standing : ℕ → ℕ → RowPosition
 standing limit at = Before at limit
 
 module _ {A : Type 0} (reads : ℕ → List ℕ → Result A WireError) (limit at : ℕ) where

@@ -8,8 +8,8 @@ use Rattle.am_wire.specs.declared.error.WireError.TheVariants.{Truncated}
 use Rattle.am_wire.specs.declared.error.WireError.TheVariants as errors
 use Rattle.am_wire.specs.declared.reader.RowFault.{RowFault}
 use Rattle.am_wire.specs.declared.reader.RowFault.TheVariants.{Read, Wire, TooLarge, Ended, Memory}
-use Rattle.am_wire.specs.declared.reader.Standing.{Standing}
-use Rattle.am_wire.specs.declared.reader.Standing.TheVariants.{Before, Over, Refused}
+use Rattle.am_wire.specs.declared.reader.RowPosition.{RowPosition}
+use Rattle.am_wire.specs.declared.reader.RowPosition.TheVariants.{Before, Over, Refused}
 use Rattle.am_wire.specs.Limits.{most}
 use Rattle.am_wire.specs.Varint.{varint_at}
 use Rattle.am_wire.specs.Fields.{row_at, ◌>>=◌}
@@ -50,7 +50,7 @@ Stops limit at bytes left Memory = ⊤
 -- What a call answers that reads these bytes, by where it stood; `next` is where it stands then. The input may have
 -- `limit` bytes, which stays.
 abbrev pub Answers : {A : Type 0} → (ℕ → List ℕ → Result A WireError)
-    → Standing → List ℕ → Option (List ℕ) → Result (Option A) RowFault → Standing → Type 0
+    → RowPosition → List ℕ → Option (List ℕ) → Result (Option A) RowFault → RowPosition → Type 0
 Answers reads (Before at limit) bytes left (Ok (Some value)) next =
     ReadsAs reads at bytes (Ok value) × (0 < length bytes) × (at + length bytes ≤ limit) × (next ≡ Before (at + length bytes) limit)
 Answers reads (Before at limit) bytes left (Ok None) next = (bytes ≡ []) × IsAtEnd left × (next ≡ Over)

@@ -5,9 +5,9 @@ ghost use Rattle.am_wire.specs.Reading.{table_at};
 ghost use Rattle.am_wire.specs.Sizes.{counted};
 ghost use Rattle.am_wire.specs.Expiring.{expiring, expiring_fits, writes_expiring};
 
-use crate::draft::Draft;
 use crate::error::WireError;
 use crate::field::Schema;
+use crate::message_reader::MessageReader;
 use crate::parts::Submessage;
 use crate::size::{delimited_size, message_size};
 use crate::timestamp::{TimestampDraft, moment_in};
@@ -44,7 +44,7 @@ impl<D> Schema for ExpiringDraft<D> {
     }
 }
 
-impl<'a, D: Draft<'a>> Draft<'a> for ExpiringDraft<D> {
+impl<'a, D: MessageReader<'a>> MessageReader<'a> for ExpiringDraft<D> {
     ghost use Rattle.am_wire.specs.Expiring.{expiring_tests, expiring_value, IsExpiringDraft};
 
     type Done = Expiring<D::Done>;

@@ -3,7 +3,6 @@
 
 mod bytes;
 mod delimited;
-mod draft;
 mod error;
 mod expiring;
 mod field;
@@ -11,6 +10,7 @@ mod fields;
 pub mod laws;
 mod lists;
 mod message;
+mod message_reader;
 mod messages;
 mod offset;
 mod parts;
@@ -30,7 +30,7 @@ pub use error::WireError;
 pub use fields::Fields;
 pub use message::Message;
 pub use messages::Messages;
-pub use reader::{RowFault, RowReader, Standing};
+pub use reader::{RowFault, RowPosition, RowReader};
 pub use record::Record;
 pub use rows::{MOST_MESSAGE_BYTES, Rows};
 pub use text::Text;

@@ -6,8 +6,8 @@ ghost use Rattle.am_wire.specs.Reading.{FailsUnlessMemory, Table, last_or, varin
 ghost use Rattle.am_wire.specs.Reading.{delimited_given, text_fault, item_fault, message_in, part_fault, parts_in};
 ghost use Rattle.am_wire.specs.Reading.{table_at};
 
-use crate::draft::{Draft, read_message, take_fields};
 use crate::error::WireError;
+use crate::message_reader::{MessageReader, read_message, take_fields};
 use crate::value::{Field, Value};
 use std::alloc::Global;
 
@@ -85,7 +85,7 @@ impl<D> Submessage<D> {
     /// No payload came yet.
     pub fn none<'a>(alloc: Global) -> Self
     where
-        D: Draft<'a>,
+        D: MessageReader<'a>,
         ensures draft { D.holds [] result.draft }
         ensures at { result.at ≡ 0 }
         ensures given { result.given ≡ false }
@@ -104,7 +104,7 @@ impl<D> Submessage<D> {
     /// The first fault in the payload, or [`WireError::Memory`].
     pub fn take<'a>(&mut self, field: Field<'a>) -> Result<(), WireError>
     where
-        D: Draft<'a>,
+        D: MessageReader<'a>,
         ensures held { OnOk result ((es : List FieldAt) → D.holds es self.old.draft →
             D.holds (es ++ parts_in (table_at D.fitting D.inside) (field_of field.entry)) self.new.draft) }
         ensures at { OnOk result (self.new.at ≡ last_or self.old.at (delimited_place (field_of field.entry))) }
@@ -127,7 +127,7 @@ impl<D> Submessage<D> {
 ///
 /// The first fault in the message, else what its own tests find, told at the field's tag; or
 /// [`WireError::Memory`].
-pub fn take_item<'a, D: Draft<'a>>(
+pub fn take_item<'a, D: MessageReader<'a>>(
     alloc: Global,
     items: &mut Vec<D::Done>,
     field: Field<'a>,

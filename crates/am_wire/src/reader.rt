@@ -6,7 +6,7 @@ ghost use Rattle.std.specs.Io.KnownBytes.{Consumes, Keeps, IsAtEnd};
 ghost use Rattle.am_wire.specs.Limits.{most};
 ghost use Rattle.am_wire.specs.Reader.{IsRow, Stops, Answers, row_fault, ByteStops, length_at, IsLength, BytesStop};
 ghost use Rattle.am_wire.specs.declared.reader.RowFault.TheVariants.{Memory};
-ghost use Rattle.am_wire.specs.declared.reader.Standing.TheVariants.{Before};
+ghost use Rattle.am_wire.specs.declared.reader.RowPosition.TheVariants.{Before};
 
 use crate::error::WireError;
 use crate::message::Message;
@@ -56,7 +56,7 @@ impl From<AllocError> for RowFault {
 
 /// Where a reader of rows stands.
 #[derive(Clone, Copy, Debug, PartialEq, Eq)]
-pub enum Standing {
+pub enum RowPosition {
     /// The next row begins at this offset, and the input may have so many bytes.
     Before { at: usize, limit: u32 },
     /// The input has ended.
@@ -70,7 +70,7 @@ pub enum Standing {
 #[derive(Drop)]
 pub struct RowReader<V: Message> {
     alloc: Global,
-    standing: Standing,
+    standing: RowPosition,
     message: Vec<u8>,
     of: PhantomData<V>,
 }
@@ -78,10 +78,10 @@ pub struct RowReader<V: Message> {
 /// Seen as where it stands.
 impl<V: Message> Model for RowReader<V> {
     ghost use Rattle.std.specs.Prelude.{◌≡◌, ℕ, ◌≤◌};
-    ghost use Rattle.am_wire.specs.declared.reader.Standing.{Standing};
-    ghost use Rattle.am_wire.specs.declared.reader.Standing.TheVariants.{Before};
+    ghost use Rattle.am_wire.specs.declared.reader.RowPosition.{RowPosition};
+    ghost use Rattle.am_wire.specs.declared.reader.RowPosition.TheVariants.{Before};
 
-    ghost Value = { Standing };
+    ghost Value = { RowPosition };
 
     ghost view = { λ r. r.standing };
 
@@ -102,7 +102,7 @@ impl<V: Message> RowReader<V> {
     {
         RowReader {
             alloc,
-            standing: Standing::Before { at: 0, limit },
+            standing: RowPosition::Before { at: 0, limit },
             message: Vec::new(alloc),
             of: PhantomData,
         }
@@ -122,18 +122,18 @@ impl<V: Message> RowReader<V> {
             Answers V.reads self.old bytes (R.remaining reader.new) result self.new }
     {
         let (at, limit) = match self.standing {
-            Standing::Before { at, limit } => (at, limit),
-            Standing::Over => return Ok(None),
-            Standing::Refused => return Err(RowFault::Ended),
+            RowPosition::Before { at, limit } => (at, limit),
+            RowPosition::Over => return Ok(None),
+            RowPosition::Refused => return Err(RowFault::Ended),
         };
-        self.standing = Standing::Refused;
+        self.standing = RowPosition::Refused;
         let Some((size, start)) = read_length(reader, at, limit)? else {
-            self.standing = Standing::Over;
+            self.standing = RowPosition::Over;
             return Ok(None);
         };
         read_message_bytes(&mut self.message, reader, limit, at, start, size)?;
         let value = V::decode_at(self.alloc, &self.message, start)?;
-        self.standing = Standing::Before {
+        self.standing = RowPosition::Before {
             at: start + size,
             limit,
         };

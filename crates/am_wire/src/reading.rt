@@ -1,10 +1,10 @@
 //! What a message is read with: its table of fields, its draft and the parts of drafts.
 
-pub use crate::draft::{Draft, read_message, take_fields};
 pub use crate::expiring::{Expiring, ExpiringDraft};
 pub use crate::field::{AnyField, Schema};
 pub use crate::fields::Scan;
 pub use crate::lists::{LastBytes, take_numbers};
+pub use crate::message_reader::{MessageReader, read_message, take_fields};
 pub use crate::offset::{Offset, split_part};
 pub use crate::parts::{LastNumber, LastText, Submessage, take_item};
 pub use crate::timestamp::{TimestampDraft, moment_in};

@@ -7,10 +7,10 @@ ghost use Rattle.am_wire.specs.Reading.{GivesUnlessMemory, fault_or_value};
 ghost use Rattle.am_wire.specs.Timestamps.{timestamp, moment_of, moment_test};
 ghost use Rattle.am_wire.specs.TimestampDrafts.{IsTimestampDraft};
 
-use crate::draft::{Draft, read_message};
 use crate::error::WireError;
 use crate::field::Schema;
 use crate::message::Message;
+use crate::message_reader::{MessageReader, read_message};
 use crate::parts::{LastNumber, Submessage};
 use crate::size::number_size;
 use crate::value::{Field, WireType};
@@ -36,7 +36,7 @@ impl Schema for TimestampDraft {
     }
 }
 
-impl<'a> Draft<'a> for TimestampDraft {
+impl<'a> MessageReader<'a> for TimestampDraft {
     ghost use Rattle.am_wire.specs.Timestamps.{moment, timestamp_tests};
     ghost use Rattle.am_wire.specs.TimestampDrafts.{IsTimestampDraft};
 

@@ -5,7 +5,7 @@ use super::options::{Named, Takes, Words, command_of};
 use super::{JSON, LOG, LOG_HELP, WordsError, form_of, log_mistake, mistake, now_of, state_of};
 use am_jobs::{DiffJob, STANDARD_INPUT, SourceWord, StateName, are_live};
 use am_peers::port_of;
-use am_told::Compared;
+use am_report::Compared;
 use am_version_order::Moment;
 use clap::{ArgMatches, Command};
 use std::alloc::{AllocError, Global};

@@ -5,7 +5,7 @@ ghost use Rattle.am_dialogue.specs.Answered.{ByItself};
 ghost use Rattle.am_dialogue.specs.Talks.{talk_of, waiting_in};
 
 use am_beside::Replicas;
-use am_dialogue::{Dialogue, Duties, Share, Turns, Work};
+use am_dialogue::{Conversation, Share, Timers, Turns, Work};
 use am_faults::Fault;
 use am_instance::{Instance, Place};
 use am_lines::signals;
@@ -29,7 +29,7 @@ pub struct Clerk<'a, R> {
     /// What is asked of them, and what they answered.
     pub replicas: Replicas,
     pub random: StdRng,
-    pub duties: Duties,
+    pub duties: Timers,
     /// What each peer is handed of all that is held, by place.
     pub shares: Vec<Share>,
     /// The peers that have not pushed all they have since the start.
@@ -43,7 +43,7 @@ pub struct Clerk<'a, R> {
 }
 
 /// Puts off what is still to be done for a connection.
-pub fn put_off(dialogue: &mut Dialogue, work: Work)
+pub fn put_off(dialogue: &mut Conversation, work: Work)
     ensures { talk_of dialogue.new ≡ record (talk_of dialogue.old) { waiting = waiting_in work } }
 {
     dialogue.work = work;

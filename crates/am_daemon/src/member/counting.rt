@@ -4,9 +4,9 @@ ghost use Rattle.std.specs.Prelude.{◌≡◌};
 ghost use Rattle.am_dialogue.specs.Talks.{talk_of};
 
 use super::clerk::Clerk;
-use am_dialogue::{Account, Dialogue, request_of};
+use am_dialogue::{Account, Conversation, request_of};
 use am_figures::{Failing, MUTED, Request, Step, decision_word};
-use am_http::session::Said;
+use am_http::session::SessionOutput;
 use am_instance::Config;
 use am_reactor::Failure;
 use am_upkeep::{Host, place_of};
@@ -50,7 +50,7 @@ impl<R: Host> Clerk<'_, R> {
         config: &Config,
         account: &mut Account,
         name: Option<&str>,
-        said: &Said,
+        said: &SessionOutput,
     ) {
         if let Some(request) = request_of(said) {
             account.ask(request, Instant::now(self.upkeep.rt).ok());
@@ -69,7 +69,7 @@ impl<R: Host> Clerk<'_, R> {
     }
 
     /// Counts a connection that is done, and what it was answered.
-    pub(super) fn count_where_done(&mut self, dialogue: &mut Dialogue)
+    pub(super) fn count_where_done(&mut self, dialogue: &mut Conversation)
         ensures reply { dialogue.new.reply ≡ dialogue.old.reply }
         ensures written { dialogue.new.written ≡ dialogue.old.written }
         ensures talk { talk_of dialogue.new ≡ talk_of dialogue.old }
@@ -80,7 +80,7 @@ impl<R: Host> Clerk<'_, R> {
     }
 
     /// Counts the end of a connection, and what it was answered.
-    fn count_end(&mut self, dialogue: &Dialogue) {
+    fn count_end(&mut self, dialogue: &Conversation) {
         self.upkeep.figures.end();
         let now = Instant::now(self.upkeep.rt).ok();
         let Some((request, time)) = dialogue.account.answered(now) else {

@@ -6,11 +6,11 @@ ghost use Rattle.am_dialogue.specs.Talks.{Closes, Rests, talk_of};
 use super::clerk::{Clerk, put_off};
 use super::telling::time_between;
 use am_api_decisions::{Asked, Deciding, Notice, Question, asked_of, begin_log, log_notice};
-use am_api_silences::{Begun, Making, Read, Refusal, Request};
-use am_dialogue::{Dialogue, Turn, Work};
+use am_api_silences::{PendingAnswer, PendingReply, Read, Refusal, Request};
+use am_dialogue::{Conversation, Turn, Work};
 use am_figures::Step;
-use am_http::session::Said;
-use am_instance::{Config, Instance, Outbox};
+use am_http::session::SessionOutput;
+use am_instance::{Config, FrameSender, Instance};
 use am_peers::next_moment;
 use am_upkeep::Host;
 use am_version_order::Moment;
@@ -43,14 +43,14 @@ impl<R: Host> Clerk<'_, R> {
     pub(super) fn answer_call(
         &mut self,
         instance: &mut Instance,
-        dialogue: &mut Dialogue,
-        said: Said,
+        dialogue: &mut Conversation,
+        said: SessionOutput,
     )
         ensures own { ByItself instance.old instance.new }
         ensures closes { Closes (talk_of dialogue.old) (talk_of dialogue.new) }
     {
         dialogue.session.stop();
-        let Said { request, .. } = said;
+        let SessionOutput { request, .. } = said;
         let Some(Read::Whole(request)) = request else {
             return;
         };
@@ -64,7 +64,7 @@ impl<R: Host> Clerk<'_, R> {
     fn take_up(
         &mut self,
         instance: &mut Instance,
-        dialogue: &mut Dialogue,
+        dialogue: &mut Conversation,
         request: Request,
         asked: Asked,
     )
@@ -95,7 +95,7 @@ impl<R: Host> Clerk<'_, R> {
     }
 
     /// Has a request wait for its turn, where another one may.
-    fn wait_for_turn(&mut self, dialogue: &mut Dialogue, turn: Turn)
+    fn wait_for_turn(&mut self, dialogue: &mut Conversation, turn: Turn)
         ensures { Rests (talk_of dialogue.old) (talk_of dialogue.new) }
     {
         if self.turns.begin() {
@@ -107,7 +107,12 @@ impl<R: Host> Clerk<'_, R> {
 
     /// The turn of a request has come: it is answered, or waits for its place in the line. Where the member stops, it is turned
     /// away.
-    pub(super) fn take_turn(&mut self, instance: &mut Instance, dialogue: &mut Dialogue, turn: Turn)
+    pub(super) fn take_turn(
+        &mut self,
+        instance: &mut Instance,
+        dialogue: &mut Conversation,
+        turn: Turn,
+    )
         ensures own { ByItself instance.old instance.new }
         ensures rests { Rests (talk_of dialogue.old) (talk_of dialogue.new) }
     {
@@ -125,7 +130,7 @@ impl<R: Host> Clerk<'_, R> {
     pub(super) fn answer_turn(
         &mut self,
         instance: &mut Instance,
-        dialogue: &mut Dialogue,
+        dialogue: &mut Conversation,
         turn: &Turn,
     )
         ensures own { ByItself instance.old instance.new }
@@ -143,7 +148,7 @@ impl<R: Host> Clerk<'_, R> {
     fn begin_deciding(
         &mut self,
         instance: &mut Instance,
-        dialogue: &mut Dialogue,
+        dialogue: &mut Conversation,
         question: Question,
     )
         ensures own { ByItself instance.old instance.new }
@@ -160,7 +165,7 @@ impl<R: Host> Clerk<'_, R> {
     pub(super) fn go_on_deciding(
         &mut self,
         instance: &mut Instance,
-        dialogue: &mut Dialogue,
+        dialogue: &mut Conversation,
         deciding: Deciding,
     )
         ensures own { ByItself instance.old instance.new }
@@ -213,7 +218,7 @@ impl<R: Host> Clerk<'_, R> {
     fn decide(
         &mut self,
         instance: &mut Instance,
-        dialogue: &mut Dialogue,
+        dialogue: &mut Conversation,
         deciding: Deciding,
         now: Moment,
     )
@@ -226,24 +231,29 @@ impl<R: Host> Clerk<'_, R> {
         self.reply_to_call(
             instance.config(),
             dialogue,
-            Making::Whole(reply),
-            Outbox::new(alloc),
+            PendingReply::Whole(reply),
+            FrameSender::new(alloc),
         );
     }
 
     /// Logs what was notified.
-    fn log(&mut self, instance: &mut Instance, dialogue: &mut Dialogue, notice: Notice)
+    fn log(&mut self, instance: &mut Instance, dialogue: &mut Conversation, notice: Notice)
         ensures own { ByItself instance.old instance.new }
         ensures rests { Rests (talk_of dialogue.old) (talk_of dialogue.new) }
     {
         self.upkeep.is_changed = true;
         let now = next_moment(self.upkeep.rt, instance.last());
-        let Begun { making, outbox } = log_notice(self.upkeep.rt.alloc(), instance, notice, now);
+        let PendingAnswer { making, outbox } = log_notice(
+            self.upkeep.rt.alloc(),
+            instance,
+            notice,
+            now,
+        );
         self.reply_to_call(instance.config(), dialogue, making, outbox);
     }
 
     /// Begins to write the entries of the log that are live.
-    fn list_log(&mut self, instance: &Instance, dialogue: &mut Dialogue)
+    fn list_log(&mut self, instance: &Instance, dialogue: &mut Conversation)
         ensures { Rests (talk_of dialogue.old) (talk_of dialogue.new) }
     {
         let alloc = self.upkeep.rt.alloc();
@@ -258,9 +268,9 @@ impl<R: Host> Clerk<'_, R> {
     fn reply_to_call(
         &mut self,
         config: &Config,
-        dialogue: &mut Dialogue,
-        making: Making,
-        outbox: Outbox,
+        dialogue: &mut Conversation,
+        making: PendingReply,
+        outbox: FrameSender,
     )
         ensures { Rests (talk_of dialogue.old) (talk_of dialogue.new) }
     {

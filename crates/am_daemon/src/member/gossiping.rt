@@ -14,7 +14,7 @@ use am_faults::Fault;
 use am_gossip::Frame;
 use am_instance::{Config, Event, Instance, Place};
 use am_peers::{Fault as ConnectionFault, next_moment};
-use am_reactor::{LinkFault, Outgoing};
+use am_reactor::{LinkFault, PeerBytes};
 use am_snapshot::SnapshotError;
 use am_upkeep::{DISK, Host};
 use am_version_order::Moment;
@@ -119,7 +119,7 @@ impl<R: Host> Clerk<'_, R> {
     }
 
     /// What goes to a peer next, of the frames that wait. Those for replicas wait on, until they are told.
-    pub(super) fn next_outgoing(&mut self, config: &Config) -> Option<Outgoing> {
+    pub(super) fn next_outgoing(&mut self, config: &Config) -> Option<PeerBytes> {
         for _ in 0..self.asked.len() {
             let (place, frames) = self.upkeep.next_frames(config)?;
             if !self.replicas.is_at(place as usize) {
@@ -131,13 +131,13 @@ impl<R: Host> Clerk<'_, R> {
     }
 
     /// What is asked of a replica next, or told to it: behind the commit of what is told.
-    pub(super) fn next_question(&mut self, instance: &Instance) -> Option<Outgoing> {
+    pub(super) fn next_question(&mut self, instance: &Instance) -> Option<PeerBytes> {
         if self.upkeep.keeping.has_news() {
             return None;
         }
         let moment = self.moment(instance);
         match self.replicas.question(moment) {
-            Ok(Some((peer, bytes))) => Some(Outgoing { peer, bytes }),
+            Ok(Some((peer, bytes))) => Some(PeerBytes { peer, bytes }),
             Ok(None) => None,
             Err(_) => {
                 self.upkeep.tell(instance.config(), Fault::UnsentMemory(1));

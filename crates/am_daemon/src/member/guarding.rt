@@ -6,7 +6,7 @@ ghost use Rattle.am_dialogue.specs.Talks.{talk_of};
 
 use super::clerk::Clerk;
 use am_address::is_loopback;
-use am_dialogue::Dialogue;
+use am_dialogue::Conversation;
 use am_faults::Fault;
 use am_gate::{Heard, Hears};
 use am_gossip::FrameError;
@@ -70,7 +70,12 @@ pub fn opening(alloc: Global, name: &str, is_sealed: bool) -> Result<Vec<u8>, Fr
 
 impl<R: Host> Clerk<'_, R> {
     /// Answers what was heard at the gate of a connection, and tells why no more is.
-    pub fn hear_at_gate(&mut self, instance: &mut Instance, dialogue: &mut Dialogue, heard: Heard)
+    pub fn hear_at_gate(
+        &mut self,
+        instance: &mut Instance,
+        dialogue: &mut Conversation,
+        heard: Heard,
+    )
         ensures { IsAnswered (spoken heard.said) instance.old (talk_of dialogue.old) instance.new (talk_of dialogue.new) }
     {
         let Heard { said, fault } = heard;

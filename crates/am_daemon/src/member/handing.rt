@@ -4,7 +4,7 @@ use super::clerk::Clerk;
 use am_dialogue::Share;
 use am_faults::Fault;
 use am_instance::{Config, HandedPart, Instance, Place};
-use am_reactor::Outgoing;
+use am_reactor::PeerBytes;
 use am_upkeep::Host;
 
 /// The most bytes of a part, but where one version has more.
@@ -26,12 +26,12 @@ impl<R: Host> Clerk<'_, R> {
     }
 
     /// A link to the first peer that is to be handed all that is held.
-    pub fn open_link(&mut self) -> Option<Outgoing> {
+    pub fn open_link(&mut self) -> Option<PeerBytes> {
         let peer = self.shares.iter().position(|share| share.waits())?;
         let share = self.shares.get_mut(peer)?;
         share.open();
         let bytes = Vec::new(self.upkeep.rt.alloc());
-        Some(Outgoing { peer, bytes })
+        Some(PeerBytes { peer, bytes })
     }
 
     /// The next part for a peer, as it goes out.

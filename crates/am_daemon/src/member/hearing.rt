@@ -4,16 +4,16 @@ ghost use Rattle.std.specs.Prelude.{◌≡◌, ℕ, IsTrue};
 ghost use Rattle.am_http.specs.Sessions.{name_of, spoken};
 ghost use Rattle.am_dialogue.specs.Answered.{IsAnswered, IsTaken};
 ghost use Rattle.am_dialogue.specs.Talks.{Closes, Stays, closed, talk_of};
-ghost use Rattle.am_member.specs.Exchanging.{Comes, IsExchanged, left_at};
+ghost use Rattle.am_member.specs.Exchanging.{WhenFinished, IsSessionAnswer, left_at};
 
 use super::clerk::Clerk;
-use am_dialogue::{Dialogue, asked_of_itself, bytes_said, ends_pull, is_nothing, may_change};
+use am_dialogue::{Conversation, asked_of_itself, bytes_said, ends_pull, is_nothing, may_change};
 use am_faults::Fault;
 use am_figures::Request;
 use am_http::Refusal;
-use am_http::session::{Said, Session};
+use am_http::session::{Session, SessionOutput};
 use am_instance::{Config, Instance};
-use am_member::{Exchanged, Spared, exchange, spare};
+use am_member::{SessionAnswer, Spared, apply_session_output, spare};
 use am_peers::{Fault as ConnectionFault, next_moment};
 use am_upkeep::{Host, place_of};
 use std::time::Instant;
@@ -31,7 +31,12 @@ struct Asked {
 
 impl<R: Host> Clerk<'_, R> {
     /// Answers what was said, or keeps it until it may be answered.
-    pub(super) fn hear(&mut self, instance: &mut Instance, dialogue: &mut Dialogue, said: Said)
+    pub(super) fn hear(
+        &mut self,
+        instance: &mut Instance,
+        dialogue: &mut Conversation,
+        said: SessionOutput,
+    )
         ensures { IsAnswered (spoken said) instance.old (talk_of dialogue.old) instance.new (talk_of dialogue.new) }
     {
         let name = dialogue.session.name();
@@ -45,7 +50,7 @@ impl<R: Host> Clerk<'_, R> {
     }
 
     /// Refuses to hear a request that names a host or a site which isn't this member's.
-    pub(super) fn turn_away(&self, dialogue: &mut Dialogue, refusal: &Refusal)
+    pub(super) fn refuse(&self, dialogue: &mut Conversation, refusal: &Refusal)
         ensures { talk_of dialogue.new ≡ closed (talk_of dialogue.old) }
     {
         dialogue
@@ -55,7 +60,12 @@ impl<R: Host> Clerk<'_, R> {
     }
 
     /// Answers what was said.
-    pub(super) fn answer(&mut self, instance: &mut Instance, dialogue: &mut Dialogue, said: Said)
+    pub(super) fn answer(
+        &mut self,
+        instance: &mut Instance,
+        dialogue: &mut Conversation,
+        said: SessionOutput,
+    )
         ensures { IsAnswered (spoken said) instance.old (talk_of dialogue.old) instance.new (talk_of dialogue.new) }
     {
         if is_nothing(&said) && dialogue.session.name().is_none() {
@@ -68,7 +78,7 @@ impl<R: Host> Clerk<'_, R> {
     }
 
     /// Refuses who greets by a name that is nobody's, as that of the disk, and answers whether somebody did.
-    fn refuses_inner(&mut self, config: &Config, dialogue: &mut Dialogue) -> bool
+    fn refuses_inner(&mut self, config: &Config, dialogue: &mut Conversation) -> bool
         ensures refused { IsTrue result → Closes (talk_of dialogue.old) (talk_of dialogue.new) }
         ensures heard { ¬ IsTrue result → talk_of dialogue.new ≡ talk_of dialogue.old }
     {
@@ -85,7 +95,7 @@ impl<R: Host> Clerk<'_, R> {
     }
 
     /// Makes the steps of what was said, and what follows them.
-    fn take_in(&mut self, instance: &mut Instance, dialogue: &mut Dialogue, said: Said)
+    fn take_in(&mut self, instance: &mut Instance, dialogue: &mut Conversation, said: SessionOutput)
         ensures { IsTaken (spoken said) instance.old (talk_of dialogue.old) instance.new (talk_of dialogue.new) }
     {
         self.upkeep.room.add(bytes_said(&said));
@@ -108,21 +118,21 @@ impl<R: Host> Clerk<'_, R> {
         &mut self,
         instance: &mut Instance,
         session: &mut Session,
-        said: Said,
-    ) -> Exchanged
-        ensures exchanged { (bits : ℕ) × (now : ℕ) × Comes (IsExchanged (name_of session.old) bits now (spoken said) instance.old instance.new) result }
+        said: SessionOutput,
+    ) -> SessionAnswer
+        ensures exchanged { (bits : ℕ) × (now : ℕ) × WhenFinished (IsSessionAnswer (name_of session.old) bits now (spoken said) instance.old instance.new) result }
         ensures session { session.new ≡ left_at result.fault session.old }
     {
         let bits = self.random_bits();
         let now = next_moment(self.upkeep.rt, instance.last());
-        exchange(self.upkeep.rt.alloc(), instance, session, said, bits, now)
+        apply_session_output(self.upkeep.rt.alloc(), instance, session, said, bits, now)
     }
 
     /// Has go out what comes of steps: behind the next commit, where something came since the last one.
-    fn reply(&mut self, config: &Config, dialogue: &mut Dialogue, exchanged: Exchanged)
+    fn reply(&mut self, config: &Config, dialogue: &mut Conversation, exchanged: SessionAnswer)
         ensures { Stays (talk_of dialogue.old) (talk_of dialogue.new) }
     {
-        let Exchanged {
+        let SessionAnswer {
             reply,
             effects,
             fault,

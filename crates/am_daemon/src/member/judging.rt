@@ -7,16 +7,16 @@ ghost use Rattle.am_dialogue.specs.Talks.{IsRequest, closed, talk_of};
 
 use super::clerk::{Clerk, put_off};
 use am_api_silences::{Read, Refusal};
-use am_dialogue::{Dialogue, Work, is_call, post_bytes};
+use am_dialogue::{Conversation, Work, is_call, post_bytes};
 use am_http::Cause;
-use am_http::session::Said;
+use am_http::session::SessionOutput;
 use am_instance::Instance;
 use am_member::{Judged, Judging};
 use am_upkeep::Host;
 use std::alloc::{AllocError, Global};
 
 /// The patterns of what was said, where it has such.
-fn judging_of(alloc: Global, said: &Said) -> Result<Option<Judging>, AllocError>
+fn judging_of(alloc: Global, said: &SessionOutput) -> Result<Option<Judging>, AllocError>
     ensures { IfOk result (λ found. IfSome found (λ _. IsRequest (spoken said.now))) }
 {
     match &said.request {
@@ -41,7 +41,12 @@ fn is_judged(judging: &mut Judging) -> Result<bool, Refusal> {
 
 impl<R: Host> Clerk<'_, R> {
     /// Answers what was said, or keeps it until its patterns are compiled.
-    pub(super) fn judge(&mut self, instance: &mut Instance, dialogue: &mut Dialogue, said: Said)
+    pub(super) fn judge(
+        &mut self,
+        instance: &mut Instance,
+        dialogue: &mut Conversation,
+        said: SessionOutput,
+    )
         ensures { IsAnswered (spoken said) instance.old (talk_of dialogue.old) instance.new (talk_of dialogue.new) }
     {
         if is_call(&said) {
@@ -52,7 +57,12 @@ impl<R: Host> Clerk<'_, R> {
     }
 
     /// Refuses a post for which there is no room, and answers whether it did.
-    fn refuses(&mut self, instance: &Instance, dialogue: &mut Dialogue, said: &Said) -> bool
+    fn refuses(
+        &mut self,
+        instance: &Instance,
+        dialogue: &mut Conversation,
+        said: &SessionOutput,
+    ) -> bool
         ensures refused { IsTrue result → talk_of dialogue.new ≡ closed (talk_of dialogue.old) }
         ensures heard { ¬ IsTrue result → talk_of dialogue.new ≡ talk_of dialogue.old }
     {
@@ -69,7 +79,12 @@ impl<R: Host> Clerk<'_, R> {
     }
 
     /// Answers what was said that isn't refused, or keeps it until its patterns are compiled.
-    fn begin_judging(&mut self, instance: &mut Instance, dialogue: &mut Dialogue, said: Said)
+    fn begin_judging(
+        &mut self,
+        instance: &mut Instance,
+        dialogue: &mut Conversation,
+        said: SessionOutput,
+    )
         ensures { IsAnswered (spoken said) instance.old (talk_of dialogue.old) instance.new (talk_of dialogue.new) }
     {
         let alloc = self.upkeep.rt.alloc();
@@ -84,8 +99,8 @@ impl<R: Host> Clerk<'_, R> {
     pub(super) fn go_on_judging(
         &mut self,
         instance: &mut Instance,
-        dialogue: &mut Dialogue,
-        said: Said,
+        dialogue: &mut Conversation,
+        said: SessionOutput,
         judging: Judging,
     )
         ensures { IsRequest (spoken said) → IsAnswered (spoken said) instance.old (talk_of dialogue.old) instance.new (talk_of dialogue.new) }
@@ -102,8 +117,8 @@ impl<R: Host> Clerk<'_, R> {
     fn answer_by(
         &mut self,
         instance: &mut Instance,
-        dialogue: &mut Dialogue,
-        said: Said,
+        dialogue: &mut Conversation,
+        said: SessionOutput,
         judging: Judging,
     )
         ensures { IsAnswered (spoken said) instance.old (talk_of dialogue.old) instance.new (talk_of dialogue.new) }

@@ -6,15 +6,15 @@ ghost use Rattle.am_dialogue.specs.Talks.{Rests, talk_of};
 ghost use Rattle.am_living.specs.Talking.{IsTakenUp};
 
 use super::clerk::{Clerk, put_off};
-use am_dialogue::{Dialogue, Work};
-use am_http::session::Said;
+use am_dialogue::{Conversation, Work};
+use am_http::session::SessionOutput;
 use am_instance::Instance;
 use am_upkeep::Host;
 use std::mem;
 
 impl<R: Host> Clerk<'_, R> {
     /// Goes on with what is still to be done for a connection. What waits for its turn goes on waiting.
-    pub(super) fn go_on(&mut self, instance: &mut Instance, dialogue: &mut Dialogue)
+    pub(super) fn go_on(&mut self, instance: &mut Instance, dialogue: &mut Conversation)
         ensures { IsTakenUp (talk_of dialogue.old).waiting instance.old (talk_of dialogue.old) instance.new (talk_of dialogue.new) }
     {
         let alloc = self.upkeep.rt.alloc();
@@ -23,7 +23,7 @@ impl<R: Host> Clerk<'_, R> {
             Work::Judging(said, judging) => self.go_on_judging(instance, dialogue, said, judging),
             Work::Due(turn) => self.answer_turn(instance, dialogue, &turn),
             Work::Deciding(deciding) => self.go_on_deciding(instance, dialogue, deciding),
-            Work::Making(making) => dialogue.go_on(alloc, making),
+            Work::PendingReply(making) => dialogue.go_on(alloc, making),
             Work::Log(writing) => dialogue.go_on_log(alloc, writing),
             Work::Counting(census) => self.go_on_counting(instance, dialogue, census),
             Work::Turn(turn) => put_off(dialogue, Work::Turn(turn)),
@@ -32,18 +32,23 @@ impl<R: Host> Clerk<'_, R> {
     }
 
     /// Answers what has waited: where it waited for a first pull that a stop has ended, that nothing is answered.
-    fn answer_late(&mut self, instance: &mut Instance, dialogue: &mut Dialogue, said: Said)
+    fn answer_late(
+        &mut self,
+        instance: &mut Instance,
+        dialogue: &mut Conversation,
+        said: SessionOutput,
+    )
         ensures { IsAnswered (spoken said) instance.old (talk_of dialogue.old) instance.new (talk_of dialogue.new) }
     {
         if self.turns_away {
-            dialogue.turn_away(self.upkeep.rt.alloc(), Some(said));
+            dialogue.refuse_unready(self.upkeep.rt.alloc(), Some(said));
         } else {
             self.judge(instance, dialogue, said);
         }
     }
 
     /// The moment has come for which a request waited.
-    pub(super) fn go_on_in_turn(&mut self, instance: &mut Instance, dialogue: &mut Dialogue)
+    pub(super) fn go_on_in_turn(&mut self, instance: &mut Instance, dialogue: &mut Conversation)
         ensures own { ByItself instance.old instance.new }
         ensures rests { Rests (talk_of dialogue.old) (talk_of dialogue.new) }
     {

@@ -3,11 +3,11 @@
 use super::clerk::Clerk;
 use super::guarding::{hears_at, lock_at};
 use am_attendant::Attendant;
-use am_dialogue::Dialogue;
+use am_dialogue::Conversation;
 use am_faults::Fault;
 use am_instance::{Config, Instance, Place};
 use am_peers::Fault as ConnectionFault;
-use am_reactor::{Broken, Entrance, Failure, LinkFault, Outgoing, Wake};
+use am_reactor::{Broken, Entrance, Failure, LinkFault, PeerBytes, Wake};
 use am_upkeep::{Host, place_of, sooner};
 use std::io::ErrorKind;
 use std::time::Instant;
@@ -28,17 +28,17 @@ fn fault_of(broken: Broken, is_over: bool) -> Fault {
 }
 
 impl<R: Host> Attendant for Clerk<'_, R> {
-    fn begin(&mut self, entrance: Entrance) -> Dialogue {
+    fn begin(&mut self, entrance: Entrance) -> Conversation {
         self.upkeep.figures.begin();
-        Dialogue::new(
+        Conversation::new(
             self.upkeep.rt.alloc(),
             hears_at(self.upkeep.options, entrance),
         )
     }
 
-    fn feed(&mut self, instance: &mut Instance, dialogue: &mut Dialogue, piece: &[u8]) {
+    fn feed(&mut self, instance: &mut Instance, dialogue: &mut Conversation, piece: &[u8]) {
         if let Some(refusal) = dialogue.screen(piece, self.hosts.as_slice()) {
-            return self.turn_away(dialogue, &refusal);
+            return self.refuse(dialogue, &refusal);
         }
         let lock = lock_at(&self.upkeep);
         let heard = dialogue.gate.feed(&mut dialogue.session, lock, piece);
@@ -46,13 +46,13 @@ impl<R: Host> Attendant for Clerk<'_, R> {
         self.count_where_done(dialogue);
     }
 
-    fn end(&mut self, instance: &mut Instance, dialogue: &mut Dialogue) {
+    fn end(&mut self, instance: &mut Instance, dialogue: &mut Conversation) {
         let heard = dialogue.gate.end(&mut dialogue.session);
         self.hear_at_gate(instance, dialogue, heard);
         self.count_where_done(dialogue);
     }
 
-    fn broken(&mut self, config: &Config, dialogue: &mut Dialogue, broken: Broken) {
+    fn broken(&mut self, config: &Config, dialogue: &mut Conversation, broken: Broken) {
         if dialogue.due().is_some() {
             self.turns.end();
         }
@@ -66,7 +66,7 @@ impl<R: Host> Attendant for Clerk<'_, R> {
         !self.duties.waits_for_pull()
     }
 
-    fn resume(&mut self, instance: &mut Instance, dialogue: &mut Dialogue) {
+    fn resume(&mut self, instance: &mut Instance, dialogue: &mut Conversation) {
         self.go_on(instance, dialogue);
     }
 
@@ -78,24 +78,24 @@ impl<R: Host> Attendant for Clerk<'_, R> {
         self.upkeep.keep(instance);
     }
 
-    fn release(&mut self, dialogue: &mut Dialogue) {
+    fn release(&mut self, dialogue: &mut Conversation) {
         dialogue.release(self.upkeep.rt.alloc(), self.upkeep.keeping.is_kept());
     }
 
-    fn come_due(&mut self, instance: &mut Instance, dialogue: &mut Dialogue) {
+    fn come_due(&mut self, instance: &mut Instance, dialogue: &mut Conversation) {
         self.go_on_in_turn(instance, dialogue);
     }
 
-    fn hurry(&mut self, dialogue: &mut Dialogue) {
+    fn hurry(&mut self, dialogue: &mut Conversation) {
         let said = dialogue.take_waiting();
-        dialogue.turn_away(self.upkeep.rt.alloc(), said);
+        dialogue.refuse_unready(self.upkeep.rt.alloc(), said);
     }
 
-    fn count_done(&mut self, dialogue: &mut Dialogue) {
+    fn count_done(&mut self, dialogue: &mut Conversation) {
         self.count_where_done(dialogue);
     }
 
-    fn outgoing(&mut self, config: &Config) -> Option<Outgoing> {
+    fn outgoing(&mut self, config: &Config) -> Option<PeerBytes> {
         if self.upkeep.keeping.has_news() {
             None
         } else if self.upkeep.sends_nothing() {
@@ -105,7 +105,7 @@ impl<R: Host> Attendant for Clerk<'_, R> {
         }
     }
 
-    fn question(&mut self, instance: &Instance) -> Option<Outgoing> {
+    fn question(&mut self, instance: &Instance) -> Option<PeerBytes> {
         self.next_question(instance)
     }
 

@@ -5,7 +5,7 @@ use super::guarding::{hosts_of, opening};
 use am_address::{Peer, shown_name};
 use am_attendant::{Member, live};
 use am_beside::Replicas;
-use am_dialogue::{Duties, Intervals, Share, Turns};
+use am_dialogue::{Intervals, Share, Timers, Turns};
 use am_faults::{Fault, report, status};
 use am_instance::{Config, ConfigError, Instance, Place};
 use am_jobs::Options;
@@ -215,7 +215,7 @@ fn clerk_of<'a, R: Host>(
     upkeep: Upkeep<'a, R>,
     places: Places<'a>,
     random: StdRng,
-    duties: Duties,
+    duties: Timers,
 ) -> Clerk<'a, R> {
     let Places {
         hosts,
@@ -264,9 +264,9 @@ fn places_of<'a>(
 }
 
 /// What is due by itself from now on.
-fn duties<R: Host>(rt: &R, options: &Options<'_>) -> Result<Duties, Fault> {
+fn duties<R: Host>(rt: &R, options: &Options<'_>) -> Result<Timers, Fault> {
     match Instant::now(rt) {
-        Ok(now) => Ok(Duties::new(&intervals(options), signals::are_blocked(rt), now)),
+        Ok(now) => Ok(Timers::new(&intervals(options), signals::are_blocked(rt), now)),
         Err(error) => Err(Fault::Clock(error.kind())),
     }
 }

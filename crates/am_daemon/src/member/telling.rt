@@ -5,13 +5,13 @@ ghost use Rattle.am_dialogue.specs.Talks.{Closes, Rests, talk_of};
 use super::clerk::{Clerk, put_off};
 use am_api_silences::Read;
 use am_api_status::{
-    Call, Peer, Resource, Standing, call_of, metrics_reply, not_ready, page_reply, receivers_reply,
-    status_reply, well_reply,
+    Call, MemberStatus, Peer, Resource, call_of, metrics_reply, not_ready, page_reply,
+    receivers_reply, status_reply, well_reply,
 };
-use am_dialogue::{Census, Dialogue, Work};
+use am_dialogue::{Census, Conversation, Work};
 use am_figures::{PeerName, Shown, families};
 use am_http::Cause;
-use am_http::session::Said;
+use am_http::session::SessionOutput;
 use am_instance::{Config, Instance};
 use am_jobs::VERSION;
 use am_peers::later_moment;
@@ -36,14 +36,14 @@ impl<R: Host> Clerk<'_, R> {
     pub(super) fn tell_itself(
         &mut self,
         instance: &Instance,
-        dialogue: &mut Dialogue,
-        said: Said,
+        dialogue: &mut Conversation,
+        said: SessionOutput,
         resource: Resource,
     )
         ensures { Closes (talk_of dialogue.old) (talk_of dialogue.new) }
     {
         dialogue.session.stop();
-        let Said { request, .. } = said;
+        let SessionOutput { request, .. } = said;
         let Some(Read::Whole(request)) = request else {
             return;
         };
@@ -54,7 +54,7 @@ impl<R: Host> Clerk<'_, R> {
     }
 
     /// Answers a call.
-    fn tell_call(&mut self, instance: &Instance, dialogue: &mut Dialogue, call: Call)
+    fn tell_call(&mut self, instance: &Instance, dialogue: &mut Conversation, call: Call)
         ensures { Rests (talk_of dialogue.old) (talk_of dialogue.new) }
     {
         let alloc = self.upkeep.rt.alloc();
@@ -75,7 +75,7 @@ impl<R: Host> Clerk<'_, R> {
     }
 
     /// Tells whether it answers requests.
-    fn tell_readiness(&self, dialogue: &mut Dialogue, is_bare: bool)
+    fn tell_readiness(&self, dialogue: &mut Conversation, is_bare: bool)
         ensures { Rests (talk_of dialogue.old) (talk_of dialogue.new) }
     {
         let alloc = self.upkeep.rt.alloc();
@@ -87,7 +87,7 @@ impl<R: Host> Clerk<'_, R> {
     }
 
     /// Tells who it is.
-    fn tell_status(&self, config: &Config, dialogue: &mut Dialogue, is_bare: bool)
+    fn tell_status(&self, config: &Config, dialogue: &mut Conversation, is_bare: bool)
         ensures { Rests (talk_of dialogue.old) (talk_of dialogue.new) }
     {
         let alloc = self.upkeep.rt.alloc();
@@ -99,9 +99,9 @@ impl<R: Host> Clerk<'_, R> {
     }
 
     /// Who it is.
-    fn standing(&self, config: &Config) -> Result<Standing, AllocError> {
+    fn standing(&self, config: &Config) -> Result<MemberStatus, AllocError> {
         let alloc = self.upkeep.rt.alloc();
-        Ok(Standing {
+        Ok(MemberStatus {
             name: Text::copied(alloc, self.upkeep.options.name)?,
             is_ready: self.is_ready(),
             peers: self.members_shown(config)?,
@@ -134,7 +134,7 @@ impl<R: Host> Clerk<'_, R> {
     }
 
     /// Begins to count the silences. While a first pull is waited for nothing that waits is done, so they are counted at once.
-    fn begin_counting(&self, instance: &Instance, dialogue: &mut Dialogue, is_bare: bool)
+    fn begin_counting(&self, instance: &Instance, dialogue: &mut Conversation, is_bare: bool)
         ensures { Rests (talk_of dialogue.old) (talk_of dialogue.new) }
     {
         let census = Census::new(is_bare);
@@ -167,7 +167,7 @@ impl<R: Host> Clerk<'_, R> {
     pub(super) fn go_on_counting(
         &self,
         instance: &Instance,
-        dialogue: &mut Dialogue,
+        dialogue: &mut Conversation,
         census: Census,
     )
         ensures { Rests (talk_of dialogue.old) (talk_of dialogue.new) }
@@ -179,7 +179,7 @@ impl<R: Host> Clerk<'_, R> {
     fn follow_counting(
         &self,
         instance: &Instance,
-        dialogue: &mut Dialogue,
+        dialogue: &mut Conversation,
         counted: Result<Census, AllocError>,
     )
         ensures { Rests (talk_of dialogue.old) (talk_of dialogue.new) }

@@ -5,25 +5,25 @@ ghost use Rattle.am_http.specs.Requests.{IsUnfinished};
 ghost use Rattle.am_http.specs.Sessions.{Asks, IsCutShort, LacksToAsk, spoken};
 ghost use Rattle.am_http.specs.States.{IsSound, standing_in};
 
-use crate::session::said::Said;
+use crate::session::output::SessionOutput;
 use crate::session::state::State;
 use crate::{Cause, Read, read_request};
 use std::alloc::Global;
 
 /// What the bytes say that came of a request.
-fn ask(alloc: Global, bytes: Vec<u8>) -> (Said, State)
+fn ask(alloc: Global, bytes: Vec<u8>) -> (SessionOutput, State)
     requires { 0 < length bytes.items }
     ensures says { Asks bytes.items (spoken result.0) (standing_in result.1) }
     ensures sound { IsSound result.1 }
 {
     match read_request(alloc, &bytes, false) {
-        Read::More => (Said::nothing(alloc), State::Asking(bytes)),
-        read => (Said::asked(alloc, read), State::Over(None)),
+        Read::More => (SessionOutput::nothing(alloc), State::Asking(bytes)),
+        read => (SessionOutput::asked(alloc, read), State::Over(None)),
     }
 }
 
 /// What a piece says behind the bytes that came of a request.
-pub fn ask_on(alloc: Global, bytes: Vec<u8>, piece: &[u8]) -> (Said, State)
+pub fn ask_on(alloc: Global, bytes: Vec<u8>, piece: &[u8]) -> (SessionOutput, State)
     requires { 0 < length (bytes.items ++ piece.now) }
     ensures says { Asks (bytes.items ++ piece.now) (spoken result.0) (standing_in result.1)
         ⊎ LacksToAsk (spoken result.0) (standing_in result.1) }
@@ -32,15 +32,15 @@ pub fn ask_on(alloc: Global, bytes: Vec<u8>, piece: &[u8]) -> (Said, State)
     let mut bytes = bytes;
     match bytes.extend_from_slice(piece) {
         Ok(()) => ask(alloc, bytes),
-        Err(_) => (Said::turned_away(alloc), State::Over(None)),
+        Err(_) => (SessionOutput::turned_away(alloc), State::Over(None)),
     }
 }
 
 /// What is said of a request whose input ended in it, of which these bytes came.
-pub fn cut_short(alloc: Global, bytes: &[u8]) -> Said
+pub fn cut_short(alloc: Global, bytes: &[u8]) -> SessionOutput
     requires some { 0 < length bytes.now }
     requires open { IsUnfinished bytes.now }
     ensures { IsCutShort bytes.now (spoken result) }
 {
-    Said::asked(alloc, Read::Refused(Cause::EndedEarly.refusal()))
+    SessionOutput::asked(alloc, Read::Refused(Cause::EndedEarly.refusal()))
 }

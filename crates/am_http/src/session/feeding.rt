@@ -7,7 +7,7 @@ ghost use Rattle.am_http.specs.States.{IsSound, standing_in};
 use crate::session::asking::{ask_on, cut_short};
 use crate::session::greeting::greet_on;
 use crate::session::hearing::hear;
-use crate::session::said::Said;
+use crate::session::output::SessionOutput;
 use crate::session::state::State;
 use std::alloc::Global;
 
@@ -15,19 +15,19 @@ use std::alloc::Global;
 const LEAST_OF_REQUESTS: u8 = 0x20;
 
 /// What the first piece says.
-fn begin(alloc: Global, piece: &[u8]) -> (Said, State)
+fn begin(alloc: Global, piece: &[u8]) -> (SessionOutput, State)
     ensures says { Feeds fresh piece.now (spoken result.0) (standing_in result.1) }
     ensures sound { IsSound result.1 }
 {
     match piece.first() {
-        None => (Said::nothing(alloc), State::Fresh),
+        None => (SessionOutput::nothing(alloc), State::Fresh),
         Some(first) if *first < LEAST_OF_REQUESTS => greet_on(alloc, Vec::new(alloc), piece),
         Some(_) => ask_on(alloc, Vec::new(alloc), piece),
     }
 }
 
 /// What the next piece says.
-pub fn next_of(alloc: Global, state: State, piece: &[u8]) -> (Said, State)
+pub fn next_of(alloc: Global, state: State, piece: &[u8]) -> (SessionOutput, State)
     requires { IsSound state }
     ensures says { Feeds (standing_in state) piece.now (spoken result.0) (standing_in result.1) }
     ensures sound { IsSound result.1 }
@@ -37,17 +37,17 @@ pub fn next_of(alloc: Global, state: State, piece: &[u8]) -> (Said, State)
         State::Asking(bytes) => ask_on(alloc, bytes, piece),
         State::Greeting(bytes) => greet_on(alloc, bytes, piece),
         State::Hearing(hearing) => hear(alloc, hearing, piece),
-        State::Over(name) => (Said::nothing(alloc), State::Over(name)),
+        State::Over(name) => (SessionOutput::nothing(alloc), State::Over(name)),
     }
 }
 
 /// What the end of the input says.
-pub fn end_of(alloc: Global, state: &State) -> Said
+pub fn end_of(alloc: Global, state: &State) -> SessionOutput
     requires { IsSound state.now }
     ensures { SaysEnd (standing_in state.now) (spoken result) }
 {
     match state {
         State::Asking(bytes) => cut_short(alloc, bytes),
-        _ => Said::nothing(alloc),
+        _ => SessionOutput::nothing(alloc),
     }
 }

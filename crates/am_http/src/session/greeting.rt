@@ -6,21 +6,24 @@ ghost use Rattle.am_http.specs.Sessions.{Greets, Hears, LacksToGreet, spoken};
 ghost use Rattle.am_http.specs.States.{IsSound, standing_in};
 
 use crate::session::hearing::hear;
-use crate::session::said::Said;
+use crate::session::output::SessionOutput;
 use crate::session::state::{Hearing, State};
 use am_gossip::{Feeder, FrameError, read_hello};
 use std::alloc::Global;
 
 /// There is no memory for a greeting.
-fn unheard(alloc: Global) -> (Said, State)
+fn unheard(alloc: Global) -> (SessionOutput, State)
     ensures says { LacksToGreet (spoken result.0) (standing_in result.1) }
     ensures sound { IsSound result.1 }
 {
-    (Said::failed(alloc, FrameError::Memory), State::Over(None))
+    (
+        SessionOutput::failed(alloc, FrameError::Memory),
+        State::Over(None),
+    )
 }
 
 /// What the bytes say behind a greeting of this name and length.
-fn greeted(alloc: Global, name: &str, len: usize, piece: &[u8]) -> (Said, State)
+fn greeted(alloc: Global, name: &str, len: usize, piece: &[u8]) -> (SessionOutput, State)
     ensures says { Hears name.now len [] piece.now (spoken result.0) (standing_in result.1)
         ⊎ LacksToGreet (spoken result.0) (standing_in result.1) }
     ensures sound { IsSound result.1 }
@@ -37,20 +40,20 @@ fn greeted(alloc: Global, name: &str, len: usize, piece: &[u8]) -> (Said, State)
 }
 
 /// The bytes of a greeting that isn't whole wait.
-fn wait(alloc: Global, bytes: &[u8]) -> (Said, State)
+fn wait(alloc: Global, bytes: &[u8]) -> (SessionOutput, State)
     requires { hello_of bytes.now ≡ Ok None }
     ensures says { Greets bytes.now (spoken result.0) (standing_in result.1)
         ⊎ LacksToGreet (spoken result.0) (standing_in result.1) }
     ensures sound { IsSound result.1 }
 {
     match bytes.to_vec(alloc) {
-        Ok(bytes) => (Said::nothing(alloc), State::Greeting(bytes)),
+        Ok(bytes) => (SessionOutput::nothing(alloc), State::Greeting(bytes)),
         Err(_) => unheard(alloc),
     }
 }
 
 /// What all the bytes say that came of a connection of frames.
-fn greet(alloc: Global, bytes: &[u8]) -> (Said, State)
+fn greet(alloc: Global, bytes: &[u8]) -> (SessionOutput, State)
     ensures says { Greets bytes.now (spoken result.0) (standing_in result.1)
         ⊎ LacksToGreet (spoken result.0) (standing_in result.1) }
     ensures sound { IsSound result.1 }
@@ -61,12 +64,12 @@ fn greet(alloc: Global, bytes: &[u8]) -> (Said, State)
             greeted(alloc, name, len, behind)
         }
         Ok(None) => wait(alloc, bytes),
-        Err(e) => (Said::failed(alloc, e), State::Over(None)),
+        Err(e) => (SessionOutput::failed(alloc, e), State::Over(None)),
     }
 }
 
 /// What a piece says behind the bytes that came of a greeting. The piece is copied only where the greeting was cut.
-pub fn greet_on(alloc: Global, bytes: Vec<u8>, piece: &[u8]) -> (Said, State)
+pub fn greet_on(alloc: Global, bytes: Vec<u8>, piece: &[u8]) -> (SessionOutput, State)
     ensures says { Greets (bytes.items ++ piece.now) (spoken result.0) (standing_in result.1)
         ⊎ LacksToGreet (spoken result.0) (standing_in result.1) }
     ensures sound { IsSound result.1 }

@@ -7,7 +7,7 @@ ghost use Rattle.am_http.specs.Sessions.{Hears, IsUnheard, most_bytes, over, spo
 ghost use Rattle.am_http.specs.States.{IsSound, ended_by, standing_in};
 
 use crate::session::fault::SessionFault;
-use crate::session::said::Said;
+use crate::session::output::SessionOutput;
 use crate::session::state::{Hearing, State};
 use am_gossip::FrameError;
 use std::alloc::Global;
@@ -38,7 +38,7 @@ fn ended_by(fault: Option<FrameError>, lost: &[u8]) -> Option<SessionFault>
 }
 
 /// What a piece of a stream says.
-pub fn hear(alloc: Global, hearing: Hearing, piece: &[u8]) -> (Said, State)
+pub fn hear(alloc: Global, hearing: Hearing, piece: &[u8]) -> (SessionOutput, State)
     requires { IsSome hearing.feeder }
     ensures says { Hears (string_bytes hearing.name) hearing.count (rest_bytes hearing.feeder) piece.now (spoken
         result.0) (standing_in result.1)
@@ -49,15 +49,18 @@ pub fn hear(alloc: Global, hearing: Hearing, piece: &[u8]) -> (Said, State)
     let (took, lost) = parted(piece, hearing.count);
     let Ok(fed) = hearing.feeder.feed(took) else {
         return (
-            Said::failed(alloc, FrameError::Memory),
+            SessionOutput::failed(alloc, FrameError::Memory),
             State::Over(Some(hearing.name)),
         );
     };
     hearing.count += took.len();
     match ended_by(fed.fault, lost) {
-        None => (Said::heard(fed.frames, None), State::Hearing(hearing)),
+        None => (
+            SessionOutput::heard(fed.frames, None),
+            State::Hearing(hearing),
+        ),
         fault => (
-            Said::heard(fed.frames, fault),
+            SessionOutput::heard(fed.frames, fault),
             State::Over(Some(hearing.name)),
         ),
     }

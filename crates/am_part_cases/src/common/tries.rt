@@ -4,7 +4,7 @@ ghost use Rattle.std.specs.Prelude.{Some};
 
 use crate::common::case::{Case, ROOM};
 use crate::common::words::{first, phrase};
-use am_http::session::{Said, Session};
+use am_http::session::{Session, SessionOutput};
 use std::io::{self, Read, Write};
 
 /// A reader over bytes that gives at most so many a call, and fails at a call (0: at none).
@@ -27,7 +27,7 @@ impl<'a> Pieces<'a> {
     }
 
     /// Feeds a session the next piece, of so many bytes at most and one at least, or the end where all were given.
-    pub fn feed(&mut self, session: &mut Session, most: usize) -> Said {
+    pub fn feed(&mut self, session: &mut Session, most: usize) -> SessionOutput {
         if self.left.is_empty() {
             return session.end();
         }

@@ -8,7 +8,7 @@ use am_gossip::{
     read_hello,
 };
 use am_http::Read;
-use am_http::session::{Said, Session, SessionFault};
+use am_http::session::{Session, SessionFault, SessionOutput};
 use std::slice;
 
 /// Cases of frames and sessions.
@@ -133,12 +133,12 @@ fn session(case: &Case, pieces: &str) {
     }
 }
 
-fn said_of(case: &Case, session: &mut Session, word: &str) -> Said {
+fn said_of(case: &Case, session: &mut Session, word: &str) -> SessionOutput {
     match word {
         "end" => session.end(),
         "stop" => {
             session.stop();
-            Said::nothing(case.alloc)
+            SessionOutput::nothing(case.alloc)
         }
         _ => {
             let piece = match word.strip_prefix('"') {
@@ -151,7 +151,7 @@ fn said_of(case: &Case, session: &mut Session, word: &str) -> Said {
 }
 
 /// Prints the frames, the request and the fault, with `, ` between them.
-fn print_said(case: &Case, said: &Said) {
+fn print_said(case: &Case, said: &SessionOutput) {
     let mut mark = "";
     for frame in &said.frames {
         case.put(mark);
@@ -181,7 +181,7 @@ struct Receiving {
 impl Call for Receiving {
     fn make(&self, case: &Case, reader: &mut Pieces<'_>, _writer: &mut Brittle) -> Option<Cut> {
         let (mut session, step) = (Session::new(case.alloc), reader.step);
-        let mut said = Said::nothing(case.alloc);
+        let mut said = SessionOutput::nothing(case.alloc);
         for _ in 0..=reader.left.len() {
             if session.is_over() {
                 break;

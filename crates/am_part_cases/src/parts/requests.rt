@@ -4,9 +4,9 @@ use crate::common::{Case, Fault, cut, first};
 use crate::parts::figures;
 use am_http::{Cause, Read, Resource, call_of, filter_texts, out_of_memory, read_request, reply};
 use am_nflog::HashIter;
+use am_report::{ListedWord, Numbers, Texts, Word};
 use am_schedule::{FaultKind, parse};
 use am_silence_json::Key;
-use am_told::{ListedWord, Numbers, Texts, Word};
 
 /// Cases of requests, replies and words.
 pub fn answer(case: &Case, verb: &str, rest: &str) {

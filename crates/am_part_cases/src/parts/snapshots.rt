@@ -3,11 +3,11 @@
 use crate::common::{Brittle, Call, Case, Cut, Fault, Pieces, behind, cut, first};
 use am_merge::Held;
 use am_nflog::MeshEntry;
+use am_report::{show_log, show_silences};
 use am_silence::MeshSilence;
 use am_snapshot::laws::what_is_saved_is_loaded;
 use am_snapshot::{SnapshotError, fold, load, save, take_row};
 use am_streams::send;
-use am_told::{show_log, show_silences};
 use am_version_order::{Moment, Version};
 use am_wire::Message;
 use std::alloc::Global;

@@ -5,7 +5,7 @@ ghost use Rattle.am_wire.specs.Inputs.{messages_of};
 ghost use Rattle.am_instance.specs.Deliveries.{before_fault, first_fault, rows_in, rows_of};
 ghost use Rattle.am_steps.specs.Contents.{carries, delivery_of, IsValue};
 
-use crate::carried::version::{AnyVersion, Carry};
+use crate::carried::version::{AnyVersion, FrameVersion};
 use am_gossip::{Frame, Part, StateKey};
 use am_nflog::MeshEntry;
 use am_silence::MeshSilence;
@@ -17,7 +17,7 @@ use std::alloc::{AllocError, Global};
 /// # Errors
 ///
 /// [`AllocError`] where memory runs out.
-pub fn carried_by(alloc: Global, frame: &Frame) -> Result<Vec<AnyVersion>, AllocError>
+pub fn versions_in_frame(alloc: Global, frame: &Frame) -> Result<Vec<AnyVersion>, AllocError>
     // PROMISE: A frame carries the versions of its rows, up to its first fault.
     ensures versions { IfOk result (λ versions. map delivery_of versions.items ≡ carries frame.now) }
     ensures values { IfOk result (λ versions. All IsValue (map delivery_of versions.items)) }
@@ -84,7 +84,7 @@ fn append_part(
 }
 
 /// Adds the versions of a row up to the first fault, and answers whether there is none.
-fn append_row<V: Carry>(
+fn append_row<V: FrameVersion>(
     alloc: Global,
     row: &[u8],
     versions: &mut Vec<AnyVersion>,

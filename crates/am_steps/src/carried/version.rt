@@ -19,7 +19,7 @@ pub enum AnyVersion {
 }
 
 /// A version of a state that frames carry.
-pub trait Carry: Message {
+pub trait FrameVersion: Message {
     /// The version as what is delivered.
     ghost delivered: { Self → Delivery };
 
@@ -29,7 +29,7 @@ pub trait Carry: Message {
         ensures value { IsValue (delivery_of result) };
 }
 
-impl Carry for MeshSilence {
+impl FrameVersion for MeshSilence {
     ghost use Rattle.am_instance.specs.Deliveries.Delivery.{OfSilence};
 
     ghost delivered = { OfSilence };
@@ -40,7 +40,7 @@ impl Carry for MeshSilence {
     }
 }
 
-impl Carry for MeshEntry {
+impl FrameVersion for MeshEntry {
     ghost use Rattle.am_instance.specs.Deliveries.Delivery.{OfEntry};
 
     ghost delivered = { OfEntry };

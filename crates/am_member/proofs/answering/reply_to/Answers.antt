@@ -6,4 +6,4 @@ returns-in-Whole-clause-answered c = whole_answered _ _ _ _ _ _ c.in-Whole.reque
 
 pub returns-in-Refused-clause-answered : goal.returns-in-Refused-clause-answered
 returns-in-Refused-clause-answered c =
-    refused_answered _ _ _ _ _ _ c.in-Refused.refusal c.turn_away.result c.in-Refused.is (c.turn_away.ensures c.args.instance.now) c.replied-in-Refused.ensures.handed
+    refused_answered _ _ _ _ _ _ c.in-Refused.refusal c.refuse.result c.in-Refused.is (c.refuse.ensures c.args.instance.now) c.replied-in-Refused.ensures.handed

@@ -7,6 +7,6 @@ loop-init g c = (moves_none _ _ _ _ _, λ first acts. acts)
 
 pub loop-preserved : goal.loop-preserved
 loop-preserved g c = (
-  moves_more _ _ _ _ _ _ _ _ _ _ _ c.loop.invariant.0 (λ _. refl) c.give_up.ensures.others c.give_up.ensures.moved,
-  λ first acts. c.give_up.ensures.acted first (c.loop.invariant.1 first acts),
+  moves_more _ _ _ _ _ _ _ _ _ _ _ c.loop.invariant.0 (λ _. refl) c.time_out_link.ensures.others c.time_out_link.ensures.moved,
+  λ first acts. c.time_out_link.ensures.acted first (c.loop.invariant.1 first acts),
 )

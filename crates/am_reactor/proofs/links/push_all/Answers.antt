@@ -7,6 +7,6 @@ loop-init g c = (moves_none _ _ _ _ _, λ first acts. acts)
 
 pub loop-preserved : goal.loop-preserved
 loop-preserved g c = (
-  moves_more _ _ _ _ _ _ _ _ _ _ _ c.loop.invariant.0 (λ _. refl) c.push_on.ensures.others c.push_on.ensures.moved,
-  λ first acts. c.push_on.ensures.acted first (c.loop.invariant.1 first acts),
+  moves_more _ _ _ _ _ _ _ _ _ _ _ c.loop.invariant.0 (λ _. refl) c.flush_link.ensures.others c.flush_link.ensures.moved,
+  λ first acts. c.flush_link.ensures.acted first (c.loop.invariant.1 first acts),
 )

@@ -9,9 +9,9 @@ pub returns-else-is_err : goal.returns-else-is_err
 returns-else-is_err g c =
     let member = c.in-Some.member in
     let long = c.len.ensures ∙ c.args.standings.now.ok.0 in
-    stands_noted g.V.Version.seen g.V.Key.Ord.cmp c.args.standings.now.items member c.index_mut.result.now c.follow.new.standing (map step_of c.args.before.now) (step_of c.args.step.now)
+    stands_noted g.V.Version.seen g.V.Key.Ord.cmp c.args.standings.now.items member c.index_mut.result.now c.update_indexes.new.standing (map step_of c.args.before.now) (step_of c.args.step.now)
     (slice_get_read c.args.standings.now.items c.len.result member c.index_mut.result.now long c.if-member-len.true c.index_mut.ensures.value)
-    c.in-Some.ensures (on_ok_told c.follow.result (sym c.is_err.ensures.value ∙ c.if-is_err.false) c.follow.ensures)
+    c.in-Some.ensures (on_ok_told c.update_indexes.result (sym c.is_err.ensures.value ∙ c.if-is_err.false) c.update_indexes.ensures)
 
 pub returns-else-member-len : goal.returns-else-member-len
 returns-else-member-len g c =

@@ -1,7 +1,7 @@
 use Rattle.std.proofs.Common.{◌≡◌, List, map, ap, subst, ◌∙◌}
 use Rattle.am_nflog.specs.Mesh.{Mesh}
-use Rattle.am_told.specs.Json.Values.{entry_data}
-use Rattle.am_told.specs.Json.Views.{list_line}
+use Rattle.am_report.specs.Json.Values.{entry_data}
+use Rattle.am_report.specs.Json.Views.{list_line}
 use Rattle.am_api_decisions.specs.Entries.{Telling}
 use Rattle.am_api_decisions.proofs.EntryRows.{all_written, alone}
 use Rattle.am_api_decisions.proofs.entries.LogWriting.into_line.Goals as goal

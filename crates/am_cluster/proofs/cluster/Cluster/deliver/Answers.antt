@@ -23,18 +23,18 @@ returns-in_err-event c =
     (delivered_unmade c.args.self.now c.args.number c.in-Some.arrival c.in-Some.ensures c.args.now c.args.line _ _
     (λ replica found. sym c.in_default-arrival_refusal.is ∙ c.arrival_refusal.ensures replica found) (record { error = p.1 ∙ ap Err p.2; world = refl }))
 
-pub happen-requires-clause-ready : goal.happen-requires-clause-ready
-happen-requires-clause-ready c =
+pub apply_event-requires-clause-ready : goal.apply_event-requires-clause-ready
+apply_event-requires-clause-ready c =
     arrives_at c.args.self.now c.args.number c.in-Some.arrival c.in-Some.ensures c.in_ok-event.event c.in_ok-event.ensures c.args.now
     (λ replica found. sym (c.arrival_refusal.ensures replica found) ∙ c.in_default-arrival_refusal.is)
 
-pub happen-requires-clause-silences : goal.happen-requires-clause-silences
-happen-requires-clause-silences c = silences_from c.args.self.now c.args.number c.in-Some.arrival c.in-Some.ensures c.in_ok-event.event c.in_ok-event.ensures c.args.now
+pub apply_event-requires-clause-silences : goal.apply_event-requires-clause-silences
+apply_event-requires-clause-silences c = silences_from c.args.self.now c.args.number c.in-Some.arrival c.in-Some.ensures c.in_ok-event.event c.in_ok-event.ensures c.args.now
 
-pub happen-requires-clause-log : goal.happen-requires-clause-log
-happen-requires-clause-log c = log_from c.args.self.now c.args.number c.in-Some.arrival c.in-Some.ensures c.in_ok-event.event c.in_ok-event.ensures c.args.now
+pub apply_event-requires-clause-log : goal.apply_event-requires-clause-log
+apply_event-requires-clause-log c = log_from c.args.self.now c.args.number c.in-Some.arrival c.in-Some.ensures c.in_ok-event.event c.in_ok-event.ensures c.args.now
 
 pub returns : goal.returns
 returns c = inr
     (delivered_event c.args.self.now c.args.number c.in-Some.arrival c.in-Some.ensures c.args.now c.args.line _ _ c.in_ok-event.event c.in_ok-event.ensures
-    (λ replica found. sym c.in_default-arrival_refusal.is ∙ c.arrival_refusal.ensures replica found) c.happen.ensures)
+    (λ replica found. sym c.in_default-arrival_refusal.is ∙ c.arrival_refusal.ensures replica found) c.apply_event.ensures)

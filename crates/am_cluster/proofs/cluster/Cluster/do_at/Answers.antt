@@ -11,16 +11,16 @@ pub refuse_at-requires-clause-late : goal.refuse_at-requires-clause-late
 refuse_at-requires-clause-late c = λ last back replica found.
     late_cause c.args.now replica _ c.in-Some.cause last (sym (c.line_refusal.ensures replica found) ∙ c.in-Some.is) back
 
-pub happen-requires-clause-ready : goal.happen-requires-clause-ready
-happen-requires-clause-ready c = λ replica found.
+pub apply_event-requires-clause-ready : goal.apply_event-requires-clause-ready
+apply_event-requires-clause-ready c = λ replica found.
     let none = subst (λ what. refused_anyway replica what c.args.now ≡ None) (sym (c.in_ok-event.ensures.asked replica found) ∙ c.in-Event.is) (sym (c.line_refusal.ensures replica found) ∙ c.in_default.is) in
     can_have c.args.now replica c.in-Event.event (subst IsSound c.in-Event.is c.in_ok-event.ensures.sound replica.stand.config c.args.now) none
 
-pub happen-requires-clause-silences : goal.happen-requires-clause-silences
-happen-requires-clause-silences c = (subst Fits c.in-Event.is c.in_ok-event.ensures.fits (length c.args.self.now.replicas) c.args.now).0 c.args.self.now.silences
+pub apply_event-requires-clause-silences : goal.apply_event-requires-clause-silences
+apply_event-requires-clause-silences c = (subst Fits c.in-Event.is c.in_ok-event.ensures.fits (length c.args.self.now.replicas) c.args.now).0 c.args.self.now.silences
 
-pub happen-requires-clause-log : goal.happen-requires-clause-log
-happen-requires-clause-log c = (subst Fits c.in-Event.is c.in_ok-event.ensures.fits (length c.args.self.now.replicas) c.args.now).1 c.args.self.now.log
+pub apply_event-requires-clause-log : goal.apply_event-requires-clause-log
+apply_event-requires-clause-log c = (subst Fits c.in-Event.is c.in_ok-event.ensures.fits (length c.args.self.now.replicas) c.args.now).1 c.args.self.now.log
 
 pub start_at-requires-clause-ready : goal.start_at-requires-clause-ready
 start_at-requires-clause-ready c = λ replica found.

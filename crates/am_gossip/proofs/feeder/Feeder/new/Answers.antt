@@ -1,5 +1,5 @@
 use Rattle.std.proofs.Common.{◌≡◌}
-use Rattle.am_gossip.specs.declared.header.Standing.TheVariants.{Before}
+use Rattle.am_gossip.specs.declared.header.HeaderProgress.TheVariants.{Before}
 use Rattle.am_gossip.proofs.Waiting.{waits_in_header}
 use Rattle.am_gossip.proofs.feeder.Feeder.new.Goals as goal
 

@@ -21,6 +21,6 @@ returns-in-Err c =
     let held = option_copied c.silence_in_view-held.result in
     let is = c.silence_in_view-held.ensures ∙ ap (λ (s : InstanceState). silence_in_view c.args.now s.silences c.args.id.now) c.self.view_is in
     let retention : c.retention.result ≡ c.args.self.now.config.retention = c.retention.ensures ∙ ap (λ (s : InstanceState). s.config.retention) c.self.view_is in
-    delete_refused c.args.self.now c.args.id.now c.args.now held c.in-Err.error c.turn_away.result is
+    delete_refused c.args.self.now c.args.id.now c.args.now held c.in-Err.error c.refuse.result is
     (λ other. ap (λ (r : ℕ). end_refusal held c.args.now r) (sym retention) ∙ c.in-Err.ensures.refused other)
-    (λ memory. ap (λ (r : ℕ). end_refusal held c.args.now r) (sym retention) ∙ c.in-Err.ensures.memory memory) c.turn_away.ensures.refused c.turn_away.ensures.memory
+    (λ memory. ap (λ (r : ℕ). end_refusal held c.args.now r) (sym retention) ∙ c.in-Err.ensures.memory memory) c.refuse.ensures.refused c.refuse.ensures.memory

@@ -11,8 +11,8 @@ use Rattle.am_instance.proofs.instance.Instance.post.Goals as goal
 
 pub returns-in-Some : goal.returns-in-Some
 returns-in-Some c =
-    post_refused c.args.self.now c.args.posted c.args.bits c.args.now c.in-Some.error c.turn_away.result
-    (unread_planned c.args.self.now c.args.posted c.args.bits c.args.now c.in-Some.error (sym c.in-Some.ensures)) c.turn_away.ensures.refused c.turn_away.ensures.memory
+    post_refused c.args.self.now c.args.posted c.args.bits c.args.now c.in-Some.error c.refuse.result
+    (unread_planned c.args.self.now c.args.posted c.args.bits c.args.now c.in-Some.error (sym c.in-Some.ensures)) c.refuse.ensures.refused c.refuse.ensures.memory
     (unread_is_told c.args.self.now c.args.posted c.args.bits c.args.now c.in-Some.error (sym c.in-Some.ensures))
 
 pub returns-in_err-verdict : goal.returns-in_err-verdict
@@ -30,6 +30,6 @@ pub returns-in-Err : goal.returns-in-Err
 returns-in-Err c =
     let read : unread_refusal (posted_over c.args.now c.judge.new.self.silences c.args.posted.id) c.args.posted ≡ None =
     subst (λ stand. unread_refusal (posted_over c.args.now stand.silences c.args.posted.id) c.args.posted ≡ None) (sym c.in_ok-verdict.ensures.same) (sym c.refused_unread.ensures ∙ c.in_default.is) in
-    subst (λ old. IsWork old (events.Request (requests.Post c.args.posted c.args.bits)) c.args.now c.turn_away-in-Err.result c.judge.new.self) c.in_ok-verdict.ensures.same
-    (post_refused _ c.args.posted c.args.bits c.args.now c.in-Err.error c.turn_away-in-Err.result c.in-Err.ensures.planned c.turn_away-in-Err.ensures.refused c.turn_away-in-Err.ensures.memory
+    subst (λ old. IsWork old (events.Request (requests.Post c.args.posted c.args.bits)) c.args.now c.refuse-in-Err.result c.judge.new.self) c.in_ok-verdict.ensures.same
+    (post_refused _ c.args.posted c.args.bits c.args.now c.in-Err.error c.refuse-in-Err.result c.in-Err.ensures.planned c.refuse-in-Err.ensures.refused c.refuse-in-Err.ensures.memory
     (λ memory. judged_anyway c.judge.new.self c.args.posted c.args.bits c.args.now c.in_ok-verdict.verdict c.in_ok-verdict.ensures.verdict read (c.in-Err.ensures.memory memory)))

@@ -1,6 +1,6 @@
 use Rattle.std.proofs.Common.{◌≡◌, ◌≤◌, ◌+◌, sym, ◌∙◌, arith}
 use Rattle.std.proofs.lemmas.Result.{err_from_is_err_and}
-use Rattle.am_wire.specs.declared.reader.Standing.TheVariants.{Before}
+use Rattle.am_wire.specs.declared.reader.RowPosition.TheVariants.{Before}
 use Rattle.am_wire.proofs.ReaderLemmas.{answers_stop, answers_cut, answers_fault, answers_value, ends_below}
 use Rattle.am_wire.proofs.reader.RowReader.next.Goals as goal
 

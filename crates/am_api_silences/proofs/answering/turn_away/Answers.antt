@@ -1,8 +1,0 @@
-use Rattle.std.proofs.Common.{refl}
-use Rattle.am_api_silences.specs.Answers.{Answered, IsTurnedAway}
-use Rattle.am_api_silences.proofs.Beginning.{becomes}
-use Rattle.am_api_silences.proofs.answering.turn_away.Goals as goal
-
-pub returns : goal.returns
-returns c = λ stand. becomes (λ (answered : Answered). IsTurnedAway c.args.refusal.now stand answered stand) c.tell.result c.quiet.result c.quiet.ensures
-    (record { says = c.tell.ensures; sent = refl; same = refl })

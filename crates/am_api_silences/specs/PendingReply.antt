@@ -1,0 +1,39 @@
+-- A reply that is being made: a list is written a stretch at a time.
+use Rattle.std.specs.Prelude.{◌≡◌, ◌-◌, ◌==◌, ℕ, Bool, true, List, length}
+use Rattle.am_silence.specs.Mesh.{Mesh}
+use Rattle.am_silence.specs.declared.state.State.{State}
+use Rattle.am_api_silences.specs.Replies.{IsListReply, Says, memory_bytes}
+use Rattle.am_api_silences.specs.declared.pending_reply.PendingReply.{PendingReply}
+use Rattle.am_api_silences.specs.declared.pending_reply.PendingReply.TheVariants as makings
+use Rattle.am_api_silences.specs.declared.replies.ReplyBytes.{ReplyBytes}
+use Rattle.am_api_silences.specs.declared.replies.ReplyBytes.TheVariants.{Own, Fixed}
+
+-- What a making is finished with: the reply that is whole; or the bytes of its list, where there is memory for them.
+abbrev pub IsMadeOf : PendingReply → ReplyBytes → Type 0
+IsMadeOf (makings.Whole whole) reply = reply ≡ whole
+IsMadeOf (makings.List list) reply = Says (IsListReply list.rows) reply
+
+-- whatever it is finished with, the reply is such
+abbrev pub Makes : (ReplyBytes → Type 0) → PendingReply → Type 0
+Makes IsSuch making = (reply : ReplyBytes) → IsMadeOf making reply → IsSuch reply
+
+-- whether no silence is left to be written
+abbrev pub is_whole : PendingReply → Bool
+is_whole (makings.Whole whole) = true
+is_whole (makings.List list) = list.left == 0
+
+-- the reply says that there is no memory for another
+abbrev pub IsNoMemory : ReplyBytes → Type 0
+IsNoMemory (Own bytes) = ⊥
+IsNoMemory (Fixed bytes) = bytes.now ≡ memory_bytes
+
+-- The list of these silences, of which none is written; or there was no memory to begin it.
+abbrev pub IsBegun : List (Mesh × State) → PendingReply → Type 0
+IsBegun rows (makings.List list) = list ≡ record { rows = rows; left = length rows }
+IsBegun rows (makings.Whole whole) = IsNoMemory whole
+
+-- So many silences more are written, or all that were left; or there was no memory for them. What is whole stays.
+abbrev pub GoesOn : ℕ → PendingReply → PendingReply → Type 0
+GoesOn count (makings.Whole whole) new = new ≡ makings.Whole whole
+GoesOn count (makings.List list) (makings.List new) = new ≡ record list { left = list.left - count }
+GoesOn count (makings.List list) (makings.Whole whole) = IsNoMemory whole

@@ -1,0 +1,353 @@
+//! A connection that is served.
+
+ghost use Rattle.std.specs.Prelude.{◌≡◌, ◌≤◌, drop, length, true, Some, None, IfSome};
+ghost use Rattle.am_api_silences.specs.Replies.{bytes_of};
+ghost use Rattle.am_gate.specs.Gates.{before};
+ghost use Rattle.am_http.specs.Sessions.{fresh, nothing, spoken};
+ghost use Rattle.am_dialogue.specs.Talks.{IsRequest, Rests, Stays, closed, talk_of};
+
+use crate::counting::{Account, Census};
+use crate::turns::{Turn, bytes_of_request, is_dear_call};
+use am_api_decisions::{Deciding, LogWriting};
+use am_api_silences::{PendingAnswer, PendingReply, Read, Refusal, ReplyBytes, refuse};
+use am_gate::{Gate, Hears};
+use am_gossip::Frame;
+use am_http::session::{Session, SessionOutput};
+use am_http::{Cause, Screened};
+use am_instance::names_both;
+use am_member::{Judging, is_list_request};
+use std::alloc::{AllocError, Global};
+use std::mem;
+use std::time::Instant;
+
+/// How many silences of a list are written in a turn of the loop.
+const STRETCH: usize = 512;
+
+/// A connection, what it said that waits to be answered, and the reply that is being made or goes out.
+#[derive(Drop)]
+pub struct Conversation {
+    /// What stands before the session.
+    pub gate: Gate,
+    pub session: Session,
+    /// It is known where the request comes from.
+    is_screened: bool,
+    /// What is still to be done for it.
+    pub work: Work,
+    pub reply: ReplyBytes,
+    /// How many bytes of the reply went out.
+    pub written: usize,
+    /// A reply that waits for the next commit.
+    held_back: Option<HeldBack>,
+    /// What is counted of it.
+    pub account: Account,
+}
+
+/// What is still to be done for a connection.
+#[derive(Drop)]
+pub enum Work {
+    Nothing,
+    /// A request waits: for its place in the line, or until the first pull is over.
+    Request(SessionOutput),
+    /// A request of which some patterns are still to be compiled.
+    Judging(SessionOutput, Judging),
+    /// A list is being written, whose step was made.
+    PendingReply(PendingReply),
+    /// A request for a decision waits for this member's turn.
+    Turn(Turn),
+    /// One whose turn has come waits for its place in the line.
+    Due(Turn),
+    /// A decision, of which some alerts are still to be held against the silences.
+    Deciding(Deciding),
+    /// The entries of the log are being written.
+    Log(LogWriting),
+    /// The silences are being counted for the member's figures.
+    Counting(Census),
+}
+
+impl Work {
+    /// How many bytes of a request it keeps.
+    fn held(&self) -> usize {
+        match self {
+            Work::Request(said) | Work::Judging(said, _) => bytes_kept(said),
+            Work::Turn(turn) | Work::Due(turn) => turn.bytes(),
+            Work::Nothing | Work::PendingReply(_) | Work::Deciding(_) | Work::Log(_) => 0,
+            Work::Counting(_) => 0,
+        }
+    }
+}
+
+/// How many bytes of a request are kept with what was said.
+fn bytes_kept(said: &SessionOutput) -> usize {
+    match &said.request {
+        Some(Read::Whole(request)) => bytes_of_request(request),
+        _ => 0,
+    }
+}
+
+/// A reply that waits for the next commit.
+#[derive(Drop)]
+struct HeldBack {
+    reply: ReplyBytes,
+    /// The request has changed something.
+    is_change: bool,
+}
+
+impl Conversation {
+    /// Before the first byte of a connection of which this is heard. It takes no memory.
+    pub fn new(alloc: Global, hears: Hears) -> Conversation
+        ensures { talk_of result ≡ record { way = before; session = fresh; waiting = None } }
+    {
+        Conversation {
+            gate: Gate::new(alloc, hears),
+            session: Session::new(alloc),
+            is_screened: false,
+            work: Work::Nothing,
+            reply: ReplyBytes::Fixed(&[]),
+            written: 0,
+            held_back: None,
+            account: Account::new(),
+        }
+    }
+
+    /// Keeps a request that has to wait, and gives what hasn't: lists wait for their turn, and all requests for the first pull.
+    pub fn hold(&mut self, said: SessionOutput, waits_for_pull: bool) -> Option<SessionOutput>
+        ensures held { result ≡ None → IsRequest (spoken said) × (talk_of self.new ≡ record (talk_of self.old) { waiting = Some (spoken said) }) }
+        ensures given { IfSome result (λ given. (given ≡ said) × (talk_of self.new ≡ talk_of self.old)) }
+    {
+        if must_wait(&said, waits_for_pull) {
+            self.work = Work::Request(said);
+            return None;
+        }
+        Some(said)
+    }
+
+    /// Why a request isn't heard that names a host or a site which isn't this member's, now that the next piece is there.
+    pub fn screen(&mut self, piece: &[u8], hosts: &[&str]) -> Option<Refusal>
+        ensures { talk_of self.new ≡ talk_of self.old }
+    {
+        if self.is_screened {
+            return None;
+        }
+        match self.session.screen(piece, hosts) {
+            Ok(Screened::Open) => None,
+            Ok(Screened::Known) => {
+                self.is_screened = true;
+                None
+            }
+            Ok(Screened::Foreign { what, to_head }) => Some(what.refusal(to_head)),
+            Err(_) => Some(Cause::Memory.refusal()),
+        }
+    }
+
+    /// Answers a request by the line of a refusal, whatever it asks for, and hears no more.
+    pub fn refuse(&mut self, alloc: Global, refusal: &Refusal)
+        ensures { talk_of self.new ≡ closed (talk_of self.old) }
+    {
+        self.work = Work::Nothing;
+        self.session.stop();
+        let PendingAnswer { making, .. } = refuse(alloc, refusal);
+        self.reply_with(alloc, Some(making));
+    }
+
+    /// Answers a request that waited for the first pull that nobody waits for any more, or not as long as the pull may take.
+    pub fn refuse_unready(&mut self, alloc: Global, said: Option<SessionOutput>)
+        ensures { talk_of self.new ≡ closed (talk_of self.old) }
+    {
+        let method = match &said {
+            Some(said) => method_of(said),
+            None => b"".as_slice(),
+        };
+        self.refuse(alloc, &Refusal::new(503, "not ready").told_to(method));
+    }
+
+    /// Has a reply go out, where there is one. A list waits until it is written.
+    pub fn reply_with(&mut self, alloc: Global, reply: Option<PendingReply>)
+        ensures { Stays (talk_of self.old) (talk_of self.new) }
+    {
+        let Some(making) = reply else {
+            return;
+        };
+        if making.is_whole() {
+            self.reply = making.finish(alloc);
+        } else {
+            self.work = Work::PendingReply(making);
+        }
+    }
+
+    /// Has a whole reply go out, or that there was no memory for it.
+    pub fn tell(&mut self, alloc: Global, reply: Result<Vec<u8>, AllocError>)
+        ensures { Rests (talk_of self.old) (talk_of self.new) }
+    {
+        match reply {
+            Ok(bytes) => self.reply = ReplyBytes::Own(bytes),
+            Err(_) => self.refuse(alloc, &Cause::Memory.refusal()),
+        }
+    }
+
+    /// Whether nothing is left to be heard, done or written.
+    pub fn is_done(&self) -> bool {
+        self.session.is_over()
+            && matches!(self.work, Work::Nothing)
+            && self.held_back.is_none()
+            && self.written >= self.reply.as_slice().len()
+    }
+
+    /// The three digits of the status of the reply.
+    pub fn status(&self) -> &[u8] {
+        self.reply.as_slice().get(9..12).unwrap_or(b"")
+    }
+
+    /// Has the reply wait for the next commit, where there is a whole one. The request has changed something, or not.
+    pub fn hold_back(&mut self, is_change: bool)
+        ensures { talk_of self.new ≡ talk_of self.old }
+    {
+        if !self.reply.as_slice().is_empty() && self.held_back.is_none() {
+            let reply = mem::replace(&mut self.reply, ReplyBytes::Fixed(&[]));
+            self.held_back = Some(HeldBack { reply, is_change });
+        }
+    }
+
+    /// Whether a reply waits for the next commit.
+    pub fn is_held_back(&self) -> bool {
+        self.held_back.is_some()
+    }
+
+    /// Has the reply go out that waited for a commit, by which all is kept, or not.
+    pub fn release(&mut self, alloc: Global, is_kept: bool)
+        ensures { Rests (talk_of self.old) (talk_of self.new) }
+    {
+        let Some(HeldBack { reply, is_change }) = self.held_back.take() else {
+            return;
+        };
+        if is_kept || !is_change {
+            self.reply = reply;
+        } else {
+            self.refuse(alloc, &Refusal::new(500, "held, but not kept on disk"));
+        }
+    }
+
+    /// Writes a stretch more of a list. Where none is left it goes out.
+    pub fn go_on(&mut self, alloc: Global, making: PendingReply)
+        ensures { Stays (talk_of self.old) (talk_of self.new) }
+    {
+        if making.is_whole() {
+            self.reply = making.finish(alloc);
+        } else {
+            self.work = Work::PendingReply(making.go_on(STRETCH));
+        }
+    }
+
+    /// Writes a stretch more of the log. Where none is left it goes out.
+    pub fn go_on_log(&mut self, alloc: Global, writing: LogWriting)
+        ensures { Rests (talk_of self.old) (talk_of self.new) }
+    {
+        if writing.is_written() {
+            self.reply = writing.finish(alloc);
+            return;
+        }
+        match writing.go_on(alloc, STRETCH) {
+            Ok(writing) => self.work = Work::Log(writing),
+            Err(refusal) => self.refuse(alloc, &refusal),
+        }
+    }
+
+    /// Takes out the request that waits, where one does.
+    pub fn take_waiting(&mut self) -> Option<SessionOutput>
+        ensures { Stays (talk_of self.old) (talk_of self.new) }
+    {
+        match mem::replace(&mut self.work, Work::Nothing) {
+            Work::Request(said) => Some(said),
+            other => {
+                self.work = other;
+                None
+            }
+        }
+    }
+
+    /// Whether something waits for its place in the line.
+    pub fn waits(&self) -> bool {
+        !matches!(self.work, Work::Nothing | Work::Turn(_))
+    }
+
+    /// When it is this member's turn, where a request waits for that.
+    pub fn due(&self) -> Option<Instant> {
+        match &self.work {
+            Work::Turn(turn) => Some(turn.due()),
+            _ => None,
+        }
+    }
+
+    /// How many bytes of what came are kept.
+    pub fn held(&self) -> usize {
+        let coming = self.session.waiting().saturating_add(self.gate.waiting());
+        coming.saturating_add(self.work.held())
+    }
+
+    /// What is still to be written.
+    pub fn output(&self) -> &[u8]
+        ensures { result.now ≡ drop self.now.written (bytes_of self.now.reply) }
+    {
+        let reply = self.reply.as_slice();
+        if self.written < reply.len() {
+            &reply[self.written..]
+        } else {
+            &[]
+        }
+    }
+
+    /// So many bytes of what was still to be written went out.
+    pub fn sent(&mut self, count: usize)
+        requires within { count ≤ length (drop self.old.written (bytes_of self.old.reply)) }
+        ensures rest { drop self.new.written (bytes_of self.new.reply) ≡ drop count (drop self.old.written (bytes_of self.old.reply)) }
+        ensures talk { talk_of self.new ≡ talk_of self.old }
+    {
+        let end = self.reply.as_slice().len();
+        self.written = end.min(self.written.saturating_add(count));
+    }
+}
+
+/// Whether a request has to wait.
+fn must_wait(said: &SessionOutput, waits_for_pull: bool) -> bool
+    ensures { result ≡ true → IsRequest (spoken said.now) }
+{
+    match &said.request {
+        Some(read) => waits_for_pull || is_list_request(read) || is_dear_call(read),
+        None => false,
+    }
+}
+
+/// The method of the request that was said, if one was.
+fn method_of(said: &SessionOutput) -> &[u8] {
+    match &said.request {
+        Some(Read::Whole(request)) => request.method.as_bytes(),
+        _ => b"",
+    }
+}
+
+/// Whether nothing was said.
+pub fn is_nothing(said: &SessionOutput) -> bool
+    ensures { result ≡ true → spoken said.now ≡ nothing }
+{
+    said.frames.is_empty() && said.request.is_none() && said.fault.is_none()
+}
+
+/// Whether a frame is the last part of all that a peer has, as it was asked for.
+fn is_last_of_pull(frame: &Frame) -> bool {
+    match frame {
+        Frame::Pull(state) => names_both(state),
+        _ => false,
+    }
+}
+
+/// Whether all that a peer has is here, with what was said.
+pub fn ends_pull(said: &SessionOutput) -> bool {
+    said.frames.iter().any(is_last_of_pull)
+}
+
+/// Whether what was said may change what the member holds.
+pub fn may_change(said: &SessionOutput) -> bool {
+    match &said.request {
+        Some(Read::Whole(request)) => request.method.as_str() != "GET",
+        _ => !said.frames.is_empty(),
+    }
+}

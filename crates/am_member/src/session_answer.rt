@@ -1,0 +1,64 @@
+//! What comes of what a connection said.
+
+ghost use Rattle.std.specs.Prelude.{◌≡◌, None};
+ghost use Rattle.am_instance.specs.Sendings.{sent_by};
+ghost use Rattle.am_member.specs.Incoming.{Adds, no_effects};
+
+use am_api_silences::PendingReply;
+use am_instance::{FrameSender, Outcome};
+use am_peers::Fault;
+use std::alloc::Global;
+
+/// What steps have for effects besides those on the instance.
+#[derive(Drop)]
+pub struct StepEffects {
+    pub outbox: FrameSender,
+    /// A Tick was among the steps that were made.
+    pub ticked: bool,
+}
+
+impl StepEffects {
+    /// No step was made. It takes no memory.
+    pub(crate) fn none(alloc: Global) -> StepEffects
+        ensures { result ≡ no_effects }
+    {
+        StepEffects {
+            outbox: FrameSender::new(alloc),
+            ticked: false,
+        }
+    }
+
+    /// Adds the effects of one more step. Frames that there is no memory for are counted.
+    pub(crate) fn add(&mut self, outcome: Outcome, ticks: bool)
+        ensures { Adds (sent_by outcome) ticks self.old self.new }
+    {
+        let (_, outbox) = outcome.into_parts();
+        self.ticked |= ticks;
+        self.outbox.add(outbox);
+    }
+}
+
+/// What came of what a connection said.
+#[derive(Drop)]
+pub struct SessionAnswer {
+    /// The reply, where a request was answered. That of a list is still to be written.
+    pub reply: Option<PendingReply>,
+    pub effects: StepEffects,
+    /// Why no more is heard of the connection.
+    pub fault: Option<Fault>,
+}
+
+impl SessionAnswer {
+    /// Nothing was answered, and no step was made. It takes no memory.
+    pub(crate) fn nothing(alloc: Global) -> SessionAnswer
+        ensures reply { result.reply ≡ None }
+        ensures effects { result.effects ≡ no_effects }
+        ensures fault { result.fault ≡ None }
+    {
+        SessionAnswer {
+            reply: None,
+            effects: StepEffects::none(alloc),
+            fault: None,
+        }
+    }
+}

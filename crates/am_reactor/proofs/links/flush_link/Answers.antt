@@ -1,0 +1,32 @@
+use Rattle.std.proofs.Common.{refl, inl, inr}
+use Rattle.am_reactor.proofs.Histories.{acts_once}
+use Rattle.am_reactor.proofs.links.flush_link.Goals as goal
+
+pub returns-in-Ok-Going-Idle-clause-moved : goal.returns-in-Ok-Going-Idle-clause-moved
+returns-in-Ok-Going-Idle-clause-moved g c = inr (inl (c.is_open.ensures.open (cc), record { mid = c.advance.new.self; went = c.advance.ensures.out; next = inl (refl, refl) }))
+
+pub returns-in-Ok-Going-Busy-clause-moved : goal.returns-in-Ok-Going-Busy-clause-moved
+returns-in-Ok-Going-Busy-clause-moved g c = inr (inl (c.is_open.ensures.open (cc), record { mid = c.advance.new.self; went = c.advance.ensures.out; next = inl (refl, refl) }))
+
+pub returns-in-Ok-Done-clause-moved : goal.returns-in-Ok-Done-clause-moved
+returns-in-Ok-Done-clause-moved g c = inr (inl (
+  c.is_open.ensures.open (cc),
+  record {
+    mid = c.advance.new.self;
+    went = c.advance.ensures.out;
+    next = inr (inl (c.advance.ensures.done (cc), c.ask_more.ensures.asked));
+  },
+))
+
+pub returns-in-Err-clause-moved : goal.returns-in-Err-clause-moved
+returns-in-Err-clause-moved g c = inr (inl (
+  c.is_open.ensures.open (cc),
+  record {
+    mid = c.advance.new.self;
+    went = c.advance.ensures.out;
+    next = inr (inr (c.close.ensures.closed, (_, c.lost.ensures.told)));
+  },
+))
+
+pub returns-in-Err-clause-acted : goal.returns-in-Err-clause-acted
+returns-in-Err-clause-acted g c = acts_once _ _ _ c.lost.ensures.acted

@@ -1,0 +1,5 @@
+use Rattle.am_reactor.specs.SendBuffer.{Empties}
+use Rattle.am_reactor.proofs.send_buffer.SendBuffer.send_on.Given as goal
+
+abbrev pub invariant-loop : goal.invariant-loop
+invariant-loop g l = Empties (g.C.Stream.gone l.fn.stream) (g.C.Stream.gone l.stream) l.fn.self l.self

@@ -1,0 +1,30 @@
+-- What a write may say.
+use Rattle.std.specs.Prelude.{ℕ, ◌<◌, List, [], ◌∷◌}
+use Rattle.am_reactor.specs.declared.writing.WriteResult.{WriteResult}
+use Rattle.am_reactor.specs.declared.writing.WriteResult.TheVariants.{All, Part, Nothing, Interrupted, Failed}
+use Rattle.am_reactor.specs.Deeds.{Deed}
+use Rattle.am_reactor.specs.Deeds.Deed.{Sent}
+
+-- how many bytes a write took
+abbrev pub taken_by : WriteResult → ℕ
+taken_by All = 0
+taken_by (Part count) = count
+taken_by Nothing = 0
+taken_by Interrupted = 0
+taken_by (Failed kind) = 0
+
+-- a part has a byte
+abbrev pub HasByte : WriteResult → Type 0
+HasByte All = Unit {0}
+HasByte (Part count) = 0 < count
+HasByte Nothing = Unit {0}
+HasByte Interrupted = Unit {0}
+HasByte (Failed kind) = Unit {0}
+
+-- what is told of a write: how many bytes went out, where some did
+abbrev pub written_of : WriteResult → List Deed
+written_of All = []
+written_of (Part count) = Sent count ∷ []
+written_of Nothing = []
+written_of Interrupted = []
+written_of (Failed kind) = []

@@ -1,0 +1,54 @@
+//! How a connection is let go: a stream that is closed with bytes unread would take the reply back.
+
+ghost use Rattle.std.specs.Prelude.{◌≡◌, ◌≢◌, false, true, IsTrue};
+ghost use Rattle.am_reactor.specs.History.{Throws, line_of};
+
+use crate::connection::{Connection, Phase, Readiness};
+use crate::reading::{PIECES, ReadResult, read_once};
+use crate::stream::Stream;
+use std::time::{Duration, Instant};
+
+/// For how many milliseconds a connection that has ended stays open while nothing comes.
+const QUIET: u64 = 200;
+
+/// Until when nothing may come, from now on.
+fn quiet_from(now: Instant) -> Instant {
+    now.checked_add(Duration::from_millis(QUIET)).unwrap_or(now)
+}
+
+/// Says that nothing more is written. Answers whether something may still come.
+pub fn shutdown_write<T, C: Stream>(connection: &mut Connection<T, C>, now: Instant) -> bool
+    ensures session { connection.new.session ≡ connection.old.session }
+    ensures unwritten { C.gone connection.new.stream ≡ C.gone connection.old.stream }
+    ensures kept { result ≡ false → connection.new.phase ≡ connection.old.phase }
+    ensures unread { C.coming connection.new.stream ≡ C.coming connection.old.stream }
+    ensures leaves { IsTrue result → connection.new.phase ≢ Phase.Open }
+{
+    if connection.ended || !connection.stream.finish() {
+        return false;
+    }
+    connection.phase = Phase::Lingering(quiet_from(now));
+    true
+}
+
+/// Throws away what came, and begins the quiet time anew where something did. `None` where nothing more can come.
+pub fn drain<T, C: Stream>(
+    connection: &mut Connection<T, C>,
+    piece: &mut [u8],
+    now: Instant,
+) -> Option<Readiness>
+    requires { connection.old.phase ≢ Phase.Open }
+    ensures session { connection.new.session ≡ connection.old.session }
+    ensures unwritten { C.gone connection.new.stream ≡ C.gone connection.old.stream }
+    ensures thrown { (bytes : _) × Throws C.coming C.gone bytes (line_of connection.old) (line_of connection.new) }
+{
+    for _ in 0..PIECES {
+        match read_once(&mut connection.stream, piece) {
+            ReadResult::Bytes(_) => connection.phase = Phase::Lingering(quiet_from(now)),
+            ReadResult::Nothing => return Some(Readiness::Idle),
+            ReadResult::Interrupted => {}
+            ReadResult::End | ReadResult::Failed(_) => return None,
+        }
+    }
+    Some(Readiness::Busy)
+}

@@ -1,0 +1,8 @@
+use Rattle.std.proofs.Common.{◌≡◌, take, map, None}
+use Rattle.std.specs.Option.{option_copied}
+use Rattle.am_report.specs.Groups.{greatest_within}
+use Rattle.am_report.specs.Sources.{holding_of}
+use Rattle.am_report.proofs.groups.greatest_of.Given as goal
+
+abbrev pub invariant-loop-side : goal.invariant-loop-side
+invariant-loop-side g l = option_copied l.best ≡ greatest_within g.V.Version.seen None (map holding_of (take l.side-index l.sides))

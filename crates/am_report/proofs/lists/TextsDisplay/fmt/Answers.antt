@@ -1,0 +1,14 @@
+use Rattle.std.proofs.Common.{refl}
+use Rattle.std.proofs.Output.{has_written_append, has_written_of_eq}
+use Rattle.am_report.proofs.Listing.{texts_none, texts_first}
+use Rattle.am_report.proofs.lists.TextsDisplay.fmt.Goals as goal
+
+pub returns-in_default-clause-writes : goal.returns-in_default-clause-writes
+returns-in_default-clause-writes g c = λ plain ok.
+    has_written_of_eq _ _ _ _ _ (texts_none _ c.in_default.ensures.cases) (c.write_str.ensures.writes plain ok)
+
+pub returns-clause-writes : goal.returns-clause-writes
+returns-clause-writes g c = λ plain ok.
+    let first = rw c.listed.ensures at (c.in_ok-fmt.ensures.writes plain refl) in
+    has_written_of_eq _ _ _ _ _ (texts_first _ _ _ c.in-Some.ensures.cases.0)
+    (has_written_append _ _ _ _ _ _ first (c.write_texts.ensures first.plain ok))

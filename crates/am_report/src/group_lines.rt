@@ -1,0 +1,107 @@
+//! The lines of a difference.
+
+ghost use Rattle.std.specs.Prelude.{◌≡◌, ◌++◌, true, map, OnOk, string_bytes};
+ghost use Rattle.am_version_order.specs.Versions.{is_below};
+ghost use Rattle.am_report.specs.Sources.{holding_of};
+ghost use Rattle.am_report.specs.ReportLine.{behind_line, greatest_line, group_words, less_word, missing_line, part_word};
+
+use crate::groups::is_behind_by;
+use crate::manner::Manner;
+use crate::names::{append_names, is_held, nothing};
+use crate::part::Part;
+use crate::report_line::ReportLine;
+use crate::side::Side;
+use am_version_order::Version;
+use std::alloc::AllocError;
+
+/// By which part of the order a version is less than a greater one, by its name. It takes no memory.
+#[tactic(auto, unfolding(crate::specs::ReportLine::less_word))]
+pub fn less_by<V: Version>(version: &V, greatest: &V) -> &'static str
+    requires { is_below (V.seen version.now) (V.seen greatest.now) ≡ true }
+    ensures { result.now ≡ less_word (V.seen version.now) (V.seen greatest.now) }
+{
+    part_name(is_behind_by(version, greatest))
+}
+
+/// The name of a part of the order.
+fn part_name(part: Part) -> &'static str
+    ensures { result.now ≡ part_word part }
+{
+    match part {
+        Part::Update => "update",
+        Part::Expiry => "expiry",
+        Part::Bytes => "bytes",
+    }
+}
+
+/// Appends what a line says of the sources that have this version, in their relation to the others.
+#[tactic(auto, unfolding(crate::specs::ReportLine::group_words))]
+fn append_group<V: ReportLine>(
+    out: &mut String,
+    sides: &[Side<'_, V>],
+    key: &V::Key,
+    relation: &str,
+    version: &V,
+    manner: &Manner,
+) -> Result<(), AllocError>
+    ensures { OnOk result (string_bytes out.new ≡ string_bytes out.old
+        ++ group_words V.seen V.begins (V.told manner.now) relation.now key.now (map holding_of sides.now) version.now) }
+{
+    V::append_key(out, key)?;
+    write!(out, " {relation} ")?;
+    append_names(out, sides, Some(version))?;
+    write!(out, " ")?;
+    version.append_told(out, manner)
+}
+
+/// Appends the line of the sources that have the greatest version.
+pub fn append_greatest<V: ReportLine>(
+    out: &mut String,
+    sides: &[Side<'_, V>],
+    greatest: &V,
+    manner: &Manner,
+) -> Result<(), AllocError>
+    ensures { OnOk result (string_bytes out.new ≡ string_bytes out.old
+        ++ greatest_line V.seen V.begins (V.told manner.now) (V.more manner.now) (V.seen greatest.now).key (map holding_of sides.now) greatest.now) }
+{
+    append_group(out, sides, greatest.key(), "greatest", greatest, manner)?;
+    writeln!(out)?;
+    greatest.append_more(out, greatest, manner)
+}
+
+/// Appends the line of the sources that have a version that is less.
+pub fn append_behind<V: ReportLine>(
+    out: &mut String,
+    sides: &[Side<'_, V>],
+    version: &V,
+    greatest: &V,
+    manner: &Manner,
+) -> Result<(), AllocError>
+    requires { is_below (V.seen version.now) (V.seen greatest.now) ≡ true }
+    ensures { OnOk result (string_bytes out.new ≡ string_bytes out.old
+        ++ behind_line V.seen V.begins (V.told manner.now) (V.more manner.now) (V.seen greatest.now).key (map holding_of sides.now) greatest.now version.now) }
+{
+    let part = less_by(version, greatest);
+    append_group(out, sides, greatest.key(), "behind", version, manner)?;
+    writeln!(out, " by {part}")?;
+    version.append_more(out, greatest, manner)
+}
+
+/// Appends the line of the sources that hold nothing, where there are some.
+pub fn append_missing<V: ReportLine>(
+    out: &mut String,
+    sides: &[Side<'_, V>],
+    key: &V::Key,
+) -> Result<(), AllocError>
+    ensures { OnOk result (string_bytes out.new ≡ string_bytes out.old
+        ++ missing_line V.seen V.begins key.now (map holding_of sides.now)) }
+{
+    let nothing = nothing(sides);
+    if !is_held(sides, nothing) {
+        return Ok(());
+    }
+    V::append_key(out, key)?;
+    write!(out, " missing ")?;
+    append_names(out, sides, nothing)?;
+    writeln!(out)
+}

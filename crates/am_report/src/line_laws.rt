@@ -1,0 +1,43 @@
+//! What holds of the differences of sources, and of their lines.
+
+ghost use Rattle.std.specs.Prelude.{◌≡◌, ℕ, Bool, List, ◌∷◌, All};
+ghost use Rattle.am_silence_json.specs.Written.{WritesMoment};
+ghost use Rattle.am_report.specs.Differences.{AreDifferences, Difference};
+ghost use Rattle.am_report.specs.Groups.{AreRanked, IsLessBy, part_between};
+ghost use Rattle.am_report.specs.Sources.{Holding, Source};
+ghost use Rattle.am_report.specs.declared.compared.Compared.{Compared};
+ghost use Rattle.am_report.specs.declared.manner.Manner.{Manner};
+ghost use Rattle.am_report.specs.Texts.{moment_text};
+ghost use Rattle.am_report.specs.Ranked.{ranked};
+ghost use Rattle.am_report.specs.Written.{AreLines};
+
+use crate::report_line::ReportLine;
+use am_silence_json::moments::laws::texts_are_unique;
+use am_version_order::Version;
+
+/// Sources have one list of differences, and so their lines are one text.
+pub fn lines_are_one_text<V: ReportLine>()
+    ensures list { (sources : List (Source V)) (compared : Compared) (now : ℕ) (differences others : List (Difference V.Key V)) →
+        AreDifferences V.seen V.Key.cmp compared now sources differences →
+        AreDifferences V.seen V.Key.cmp compared now sources others → differences ≡ others }
+    ensures text { (sources : List (Source V)) (compared : Compared) (manner : Manner) (found other_found : Bool) (lines others : List ℕ) →
+        AreLines V.seen V.Key.cmp V.begins (V.told manner) (V.more manner) compared manner.moment sources found lines →
+        AreLines V.seen V.Key.cmp V.begins (V.told manner) (V.more manner) compared manner.moment sources other_found others →
+        (found ≡ other_found) × (lines ≡ others) }
+{}
+
+/// The versions that lines are told of are all that are held, each once, greatest first; and each but the first is less than
+/// the first by the part that its line names.
+pub fn lines_are_of_ranked_versions<V: Version>()
+    ensures ranked { (holdings : List (Holding V)) → AreRanked V.seen holdings (ranked V.seen holdings) }
+    ensures less { (holdings : List (Holding V)) (greatest : V) (others : List V) →
+        ranked V.seen holdings ≡ greatest ∷ others →
+        All (λ v. IsLessBy (part_between (V.seen v) (V.seen greatest)) (V.seen v) (V.seen greatest)) others }
+{}
+
+/// The text of a moment is the one that is written for it.
+pub fn moments_have_one_text()
+    ensures { (moment : ℕ) (text : List ℕ) → WritesMoment moment text → text ≡ moment_text moment }
+{
+    texts_are_unique();
+}

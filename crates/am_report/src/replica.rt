@@ -1,0 +1,69 @@
+//! A held map with its name.
+
+ghost use Rattle.std.specs.Prelude.{◌≡◌, map, All, IfOk};
+ghost use Rattle.am_merge.specs.Maps.{IsMap};
+ghost use Rattle.am_report.specs.Sources.{side_of};
+
+use crate::side::Side;
+use am_merge::Held;
+use am_version_order::Version;
+use std::alloc::{AllocError, Global};
+use std::marker::Model;
+
+/// A source: its name, and the map that it holds.
+#[derive(Drop)]
+pub struct Replica<'a, V: Version> {
+    name: &'a str,
+    held: Held<V>,
+}
+
+impl<'a, V: Version> Model for Replica<'a, V> {
+    ghost use Rattle.am_report.specs.Sources.{Source};
+
+    ghost Value = { Source V };
+
+    ghost view = { λ replica. record { name = replica.name.now; held = replica.held } };
+}
+
+impl<'a, V: Version> Replica<'a, V> {
+    /// The source of this name that holds this map.
+    pub fn new(name: &'a str, held: Held<V>) -> Self
+        ensures { result ≡ record { name = name.now; held = held } }
+    {
+        Replica { name, held }
+    }
+
+    /// Its name.
+    pub fn name(&self) -> &'a str
+        ensures { result.now ≡ self.now.name }
+    {
+        self.name
+    }
+
+    /// The map that it holds.
+    pub fn held(&self) -> &Held<V>
+        ensures { result.now ≡ self.now.held }
+    {
+        &self.held
+    }
+}
+
+/// The sources before the first of their keys.
+///
+/// # Errors
+///
+/// [`AllocError`] where memory runs out.
+#[tactic(auto, using(crate::proofs::Loops::sides_more))]
+pub fn sides_of<'a, 'n, V: Version>(
+    alloc: Global,
+    replicas: &'a [Replica<'n, V>],
+) -> Result<Vec<Side<'a, V>>, AllocError>
+    ensures start { IfOk result (λ sides. sides.items ≡ map side_of replicas.now) }
+    ensures order { IfOk result (λ sides. All (λ side. IsMap V.seen V.Key.cmp side.left) sides.items) }
+{
+    let mut sides = Vec::with_capacity(alloc, replicas.len())?;
+    for replica in replicas {
+        sides.push(Side::new(replica.name(), replica.held()))?;
+    }
+    Ok(sides)
+}

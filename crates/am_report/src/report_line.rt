@@ -1,0 +1,148 @@
+//! What is told of versions.
+
+ghost use Rattle.std.specs.Prelude.{◌≡◌, ℕ, List, ◌++◌, OnOk, string_bytes};
+ghost use Rattle.am_report.specs.Versions.{shown_state};
+ghost use Rattle.am_report.specs.declared.manner.Manner.{Manner};
+
+use crate::lists::Numbers;
+use crate::long::{append_long_key, append_long_silence};
+use crate::manner::Manner;
+use crate::moments::shown_moment;
+use crate::words::Word;
+use am_nflog::{LogKey, MeshEntry};
+use am_silence::{MeshSilence, State};
+use am_version_order::Version;
+use am_wire::Text;
+use std::alloc::AllocError;
+
+/// A version that is told in a line.
+pub trait ReportLine: Version {
+    /// The words with which each line of a key begins.
+    ghost begins: { Self.Key → List ℕ };
+
+    /// The words of a version.
+    ghost told: { Manner → Self → List ℕ };
+
+    /// What stands below the line of a version, of which there is a greatest.
+    ghost more: { Manner → Self → Self → List ℕ };
+
+    /// Appends the words with which each line of a key begins.
+    ///
+    /// # Errors
+    ///
+    /// [`AllocError`] where memory runs out. A part of the words may be left.
+    fn append_key(out: &mut String, key: &Self::Key) -> Result<(), AllocError>
+        ensures { OnOk result (string_bytes out.new ≡ string_bytes out.old ++ begins key.now) };
+
+    /// Appends the words of a version.
+    ///
+    /// # Errors
+    ///
+    /// [`AllocError`] where memory runs out. A part of the words may be left.
+    fn append_told(&self, out: &mut String, manner: &Manner) -> Result<(), AllocError>
+        ensures { OnOk result (string_bytes out.new ≡ string_bytes out.old ++ told manner.now self.now) };
+
+    /// Appends what stands below the line of a version, with what changed from it to the greatest of its key.
+    ///
+    /// # Errors
+    ///
+    /// [`AllocError`] where memory runs out. A part of the lines may be left.
+    fn append_more(
+        &self,
+        out: &mut String,
+        greatest: &Self,
+        manner: &Manner,
+    ) -> Result<(), AllocError>
+        ensures { OnOk result (string_bytes out.new ≡ string_bytes out.old ++ more manner.now self.now greatest.now) };
+}
+
+/// The state of a silence, and `gone` where its version isn't live.
+fn shown_state(silence: &MeshSilence, manner: &Manner) -> &'static str
+    ensures { result.now ≡ shown_state manner.now silence.now }
+{
+    if manner.has_expiries && manner.moment >= silence.expires() {
+        return "gone";
+    }
+    match silence.state_at(manner.moment) {
+        State::Pending => "pending",
+        State::Active => "active",
+        State::Expired => "expired",
+    }
+}
+
+impl ReportLine for MeshSilence {
+    ghost use Rattle.am_report.specs.Versions.{begins_silence, more_of_silence, told_silence};
+
+    ghost begins = { begins_silence };
+
+    ghost told = { told_silence };
+
+    ghost more = { more_of_silence };
+
+    fn append_key(out: &mut String, key: &Text) -> Result<(), AllocError> {
+        let id = Word(key.as_str().as_bytes());
+        write!(out, "sil {id}")
+    }
+
+    #[tactic(auto, unfolding(crate::specs::Versions::told_silence))]
+    fn append_told(&self, out: &mut String, manner: &Manner) -> Result<(), AllocError> {
+        let state = shown_state(self, manner);
+        let updated = shown_moment(self.updated_at());
+        let ends = shown_moment(self.ends_at());
+        let (updated, ends) = (updated.as_str(), ends.as_str());
+        write!(out, "{state} {updated} {ends}")
+    }
+
+    fn append_more(
+        &self,
+        out: &mut String,
+        greatest: &Self,
+        manner: &Manner,
+    ) -> Result<(), AllocError> {
+        if !manner.is_long {
+            return Ok(());
+        }
+        append_long_silence(out, self, greatest, manner.has_expiries)
+    }
+}
+
+impl ReportLine for MeshEntry {
+    ghost use Rattle.am_report.specs.Versions.{begins_entry, more_of_entry, told_entry};
+
+    ghost begins = { begins_entry };
+
+    ghost told = { told_entry };
+
+    ghost more = { more_of_entry };
+
+    #[tactic(auto, unfolding(crate::specs::Views::key_words))]
+    fn append_key(out: &mut String, key: &LogKey) -> Result<(), AllocError> {
+        let group = Word(key.group_key());
+        let name = Word(key.group_name().as_bytes());
+        let integration = Word(key.integration().as_bytes());
+        let idx = key.idx();
+        write!(out, "nfl {group} {name} {integration} {idx}")
+    }
+
+    #[tactic(auto, unfolding(crate::specs::Versions::told_entry))]
+    fn append_told(&self, out: &mut String, _manner: &Manner) -> Result<(), AllocError> {
+        let updated = shown_moment(self.timestamp());
+        let expires = shown_moment(self.expires_at());
+        let (updated, expires) = (updated.as_str(), expires.as_str());
+        let firing = Numbers(self.firing_alerts());
+        let resolved = Numbers(self.resolved_alerts());
+        write!(out, "{updated} {expires} {firing} {resolved}")
+    }
+
+    fn append_more(
+        &self,
+        out: &mut String,
+        _greatest: &Self,
+        manner: &Manner,
+    ) -> Result<(), AllocError> {
+        if !manner.is_long {
+            return Ok(());
+        }
+        append_long_key(out, self.key())
+    }
+}

@@ -1,8 +1,0 @@
-use Rattle.std.proofs.Common.{◌≡◌, take, map, Some}
-use Rattle.std.specs.Option.{option_copied}
-use Rattle.am_told.specs.Groups.{greatest_within}
-use Rattle.am_told.specs.Sources.{holding_of}
-use Rattle.am_told.proofs.groups.next_below.Given as goal
-
-abbrev pub invariant-loop-side : goal.invariant-loop-side
-invariant-loop-side g l = option_copied l.best ≡ greatest_within g.V.Version.seen (Some l.above) (map holding_of (take l.side-index l.sides))

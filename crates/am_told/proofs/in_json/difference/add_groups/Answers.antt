@@ -1,9 +1,0 @@
-use Rattle.std.proofs.Common.{map}
-use Rattle.am_told.specs.Sources.{holding_of}
-use Rattle.am_told.proofs.Grouped.{groups_added}
-use Rattle.am_told.proofs.in_json.difference.add_groups.Goals as goal
-
-pub returns : goal.returns
-returns g c =
-    groups_added g.V.Version.seen (map holding_of c.args.sides.now) c.args.greatest.now g.V.InJson.named (g.V.InJson.value c.args.now)
-    c.requires c.in_ok-add_greatest.ensures c.in_ok-add_others.ensures c.in_ok-add_missing.ensures

@@ -1,5 +1,0 @@
-use Rattle.am_told.proofs.Dates.{text_is}
-use Rattle.am_told.proofs.line_laws.moments_have_one_text.Goals as goal
-
-pub returns : goal.returns
-returns c = text_is c.texts_are_unique.ensures
