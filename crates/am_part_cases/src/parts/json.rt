@@ -67,7 +67,14 @@ fn say_read(case: &Case, read: Result<Vec<MeshSilence>, ListError>) {
     match read {
         Ok(silences) => case.say_versions(silences.as_slice()),
         Err(ListError::Memory) => case.fail(Fault::Memory),
-        Err(fault) => say!(case; ?fault, ": ", fault),
+        Err(ListError::BadJson) => say!(case; ?ListError::BadJson, ": bad JSON"),
+        Err(ListError::NoList) => say!(case; ?ListError::NoList, ": no list"),
+        Err(ListError::Wrong(place, key)) => {
+            say!(case; ?ListError::Wrong(place, key), ": bad silence ", place, ": ", key)
+        }
+        Err(ListError::TooLarge(place)) => {
+            say!(case; ?ListError::TooLarge(place), ": silence ", place, " too large")
+        }
     }
 }
 
