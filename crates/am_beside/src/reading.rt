@@ -1,7 +1,7 @@
 //! Rows of versions that are read in stretches.
 
 ghost use Rattle.std.specs.Prelude.{ℕ, List, Option, Ok, true, false, ◌≡◌, IfErr, IfSome};
-ghost use Rattle.am_snapshot.specs.Best.{HoldsBest};
+ghost use Rattle.am_merge.specs.Views.{HoldsBest};
 ghost use Rattle.am_wire.specs.Inputs.{AreMessages, StopsAfter};
 ghost use Rattle.am_beside.specs.Reading.{IsReadFrom};
 

@@ -8,7 +8,7 @@ use am_jobs::{PullJob, StateName};
 use am_memberlist::{Said, read_message, request_text, row_in, unpack_answer};
 use am_merge::Held;
 use am_peers::ask;
-use am_snapshot::load;
+use am_snapshot::load_bytes;
 use am_version_order::Version;
 use am_wire::Message;
 use std::alloc::{AllocError, Global};
@@ -44,13 +44,13 @@ pub fn key_of(state: StateName) -> StateKey {
     }
 }
 
-/// What a replica answers.
-#[derive(Drop)]
-enum Answer {
+/// What a replica says in its message.
+#[derive(Clone, Copy)]
+enum Answer<'m> {
     /// The row of the state that was asked for.
-    Row(Vec<u8>),
+    Row(&'m [u8]),
     /// That it has an error, in these words.
-    Words(Vec<u8>),
+    Words(&'m [u8]),
 }
 
 /// Sends a replica states, perhaps none, and gives the row of a state that it held before. Once it answered it has taken them.
@@ -59,30 +59,63 @@ pub fn exchange<'a, R: Host>(
     job: &PullJob<'a>,
     states: &[u8],
 ) -> Result<Vec<u8>, ReadFault<'a>> {
-    match answer_of(rt, job, states) {
-        Ok(Answer::Row(row)) => Ok(row),
-        Ok(Answer::Words(words)) => Err(ReadFault::Words(job.name, words)),
+    let message = answer_of(rt, job, states)?;
+    let row = row_of(rt.alloc(), job, &message)?;
+    copied(rt.alloc(), job, row)
+}
+
+/// Sends a replica states, and gives its message.
+fn answer_of<'a, R: Host>(
+    rt: &R,
+    job: &PullJob<'a>,
+    states: &[u8],
+) -> Result<Vec<u8>, ReadFault<'a>> {
+    match message_of(rt, job, states) {
+        Ok(message) => Ok(message),
         Err(fault) => Err(ReadFault::Source(job.name, fault)),
     }
 }
 
-/// Sends a replica states, and gives its answer.
-fn answer_of<R: Host>(rt: &R, job: &PullJob<'_>, states: &[u8]) -> Result<Answer, Fault> {
+/// Sends a replica states, and gives its message, or why there is none.
+fn message_of<R: Host>(rt: &R, job: &PullJob<'_>, states: &[u8]) -> Result<Vec<u8>, Fault> {
     let alloc = rt.alloc();
     let request = request_text(alloc, states)?;
     let answer = ask(alloc, rt, &job.replica, &request, job.time_limit)?;
-    let message = unpack_answer(alloc, answer, MOST_BYTES)?;
-    said_in(alloc, &message, key_of(job.state))
+    Ok(unpack_answer(alloc, answer, MOST_BYTES)?)
+}
+
+/// The row in a replica's message, which isn't copied.
+fn row_of<'a, 'm>(
+    alloc: Global,
+    job: &PullJob<'a>,
+    message: &'m [u8],
+) -> Result<&'m [u8], ReadFault<'a>> {
+    match said_in(alloc, message, key_of(job.state)) {
+        Ok(Answer::Row(row)) => Ok(row),
+        Ok(Answer::Words(words)) => {
+            let words = copied(alloc, job, first_words(words))?;
+            Err(ReadFault::Words(job.name, words))
+        }
+        Err(fault) => Err(ReadFault::Source(job.name, fault)),
+    }
+}
+
+/// A copy of bytes of a replica's message.
+fn copied<'a>(alloc: Global, job: &PullJob<'a>, bytes: &[u8]) -> Result<Vec<u8>, ReadFault<'a>> {
+    match bytes.to_vec(alloc) {
+        Ok(bytes) => Ok(bytes),
+        Err(error) => Err(ReadFault::Source(job.name, Fault::Memory(error))),
+    }
 }
 
 /// What a message says of a state.
-fn said_in(alloc: Global, message: &[u8], key: StateKey) -> Result<Answer, Fault> {
+fn said_in(alloc: Global, message: &[u8], key: StateKey) -> Result<Answer<'_>, Fault> {
     match read_message(alloc, message)? {
         Said::States(states) => match row_in(alloc, states, key)? {
-            Some(row) => Ok(Answer::Row(row.to_vec(alloc)?)),
+            Some(row) => Ok(Answer::Row(row)),
             None => Err(Fault::NoState),
         },
-        Said::Error(words) => Ok(Answer::Words(first_words(words).to_vec(alloc)?)),
+        Said::Error(words) => Ok(Answer::Words(words)),
     }
 }
 
@@ -105,8 +138,9 @@ pub fn held_by<'a, R: Host, V: Version + Message>(
     rt: &R,
     job: &PullJob<'a>,
 ) -> Result<Held<V>, ReadFault<'a>> {
-    let mut row = told_by(rt, job)?;
-    match load(rt.alloc(), &mut row) {
+    let message = answer_of(rt, job, &[])?;
+    let row = row_of(rt.alloc(), job, &message)?;
+    match load_bytes(rt.alloc(), row) {
         Ok(held) => Ok(held),
         Err(error) => Err(ReadFault::Source(job.name, Fault::Snapshot(error))),
     }

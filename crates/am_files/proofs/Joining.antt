@@ -8,7 +8,7 @@ use Rattle.am_version_order.proofs.Ranks.{below_itself, below_past}
 use Rattle.am_merge.specs.Maps.{IsMap, at}
 use Rattle.am_merge.proofs.Keys.{IsKeyOrder, at-Contains}
 use Rattle.am_merge.proofs.Puts.{at-member}
-use Rattle.am_snapshot.specs.Best.{HoldsBest}
+use Rattle.am_merge.specs.Views.{HoldsBest}
 use Rattle.am_snapshot.proofs.Bests.{IsBestAt, holds_best}
 
 module _ {K X : Type 0} (seen : X → Version K) where

@@ -7,7 +7,7 @@ use Rattle.am_wire.specs.declared.error.WireError.{WireError}
 use Rattle.am_wire.specs.Inputs.{AreMessages}
 use Rattle.am_journal.specs.Blocks.{recovered}
 use Rattle.am_journal.specs.Reading.{IsNext, IsLast}
-use Rattle.am_snapshot.specs.Best.{HoldsBest}
+use Rattle.am_merge.specs.Views.{HoldsBest}
 use Rattle.am_files.specs.Logs.{AreInBatches, JoinsLog}
 
 module _ {K X : Type 0} (seen : X → Version K) (reads : ℕ → List ℕ → Result X WireError) where

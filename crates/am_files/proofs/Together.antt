@@ -7,7 +7,7 @@ use Rattle.am_version_order.specs.Versions.{Version}
 use Rattle.am_wire.specs.declared.error.WireError.{WireError}
 use Rattle.am_merge.specs.Maps.{IsMap}
 use Rattle.am_merge.proofs.Keys.{IsKeyOrder}
-use Rattle.am_snapshot.specs.Best.{HoldsBest}
+use Rattle.am_merge.specs.Views.{HoldsBest}
 use Rattle.am_snapshot.specs.Loads.{IsLoaded}
 use Rattle.am_files.specs.Logs.{JoinsLog}
 use Rattle.am_files.specs.Recovering.{HoldsRow, IsRecovered}

@@ -5,7 +5,7 @@ use Rattle.am_version_order.specs.Versions.{Version}
 use Rattle.am_wire.specs.declared.error.WireError.{WireError}
 use Rattle.am_wire.specs.Inputs.{AreMessages}
 use Rattle.am_journal.specs.Blocks.{recovered}
-use Rattle.am_snapshot.specs.Best.{HoldsBest}
+use Rattle.am_merge.specs.Views.{HoldsBest}
 
 module _ {K X : Type 0} (seen : X → Version K) (reads : ℕ → List ℕ → Result X WireError) where
   -- the versions of batches, each of which is a row of some, in their order
@@ -14,14 +14,20 @@ module _ {K X : Type 0} (seen : X → Version K) (reads : ℕ → List ℕ → R
   AreInBatches (batch ∷ batches) versions =
       (first : List X) × (others : List X) × AreMessages reads batch first × AreInBatches batches others × (versions ≡ first ++ others)
 
-  -- a map has of each key the best among the versions of another map and of a row
-  pub record JoinsRow (map : List X) (row : List ℕ) (joined : List X) : Type 0 where
+  -- to versions come those of a row, behind them
+  pub record ReadsOn (before : List X) (row : List ℕ) (after : List X) : Type 0 where
     pub versions : List X
     pub all : AreMessages reads row versions
-    pub best : HoldsBest seen (map ++ versions) joined
+    pub behind : after ≡ before ++ versions
 
   -- a map has of each key the best among the versions of another map and of all whole batches of a log
   pub record JoinsLog (map : List X) (log : List ℕ) (joined : List X) : Type 0 where
     pub versions : List X
     pub all : AreInBatches (recovered log) versions
     pub best : HoldsBest seen (map ++ versions) joined
+
+-- of some versions the first are taken into a map, which has the best of each key then, and the others are left
+pub record TakesOn {K X : Type 0} (seen : X → Version K) (map versions joined left : List X) : Type 0 where
+  pub taken : List X
+  pub parts : versions ≡ taken ++ left
+  pub best : HoldsBest seen (map ++ taken) joined

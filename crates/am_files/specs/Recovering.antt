@@ -4,7 +4,7 @@ use Rattle.am_version_order.specs.Versions.{Version}
 use Rattle.am_wire.specs.declared.error.WireError.{WireError}
 use Rattle.am_wire.specs.Inputs.{AreMessages}
 use Rattle.am_journal.specs.Blocks.{recovered}
-use Rattle.am_snapshot.specs.Best.{HoldsBest}
+use Rattle.am_merge.specs.Views.{HoldsBest}
 use Rattle.am_files.specs.Logs.{AreInBatches}
 
 -- what a file has that may be missing, where that is known; nothing, where it is missing

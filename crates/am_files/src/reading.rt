@@ -1,18 +1,19 @@
 //! What the logs beside a file have.
 
-ghost use Rattle.std.specs.Prelude.{OnOk, IfSome};
-ghost use Rattle.am_files.specs.Logs.{JoinsRow, JoinsLog};
+ghost use Rattle.std.specs.Prelude.{◌≡◌, ◌⊎◌, ◌<◌, [], OnOk, IfOk, IfSome, length};
+ghost use Rattle.am_files.specs.Logs.{JoinsLog, ReadsOn, TakesOn};
 
 use crate::beside::beside;
 use am_disk::{FileFault, is_there};
 use am_journal::{Batches, LogError, settle};
 use am_merge::Held;
 use am_snapshot::SnapshotError;
-use am_version_order::{Moment, Version};
+use am_version_order::Version;
 use am_wire::{Message, Messages, RowFault};
 use std::alloc::Global;
 use std::fs::{self, File};
 use std::io::{BufReader, ErrorKind, Read};
+use std::mem;
 use std::rt::Files;
 
 /// The fault of a log to which nothing is added any more: it failed before, which was told then, or it is as long as one may be.
@@ -60,32 +61,66 @@ pub fn fault_of(error: LogError) -> FileFault {
     }
 }
 
-/// Takes the versions of a batch into a state, each live or not.
-fn take_batch<V: Version + Message>(
+/// How many versions of a log are taken at once, where not more are held.
+const MANY: usize = 65_536;
+
+/// Room for so many versions.
+fn room_for<V>(alloc: Global, count: usize) -> Result<Vec<V>, FileFault>
+    ensures { IfOk result (λ versions. versions.items ≡ []) }
+{
+    match Vec::with_capacity(alloc, count) {
+        Ok(versions) => Ok(versions),
+        Err(_) => Err(FileFault::Snapshot(SnapshotError::Memory)),
+    }
+}
+
+/// Puts the versions of a batch behind others.
+fn read_batch<V: Version + Message>(
     alloc: Global,
-    held: &mut Held<V>,
+    versions: &mut Vec<V>,
     batch: &[u8],
 ) -> Result<(), RowFault>
-    ensures { OnOk result (JoinsRow V.seen V.reads held.old batch.now held.new) }
+    ensures { OnOk result (ReadsOn V.seen V.reads versions.old.items batch.now versions.new.items) }
 {
-    held.has_values();
     for message in Messages::<V>::new(alloc, batch) {
-        held.take(message?, Moment::LEAST)?;
+        let version = message?;
+        versions.reserve(1)?;
+        versions.push_reserved(version);
     }
     Ok(())
 }
 
-/// Joins the versions of a batch into a state.
-fn join_batch<V: Version + Message>(
+/// Reads a batch, whose fault is that of a file.
+fn read_on<V: Version + Message>(
     alloc: Global,
-    held: &mut Held<V>,
+    versions: &mut Vec<V>,
     batch: &[u8],
 ) -> Result<(), FileFault>
-    ensures { OnOk result (JoinsRow V.seen V.reads held.old batch.now held.new) }
+    ensures { OnOk result (ReadsOn V.seen V.reads versions.old.items batch.now versions.new.items) }
 {
-    match take_batch(alloc, held, batch) {
+    match read_batch(alloc, versions, batch) {
         Ok(()) => Ok(()),
         Err(fault) => Err(FileFault::Snapshot(SnapshotError::from(fault))),
+    }
+}
+
+/// Takes versions into a state where they are so many.
+fn take_many<V: Version>(
+    alloc: Global,
+    held: &mut Held<V>,
+    versions: &mut Vec<V>,
+    least: usize,
+) -> Result<(), FileFault>
+    ensures taken { OnOk result (TakesOn V.seen held.old versions.old.items held.new versions.new.items) }
+    ensures left { OnOk result (length versions.new.items < least ⊎ (versions.new.items ≡ [])) }
+{
+    held.has_values();
+    if versions.len() < least {
+        return Ok(());
+    }
+    match held.take_all(mem::replace(versions, Vec::new(alloc))) {
+        Ok(()) => Ok(()),
+        Err(_) => Err(FileFault::Snapshot(SnapshotError::Memory)),
     }
 }
 
@@ -94,7 +129,7 @@ fn join_batch<V: Version + Message>(
 ///
 /// # Errors
 ///
-/// The first [`FileFault`] that stands. Some batches are joined then, each whole.
+/// The first [`FileFault`] that stands. The state is of no use then.
 pub fn join_batches<V: Version + Message, R: Read>(
     alloc: Global,
     held: &mut Held<V>,
@@ -104,10 +139,18 @@ pub fn join_batches<V: Version + Message, R: Read>(
 {
     held.has_values();
     let mut batches = Batches::new(alloc);
+    let mut versions = room_for(alloc, held.len().max(MANY))?;
     'blocks: for _ in 0..u64::MAX {
         match batches.next(reader) {
-            Ok(Some(batch)) => join_batch(alloc, held, &batch)?,
-            Ok(None) => return Ok(end_of(&batches)),
+            Ok(Some(batch)) => {
+                read_on(alloc, &mut versions, &batch)?;
+                let many = held.len().max(MANY);
+                take_many(alloc, held, &mut versions, many)?;
+            }
+            Ok(None) => {
+                take_many(alloc, held, &mut versions, 1)?;
+                return Ok(end_of(&batches));
+            }
             Err(error) => return Err(fault_of(error)),
         }
     }

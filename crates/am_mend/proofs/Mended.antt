@@ -14,7 +14,7 @@ use Rattle.am_merge.specs.Maps.{IsMap, at, replaces, is_above}
 use Rattle.am_merge.specs.Views.{IsBest}
 use Rattle.am_merge.proofs.Keys.{IsKeyOrder, AreAbove, all_filtered, at-above, at-Contains, same_key}
 use Rattle.am_merge.proofs.Puts.{at-member}
-use Rattle.am_snapshot.specs.Best.{HoldsBest}
+use Rattle.am_merge.specs.Views.{HoldsBest}
 use Rattle.am_mend.specs.Mending.{AreLive, TieNowhere, after, kept, kept_of, lacked, versions_of}
 
 module _ {K X : Type 0} (seen : X → Version K) (cmp : K → K → Ordering) (keys : IsKeyOrder cmp) where

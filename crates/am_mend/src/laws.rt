@@ -2,7 +2,7 @@
 
 ghost use Rattle.std.specs.Prelude.{◌≡◌, ℕ, List, All, Option, Some, if◌then◌else◌};
 ghost use Rattle.am_merge.specs.Maps.{IsMap, at};
-ghost use Rattle.am_snapshot.specs.Best.{HoldsBest};
+ghost use Rattle.am_merge.specs.Views.{HoldsBest};
 ghost use Rattle.am_mend.specs.Mending.{AreLive, TieNowhere, after, kept, lacked, takes, versions_of};
 
 use am_version_order::Version;

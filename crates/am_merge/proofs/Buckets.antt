@@ -57,7 +57,7 @@ not_zero : (n : ℕ) (b : Bool) → (n == 0) ≡ b → cond b 1 n ≡ 0 → ⊥
 not_zero n true is e = cc
 not_zero n false is e = let zero : (n == 0) ≡ true = ap (λ m. m == 0) e in cc
 
-empty_number : (b : List ℕ) → number_of b ≡ 0 → b ≡ []
+pub empty_number : (b : List ℕ) → number_of b ≡ 0 → b ≡ []
 empty_number [] e = refl
 empty_number (x ∷ xs) e = absurd (not_zero (fold numbered 0 (x ∷ xs)) (fold numbered 0 (x ∷ xs) == 0) refl e)
 

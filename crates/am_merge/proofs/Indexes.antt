@@ -108,7 +108,7 @@ module _ {E Y : Type 0} (slot_of : E → ℕ) (entry : ℕ → Y → E) (slot_en
       ((λ same. let there = sound.0.there in let none : table (slot_of e) ≡ None = ap table same ∙ vacant in cc), vacant-apart table s vacant es sound.1)
 
   -- where all that is named has what the slot's has not, none has the slot
-  differs-apart : (table : ℕ → Option Y) (s : ℕ) (y : Y) (P : Y → Type 0) → table s ≡ Some y → (P y → ⊥) → (es : List E) → Sound table es → AllByRecursion P (listed table es) → Apart s es
+  pub differs-apart : (table : ℕ → Option Y) (s : ℕ) (y : Y) (P : Y → Type 0) → table s ≡ Some y → (P y → ⊥) → (es : List E) → Sound table es → AllByRecursion P (listed table es) → Apart s es
   differs-apart table s y P there never [] sound all = tt
   differs-apart table s y P there never (e ∷ es) sound all =
       let parts = subst (AllByRecursion P) (listed-more table e es sound.0.value sound.0.there) all in (

@@ -17,3 +17,9 @@ pub mod Buckets
 pub mod Walks
 pub mod Steps
 pub mod Fronts
+pub mod Totals
+pub mod Filing
+pub mod Listings
+pub mod Filed
+pub mod Parts
+pub mod BestFirst

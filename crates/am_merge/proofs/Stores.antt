@@ -72,7 +72,7 @@ changes_of old new s o updates = record { changed = updates.changed; others = up
 pub changes_after : {X : Type 0} (old mid new : ℕ → Option X) (s : ℕ) (o p : Option X) → Changes old mid s o → Changes mid new s p → Changes old new s p
 changes_after old mid new s o p first second = record { changed = second.changed; others = λ other differs. second.others other differs ∙ first.others other differs }
 
-with_slots_changes : {X : Type 0} (old new : ℕ → Option X) (s : ℕ) (o : Option X) → Changes old new s o → Changes (with_slots old) (with_slots new) s (option_map (λ v. (s, v)) o)
+pub with_slots_changes : {X : Type 0} (old new : ℕ → Option X) (s : ℕ) (o : Option X) → Changes old new s o → Changes (with_slots old) (with_slots new) s (option_map (λ v. (s, v)) o)
 with_slots_changes old new s o changes =
     record { changed = ap (option_map (λ v. (s, v))) changes.changed; others = λ other differs. ap (option_map (λ v. (other, v))) (changes.others other differs) }
 
@@ -86,7 +86,7 @@ with_slots_is table s y e = mapped_is s (table s) y e
 pub some_with_slots : {X : Type 0} (table : ℕ → Option X) (s : ℕ) (v : X) → table s ≡ Some v → with_slots table s ≡ Some (s, v)
 some_with_slots table s v there = ap (option_map (λ w. (s, w))) there
 
-none_with_slots : {X : Type 0} (table : ℕ → Option X) (s : ℕ) → table s ≡ None → with_slots table s ≡ None
+pub none_with_slots : {X : Type 0} (table : ℕ → Option X) (s : ℕ) → table s ≡ None → with_slots table s ≡ None
 none_with_slots table s vacant = ap (option_map (λ w. (s, w))) vacant
 
 key_fallback : KeyEntry
@@ -97,7 +97,7 @@ expiry_fallback = record { expires = 0; slot = 0 }
 
 module _ {K X : Type 0} (seen : X → Version K) where
   -- ---- the index by expiry
-  expiry_slot_entry : (s : ℕ) (y : ℕ × X) → expiry_slot (expiry_entry seen s y) ≡ s
+  pub expiry_slot_entry : (s : ℕ) (y : ℕ × X) → expiry_slot (expiry_entry seen s y) ≡ s
   expiry_slot_entry s y = refl
 
   expiry_agrees : (table : ℕ → Option X) (expires slot : ℕ) (e : ExpiryEntry) (y : ℕ × X) → with_slots table (expiry_slot e) ≡ Some y → e ≡ expiry_entry seen (expiry_slot e) y → expiry_order expires slot e ≡ time_cmp (by_time seen y).key (expires, slot)
@@ -157,7 +157,7 @@ module _ {K X : Type 0} (seen : X → Version K) where
 
   -- ---- the index by key
   module _ (head_of : K → ℕ) (cmp : K → K → Ordering) (keys : IsKeyOrder cmp) where
-    key_slot_entry : (s : ℕ) (v : X) → key_slot (key_entry seen head_of s v) ≡ s
+    pub key_slot_entry : (s : ℕ) (v : X) → key_slot (key_entry seen head_of s v) ≡ s
     key_slot_entry s v = refl
 
     module _ (heads : (x y : K) → ordering_then (nat_cmp (head_of x) (head_of y)) (cmp x y) ≡ cmp x y) (table : ℕ → Option X) (key : K) (head : ℕ) (head_is : head ≡ head_of key) where

@@ -1,11 +1,12 @@
 -- What holds of the versions that a map was made of holds of the map's.
-use Rattle.std.proofs.Common.{ℕ, List, [], ◌∷◌, take, ⊎_elim}
+use Rattle.std.proofs.Common.{ℕ, List, [], ◌∷◌, ◌++◌, take, ⊎_elim}
 use Rattle.std.specs.Prelude.{All, Contains, Result, Ok, Err, OnOk, IfErr}
-use Rattle.std.proofs.lemmas.List.Elements.{All-nil, All-cons, All-contains, All-contains_itself, All-take, All-weaker}
+use Rattle.std.proofs.lemmas.List.Elements.{All-nil, All-cons, All-contains, All-contains_itself, All-take, All-weaker, All-append}
 use Rattle.std.specs.declared.cmp.Ordering.{Ordering}
 use Rattle.am_version_order.specs.Versions.{Version}
 use Rattle.am_merge.specs.Maps.{IsMap, IsJoin}
 use Rattle.am_merge.specs.Takings.{IsPut}
+use Rattle.am_merge.specs.Views.{HoldsBest}
 use Rattle.am_merge.specs.declared.held.MergeError.{MergeError}
 use Rattle.am_merge.proofs.Keys.{IsKeyOrder}
 use Rattle.am_merge.proofs.Joins.{Contains-join}
@@ -23,3 +24,8 @@ all_of_put seen cmp keys P map v new put all own = all_of_join seen cmp keys P m
 pub all_of_merge : {K X : Type 0} (seen : X → Version K) (cmp : K → K → Ordering) → IsKeyOrder cmp → (P : X → Type 0) (map other new : List X) (result : Result ℕ MergeError) → IsMap seen cmp new → OnOk result (IsJoin seen cmp map other new) → IfErr result (λ e. IsJoin seen cmp map (take e.taken other) new) → All P map → All P other → All P new
 all_of_merge seen cmp keys P map other new (Ok n) order joined stopped all more = all_of_join seen cmp keys P map other new order joined all more
 all_of_merge seen cmp keys P map other new (Err e) order joined stopped all more = all_of_join seen cmp keys P map (take e.taken other) new order stopped all (All-take P e.taken other more)
+
+-- of the best of a map and of others
+pub all_of_best : {K X : Type 0} (seen : X → Version K) (P : X → Type 0) (map others new : List X) → HoldsBest seen (map ++ others) new → All P map → All P others → All P new
+all_of_best seen P map others new held all more =
+    All-weaker (Contains new) P (λ v member. All-contains P (map ++ others) v (All-append P map others all more) (held.best v member).member) new (All-contains_itself new)

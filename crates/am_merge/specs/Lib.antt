@@ -10,3 +10,5 @@ pub mod Places
 pub mod Stores
 pub mod Takings
 pub mod Views
+pub mod Orders
+pub mod Listings

@@ -18,3 +18,8 @@ module _ {K X : Type 0} (seen : X → Version K) where
   abbrev pub IsViewAt : List X → ℕ → K → Option X → Type 0
   IsViewAt set now key found = MatchOption found ((v : X) → IsInView set now v → (seen v).key ≢ key) (λ v. ((seen v).key ≡ key)
       × IsInView set now v)
+
+  -- of each key of a set a map has the best: each version of the map is best in the set, and each key of the set is one of the map
+  pub record HoldsBest (set map : List X) : Type 0 where
+    pub best : (v : X) → Contains map v → IsBest set v
+    pub keys : (v : X) → Contains set v → (w : X) × Contains map w × ((seen w).key ≡ (seen v).key)

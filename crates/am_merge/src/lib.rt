@@ -2,11 +2,13 @@
 #![tactic(auto)]
 
 pub mod blocks;
+mod bulk;
 mod changes;
 mod entry;
 mod held;
 mod iter;
 pub mod laws;
+mod orders;
 mod store;
 
 pub use held::{FromVersionsError, Held, MergeError, Taken};

@@ -200,7 +200,7 @@ pub fn bucket_front<V: Version>(store: &Store<V>, bucket: &[u8]) -> Cursor
 }
 
 /// The entry by bucket of a version in a slot.
-fn entry_of<V: Version>(version: &V, slot: usize) -> BucketEntry
+pub fn entry_of<V: Version>(version: &V, slot: usize) -> BucketEntry
     ensures { result ≡ bucket_entry V.seen V.bucket_of V.head_of slot version.now }
 {
     BucketEntry {

@@ -4,7 +4,7 @@ use Rattle.am_wire.specs.Inputs.{AreMessages}
 use Rattle.am_silence.specs.Mesh.{Mesh, mesh_version}
 use Rattle.am_silence.specs.MeshTable.{reads_mesh_silence}
 use Rattle.am_silence_json.specs.Shown.{cut_to_shown}
-use Rattle.am_snapshot.specs.Best.{HoldsBest}
+use Rattle.am_merge.specs.Views.{HoldsBest}
 
 -- the row's versions are folded, each that counts is cut to what is shown of it, and these are held
 pub record IsShownOfRow (input : List ℕ) (shown : List Mesh) : Type 0 where

@@ -6,7 +6,7 @@ ghost use Rattle.std.specs.Cmp.Lexicographic.{slice_cmp};
 ghost use Rattle.am_merge.specs.Maps.{IsMap};
 ghost use Rattle.am_silence.specs.Mesh.{mesh_version};
 ghost use Rattle.am_silence_json.specs.Shown.{cut_to_shown};
-ghost use Rattle.am_snapshot.specs.Best.{HoldsBest};
+ghost use Rattle.am_merge.specs.Views.{HoldsBest};
 ghost use Rattle.am_peers.specs.Shown.{IsShownOfRow};
 
 use am_merge::Held;

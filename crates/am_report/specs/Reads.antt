@@ -8,7 +8,7 @@ use Rattle.am_wire.specs.declared.error.WireError.{WireError}
 use Rattle.am_wire.specs.declared.reader.RowFault.{RowFault}
 use Rattle.am_wire.specs.Inputs.{AreMessages, StopsAfter}
 use Rattle.am_merge.specs.Maps.{IsMap}
-use Rattle.am_snapshot.specs.Best.{HoldsBest}
+use Rattle.am_merge.specs.Views.{HoldsBest}
 use Rattle.am_snapshot.specs.Loads.{load_fault}
 use Rattle.am_snapshot.specs.declared.error.SnapshotError.{SnapshotError}
 use Rattle.am_report.specs.Sources.{Source}

@@ -10,7 +10,7 @@ use Rattle.am_merge.specs.Maps.{IsMap, IsJoin, at, greater_of}
 use Rattle.am_merge.specs.Views.{IsBest}
 use Rattle.am_merge.proofs.Keys.{IsKeyOrder, same_key, eq_itself, at-Contains}
 use Rattle.am_merge.proofs.Puts.{at-member}
-use Rattle.am_snapshot.specs.Best.{HoldsBest}
+use Rattle.am_merge.specs.Views.{HoldsBest}
 
 -- the best version of the key, or none where no version has it
 abbrev pub IsBestAt : {K X : Type 0} → (X → Version K) → List X → K → Option X → Type 0

@@ -11,3 +11,4 @@ pub mod OneFault
 pub mod Saved
 pub mod PieceRows
 pub mod Fits
+pub mod AtOnce

@@ -14,7 +14,7 @@ use Rattle.am_wire.specs.Fields.{pieces}
 use Rattle.am_wire.specs.Inputs.{sound, message_at, messages_of, AreMessages, StopsAfter, StopsWithin}
 use Rattle.am_snapshot.specs.Texts.{row_text}
 use Rattle.am_snapshot.specs.Loads.{AreDistinct, RepeatsKey, StopsLoadWithin, load_fault}
-use Rattle.am_snapshot.specs.Best.{HoldsBest}
+use Rattle.am_merge.specs.Views.{HoldsBest}
 use Rattle.am_snapshot.specs.Saving.{StopsSaving}
 use Rattle.am_snapshot.specs.Folds.{IsFold, IsFoldWithin, StopsFold}
 use Rattle.am_snapshot.specs.declared.error.SnapshotError.{SnapshotError}

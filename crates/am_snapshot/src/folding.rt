@@ -4,7 +4,7 @@ ghost use Rattle.std.specs.Prelude.{◌≡◌, ◌≤◌, ℕ, List, length, IfO
 ghost use Rattle.std.specs.Io.KnownBytes.{Appends};
 ghost use Rattle.am_wire.specs.Limits.{most};
 ghost use Rattle.am_wire.specs.Inputs.{AreMessages};
-ghost use Rattle.am_snapshot.specs.Best.{HoldsBest};
+ghost use Rattle.am_merge.specs.Views.{HoldsBest};
 ghost use Rattle.am_snapshot.specs.Folds.{IsFold, StopsFold};
 
 use crate::error::SnapshotError;

@@ -5,7 +5,7 @@ ghost use Rattle.std.specs.Io.KnownBytes.{IsAtEnd};
 ghost use Rattle.am_merge.specs.Maps.{IsMap};
 ghost use Rattle.am_wire.specs.Limits.{most};
 ghost use Rattle.am_wire.specs.Inputs.{AreMessages, StopsAfter};
-ghost use Rattle.am_snapshot.specs.Best.{HoldsBest};
+ghost use Rattle.am_merge.specs.Views.{HoldsBest};
 
 use am_merge::Held;
 use am_version_order::{Moment, Version};

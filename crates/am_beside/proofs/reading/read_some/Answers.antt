@@ -3,7 +3,7 @@ use Rattle.std.proofs.lemmas.Result.{err_from_is_err_and}
 use Rattle.am_merge.proofs.Keys.{key_order}
 use Rattle.am_snapshot.proofs.Bests.{IsBestAt-more, holds_best}
 use Rattle.am_snapshot.proofs.RowReads.{reads_more, reads_end_with, reads_stops}
-use Rattle.am_snapshot.specs.Best.{HoldsBest}
+use Rattle.am_merge.specs.Views.{HoldsBest}
 use Rattle.am_wire.specs.Limits.{most}
 use Rattle.am_beside.proofs.Begun.{as_read, read_so_far}
 use Rattle.am_beside.proofs.reading.read_some.Goals as goal

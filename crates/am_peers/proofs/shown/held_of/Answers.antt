@@ -3,7 +3,7 @@ use Rattle.std.proofs.lemmas.Grind.{common_steps}
 use Rattle.std.specs.Vec.Iter.{into_iter_items}
 use Rattle.std.proofs.lemmas.List.{append_assoc}
 use Rattle.am_merge.proofs.Keys.{key_order}
-use Rattle.am_snapshot.specs.Best.{HoldsBest}
+use Rattle.am_merge.specs.Views.{HoldsBest}
 use Rattle.am_snapshot.proofs.Bests.{IsBestAt-nil, IsBestAt-more, holds_best}
 use Rattle.am_peers.proofs.shown.held_of.Goals as goal
 

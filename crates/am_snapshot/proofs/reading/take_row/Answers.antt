@@ -4,7 +4,7 @@ use Rattle.am_merge.proofs.Keys.{key_order}
 use Rattle.am_snapshot.proofs.Bests.{IsBestAt-nil, IsBestAt-more, holds_best}
 use Rattle.am_snapshot.proofs.RowReads.{reads_none, reads_more, reads_further, reads_end, reads_end_with, reads_stops}
 use Rattle.am_wire.specs.Limits.{most}
-use Rattle.am_snapshot.specs.Best.{HoldsBest}
+use Rattle.am_merge.specs.Views.{HoldsBest}
 use Rattle.am_snapshot.proofs.reading.take_row.Goals as goal
 
 pub loop-rows-init : goal.loop-rows-init

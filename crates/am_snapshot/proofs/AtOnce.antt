@@ -1,0 +1,73 @@
+-- A map that has the best of each key of some versions, and as many as they are, has just these.
+use Rattle.std.proofs.Common.{◌≡◌, ℕ, zero, suc, Bool, true, false, List, [], ◌∷◌, ◌++◌, length, map, get_or, Result, inl, inr, refl, sym, ap, subst, ◌∙◌, arith}
+use Rattle.std.specs.Prelude.{Contains, IsPermutation}
+use Rattle.std.specs.List.{IsDistinct, remove}
+use Rattle.std.proofs.lemmas.List.Sorted.{IsPermutation-refl, IsPermutation-sym, IsPermutation-trans, IsPermutation-cons, IsPermutation-remove, Contains-permutation, length_permutation}
+use Rattle.std.proofs.lemmas.Map.Keys.{IsDistinct-cons, IsDistinct-IsPermutation, IsDistinct-from_apart, apart_from_distinct}
+use Rattle.std.specs.declared.cmp.Ordering.{Ordering}
+use Rattle.std.specs.declared.cmp.Ordering.TheVariants.{Less, Equal, Greater}
+use Rattle.std.specs.Ordering.{eq_by_cmp, is_eq, ordering_reverse}
+use Rattle.am_version_order.specs.Versions.{Version}
+use Rattle.am_wire.specs.declared.error.WireError.{WireError}
+use Rattle.am_wire.specs.Inputs.{messages_of, sound, AreMessages}
+use Rattle.am_merge.specs.Maps.{IsMap}
+use Rattle.am_merge.specs.Views.{HoldsBest}
+use Rattle.am_merge.proofs.Keys.{IsKeyOrder, all_weaker, eq_itself}
+use Rattle.am_merge.proofs.Indexes.{Contains-head, Contains-tail, Contains-cases}
+use Rattle.am_snapshot.specs.Loads.{AreDistinct, IsLoaded}
+
+-- ---- some of the messages of a row were read, and these are left
+module _ {X : Type 0} (reads : ℕ → List ℕ → Result X WireError) (row : List ℕ) where
+  abbrev pub AreRead : List X → List (Result X WireError) → Type 0
+  AreRead versions left = messages_of reads row ≡ map sound versions ++ left
+
+module _ {K X : Type 0} (seen : X → Version K) (cmp : K → K → Ordering) (keys : IsKeyOrder cmp) where
+  abbrev alike : X → X → Bool
+  alike v w = eq_by_cmp cmp (seen v).key (seen w).key
+
+  back : (o : Ordering) → is_eq o ≡ is_eq (ordering_reverse o)
+  back Less = refl
+  back Equal = refl
+  back Greater = refl
+
+  flips : (v w : X) → alike v w ≡ alike w v
+  flips v w = back (cmp (seen v).key (seen w).key) ∙ ap is_eq (sym (keys.total.antisymm (seen w).key (seen v).key))
+
+  distinct_map : (held : List X) → IsMap seen cmp held → IsDistinct alike held
+  distinct_map [] order = IsDistinct-from_apart alike [] (λ i j d less within. absurd (omega (arith, within)))
+  distinct_map (v ∷ rest) order =
+      IsDistinct-cons alike v rest (all_weaker (λ w. cmp (seen v).key (seen w).key ≡ Less) (λ w. alike v w ≡ false) (λ w less. ap is_eq less) rest order.0) (distinct_map rest order.1)
+
+  are_distinct : (versions : List X) → IsDistinct alike versions → AreDistinct seen versions
+  are_distinct versions distinct i j d less within same =
+      let no = apart_from_distinct alike versions i j d distinct less within in
+      let yes = eq_itself seen cmp keys (seen (get_or versions i d)).key in
+      let both = subst (λ (k : K). eq_by_cmp cmp (seen (get_or versions i d)).key k ≡ true) same yes in
+      absurd cc
+
+  -- each is among others that are as many, and no two have one key: so they are the others
+  among_as_many : (held versions : List X) → AreDistinct seen held → ((v : X) → Contains held v → Contains versions v) → length held ≡ length versions → IsPermutation versions held
+  among_as_many [] [] distinct inside same = IsPermutation-refl []
+  among_as_many [] (w ∷ ws) distinct inside same = absurd (omega (arith, same))
+  among_as_many (v ∷ vs) versions distinct inside same =
+      let (k, within, is) = inside v (Contains-head v vs) in
+      let others = remove versions k in
+      let moved : IsPermutation versions (v ∷ others) = IsPermutation-remove versions k v within (sym is) in
+      let size : length (v ∷ others) ≡ length versions = length_permutation versions (v ∷ others) moved in
+      let rest : (w : X) → Contains vs w → Contains others w =
+      λ w there. other_than v vs others w distinct there (Contains-permutation versions (v ∷ others) w moved (inside w (Contains-tail v w vs there))) in
+      let further : AreDistinct seen vs = λ i j d less below. distinct (suc i) (suc j) d (omega (arith, less)) (omega (arith, below)) in
+      IsPermutation-trans versions (v ∷ others) (v ∷ vs) moved (IsPermutation-cons v others vs (among_as_many vs others further rest (omega (arith, same, size)))) where
+        other_than : (v : X) (vs others : List X) (w : X) → AreDistinct seen (v ∷ vs) → Contains vs w → Contains (v ∷ others) w → Contains others w
+        other_than v vs others w distinct (k, within, is) there =
+            elim (Contains-cases v w others there) [
+              | inl same ↦ absurd (distinct zero (suc k) w (omega arith) (omega (arith, within)) (ap (λ (x : X). (seen x).key) (same ∙ sym is)))
+              | inr among ↦ among
+            ]
+
+  pub loaded : (reads : ℕ → List ℕ → Result X WireError) (row : List ℕ) (versions held : List X) → AreMessages reads row versions → IsMap seen cmp held → HoldsBest seen versions held → length held ≡ length versions
+      → IsLoaded seen reads row held
+  loaded reads row versions held are order best same =
+      let apart = distinct_map held order in
+      let moved = among_as_many held versions (are_distinct held apart) (λ v there. (best.best v there).member) same in
+      (versions, are, are_distinct versions (IsDistinct-IsPermutation alike flips held versions (IsPermutation-sym versions held moved) apart), moved)
