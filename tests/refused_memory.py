@@ -162,7 +162,6 @@ TRY = re.compile(rb"\x01 (\d+) (\d+)\n(.*?)\x02 (\d+)\n", re.DOTALL)
 FRAME = re.compile(r"to \S+ ")
 UNSENT = re.compile(r"unsent (\d+) 0")
 TAKEN = re.compile(r"Memory \{ taken: (\d+) \}")
-STOPPED = re.compile(r"stops at \d+: $")
 MOMENT = re.compile(r"^(holds \d+ \d+) at \S+$", re.MULTILINE)
 
 # How the members of a cluster stand behind a line of a schedule, and one that found no memory.
@@ -226,8 +225,6 @@ def how_refused(lines, wanted):
         # a step says how many versions it took, and what is held then
         told = TAKEN.search(begun)
         begun = begun[: told.start()] if told else begun
-        # a keeper says at which event it stopped
-        begun = STOPPED.sub("", begun)
         if told and int(told[1]) > 0:
             return "something stands" if without_frames(again.splitlines()) == without_frames(wanted) else None
         # the moment of a step that found no memory stands, also where the step is then refused

@@ -1,6 +1,6 @@
 //! A member: what it holds, and who attends to it.
 
-ghost use Rattle.std.specs.Prelude.{◌≡◌, ◌↔◌, ◌⊎◌, ◌≤◌, IsTrue, ⊤, drop, length};
+ghost use Rattle.std.specs.Prelude.{◌≡◌, ◌↔◌, ◌⊎◌, ◌≤◌, ℕ, List, IfSome, IsTrue, ⊤, drop, length};
 ghost use Rattle.am_api_silences.specs.Replies.{bytes_of};
 ghost use Rattle.am_dialogue.specs.Answered.{ByItself, IsAnswered};
 ghost use Rattle.am_dialogue.specs.Talks.{Rests, closed, talk_of};
@@ -26,6 +26,9 @@ pub struct Member<A> {
 /// Who attends to what a member holds. Each method is a call of [`Service`], and only one that is handed the instance to be
 /// changed makes steps of it.
 pub trait Attendant {
+    /// What it is once it gave these bytes for a peer.
+    ghost offers: { Self → ℕ → List ℕ → Self → Type 0 };
+
     fn begin(&mut self, entrance: Entrance) -> Conversation
         ensures { talk_of result ≡ fresh_talk };
 
@@ -65,7 +68,8 @@ pub trait Attendant {
         ensures written { dialogue.new.written ≡ dialogue.old.written }
         ensures talk { talk_of dialogue.new ≡ talk_of dialogue.old };
 
-    fn outgoing(&mut self, config: &Config) -> Option<PeerBytes>;
+    fn outgoing(&mut self, config: &Config) -> Option<PeerBytes>
+        ensures { IfSome result (λ it. offers self.old it.peer it.bytes.items self.new) };
 
     fn question(&mut self, instance: &Instance) -> Option<PeerBytes>;
 
@@ -101,6 +105,8 @@ impl<A: Attendant> Service for Member<A> {
     ghost gives = { λ _ _ _ _. ⊤ };
 
     ghost answers = { λ _ _ _ _. ⊤ };
+
+    ghost offers = { λ member peer bytes member'. A.offers member.attendant peer bytes member'.attendant };
 
     ghost begins = { λ member dialogue member'. (member'.instance ≡ member.instance) × (talk_of dialogue ≡ fresh_talk) };
 

@@ -1,4 +1,4 @@
--- A keeper as contracts see it.
+-- A map with the moment of its last event.
 use Rattle.std.specs.Prelude.{ℕ, List}
 
 -- the versions held, in the order of their keys, and the moment of the last event

@@ -1,4 +1,4 @@
-//! What holds of calm events, and of the keepers that saw them. That joining maps is commutative,
+//! What holds of calm events, and of the maps that saw them. That joining maps is commutative,
 //! associative and idempotent stands in `am_merge::laws`.
 
 ghost use Rattle.std.specs.Prelude.{◌≡◌, ◌≤◌, ℕ, List, ◌++◌, All};
@@ -11,7 +11,7 @@ ghost use Rattle.am_collect.specs.Keepers.{IsCalmlyLeft, IsLeftBy, view_at};
 
 use am_version_order::Version;
 
-/// What some events left of a keeper, and others after them of that, all of them leave of it.
+/// What some events left of a map, and others after them of that, all of them leave of it.
 pub fn events_follow_events<V: Version>()
     ensures { (old between new : Kept V) (past events : Events V) →
         IsLeftBy V.seen V.Key.cmp old past between → IsLeftBy V.seen V.Key.cmp between events new →
@@ -21,13 +21,14 @@ pub fn events_follow_events<V: Version>()
 /// After calm events a map shows, at every key and at every moment from the last event on, what
 /// the bare set of all that it started with and all that was delivered shows.
 pub fn calm_events_show_the_bare_set<V: Version>()
+    // PROMISE: After calm events a map shows what it would show if it had never forgotten anything.
     ensures { (start : List V) (from : ℕ) (events : Events V) (now : ℕ) (key : V.Key) →
         IsMap V.seen V.Key.cmp start → IsCalm V.seen start from events → last_moment from events ≤ now →
         IsViewAt V.seen (taken start events) now key
         (if_live V.seen now (after_all V.seen V.Key.cmp (at V.seen V.Key.cmp start) events key)) }
 {}
 
-/// Two keepers that took the same versions in calm events, in any order and however often, show
+/// Two maps that took the same versions in calm events, in any order and however often, show
 /// the same from the later one of their last moments on.
 pub fn calm_keepers_agree<V: Version>()
     // PROMISE: Two maps that took the same in calm events, in any order and however often, show the same.

@@ -1,8 +1,5 @@
-//! A keeper of versions. It drops those that aren't live, and after calm events it shows what all
-//! that it ever took would show.
+//! What events make of a map that drops what isn't live: after calm ones it shows what all that it
+//! ever took would show.
 #![tactic(auto)]
 
-mod keeper;
 pub mod laws;
-
-pub use keeper::{Keeper, KeeperError, Step, Stepped};

@@ -1,87 +1,76 @@
--- Versions that are read on, and taken many at once.
-use Rattle.std.proofs.Common.{◌≡◌, ◌⊎◌, ◌<◌, ℕ, List, [], ◌∷◌, ◌++◌, length, map, Option, IfSome, Result, Ok, inl, inr, refl, sym, ap, subst, ◌∙◌, append_assoc, arith}
-use Rattle.std.proofs.lemmas.List.{append-nil, map-append}
-use Rattle.std.specs.declared.cmp.Ordering.{Ordering}
+-- Versions that stand for others, of which a map is built in the end.
+use Rattle.std.proofs.Common.{ℕ, List, [], ◌++◌, Option, Some, None, IfSome, Result, refl, sym, ap, subst, ◌∙◌, append_assoc}
+use Rattle.std.proofs.lemmas.List.{append-nil}
 use Rattle.am_version_order.specs.Versions.{Version}
 use Rattle.am_wire.specs.declared.error.WireError.{WireError}
-use Rattle.am_wire.specs.Inputs.{messages_of, sound}
-use Rattle.am_merge.specs.Maps.{IsMap}
 use Rattle.am_merge.specs.Views.{HoldsBest}
-use Rattle.am_merge.proofs.Keys.{IsKeyOrder}
 use Rattle.am_journal.specs.Reading.{IsNext, IsLast}
-use Rattle.am_files.specs.Logs.{JoinsLog, ReadsOn, TakesOn}
-use Rattle.am_files.proofs.Joining.{best_of_best, holds_itself}
-use Rattle.am_files.proofs.ReadBatches.{AreReadSoFar, read_more, joins}
+use Rattle.am_files.specs.Logs.{AreInBatches, JoinsLog, ReadsOn}
+use Rattle.am_files.proofs.Joining.{best_of_best}
+use Rattle.am_files.proofs.ReadBatches.{AreReadSoFar, read_none, read_more, joins}
 
 module _ {K X : Type 0} (seen : X → Version K) where
-  module _ (reads : ℕ → List ℕ → Result X WireError) (row : List ℕ) (before : List X) where
-    -- some of the messages of the row were read, and these are left
-    pub record HasRead (left : List (Result X WireError)) (after : List X) : Type 0 where
-      pub versions : List X
-      pub parts : messages_of reads row ≡ map sound versions ++ left
-      pub behind : after ≡ before ++ versions
+  -- whatever comes behind both, a map of the best of what is kept has the best of the set
+  abbrev pub Keeps : List X → List X → Type 0
+  Keeps set kept = (more map : List X) → HoldsBest seen (kept ++ more) map → HoldsBest seen (set ++ more) map
 
-    pub reads_none : (items : List (Result X WireError)) → messages_of reads row ≡ items → HasRead items before
-    reads_none items all = record { versions = []; parts = all; behind = sym (append-nil before) }
+  pub keeps_more : (set kept row : List X) → Keeps set kept → Keeps (set ++ row) (kept ++ row)
+  keeps_more set kept row keeps = λ more map best.
+      subst (λ (all : List X). HoldsBest seen all map) (sym (append_assoc set row more))
+      (keeps (row ++ more) map (subst (λ (all : List X). HoldsBest seen all map) (append_assoc kept row more) best))
 
-    pub reads_more : (left rest : List (Result X WireError)) (mid new : List X) (v : X) → HasRead left mid → left ≡ Ok v ∷ rest → new ≡ mid ++ v ∷ [] → HasRead rest new
-    reads_more left rest mid new v so_far is pushed =
-        let versions = so_far.versions in
-        record {
-          versions = versions ++ v ∷ [];
-          parts =
-              so_far.parts
-              ∙ ap (λ (l : List (Result X WireError)). map sound versions ++ l) is
-              ∙ sym (append_assoc (map sound versions) (sound v ∷ []) rest)
-              ∙ ap (λ (l : List (Result X WireError)). l ++ rest) (sym (map-append sound versions (v ∷ [])));
-          behind = pushed ∙ ap (λ (l : List X). l ++ v ∷ []) so_far.behind ∙ append_assoc before versions (v ∷ []);
-        }
+  -- a map is built of what is kept
+  pub keeps_built : (set kept built : List X) → Keeps set kept → HoldsBest seen kept built → Keeps set built
+  keeps_built set kept built keeps held = λ more map best. keeps more map (best_of_best seen kept built more map held best)
 
-    pub reads_all : (left : List (Result X WireError)) (after : List X) → HasRead left after → left ≡ [] → ReadsOn seen reads before row after
-    reads_all left after so_far none =
-        let versions = so_far.versions in
-        record {
-          versions = versions;
-          all = so_far.parts ∙ ap (λ (l : List (Result X WireError)). map sound versions ++ l) none ∙ append-nil (map sound versions);
-          behind = so_far.behind;
-        }
+  pub best_of_kept : (set kept map : List X) → Keeps set kept → HoldsBest seen kept map → HoldsBest seen set map
+  best_of_kept set kept map keeps best =
+      subst (λ (all : List X). HoldsBest seen all map) (append-nil set) (keeps [] map (subst (λ (all : List X). HoldsBest seen all map) (sym (append-nil kept)) best))
 
-  pub takes_none : (cmp : K → K → Ordering) → IsKeyOrder cmp → (map versions : List X) → IsMap seen cmp map → TakesOn seen map versions map versions
-  takes_none cmp keys map versions is_map =
-      record { taken = []; parts = refl; best = subst (λ (set : List X). HoldsBest seen set map) (sym (append-nil map)) (holds_itself seen cmp keys map is_map) }
+  module _ (reads : ℕ → List ℕ → Result X WireError) where
+    module _ (start : Option (List ℕ)) (old : List X) where
+      -- of a log these are left, and for the versions before it and those read so far these are kept
+      pub record HasKept (left : Option (List ℕ)) (kept : List X) : Type 0 where
+        pub versions : List X
+        pub so_far : AreReadSoFar seen reads start left versions
+        pub keeps : Keeps (old ++ versions) kept
 
-  pub takes_all : (map versions joined left : List X) → HoldsBest seen (map ++ versions) joined → left ≡ [] → TakesOn seen map versions joined left
-  takes_all map versions joined left best none =
-      record { taken = versions; parts = sym (append-nil versions) ∙ ap (λ (l : List X). versions ++ l) (sym none); best = best }
+      pub kept_none : HasKept start old
+      kept_none =
+          record {
+            versions = [];
+            so_far = read_none seen reads start;
+            keeps = λ more map best. subst (λ (all : List X). HoldsBest seen (all ++ more) map) (sym (append-nil old)) best;
+          }
 
-  -- what was taken so far, and what comes to it
-  pub takes_more : (old done mid taken new : List X) → HoldsBest seen (old ++ done) mid → HoldsBest seen (mid ++ taken) new → HoldsBest seen (old ++ (done ++ taken)) new
-  takes_more old done mid taken new so_far more = subst (λ (set : List X). HoldsBest seen set new) (append_assoc old done taken) (best_of_best seen (old ++ done) mid taken new so_far more)
+      pub kept_more : (left next : Option (List ℕ)) (batch : List ℕ) (kept new : List X) → HasKept left kept → IsNext left next batch → ReadsOn seen reads kept batch new → HasKept next new
+      kept_more left next batch kept new has is_next read =
+          record {
+            versions = has.versions ++ read.versions;
+            so_far = read_more seen reads start left next batch has.versions read.versions has.so_far is_next read.all;
+            keeps = λ more map best.
+                subst (λ (all : List X). HoldsBest seen (all ++ more) map) (append_assoc old has.versions read.versions)
+                (keeps_more (old ++ has.versions) kept read.versions has.keeps more map (subst (λ (all : List X). HoldsBest seen (all ++ more) map) read.behind best));
+          }
 
-  module _ (reads : ℕ → List ℕ → Result X WireError) (start : Option (List ℕ)) (old : List X) where
-    -- these are read and these of them taken, where others wait
-    abbrev pub HasJoined : Option (List ℕ) → List X → List X → Type 0
-    HasJoined left versions held = (taken : List X) × AreReadSoFar seen reads start left (taken ++ versions) × HoldsBest seen (old ++ taken) held
+      pub kept_built : (left : Option (List ℕ)) (kept built : List X) → HasKept left kept → HoldsBest seen kept built → HasKept left built
+      kept_built left kept built has held = record { versions = has.versions; so_far = has.so_far; keeps = keeps_built (old ++ has.versions) kept built has.keeps held }
 
-    pub joined_more : (left next : Option (List ℕ)) (batch : List ℕ) (versions held mid waiting new : List X) → HasJoined left versions held → IsNext left next batch → ReadsOn seen reads versions batch mid → TakesOn seen held mid new waiting
-        → HasJoined next waiting new
-    joined_more left next batch versions held mid waiting new (taken, so_far, best) is_next read more =
-        let same : (taken ++ versions) ++ read.versions ≡ (taken ++ more.taken) ++ waiting =
-        append_assoc taken versions read.versions
-        ∙ ap (λ (l : List X). taken ++ l) (sym read.behind ∙ more.parts)
-        ∙ sym (append_assoc taken more.taken waiting) in (
-          taken ++ more.taken,
-          subst (λ (l : List X). AreReadSoFar seen reads start next l) same (read_more seen reads start left next batch (taken ++ versions) read.versions so_far is_next read.all),
-          takes_more old taken held more.taken new best more.best,
-        )
+      pub kept_all : (left : Option (List ℕ)) (behind : ℕ) (kept map : List X) → HasKept left kept → IsLast left behind → HoldsBest seen kept map → IfSome start (λ log. JoinsLog seen reads old log map)
+      kept_all left behind kept map has is_last best = joins seen reads start left behind old has.versions map has.so_far is_last (best_of_kept (old ++ has.versions) kept map has.keeps best)
 
-    pub none_left : (waiting : List X) → (length waiting < 1) ⊎ (waiting ≡ []) → waiting ≡ []
-    none_left [] few = refl
-    none_left (x ∷ xs) few = elim few [ inl less ↦ absurd (omega arith) | inr none ↦ none ]
-
-    pub joined_all : (left : Option (List ℕ)) (behind : ℕ) (versions held waiting new : List X) → HasJoined left versions held → IsLast left behind → TakesOn seen held versions new waiting → (length waiting < 1) ⊎ (waiting ≡ [])
+    -- the first batch of a log was read, and then the others
+    pub joined_first : (start left : Option (List ℕ)) (batch : List ℕ) (old mid new : List X) → IsNext start left batch → ReadsOn seen reads old batch mid → IfSome left (λ log. JoinsLog seen reads mid log new)
         → IfSome start (λ log. JoinsLog seen reads old log new)
-    joined_all left behind versions held waiting new (taken, so_far, best) is_last more few =
-        let all : more.taken ≡ versions = sym (append-nil more.taken) ∙ ap (λ (l : List X). more.taken ++ l) (sym (none_left waiting few)) ∙ sym more.parts in
-        joins seen reads start left behind old (taken ++ versions) new so_far is_last
-        (subst (λ (l : List X). HoldsBest seen (old ++ (taken ++ l)) new) all (takes_more old taken held more.taken new best more.best))
+    joined_first None left batch old mid new is_next read joined = tt
+    joined_first (Some log) None batch old mid new is_next read joined = absurd is_next
+    joined_first (Some log) (Some rest) batch old mid new is_next read joined =
+        record {
+          versions = read.versions ++ joined.versions;
+          all = subst (λ (batches : List (List ℕ)). AreInBatches seen reads batches (read.versions ++ joined.versions)) (sym is_next) (read.versions, joined.versions, read.all, joined.all, refl);
+          best = subst (λ (all : List X). HoldsBest seen all new) (ap (λ (l : List X). l ++ joined.versions) read.behind ∙ append_assoc old read.versions joined.versions) joined.best;
+        }
+
+    -- a log that has no batch
+    pub joined_none : (start : Option (List ℕ)) (behind : ℕ) (map : List X) → IsLast start behind → HoldsBest seen map map → IfSome start (λ log. JoinsLog seen reads map log map)
+    joined_none start behind map is_last best = kept_all start map start behind map map (kept_none start map) is_last best

@@ -25,9 +25,3 @@ module _ {K X : Type 0} (seen : X → Version K) (reads : ℕ → List ℕ → R
     pub versions : List X
     pub all : AreInBatches (recovered log) versions
     pub best : HoldsBest seen (map ++ versions) joined
-
--- of some versions the first are taken into a map, which has the best of each key then, and the others are left
-pub record TakesOn {K X : Type 0} (seen : X → Version K) (map versions joined left : List X) : Type 0 where
-  pub taken : List X
-  pub parts : versions ≡ taken ++ left
-  pub best : HoldsBest seen (map ++ taken) joined

@@ -1,19 +1,19 @@
 //! What the logs beside a file have.
 
-ghost use Rattle.std.specs.Prelude.{◌≡◌, ◌⊎◌, ◌<◌, [], OnOk, IfOk, IfSome, length};
-ghost use Rattle.am_files.specs.Logs.{JoinsLog, ReadsOn, TakesOn};
+ghost use Rattle.std.specs.Prelude.{◌≡◌, OnOk, IfOk, IfSome};
+ghost use Rattle.am_merge.specs.Views.{HoldsBest};
+ghost use Rattle.am_files.specs.Logs.{JoinsLog, ReadsOn};
 
 use crate::beside::beside;
 use am_disk::{FileFault, is_there};
 use am_journal::{Batches, LogError, settle};
-use am_merge::Held;
+use am_merge::{Held, HeldBuilder};
 use am_snapshot::SnapshotError;
 use am_version_order::Version;
-use am_wire::{Message, Messages, RowFault};
+use am_wire::{Message, Messages, RowFault, WireError};
 use std::alloc::Global;
 use std::fs::{self, File};
 use std::io::{BufReader, ErrorKind, Read};
-use std::mem;
 use std::rt::Files;
 
 /// The fault of a log to which nothing is added any more: it failed before, which was told then, or it is as long as one may be.
@@ -61,67 +61,102 @@ pub fn fault_of(error: LogError) -> FileFault {
     }
 }
 
-/// How many versions of a log are taken at once, where not more are held.
+/// How many versions are read at least before a map is built of them.
 const MANY: usize = 65_536;
 
-/// Room for so many versions.
-fn room_for<V>(alloc: Global, count: usize) -> Result<Vec<V>, FileFault>
-    ensures { IfOk result (λ versions. versions.items ≡ []) }
+/// The fault where memory ran out.
+const NO_MEMORY: FileFault = FileFault::Snapshot(SnapshotError::Memory);
+
+/// The versions of a map, which has none then, with room for as many as are read before a map is built of them.
+fn builder_of<V: Version>(held: &mut Held<V>) -> Result<HeldBuilder<V>, FileFault>
+    ensures { IfOk result (λ builder. builder ≡ held.old) }
 {
-    match Vec::with_capacity(alloc, count) {
-        Ok(versions) => Ok(versions),
-        Err(_) => Err(FileFault::Snapshot(SnapshotError::Memory)),
+    let more = held.len().max(MANY);
+    match HeldBuilder::of(held, more) {
+        Ok(builder) => Ok(builder),
+        Err(_) => Err(NO_MEMORY),
     }
 }
 
-/// Puts the versions of a batch behind others.
+/// The map of the greatest version of each key.
+fn build<V: Version>(builder: HeldBuilder<V>) -> Result<Held<V>, FileFault>
+    ensures { IfOk result (HoldsBest V.seen builder) }
+{
+    match builder.build() {
+        Ok(held) => Ok(held),
+        Err(_) => Err(NO_MEMORY),
+    }
+}
+
+/// The map of the greatest version of each key, as versions again.
+fn rebuild<V: Version>(builder: HeldBuilder<V>) -> Result<HeldBuilder<V>, FileFault>
+    ensures { IfOk result (HoldsBest V.seen builder) }
+{
+    let mut held = build(builder)?;
+    builder_of(&mut held)
+}
+
+/// How many versions there may be, where there are so many, before a map is built of them.
+fn most_of(count: usize) -> usize {
+    count.saturating_add(count.max(MANY))
+}
+
+/// Adds the versions of a batch to others.
 fn read_batch<V: Version + Message>(
     alloc: Global,
-    versions: &mut Vec<V>,
+    builder: &mut HeldBuilder<V>,
     batch: &[u8],
-) -> Result<(), RowFault>
-    ensures { OnOk result (ReadsOn V.seen V.reads versions.old.items batch.now versions.new.items) }
+) -> Result<(), WireError>
+    ensures { OnOk result (ReadsOn V.seen V.reads builder.old batch.now builder.new) }
 {
     for message in Messages::<V>::new(alloc, batch) {
         let version = message?;
-        versions.reserve(1)?;
-        versions.push_reserved(version);
+        builder.push(version)?;
     }
     Ok(())
 }
 
-/// Reads a batch, whose fault is that of a file.
+/// Adds the versions of a batch, whose fault is that of a file.
 fn read_on<V: Version + Message>(
     alloc: Global,
-    versions: &mut Vec<V>,
+    builder: &mut HeldBuilder<V>,
     batch: &[u8],
 ) -> Result<(), FileFault>
-    ensures { OnOk result (ReadsOn V.seen V.reads versions.old.items batch.now versions.new.items) }
+    ensures { OnOk result (ReadsOn V.seen V.reads builder.old batch.now builder.new) }
 {
-    match read_batch(alloc, versions, batch) {
+    match read_batch(alloc, builder, batch) {
         Ok(()) => Ok(()),
-        Err(fault) => Err(FileFault::Snapshot(SnapshotError::from(fault))),
+        Err(fault) => Err(FileFault::Snapshot(SnapshotError::from(RowFault::from(fault)))),
     }
 }
 
-/// Takes versions into a state where they are so many.
-fn take_many<V: Version>(
+/// The map of the greatest version of each key, among those that were read and those of all whole batches that are left of a
+/// log.
+///
+/// # Errors
+///
+/// The first [`FileFault`] that stands.
+fn read_rest<V: Version + Message, R: Read>(
     alloc: Global,
-    held: &mut Held<V>,
-    versions: &mut Vec<V>,
-    least: usize,
-) -> Result<(), FileFault>
-    ensures taken { OnOk result (TakesOn V.seen held.old versions.old.items held.new versions.new.items) }
-    ensures left { OnOk result (length versions.new.items < least ⊎ (versions.new.items ≡ [])) }
+    mut builder: HeldBuilder<V>,
+    batches: &mut Batches,
+    reader: &mut R,
+) -> Result<Held<V>, FileFault>
+    ensures { IfOk result (λ held. IfSome (R.remaining reader.old) (λ log. JoinsLog V.seen V.reads builder log held)) }
 {
-    held.has_values();
-    if versions.len() < least {
-        return Ok(());
+    let mut most = most_of(builder.len());
+    'blocks: for _ in 0..u64::MAX {
+        match batches.next(reader) {
+            Ok(Some(batch)) => read_on(alloc, &mut builder, &batch)?,
+            Ok(None) => return build(builder),
+            Err(error) => return Err(fault_of(error)),
+        }
+        if builder.len() >= most {
+            builder = rebuild(builder)?;
+            most = most_of(builder.len());
+        }
     }
-    match held.take_all(mem::replace(versions, Vec::new(alloc))) {
-        Ok(()) => Ok(()),
-        Err(_) => Err(FileFault::Snapshot(SnapshotError::Memory)),
-    }
+    Err(NO_LOG)
 }
 
 /// Joins what is left of a log into a state: of each key it has the greatest version then, among its own and those of all whole
@@ -129,7 +164,7 @@ fn take_many<V: Version>(
 ///
 /// # Errors
 ///
-/// The first [`FileFault`] that stands. The state is of no use then.
+/// The first [`FileFault`] that stands. The state may be empty then.
 pub fn join_batches<V: Version + Message, R: Read>(
     alloc: Global,
     held: &mut Held<V>,
@@ -139,22 +174,16 @@ pub fn join_batches<V: Version + Message, R: Read>(
 {
     held.has_values();
     let mut batches = Batches::new(alloc);
-    let mut versions = room_for(alloc, held.len().max(MANY))?;
-    'blocks: for _ in 0..u64::MAX {
-        match batches.next(reader) {
-            Ok(Some(batch)) => {
-                read_on(alloc, &mut versions, &batch)?;
-                let many = held.len().max(MANY);
-                take_many(alloc, held, &mut versions, many)?;
-            }
-            Ok(None) => {
-                take_many(alloc, held, &mut versions, 1)?;
-                return Ok(end_of(&batches));
-            }
-            Err(error) => return Err(fault_of(error)),
+    match batches.next(reader) {
+        Ok(Some(first)) => {
+            let mut builder = builder_of(held)?;
+            read_on(alloc, &mut builder, &first)?;
+            *held = read_rest(alloc, builder, &mut batches, reader)?;
+            Ok(end_of(&batches))
         }
+        Ok(None) => Ok(end_of(&batches)),
+        Err(error) => Err(fault_of(error)),
     }
-    Err(NO_LOG)
 }
 
 /// Where a log ends that was read whole.

@@ -7,7 +7,7 @@ mod source;
 
 pub use job::{DiffJob, FoldJob, Form, Job, PullJob, PushJob, ShowJob, StateName};
 pub use options::Options;
-pub use source::{STANDARD_INPUT, SourceWord, are_gossiped, are_live, is_file};
+pub use source::{STANDARD_INPUT, SourceWord, are_live, is_file};
 
 /// The version of the program.
 pub const VERSION: &str = "0.1.0";

@@ -50,11 +50,6 @@ impl<'a> SourceWord<'a> {
     }
 }
 
-/// Whether one of the sources is asked by gossip.
-pub fn are_gossiped(sources: &[SourceWord<'_>]) -> bool {
-    sources.iter().any(|source| source.gossip_place().is_some())
-}
-
 /// Whether one of the sources is a server of API v2.
 pub fn are_live(sources: &[SourceWord<'_>]) -> bool {
     sources.iter().any(|source| source.place().is_some())

@@ -22,6 +22,8 @@ const MOST_BYTES: u64 = 1 << 62;
 #[derive(Drop)]
 pub struct Batches {
     alloc: Global,
+    /// What was read of the gate and the length of a block.
+    head: Vec<u8>,
     end: u64,
     behind: u64,
     is_over: bool,
@@ -37,6 +39,7 @@ impl Batches {
     {
         Batches {
             alloc,
+            head: Vec::new(alloc),
             end: 0,
             behind: 0,
             is_over: false,
@@ -81,7 +84,7 @@ impl Batches {
         if self.end >= MOST_BYTES {
             return Err(LogError::Full);
         }
-        match read_block(self.alloc, reader)? {
+        match read_block(self.alloc, &mut self.head, reader)? {
             Found::Whole { batch } => {
                 self.end += HEAD_BYTES + batch.len() as u64;
                 self.is_over = false;
@@ -104,20 +107,20 @@ enum Found {
     Part { read: u64 },
 }
 
-/// Reads a block, or the front of what is none.
-fn read_block<R: Read>(alloc: Global, reader: &mut R) -> Result<Found, LogError>
+/// Reads a block, or the front of what is none. The head has its gate and its length then.
+fn read_block<R: Read>(alloc: Global, head: &mut Vec<u8>, reader: &mut R) -> Result<Found, LogError>
     ensures { IfOk result (λ found. (bytes : List ℕ) ×
         Consumes (R.remaining reader.old) (R.remaining reader.new) bytes ×
         IsFound bytes (R.remaining reader.new) found) }
 {
-    let mut head = Vec::new(alloc);
-    read_up_to(&mut head, reader, HEAD_BYTES)?;
-    let Some(size) = size_in(&head) else {
+    head.clear();
+    read_up_to(head, reader, HEAD_BYTES)?;
+    let Some(size) = size_in(head) else {
         return Ok(Found::Part {
             read: head.len() as u64,
         });
     };
-    let mut batch = Vec::new(alloc);
+    let mut batch = Vec::with_capacity(alloc, size.min(ROOM_BYTES as u64) as usize)?;
     read_up_to(&mut batch, reader, size)?;
     if (batch.len() as u64) < size {
         return Ok(Found::Part {

@@ -8,6 +8,7 @@ ghost use Rattle.am_instance.specs.InstanceStates.{InstanceState};
 ghost use Rattle.am_member.specs.Lives.{Turn};
 ghost use Rattle.am_reactor.specs.Deeds.{Deed};
 ghost use Rattle.am_reactor.specs.History.{Leads, Line, no_lines};
+ghost use Rattle.am_reactor.specs.Linked.{LinksGoFromNone};
 ghost use Rattle.am_living.specs.Living.{ActsAlone, BeginsFresh, DoesForOne, IsLived};
 
 use am_reactor::{Entrances, Limits, Peers, Service, Stream};
@@ -36,7 +37,8 @@ pub trait Living: Service {
 }
 
 /// Serves the connections of listeners as [`am_reactor::run`] does. What happened is what that tells of it, and it is a life of
-/// the member: turns of the connections, each by its number, and steps that the member made by itself, one after the other.
+/// the member: turns of the connections, each by its number, and steps that the member made by itself, one after the other. Of the
+/// links to peers it tells what that tells.
 ///
 /// # Errors
 ///
@@ -53,6 +55,7 @@ pub fn run<S: Living, R: Net + Clock + Input>(
     ensures lived { (left : ℕ → Option (Line S.Session TcpStream))
         × (history : Leads S.does S.begins S.acts S.pending ⟦<TcpStream as Stream>⟧.coming ⟦<TcpStream as Stream>⟧.gone service.old no_lines service.new left)
         × IsLived S.instance_of S.accords service.old history.happenings service.new left }
+    ensures linked { LinksGoFromNone S.does S.begins S.acts S.pending ⟦<TcpStream as Stream>⟧.coming ⟦<TcpStream as Stream>⟧.gone S.loses S.gives S.offers service.old service.new }
 {
     am_reactor::run(alloc, rt, entrances, peers, service, limits)
 }

@@ -3,7 +3,7 @@
 use Rattle.std.proofs.Common.{◌≡◌, ℕ, Bool, true, false, cond, List, [], ◌∷◌, ◌++◌, Option, Some, None, refl, sym, ap, ◌∙◌, subst, arith, inl, inr, ◌⊎◌, Contains}
 use Rattle.std.specs.Prelude.{filter, IsPermutation, is_some, ◌==◌, if◌then◌else◌}
 use Rattle.std.specs.Option.{option_cmp, option_map}
-use Rattle.std.specs.List.{AllByRecursion, All}
+use Rattle.std.specs.List.{AllByRecursion, All, AllPass}
 use Rattle.std.proofs.lemmas.Bool.Decides.{nat_tests}
 use Rattle.std.proofs.lemmas.List.Elements.{All-contains, All-filter, filter_passes, All-from_recursion, recursion_from_All, Contains-append_cases}
 use Rattle.std.proofs.lemmas.List.Sorted.{Contains-permutation, All-permutation}
@@ -27,6 +27,14 @@ use Rattle.am_merge.proofs.Indexes as indexes
 use Rattle.am_merge.proofs.Indexes.{Contains-head, Contains-tail, Contains-cases, some_is}
 use Rattle.am_merge.proofs.Stores.{times, with_slots_is}
 use Rattle.am_merge.proofs.Buckets.{places, empty_number}
+
+filter_all : {T : Type 0} (p : T → Bool) (xs : List T) → AllByRecursion (λ x. p x ≡ true) xs → filter p xs ≡ xs
+filter_all p [] all = refl
+filter_all p (x ∷ xs) all = let here = all.0 in let rest = filter_all p xs all.1 in rw (here, rest) refl
+
+-- what passes whole is kept whole
+pub filter_whole : {T : Type 0} (p : T → Bool) (xs : List T) → AllPass p xs → filter p xs ≡ xs
+filter_whole p xs all = filter_all p xs (recursion_from_All (λ x. p x ≡ true) xs all)
 
 -- ---- the order of places
 then_apart : (a b c : Ordering) → ordering_then a (ordering_then b c) ≡ ordering_then (ordering_then a b) c

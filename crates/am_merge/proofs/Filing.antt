@@ -1,7 +1,7 @@
 -- What is left of a table once those of its versions went that others of their keys beat.
-use Rattle.std.proofs.Common.{◌≡◌, ◌≢◌, ◌⊎◌, ℕ, ◌+◌, true, false, List, [], ◌∷◌, ◌++◌, length, Option, Some, None, refl, sym, ap, ◌∙◌, subst, arith, inl, inr, Contains, length-append}
-use Rattle.std.specs.Prelude.{◌==◌, IsPermutation, All}
-use Rattle.std.specs.List.{AllByRecursion}
+use Rattle.std.proofs.Common.{◌≡◌, ◌≢◌, ◌⊎◌, ℕ, ◌+◌, Bool, not, true, false, List, [], ◌∷◌, ◌++◌, length, Option, Some, None, refl, sym, ap, ◌∙◌, subst, arith, inl, inr, Contains, length-append}
+use Rattle.std.specs.Prelude.{◌==◌, IsPermutation, All, is_some}
+use Rattle.std.specs.List.{AllByRecursion, AllPass}
 use Rattle.std.specs.Option.{option_map}
 use Rattle.std.proofs.lemmas.Bool.{cases_eq}
 use Rattle.std.proofs.lemmas.Bool.Decides.{nat_tests}
@@ -47,6 +47,18 @@ with_slots_parts old new parts slot = elim (parts slot) [
   | inl none ↦ inl (ap (option_map (λ v. (slot, v))) none)
   | inr same ↦ inr (ap (option_map (λ v. (slot, v))) same)
 ]
+
+-- where nothing is gone, an index names what is there
+pub all_there : {E Y : Type 0} (slot_of : E → ℕ) (entry : ℕ → Y → E) (old new : ℕ → Option Y) → ((slot : ℕ) → new slot ≡ old slot) → (es : List E) → IsIndex slot_of entry old es
+    → AllPass (λ e. is_some (new (slot_of e))) es
+all_there slot_of entry old new same es index =
+    All-from_recursion (λ e. is_some (new (slot_of e)) ≡ true) es
+    (all_weaker (Names slot_of entry old) (λ e. is_some (new (slot_of e)) ≡ true) (λ e name. ap is_some (same (slot_of e) ∙ name.there)) es index.sound)
+
+pub nothing_gone : {X : Type 0} (old new : ℕ → Option X) (ties : List KeyEntry) (is_empty : Bool) → is_empty ≡ (length ties == 0) → not is_empty ≡ false
+    → ((slot : ℕ) → All (λ e. key_slot e ≢ slot) ties → new slot ≡ old slot) → (slot : ℕ) → new slot ≡ old slot
+nothing_gone old new [] is_empty is whole others slot = others slot (λ k d less. absurd (omega arith))
+nothing_gone old new (e ∷ es) is_empty is whole others slot = absurd (grind (arith, nat_tests))
 
 -- ---- slots of entries
 pub slot_cases : (slot : ℕ) (es : List KeyEntry) → ((e : KeyEntry) × Contains es e × (key_slot e ≡ slot)) ⊎ All (λ e. key_slot e ≢ slot) es

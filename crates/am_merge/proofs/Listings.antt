@@ -18,7 +18,7 @@ use Rattle.am_merge.specs.Entries.{versions_of, key_slot, expiry_slot, key_entry
 use Rattle.am_merge.specs.Buckets.{bucket_slot, bucket_entry}
 use Rattle.am_merge.specs.Rows.{entries}
 use Rattle.am_merge.specs.Stores.{HasSlot, IsStore}
-use Rattle.am_merge.specs.Listings.{AreApart, IsListing}
+use Rattle.am_merge.specs.Listings.{AreApart, IsListing, versions_in}
 use Rattle.am_merge.specs.declared.entry.KeyEntry.{KeyEntry}
 use Rattle.am_merge.specs.declared.bulk.Listing.{Listing}
 use Rattle.am_merge.specs.declared.store.Store.{Store}
@@ -31,15 +31,15 @@ use Rattle.am_merge.proofs.Steps.{end_insert}
 pub table_is : {X : Type 0} (old new : Slab X) → new.slots ≡ old.slots → get old ≡ get new
 table_is old new slots = λ i key. slice_index_or (sym slots i) key None
 
-pub changes_from : {X : Type 0} (old mid new : Slab X) (s : ℕ) (o : Option X) → mid.slots ≡ old.slots → Updates mid new s o → Changes (get old) (get new) s o
-changes_from old mid new s o slots updates =
-    record { changed = updates.changed; others = λ other differs. updates.others other differs ∙ ap (λ t. t other) (sym (table_is old mid slots)) }
+-- room changes no slot
+pub slots_kept : {X : Type 0} (old new : Slab X) → new ≡ record old { capacity = new.capacity } → new.slots ≡ old.slots
+slots_kept {X} old new kept = ap (λ (s : Slab X). s.slots) kept
 
--- a value came into the vacant slot once there was room
-pub changes_reserved : {X : Type 0} (old mid new : Slab X) (slot given : ℕ) (v : X) → mid ≡ record old { capacity = mid.capacity } → slot ≡ old.vacant_key → given ≡ mid.vacant_key → Updates mid new given (Some v) → Changes (get old) (get new) slot (Some v)
-changes_reserved {X} old mid new slot given v kept vacant next updates =
-    changes_from old mid new slot (Some v) (ap (λ (s : Slab X). s.slots) kept)
-    (subst (λ s. Updates mid new s (Some v)) (next ∙ ap (λ (s : Slab X). s.vacant_key) kept ∙ sym vacant) updates)
+-- a value came into the vacant slot
+pub changes_vacant : {X : Type 0} (old new : Slab X) (slot given : ℕ) (v : X) → slot ≡ old.vacant_key → given ≡ old.vacant_key → Updates old new given (Some v) → Changes (get old) (get new) slot (Some v)
+changes_vacant old new slot given v vacant next updates =
+    let here = subst (λ s. Updates old new s (Some v)) (next ∙ sym vacant) updates in
+    record { changed = here.changed; others = here.others }
 
 module _ {E : Type 0} (slot_of : E → ℕ) where
   -- entries of which none has the slot stay apart with one of it behind them
@@ -119,6 +119,14 @@ module _ {K X : Type 0} (seen : X → Version K) (head_of : K → ℕ) (bucket_o
         count = ap (count_by is_some) slots ∙ is.count ∙ ap length (sym keys);
       }
 
+  pub listing_count : (listing : Listing X) → Listed listing → slab_len listing.table ≡ length (versions_in listing)
+  listing_count listing is = is.count ∙ sym (listed-length key_slot (key_entry seen head_of) (λ s v. refl) (get listing.table) listing.keys.items is.keys.sound)
+
+  pub versions_moved : (old new : Listing X) → new.table.slots ≡ old.table.slots → new.keys.items ≡ old.keys.items → versions_in new ≡ versions_in old
+  versions_moved old new slots keys =
+      let table = sym (table_is old.table new.table slots) in
+      λ i. versions_of (table i) (keys i)
+
   -- a version came into an empty slot, and its entries behind the others
   module _ (old new : Listing X) (slot : ℕ) (v : X) (is : Listed old) (vacant : get old.table slot ≡ None) (changes : Changes (get old.table) (get new.table) slot (Some v)) (keys : new.keys.items ≡ old.keys.items ++ key_entry seen head_of slot v ∷ []) where
     key_slots : (s : ℕ) (w : X) → key_slot (key_entry seen head_of s w) ≡ s
@@ -127,7 +135,7 @@ module _ {K X : Type 0} (seen : X → Version K) (head_of : K → ℕ) (bucket_o
     bucket_slots : (s : ℕ) (w : X) → bucket_slot (bucket_entry seen bucket_of head_of s w) ≡ s
     bucket_slots s w = refl
 
-    pub listing_versions : versions_of (get new.table) new.keys.items ≡ versions_of (get old.table) old.keys.items ++ v ∷ []
+    pub listing_versions : versions_in new ≡ versions_in old ++ v ∷ []
     listing_versions =
         ap (versions_of (get new.table)) keys
         ∙ listed-end key_slot (key_entry seen head_of) key_slots (get old.table) (get new.table) slot v changes vacant old.keys.items is.keys

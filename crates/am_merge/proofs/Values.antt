@@ -1,13 +1,15 @@
 -- What holds of the versions that a map was made of holds of the map's.
-use Rattle.std.proofs.Common.{ℕ, List, [], ◌∷◌, ◌++◌, take, ⊎_elim}
+use Rattle.std.proofs.Common.{◌≡◌, ℕ, List, [], ◌∷◌, take, ⊎_elim, sym, subst}
 use Rattle.std.specs.Prelude.{All, Contains, Result, Ok, Err, OnOk, IfErr}
-use Rattle.std.proofs.lemmas.List.Elements.{All-nil, All-cons, All-contains, All-contains_itself, All-take, All-weaker, All-append}
+use Rattle.std.proofs.lemmas.List.Elements.{All-nil, All-cons, All-contains, All-contains_itself, All-take, All-weaker}
 use Rattle.std.specs.declared.cmp.Ordering.{Ordering}
 use Rattle.am_version_order.specs.Versions.{Version}
 use Rattle.am_merge.specs.Maps.{IsMap, IsJoin}
 use Rattle.am_merge.specs.Takings.{IsPut}
 use Rattle.am_merge.specs.Views.{HoldsBest}
+use Rattle.am_merge.specs.Stores.{versions}
 use Rattle.am_merge.specs.declared.held.MergeError.{MergeError}
+use Rattle.am_merge.specs.declared.store.Store.{Store}
 use Rattle.am_merge.proofs.Keys.{IsKeyOrder}
 use Rattle.am_merge.proofs.Joins.{Contains-join}
 
@@ -26,6 +28,9 @@ all_of_merge seen cmp keys P map other new (Ok n) order joined stopped all more 
 all_of_merge seen cmp keys P map other new (Err e) order joined stopped all more = all_of_join seen cmp keys P map (take e.taken other) new order stopped all (All-take P e.taken other more)
 
 -- of the best of a map and of others
-pub all_of_best : {K X : Type 0} (seen : X → Version K) (P : X → Type 0) (map others new : List X) → HoldsBest seen (map ++ others) new → All P map → All P others → All P new
-all_of_best seen P map others new held all more =
-    All-weaker (Contains new) P (λ v member. All-contains P (map ++ others) v (All-append P map others all more) (held.best v member).member) new (All-contains_itself new)
+pub all_of_best : {K X : Type 0} (seen : X → Version K) (P : X → Type 0) (set map : List X) → HoldsBest seen set map → All P set → All P map
+all_of_best seen P set map held all = All-weaker (Contains map) P (λ v member. All-contains P set v all (held.best v member).member) map (All-contains_itself map)
+
+-- an empty store in the place of another
+pub emptied : {X : Type 0} (Is : Store X → Type 0) (P : X → Type 0) (empty store : Store X) → store ≡ empty → Is empty → versions empty ≡ [] → Is store × All P (versions store)
+emptied Is P empty store same is none = subst (λ s. Is s × All P (versions s)) (sym same) (is, subst (All P) (sym none) (All-nil P))

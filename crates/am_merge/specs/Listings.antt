@@ -5,10 +5,14 @@ use Rattle.std.specs.List.{IsDistinct}
 use Rattle.slab.specs.Slab.{get, slab_len}
 use Rattle.am_version_order.specs.Versions.{Version, is_below}
 use Rattle.am_merge.specs.Indexes.{Names, IsIndex}
-use Rattle.am_merge.specs.Entries.{key_slot, expiry_slot, key_entry, expiry_entry, with_slots}
+use Rattle.am_merge.specs.Entries.{key_slot, expiry_slot, key_entry, expiry_entry, versions_of, with_slots}
 use Rattle.am_merge.specs.Buckets.{bucket_slot, bucket_entry}
 use Rattle.am_merge.specs.declared.entry.KeyEntry.{KeyEntry}
 use Rattle.am_merge.specs.declared.bulk.Listing.{Listing}
+
+-- the versions of a listing, in the order in which they came
+abbrev pub versions_in : {X : Type 0} → Listing X → List X
+versions_in listing = versions_of (get listing.table) listing.keys.items
 
 -- no two of the entries have one slot
 abbrev pub AreApart : {E : Type 0} → (E → ℕ) → List E → Type 0

@@ -11,7 +11,7 @@ mod probe;
 mod searches;
 mod walk;
 
-use block::Block;
+use block::{Block, FILLED};
 pub use cursor::Cursor;
 use parts::{fill, put, take_out};
 pub use probe::Probe;
@@ -65,6 +65,25 @@ impl<T: Copy> Blocks<T> {
             spares: Vec::new(alloc),
             alloc,
         }
+    }
+
+    /// A list of these items.
+    ///
+    /// # Errors
+    ///
+    /// [`AllocError`] where memory runs out.
+    pub fn from_slice(alloc: Global, items: &[T]) -> Result<Self, AllocError>
+        ensures { IfOk result (λ list. entries list ≡ items.now) }
+    {
+        let mut blocks = Vec::new(alloc);
+        for chunk in items.chunks(FILLED) {
+            blocks.push(Block::of(alloc, chunk)?)?;
+        }
+        Ok(Blocks {
+            blocks,
+            spares: Vec::new(alloc),
+            alloc,
+        })
     }
 
     /// Makes room, so that as many insertions can't fail.

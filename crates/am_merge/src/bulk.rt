@@ -1,7 +1,8 @@
-//! Many versions at once: all go into the table, and each index is made anew.
+//! Many versions at once: all go into a table, and each index is made anew.
 
-ghost use Rattle.std.specs.Prelude.{◌≡◌, ◌≢◌, ◌+◌, ◌++◌, ◌∷◌, [], ℕ, List, All, Contains, None, IsPermutation, IfOk, OnOk, length};
-ghost use Rattle.slab.specs.Slab.{get, slab_len, HasRoomFor};
+ghost use Rattle.std.specs.Prelude.{◌≡◌, ◌≢◌, ◌+◌, ◌++◌, ◌∷◌, [], ℕ, All, None, false, IsPermutation, IfOk, OnOk, OnErr, filter, is_some, length};
+ghost use Rattle.std.specs.List.{AllPass};
+ghost use Rattle.slab.specs.Slab.{get, slab_len};
 ghost use Rattle.am_merge.specs.Rows.{entries};
 ghost use Rattle.am_merge.specs.Indexes.{Names};
 ghost use Rattle.am_merge.specs.Entries.{key_slot, expiry_slot, key_entry, expiry_entry, versions_of, with_slots};
@@ -9,11 +10,11 @@ ghost use Rattle.am_merge.specs.Buckets.{bucket_slot, bucket_entry};
 ghost use Rattle.am_merge.specs.Maps.{IsMap};
 ghost use Rattle.am_merge.specs.Views.{HoldsBest};
 ghost use Rattle.am_merge.specs.Stores.{versions, IsStore, IsExpiryIndex, IsBucketIndex, HasSlot};
-ghost use Rattle.am_merge.specs.Listings.{IsListing, AreApart, Covers, HasOneOfEach, IsBeatenBy};
+ghost use Rattle.am_merge.specs.Listings.{IsListing, AreApart, Covers, HasOneOfEach, IsBeatenBy, versions_in};
 
 use crate::blocks::{Blocks, Cursor};
 use crate::entry::{BucketEntry, ExpiryEntry, KeyEntry};
-use crate::orders::{BestFirst, ByBucket, ByExpiry, ByKey, Parted, part, sort};
+use crate::orders::{BestFirst, ByBucket, ByExpiry, ByHead, ByKey, ByNumber, Parted, part, sort};
 use crate::store::{Store, entry_of};
 use am_version_order::Version;
 use slab::Slab;
@@ -28,34 +29,15 @@ pub struct Listing<V> {
     pub buckets: Vec<BucketEntry>,
 }
 
-/// A store of the versions of another one and of others: of each key the greatest.
-///
-/// # Errors
-///
-/// [`AllocError`] where memory runs out.
-pub fn with_all<V: Version>(
-    store: Store<V>,
-    more: Vec<V>,
-    alloc: Global,
-) -> Result<Store<V>, AllocError>
-    requires { IsStore V.seen V.head_of V.Key.cmp V.bucket_of store }
-    ensures store { IfOk result (IsStore V.seen V.head_of V.Key.cmp V.bucket_of) }
-    ensures best { IfOk result (λ new. HoldsBest V.seen (versions store ++ more.items) (versions new)) }
-{
-    let mut listing = listing_of(store, more.len(), alloc)?;
-    lay_all(&mut listing, more)?;
-    file(listing, alloc)
-}
-
 /// What a store has, with room in the lists for more.
-fn listing_of<V: Version>(
+pub fn listing_of<V: Version>(
     store: Store<V>,
     more: usize,
     alloc: Global,
 ) -> Result<Listing<V>, AllocError>
     requires { IsStore V.seen V.head_of V.Key.cmp V.bucket_of store }
     ensures listing { IfOk result (IsListing V.seen V.head_of V.bucket_of) }
-    ensures same { IfOk result (λ listing. versions_of (get listing.table) listing.keys.items ≡ versions store) }
+    ensures same { IfOk result (λ listing. versions_in listing ≡ versions store) }
 {
     let Store {
         table,
@@ -84,56 +66,38 @@ fn items_of<T: Copy>(blocks: &Blocks<T>, size: usize, alloc: Global) -> Result<V
     Ok(items)
 }
 
-/// A list in blocks of these items.
-fn blocks_of<T: Copy>(items: &[T], alloc: Global) -> Result<Blocks<T>, AllocError>
-    ensures { IfOk result (λ blocks. entries blocks ≡ items.now) }
-{
-    let mut blocks = Blocks::new(alloc);
-    for item in items {
-        blocks.reserve(1)?;
-        let end = blocks.end();
-        blocks.insert(end, *item);
-    }
-    Ok(blocks)
-}
-
-/// Puts versions into the table, and their entries behind the others.
-fn lay_all<V: Version>(listing: &mut Listing<V>, more: Vec<V>) -> Result<(), AllocError>
-    requires { IsListing V.seen V.head_of V.bucket_of listing.old }
-    ensures listing { OnOk result (IsListing V.seen V.head_of V.bucket_of listing.new) }
-    ensures laid { OnOk result (versions_of (get listing.new.table) listing.new.keys.items
-        ≡ versions_of (get listing.old.table) listing.old.keys.items ++ more.items) }
-{
-    listing.table.reserve(more.len())?;
-    for version in more {
-        lay(listing, version)?;
-    }
-    Ok(())
-}
-
 /// Puts a version into the table, and its entries behind the others.
-fn lay<V: Version>(listing: &mut Listing<V>, version: V) -> Result<(), AllocError>
+///
+/// # Errors
+///
+/// [`AllocError`] where memory runs out. The versions stay as they are.
+pub fn lay<V: Version>(listing: &mut Listing<V>, version: V) -> Result<(), AllocError>
     requires { IsListing V.seen V.head_of V.bucket_of listing.old }
-    ensures listing { OnOk result (IsListing V.seen V.head_of V.bucket_of listing.new) }
-    ensures laid { OnOk result (versions_of (get listing.new.table) listing.new.keys.items
-        ≡ versions_of (get listing.old.table) listing.old.keys.items ++ version ∷ []) }
+    ensures listing { IsListing V.seen V.head_of V.bucket_of listing.new }
+    ensures laid { OnOk result (versions_in listing.new ≡ versions_in listing.old ++ version ∷ []) }
+    ensures err { OnErr result (versions_in listing.new ≡ versions_in listing.old) }
 {
+    listing.table.reserve(1)?;
+    listing.keys.reserve(1)?;
+    listing.expiries.reserve(1)?;
+    listing.buckets.reserve(1)?;
     let slot = listing.table.vacant_key();
     let entry = entry_of(&version, slot);
     let expires = version.expires();
-    listing.table.reserve(1)?;
-    listing.keys.push(entry.key)?;
-    listing.expiries.push(ExpiryEntry { expires, slot })?;
-    listing.buckets.push(entry)?;
+    listing.keys.push_reserved(entry.key);
+    listing
+        .expiries
+        .push_reserved(ExpiryEntry { expires, slot });
+    listing.buckets.push_reserved(entry);
     listing.table.insert_reserved(version);
     Ok(())
 }
 
 /// The store of the greatest version of each key.
-fn file<V: Version>(listing: Listing<V>, alloc: Global) -> Result<Store<V>, AllocError>
+pub fn file<V: Version>(listing: Listing<V>, alloc: Global) -> Result<Store<V>, AllocError>
     requires { IsListing V.seen V.head_of V.bucket_of listing }
     ensures store { IfOk result (IsStore V.seen V.head_of V.Key.cmp V.bucket_of) }
-    ensures best { IfOk result (λ store. HoldsBest V.seen (versions_of (get listing.table) listing.keys.items) (versions store)) }
+    ensures best { IfOk result (λ store. HoldsBest V.seen (versions_in listing) (versions store)) }
 {
     let Listing {
         mut table,
@@ -142,11 +106,12 @@ fn file<V: Version>(listing: Listing<V>, alloc: Global) -> Result<Store<V>, Allo
         buckets,
     } = listing;
     let parted = best_first(&table, keys, alloc)?;
+    let any_gone = !parted.ties.is_empty();
     remove_all(&mut table, parted.ties);
     Ok(Store {
-        keys: blocks_of(parted.firsts.as_slice(), alloc)?,
-        expiries: file_expiries(&table, expiries, alloc)?,
-        buckets: file_buckets(&table, buckets, alloc)?,
+        keys: Blocks::from_slice(alloc, parted.firsts.as_slice())?,
+        expiries: file_expiries(&table, expiries, any_gone, alloc)?,
+        buckets: file_buckets(&table, buckets, any_gone, alloc)?,
         table,
         last: Cursor {
             block: 0,
@@ -166,6 +131,8 @@ fn best_first<V: Version>(
     ensures order { IfOk result (λ parted. IsMap V.seen V.Key.cmp (versions_of (get table.now) parted.firsts.items)) }
     ensures beaten { IfOk result (λ parted. All (IsBeatenBy V.seen (get table.now) parted.firsts.items) parted.ties.items) }
 {
+    // (numbers alone are sooner compared; behind that just those that tie by them are out of order)
+    sort(&mut keys, &ByHead)?;
     sort(
         &mut keys,
         &BestFirst {
@@ -188,36 +155,61 @@ fn remove_all<V: Version>(table: &mut Slab<V>, gone: Vec<KeyEntry>)
     }
 }
 
-/// The index by expiry of a table, of a list that has its entries among others.
+/// Keeps the entries of slots in which something is. Where nothing is gone it looks at none.
+fn keep_expiries<V: Version>(table: &Slab<V>, list: &mut Vec<ExpiryEntry>, any_gone: bool)
+    requires { any_gone ≡ false → AllPass (λ e. is_some (with_slots (get table.now) (expiry_slot e))) list.old.items }
+    ensures { list.new.items ≡ filter (λ e. is_some (with_slots (get table.now) (expiry_slot e))) list.old.items }
+{
+    if any_gone {
+        list.retain(|entry| table.contains(entry.slot));
+    }
+}
+
+/// Keeps the entries of slots in which something is. Where nothing is gone it looks at none.
+fn keep_buckets<V: Version>(table: &Slab<V>, list: &mut Vec<BucketEntry>, any_gone: bool)
+    requires { any_gone ≡ false → AllPass (λ e. is_some (get table.now (bucket_slot e))) list.old.items }
+    ensures { list.new.items ≡ filter (λ e. is_some (get table.now (bucket_slot e))) list.old.items }
+{
+    if any_gone {
+        list.retain(|entry| table.contains(entry.key.slot));
+    }
+}
+
+/// The index by expiry of a table, of a list that has its entries among others, or just these where nothing is gone.
 fn file_expiries<V: Version>(
     table: &Slab<V>,
     mut list: Vec<ExpiryEntry>,
+    any_gone: bool,
     alloc: Global,
 ) -> Result<Blocks<ExpiryEntry>, AllocError>
-    requires { Covers expiry_slot (expiry_entry V.seen) (with_slots (get table.now)) list.items }
+    requires list { Covers expiry_slot (expiry_entry V.seen) (with_slots (get table.now)) list.items }
+    requires whole { any_gone ≡ false → AllPass (λ e. is_some (with_slots (get table.now) (expiry_slot e))) list.items }
     ensures { IfOk result (λ expiries. IsExpiryIndex V.seen (get table.now) (entries expiries)) }
 {
-    list.retain(|entry| table.contains(entry.slot));
+    keep_expiries(table, &mut list, any_gone);
     sort(&mut list, &ByExpiry)?;
     let parted = part(list, &ByExpiry, alloc)?;
-    blocks_of(parted.firsts.as_slice(), alloc)
+    Blocks::from_slice(alloc, parted.firsts.as_slice())
 }
 
-/// The index by bucket of a table, of a list that has its entries among others.
+/// The index by bucket of a table, of a list that has its entries among others, or just these where nothing is gone.
 fn file_buckets<V: Version>(
     table: &Slab<V>,
     mut list: Vec<BucketEntry>,
+    any_gone: bool,
     alloc: Global,
 ) -> Result<Blocks<BucketEntry>, AllocError>
     requires list { Covers bucket_slot (bucket_entry V.seen V.bucket_of V.head_of) (get table.now) list.items }
     requires keys { HasOneOfEach V.seen (get table.now) }
+    requires whole { any_gone ≡ false → AllPass (λ e. is_some (get table.now (bucket_slot e))) list.items }
     ensures { IfOk result (λ buckets. IsBucketIndex V.seen V.head_of V.Key.cmp V.bucket_of (get table.now) (entries buckets)) }
 {
-    list.retain(|entry| table.contains(entry.key.slot));
+    keep_buckets(table, &mut list, any_gone);
+    sort(&mut list, &ByNumber)?;
     let order = ByBucket {
         keys: ByKey { table },
     };
     sort(&mut list, &order)?;
     let parted = part(list, &order, alloc)?;
-    blocks_of(parted.firsts.as_slice(), alloc)
+    Blocks::from_slice(alloc, parted.firsts.as_slice())
 }

@@ -1,12 +1,10 @@
 //! A map from keys to the greatest version of each.
 
-ghost use Rattle.std.specs.Prelude.{All, ◌≡◌, ◌==◌, ◌++◌, ◌+◌, ◌<◌, ◌↔◌, [], true, false, length, take, count_by, is_none};
+ghost use Rattle.std.specs.Prelude.{All, ◌≡◌, ◌==◌, ◌+◌, ◌<◌, ◌↔◌, [], true, false, length, take, count_by, is_none};
 ghost use Rattle.std.specs.Prelude.{MatchOption, IfOk, IfErr, OnOk, OnErr, Ok, IsPermutation};
 ghost use Rattle.std.specs.Option.{option_copied};
-ghost use Rattle.am_merge.specs.Views.{HoldsBest};
 ghost use Rattle.am_merge.specs.Maps.{IsMap, IsJoin, IsLeastExpiry, HasTwice, at, from_key, if_live, in_bucket, replaces, swept};
 
-use crate::bulk::with_all;
 use crate::changes::{
     copy_store, drop_expired, from_sorted, merge_in, needs, needs_after, order_by_key, put,
     put_new, taken_as,
@@ -47,8 +45,8 @@ pub enum FromVersionsError {
 ///
 /// Contracts see it as the list of its versions in the order of their keys.
 pub struct Held<V: Version> {
-    store: Store<V>,
-    alloc: Global,
+    pub(crate) store: Store<V>,
+    pub(crate) alloc: Global,
 }
 
 // (so that crates above cite one drop, and don't prove those of all that is inside)
@@ -208,23 +206,6 @@ impl<V: Version> Held<V> {
         let _content = version.canonical();
         let changed = put(&mut self.store, version)?;
         Ok(taken_as(is_live, changed))
-    }
-
-    /// Takes many versions at once: of each key the greatest is held then, of those that were held and of these. It works on
-    /// all that is held, so it is for at least as many.
-    ///
-    /// # Errors
-    ///
-    /// [`AllocError`] where memory runs out. Nothing is held then.
-    pub fn take_all(&mut self, versions: Vec<V>) -> Result<(), AllocError>
-        // PROMISE: Of versions that are taken at once the greatest of each key is held, as if one came after the other.
-        ensures best { OnOk result (HoldsBest V.seen (self.old ++ versions.items) self.new) }
-        ensures err { OnErr result (self.new ≡ []) }
-    {
-        versions_are_values(&versions);
-        let store = std::mem::replace(&mut self.store, empty_store(self.alloc));
-        self.store = with_all(store, versions, self.alloc)?;
-        Ok(())
     }
 
     /// Takes the first version of its key, and says whether it is that. Where the key has one already

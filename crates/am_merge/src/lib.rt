@@ -2,6 +2,7 @@
 #![tactic(auto)]
 
 pub mod blocks;
+mod builder;
 mod bulk;
 mod changes;
 mod entry;
@@ -11,5 +12,6 @@ pub mod laws;
 mod orders;
 mod store;
 
+pub use builder::HeldBuilder;
 pub use held::{FromVersionsError, Held, MergeError, Taken};
 pub use iter::{InBucket, Iter};

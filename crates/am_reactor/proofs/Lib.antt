@@ -1,4 +1,6 @@
+pub mod Drives
 pub mod Hears
 pub mod Histories
+pub mod Linking
 pub mod Moves
 mod Sends

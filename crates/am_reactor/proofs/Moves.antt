@@ -15,6 +15,7 @@ module _ {S C : Type 0} (gone : C → Option (List ℕ)) (loses : S → ℕ → 
     subst (λ (o : Option (Link C)). IsSome o) e pushed.0,
     record {
       mid = pushed.1.mid;
+      open_ = pushed.1.open_;
       went = subst (λ (o : Option (Link C)). IfSome o (λ before. IfSome (link_to pushed.1.mid peer)
           (λ after. Empties (gone before.stream) (gone after.stream) before.buffer after.buffer))) e pushed.1.went;
       next = pushed.1.next;

@@ -1,15 +1,23 @@
 -- The exchanges under the places of their peers.
-use Rattle.std.specs.Prelude.{◌≡◌, ◌≢◌, ◌+◌, ◌<◌, ◌++◌, [], ℕ, List, Option, None, IfSome, IsSome, length, slice_index_or, ◌⊎◌}
-use Rattle.std.specs.Io.KnownBytes.{Consumes}
+use Rattle.std.specs.Prelude.{◌≡◌, ◌≢◌, ◌+◌, ◌<◌, ◌++◌, [], ◌∷◌, ℕ, List, Option, None, Some, IfSome, IsSome, MatchOption, length, slice_index_or, ◌⊎◌}
+use Rattle.std.specs.Io.KnownBytes.{Appends, Consumes, IsAtEnd}
 use Rattle.am_reactor.specs.declared.exchange.Exchange.{Exchange}
 use Rattle.am_reactor.specs.declared.exchanges.Exchanges.{Exchanges}
 use Rattle.am_reactor.specs.declared.fault.LinkFault.{LinkFault}
-use Rattle.am_reactor.specs.SendBuffer.{Advances}
+use Rattle.am_reactor.specs.declared.fault.LinkFault.TheVariants.{Time}
+use Rattle.am_reactor.specs.SendBuffer.{Empties}
 
 -- bytes came over a stream, and just these stand behind what came before
 pub record ComesBack (old new : Option (List ℕ)) (before after : List ℕ) : Type 0 where
   pub bytes : List ℕ
   pub came : Consumes old new bytes
+  pub behind : after ≡ before ++ bytes
+
+-- bytes came over a stream, and just these stand behind what came before, but for the last ones, which are dropped
+pub record BreaksOff (old new : Option (List ℕ)) (before after : List ℕ) : Type 0 where
+  pub bytes : List ℕ
+  pub dropped : List ℕ
+  pub came : Consumes old new (bytes ++ dropped)
   pub behind : after ≡ before ++ bytes
 
 -- bytes came over a stream that are too many behind what came before
@@ -18,49 +26,91 @@ pub record IsTooMuch (most : ℕ) (old new : Option (List ℕ)) (before : List �
   pub came : Consumes old new bytes
   pub much : most < length before + length bytes
 
--- the exchange with a peer, where one is under way
-abbrev pub exchange_with : Exchanges → ℕ → Option Exchange
-exchange_with exchanges peer = slice_index_or exchanges.open.items peer None
+module _ {C : Type 0} where
+  -- the exchange with a peer, where one is under way
+  abbrev pub exchange_with : Exchanges C → ℕ → Option (Exchange C)
+  exchange_with exchanges peer = slice_index_or exchanges.open.items peer None
 
--- the exchanges with other peers are as they were
-abbrev pub KeepsExchanges : ℕ → Exchanges → Exchanges → Type 0
-KeepsExchanges peer old new = (other : ℕ) → other ≢ peer → exchange_with new other ≡ exchange_with old other
+  -- the exchanges with other peers are as they were
+  abbrev pub KeepsExchanges : ℕ → Exchanges C → Exchanges C → Type 0
+  KeepsExchanges peer old new = (other : ℕ) → other ≢ peer → exchange_with new other ≡ exchange_with old other
 
--- an exchange has just begun: these bytes are to be asked, and nothing has come back
-pub record IsBegun (exchange : Exchange) (bytes : List ℕ) : Type 0 where
-  pub gone : exchange.buffer.gone ≡ []
-  pub waiting : exchange.buffer.waiting ≡ bytes
-  pub silent : exchange.answer.items ≡ []
+  -- an exchange has just begun: these bytes are to be asked, and nothing has come back
+  pub record IsBegun (exchange : Exchange C) (bytes : List ℕ) : Type 0 where
+    pub gone : exchange.buffer.gone ≡ []
+    pub waiting : exchange.buffer.waiting ≡ bytes
+    pub silent : exchange.answer.items ≡ []
 
--- An exchange goes on: so many of the bytes that are to be asked went out, the first ones; and behind all of them more came back, perhaps none.
-pub record GoesOn (before after : Exchange) : Type 0 where
-  pub count : ℕ
-  pub asked : Advances count before.buffer after.buffer
-  pub more : List ℕ
-  pub answer : after.answer.items ≡ before.answer.items ++ more
-  pub behind : more ≢ [] → after.buffer.waiting ≡ []
+  -- all that was to be asked of a peer went out, or no exchange is under way with it
+  abbrev pub IsAsked : Exchanges C → ℕ → Type 0
+  IsAsked exchanges peer = IfSome (exchange_with exchanges peer) (λ exchange. exchange.buffer.waiting ≡ [])
 
--- so it does with a peer
-abbrev pub GoesOnWith : Exchanges → Exchanges → ℕ → Type 0
-GoesOnWith old new peer = IfSome (exchange_with old peer) (λ before. IfSome (exchange_with new peer) (GoesOn before))
+  -- a peer has ended the stream of its exchange, where there is room to read, or none is under way
+  abbrev pub IsEnded : (C → Option (List ℕ)) → ℕ → Exchanges C → ℕ → Type 0
+  IsEnded coming room exchanges peer = IfSome (exchange_with exchanges peer) (λ exchange. 0 < room → IsAtEnd (coming exchange.stream))
 
-module _ {S : Type 0} (answers : S → ℕ → List ℕ → S → Type 0) (loses : S → ℕ → LinkFault → S → Type 0) where
-  -- the service is told of all that came back of an exchange, once all was asked
-  pub record IsTold (peer : ℕ) (service service' : S) (exchange : Exchange) : Type 0 where
-    pub asked : exchange.buffer.waiting ≡ []
-    pub told : answers service peer exchange.answer.items service'
+  -- the exchange with a peer goes from here to there by such a step
+  abbrev pub Goes : (Exchange C → Exchange C → Type 0) → Exchanges C → Exchanges C → ℕ → Type 0
+  Goes step old new peer = IfSome (exchange_with old peer) (λ before. IfSome (exchange_with new peer) (step before))
 
-  -- An exchange with a peer goes on; or it has ended, and the service is told of what came back; or it is closed, and the service is told that
-  -- what it asked of this peer is lost.
-  pub record IsHeard (peer : ℕ) (service : S) (old : Exchanges) (service' : S) (new : Exchanges) : Type 0 where
-    pub mid : Exchanges
-    pub went : GoesOnWith old mid peer
-    pub next : ((service' ≡ service) × (exchange_with new peer ≡ exchange_with mid peer))
-        ⊎ (((exchange_with new peer ≡ None) × IfSome (exchange_with mid peer) (IsTold peer service service'))
-        ⊎ ((exchange_with new peer ≡ None) × ((fault : LinkFault) × loses service peer fault service')))
+  -- such steps are taken with one peer after the other: no exchange goes on, ends or is closed but so
+  abbrev pub OneByOne : {S : Type 0} → (ℕ → S → Exchanges C → S → Exchanges C → Type 0) → List ℕ → S → Exchanges C → S → Exchanges C → Type 0
+  OneByOne step [] service old service' new = (service' ≡ service) × ((peer : ℕ) → exchange_with new peer ≡ exchange_with old peer)
+  OneByOne {S} step (peer ∷ peers) service old service' new =
+      (next : S) × (mid : Exchanges C) × KeepsExchanges peer old mid × step peer service old next mid × OneByOne step peers next mid service' new
 
-  -- an exchange with a peer has begun, with which there was none, or the service is told that what it asks of this peer is lost
-  abbrev pub IsAskedOf : ℕ → List ℕ → S → Exchanges → S → Exchanges → Type 0
-  IsAskedOf peer bytes service old service' new =
-      ((service' ≡ service) × (exchange_with old peer ≡ None) × IsSome (exchange_with new peer) × IfSome (exchange_with new peer) (λ exchange. IsBegun exchange bytes))
-      ⊎ ((fault : LinkFault) × loses service peer fault service')
+  module _ (coming gone : C → Option (List ℕ)) where
+    -- An exchange goes on: of the bytes that are to be asked the first ones went out over its stream, and behind all of them more came back
+    -- over it, perhaps none, which is in the answer.
+    pub record GoesOn (before after : Exchange C) : Type 0 where
+      pub asked : Empties (gone before.stream) (gone after.stream) before.buffer after.buffer
+      pub more : List ℕ
+      pub came : Consumes (coming before.stream) (coming after.stream) more
+      pub answer : after.answer.items ≡ before.answer.items ++ more
+      pub behind : more ≢ [] → after.buffer.waiting ≡ []
+
+    -- an exchange fails: it went on, but the last bytes that came back are dropped
+    pub record Fails (before after : Exchange C) : Type 0 where
+      pub asked : Empties (gone before.stream) (gone after.stream) before.buffer after.buffer
+      pub more : List ℕ
+      pub dropped : List ℕ
+      pub came : Consumes (coming before.stream) (coming after.stream) (more ++ dropped)
+      pub answer : after.answer.items ≡ before.answer.items ++ more
+      pub behind : more ++ dropped ≢ [] → after.buffer.waiting ≡ []
+
+    module _ {S : Type 0} (answers : S → ℕ → List ℕ → S → Type 0) (loses : S → ℕ → LinkFault → S → Type 0) where
+      -- The service is told of all that came back of an exchange that went on from here, once all was asked and the peer has ended its
+      -- stream. From its beginning on, just the question went out over its stream, each byte once, and the answer is just what came over it.
+      pub record IsTold (room peer : ℕ) (begun : Exchange C) (service service' : S) (exchange : Exchange C) : Type 0 where
+        pub asked : exchange.buffer.waiting ≡ []
+        pub ended : 0 < room → IsAtEnd (coming exchange.stream)
+        pub told : answers service peer exchange.answer.items service'
+        pub question : (bytes : List ℕ) → IsBegun begun bytes → Appends (gone begun.stream) (gone exchange.stream) bytes
+        pub answer : (bytes : List ℕ) → IsBegun begun bytes → Consumes (coming begun.stream) (coming exchange.stream) exchange.answer.items
+
+      -- An exchange with a peer that began so goes on; or it has ended, and the service is told of what came back since; or it is closed,
+      -- and the service is told that what it asked of this peer is lost.
+      abbrev pub IsHeard : ℕ → ℕ → Exchange C → S → S → Option (Exchange C) → Type 0
+      IsHeard room peer begun service service' then = (after : Exchange C)
+          × ((GoesOn begun after × (then ≡ Some after) × (service' ≡ service))
+          ⊎ ((GoesOn begun after × (then ≡ None) × IsTold room peer begun service service' after)
+          ⊎ (Fails begun after × (then ≡ None) × ((fault : LinkFault) × loses service peer fault service'))))
+
+      -- so it is of the exchange that is under way with a peer, from wherever it went on; where none is, nothing is done or told
+      abbrev pub IsDriven : ℕ → ℕ → S → Exchanges C → S → Exchanges C → Type 0
+      IsDriven room peer service old service' new = MatchOption (exchange_with old peer) ((exchange_with new peer ≡ None) × (service' ≡ service))
+          (λ before. (begun : Exchange C) → GoesOn begun before → IsHeard room peer begun service service' (exchange_with new peer))
+
+  module _ {S : Type 0} (loses : S → ℕ → LinkFault → S → Type 0) where
+    -- an exchange with a peer has begun, with which there was none, or the service is told that what it asks of this peer is lost, and one
+    -- that is under way with it is as it was
+    abbrev pub IsAskedOf : ℕ → List ℕ → S → Exchanges C → S → Exchanges C → Type 0
+    IsAskedOf peer bytes service old service' new =
+        ((service' ≡ service) × (exchange_with old peer ≡ None) × IsSome (exchange_with new peer) × IfSome (exchange_with new peer) (λ exchange. IsBegun exchange bytes))
+        ⊎ (((fault : LinkFault) × loses service peer fault service') × (exchange_with new peer ≡ exchange_with old peer))
+
+    -- the exchange that is under way with a peer is closed, and the service is told that what it asked of this peer is lost, since its time
+    -- is over, and how many bytes went out; where none is, nothing is told
+    abbrev pub IsTimedOut : ℕ → S → Exchanges C → S → Exchanges C → Type 0
+    IsTimedOut peer service old service' new = (exchange_with new peer ≡ None)
+        × MatchOption (exchange_with old peer) (service' ≡ service) (λ before. loses service peer (Time (length before.buffer.gone)) service')

@@ -1,13 +1,15 @@
 //! A connection over which a peer is asked, and answers.
 
-ghost use Rattle.std.specs.Prelude.{◌≡◌, ◌≤◌, [], length, Ok, IfOk};
-ghost use Rattle.am_reactor.specs.Exchanges.{GoesOn, IsBegun};
+ghost use Rattle.std.specs.Prelude.{◌≡◌, ◌<◌, ◌≤◌, [], length, Ok, IfOk, OnErr, OnOk};
+ghost use Rattle.std.specs.Io.KnownBytes.{IsAtEnd};
+ghost use Rattle.am_reactor.specs.Exchanges.{Fails, GoesOn, IsBegun};
 
 use crate::connection::Readiness;
 use crate::fault::LinkFault;
 use crate::inbox::hear_on;
 use crate::link::stands;
 use crate::send_buffer::{Progress, SendBuffer};
+use crate::stream::Stream;
 use mio::net::TcpStream;
 use std::alloc::Global;
 use std::net::{Net, SocketAddr};
@@ -15,8 +17,8 @@ use std::time::Instant;
 
 /// A connection to a peer, what is asked over it, and what came back.
 #[derive(Drop)]
-pub struct Exchange {
-    pub stream: TcpStream,
+pub struct Exchange<C> {
+    pub stream: C,
     buffer: SendBuffer,
     answer: Vec<u8>,
     /// When its time is over.
@@ -24,7 +26,7 @@ pub struct Exchange {
     is_connected: bool,
 }
 
-impl Exchange {
+impl Exchange<TcpStream> {
     /// Begins to connect to an address, to ask this.
     ///
     /// # Errors
@@ -36,7 +38,7 @@ impl Exchange {
         address: SocketAddr,
         request: &[u8],
         end: Instant,
-    ) -> Result<Exchange, LinkFault>
+    ) -> Result<Exchange<TcpStream>, LinkFault>
         ensures { IfOk result (λ exchange. IsBegun exchange request.now) }
     {
         let buffer = SendBuffer::new(alloc, &[], request)?;
@@ -51,7 +53,9 @@ impl Exchange {
             Err(error) => Err(LinkFault::Connect(error.kind())),
         }
     }
+}
 
+impl<C: Stream + Drop> Exchange<C> {
     /// Whether the connection stands.
     ///
     /// # Errors
@@ -60,6 +64,7 @@ impl Exchange {
     fn connected(&mut self) -> Result<bool, LinkFault>
         ensures buffer { self.new.buffer ≡ self.old.buffer }
         ensures answer { self.new.answer ≡ self.old.answer }
+        ensures stream { self.new.stream ≡ self.old.stream }
     {
         self.is_connected = stands(&self.stream, self.is_connected)?;
         Ok(self.is_connected)
@@ -72,8 +77,10 @@ impl Exchange {
     ///
     /// [`LinkFault::Connect`], [`LinkFault::Write`], [`LinkFault::Read`], [`LinkFault::TooLong`] and [`LinkFault::Memory`].
     pub fn advance(&mut self, piece: &mut [u8], most: usize) -> Result<Progress, LinkFault>
-        ensures went { GoesOn self.old self.new }
+        ensures went { OnOk result (GoesOn C.coming C.gone self.old self.new) }
+        ensures failed { OnErr result (Fails C.coming C.gone self.old self.new) }
         ensures done { result ≡ Ok Progress.Done → self.new.buffer.waiting ≡ [] }
+        ensures ended { result ≡ Ok Progress.Done → 0 < length piece.old → IsAtEnd (C.coming self.new.stream) }
         ensures within { length self.old.answer.items ≤ most → length self.new.answer.items ≤ most }
     {
         if !self.connected()? {

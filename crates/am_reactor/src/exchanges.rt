@@ -1,8 +1,8 @@
 //! The exchanges with the peers.
 
-ghost use Rattle.std.specs.Prelude.{◌≡◌, [], ℕ, None, false, IfOk, IfSome, IsTrue, Ok, OnOk};
+ghost use Rattle.std.specs.Prelude.{◌≡◌, [], ℕ, List, None, false, length, IfOk, IfSome, IsTrue, Ok, OnErr, OnOk};
 ghost use Rattle.std.specs.Option.{IsSome};
-ghost use Rattle.am_reactor.specs.Exchanges.{GoesOnWith, IsAskedOf, IsBegun, IsHeard, IsTold, KeepsExchanges, exchange_with};
+ghost use Rattle.am_reactor.specs.Exchanges.{Fails, Goes, GoesOn, IsAsked, IsAskedOf, IsBegun, IsDriven, IsEnded, IsTimedOut, KeepsExchanges, OneByOne, exchange_with};
 ghost use Rattle.am_reactor.specs.History.{ActsOn};
 
 use crate::connection::Readiness;
@@ -12,6 +12,8 @@ use crate::queue::Queue;
 use crate::send_buffer::Progress;
 use crate::service::{PeerBytes, Service};
 use crate::source::Source;
+use crate::stream::Stream;
+use mio::net::TcpStream;
 use mio::{Interest, Registry};
 use std::alloc::{AllocError, Global};
 use std::mem;
@@ -20,11 +22,11 @@ use std::time::Instant;
 
 /// The exchanges with the peers, one at a time with each.
 #[derive(Drop)]
-pub struct Exchanges {
+pub struct Exchanges<C> {
     alloc: Global,
     /// At which address each peer is asked, where there is one.
     addresses: Vec<Option<SocketAddr>>,
-    open: Vec<Option<Exchange>>,
+    open: Vec<Option<Exchange<C>>>,
     /// The most bytes that come back over one.
     most: usize,
     /// The peers of those that are open, in the order in which their time is over.
@@ -33,13 +35,13 @@ pub struct Exchanges {
     busy: Queue,
 }
 
-impl Exchanges {
+impl<C: Stream + Drop> Exchanges<C> {
     /// No exchange, with peers at these addresses.
     pub fn new(
         alloc: Global,
         addresses: &[Option<SocketAddr>],
         most: usize,
-    ) -> Result<Exchanges, AllocError>
+    ) -> Result<Exchanges<C>, AllocError>
         ensures addresses { IfOk result (λ exchanges. exchanges.addresses.items ≡ addresses.now) }
         ensures most { IfOk result (λ exchanges. exchanges.most ≡ most) }
         ensures none { IfOk result (λ exchanges. (peer : ℕ) → exchange_with exchanges peer ≡ None) }
@@ -99,6 +101,43 @@ impl Exchanges {
         }
     }
 
+    /// Has the exchange with a peer go on as far as it can now.
+    ///
+    /// # Errors
+    ///
+    /// Why it ends.
+    fn advance(&mut self, peer: usize, piece: &mut [u8]) -> Result<Progress, LinkFault>
+        requires { IsSome (exchange_with self.old peer) }
+        ensures open { IsSome (exchange_with self.new peer) }
+        ensures went { OnOk result (Goes (GoesOn C.coming C.gone) self.old self.new peer) }
+        ensures failed { OnErr result (Goes (Fails C.coming C.gone) self.old self.new peer) }
+        ensures done { result ≡ Ok Progress.Done → IsAsked self.new peer }
+        ensures ended { result ≡ Ok Progress.Done → IsEnded C.coming (length piece.old) self.new peer }
+        ensures others { KeepsExchanges peer self.old self.new }
+    {
+        let most = self.most;
+        match &mut self.open[peer] {
+            Some(exchange) => exchange.advance(piece, most),
+            None => Ok(Progress::Going(Readiness::Idle)),
+        }
+    }
+
+    /// Closes the exchange with a peer, and gives it.
+    fn close(&mut self, peer: usize) -> Option<Exchange<C>>
+        ensures given { result ≡ exchange_with self.old peer }
+        ensures closed { exchange_with self.new peer ≡ None }
+        ensures others { KeepsExchanges peer self.old self.new }
+    {
+        self.by_end.remove(peer);
+        self.busy.remove(peer);
+        match self.open.get_mut(peer) {
+            Some(open) => mem::replace(open, None),
+            None => None,
+        }
+    }
+}
+
+impl Exchanges<TcpStream> {
     /// Begins to ask a peer, whose time is over then.
     ///
     /// # Errors
@@ -115,6 +154,7 @@ impl Exchanges {
         ensures none { OnOk result (exchange_with self.old asked.now.peer ≡ None) }
         ensures open { OnOk result (IsSome (exchange_with self.new asked.now.peer)) }
         ensures begun { OnOk result (IfSome (exchange_with self.new asked.now.peer) (λ exchange. IsBegun exchange asked.now.bytes.items)) }
+        ensures kept { OnErr result (exchange_with self.new asked.now.peer ≡ exchange_with self.old asked.now.peer) }
         ensures others { KeepsExchanges asked.now.peer self.old self.new }
     {
         let peer = asked.peer;
@@ -139,7 +179,7 @@ impl Exchanges {
         peer: usize,
         request: &[u8],
         end: Instant,
-    ) -> Result<Exchange, LinkFault>
+    ) -> Result<Exchange<TcpStream>, LinkFault>
         ensures { IfOk result (λ exchange. IsBegun exchange request.now) }
     {
         let (Some(Some(address)), Ok(place)) = (
@@ -159,52 +199,11 @@ impl Exchanges {
             Err(error) => Err(LinkFault::Connect(error.kind())),
         }
     }
-
-    /// Has the exchange with a peer go on as far as it can now.
-    ///
-    /// # Errors
-    ///
-    /// Why it ends.
-    fn advance(&mut self, peer: usize, piece: &mut [u8]) -> Result<Progress, LinkFault>
-        requires { IsSome (exchange_with self.old peer) }
-        ensures open { IsSome (exchange_with self.new peer) }
-        ensures went { GoesOnWith self.old self.new peer }
-        ensures done { result ≡ Ok Progress.Done → IfSome (exchange_with self.new peer) (λ exchange. exchange.buffer.waiting ≡ []) }
-        ensures others { KeepsExchanges peer self.old self.new }
-    {
-        let most = self.most;
-        match &mut self.open[peer] {
-            Some(exchange) => exchange.advance(piece, most),
-            None => Ok(Progress::Going(Readiness::Idle)),
-        }
-    }
-
-    /// Closes the exchange with a peer, and gives it.
-    fn close(&mut self, peer: usize) -> Option<Exchange>
-        ensures given { result ≡ exchange_with self.old peer }
-        ensures closed { exchange_with self.new peer ≡ None }
-        ensures others { KeepsExchanges peer self.old self.new }
-    {
-        self.by_end.remove(peer);
-        self.busy.remove(peer);
-        match self.open.get_mut(peer) {
-            Some(open) => mem::replace(open, None),
-            None => None,
-        }
-    }
-
-    /// How many bytes went out over the exchange with a peer.
-    fn written(&self, peer: usize) -> u64 {
-        match self.open.get(peer) {
-            Some(Some(exchange)) => exchange.written(),
-            _ => 0,
-        }
-    }
 }
 
 /// Asks a peer; its time is over then. Or tells the service why what it asks is lost.
 pub fn ask<S: Service, R: Net>(
-    exchanges: &mut Exchanges,
+    exchanges: &mut Exchanges<TcpStream>,
     service: &mut S,
     rt: &R,
     registry: &Registry,
@@ -212,7 +211,7 @@ pub fn ask<S: Service, R: Net>(
     end: Instant,
 )
     ensures others { KeepsExchanges asked.now.peer exchanges.old exchanges.new }
-    ensures asked { IsAskedOf S.answers S.loses asked.now.peer asked.now.bytes.items service.old exchanges.old service.new exchanges.new }
+    ensures asked { IsAskedOf S.loses asked.now.peer asked.now.bytes.items service.old exchanges.old service.new exchanges.new }
     ensures acted { ActsOn S.acts service.old service.new }
 {
     if let Err(fault) = exchanges.begin(rt, registry, asked, end) {
@@ -221,10 +220,14 @@ pub fn ask<S: Service, R: Net>(
 }
 
 /// Tells the service of all that came back from a peer, and closes the exchange with it.
-fn deliver_answer<S: Service>(exchanges: &mut Exchanges, service: &mut S, peer: usize)
+fn deliver_answer<S: Service, C: Stream + Drop>(
+    exchanges: &mut Exchanges<C>,
+    service: &mut S,
+    peer: usize,
+)
     requires open { IsSome (exchange_with exchanges.old peer) }
-    requires asked { IfSome (exchange_with exchanges.old peer) (λ exchange. exchange.buffer.waiting ≡ []) }
-    ensures told { IfSome (exchange_with exchanges.old peer) (IsTold S.answers S.loses peer service.old service.new) }
+    requires asked { IsAsked exchanges.old peer }
+    ensures told { IfSome (exchange_with exchanges.old peer) (λ exchange. S.answers service.old peer exchange.answer.items service.new) }
     ensures closed { exchange_with exchanges.new peer ≡ None }
     ensures others { KeepsExchanges peer exchanges.old exchanges.new }
     ensures acted { ActsOn S.acts service.old service.new }
@@ -236,17 +239,15 @@ fn deliver_answer<S: Service>(exchanges: &mut Exchanges, service: &mut S, peer: 
 
 /// Has the exchange with a peer go on as far as it can now. Tells the service of what came back, once all did, and why it is
 /// lost, where it fails.
-pub fn drive_exchange<S: Service>(
-    exchanges: &mut Exchanges,
+pub fn drive_exchange<S: Service, C: Stream + Drop>(
+    exchanges: &mut Exchanges<C>,
     service: &mut S,
     peer: usize,
     piece: &mut [u8],
 )
     ensures others { KeepsExchanges peer exchanges.old exchanges.new }
     // PROMISE: What a peer answered is told once, whole, once all was asked of it; or it is told that it is lost.
-    ensures heard { IsSome (exchange_with exchanges.old peer)
-        → IsHeard S.answers S.loses peer service.old exchanges.old service.new exchanges.new }
-    ensures untold { exchange_with exchanges.old peer ≡ None → service.new ≡ service.old }
+    ensures heard { IsDriven C.coming C.gone S.answers S.loses (length piece.old) peer service.old exchanges.old service.new exchanges.new }
     ensures acted { ActsOn S.acts service.old service.new }
 {
     if !exchanges.is_open(peer) {
@@ -264,8 +265,14 @@ pub fn drive_exchange<S: Service>(
 }
 
 /// Does more where there is more to do at once.
-pub fn hear_all<S: Service>(exchanges: &mut Exchanges, service: &mut S, piece: &mut [u8])
-    ensures { ActsOn S.acts service.old service.new }
+pub fn hear_all<S: Service, C: Stream + Drop>(
+    exchanges: &mut Exchanges<C>,
+    service: &mut S,
+    piece: &mut [u8],
+)
+    ensures heard { (peers : List ℕ) × OneByOne (IsDriven C.coming C.gone S.answers S.loses (length piece.old)) peers
+        service.old exchanges.old service.new exchanges.new }
+    ensures acted { ActsOn S.acts service.old service.new }
 {
     for _ in 0..exchanges.busy.len() {
         match exchanges.busy.pop() {
@@ -276,20 +283,29 @@ pub fn hear_all<S: Service>(exchanges: &mut Exchanges, service: &mut S, piece: &
 }
 
 /// Closes the exchange with a peer, whose time is over.
-fn time_out_exchange<S: Service>(exchanges: &mut Exchanges, service: &mut S, peer: usize)
-    ensures closed { exchange_with exchanges.new peer ≡ None }
+fn time_out_exchange<S: Service, C: Stream + Drop>(
+    exchanges: &mut Exchanges<C>,
+    service: &mut S,
+    peer: usize,
+)
     ensures others { KeepsExchanges peer exchanges.old exchanges.new }
-    ensures told { (written : ℕ) × S.loses service.old peer (LinkFault.Time written) service.new }
+    ensures told { IsTimedOut S.loses peer service.old exchanges.old service.new exchanges.new }
     ensures acted { ActsOn S.acts service.old service.new }
 {
-    let written = exchanges.written(peer);
-    let _ = exchanges.close(peer);
-    service.lost(peer, LinkFault::Time { written });
+    if let Some(exchange) = exchanges.close(peer) {
+        let written = exchange.written();
+        service.lost(peer, LinkFault::Time { written });
+    }
 }
 
 /// Closes the exchanges whose time is over by now.
-pub fn expire<S: Service>(exchanges: &mut Exchanges, service: &mut S, now: Instant)
-    ensures { ActsOn S.acts service.old service.new }
+pub fn expire<S: Service, C: Stream + Drop>(
+    exchanges: &mut Exchanges<C>,
+    service: &mut S,
+    now: Instant,
+)
+    ensures told { (peers : List ℕ) × OneByOne (IsTimedOut S.loses) peers service.old exchanges.old service.new exchanges.new }
+    ensures acted { ActsOn S.acts service.old service.new }
 {
     for _ in 0..u16::MAX {
         match exchanges.overdue(now) {
@@ -300,8 +316,9 @@ pub fn expire<S: Service>(exchanges: &mut Exchanges, service: &mut S, now: Insta
 }
 
 /// Closes every exchange.
-pub fn give_up_all<S: Service>(exchanges: &mut Exchanges, service: &mut S)
-    ensures { ActsOn S.acts service.old service.new }
+pub fn give_up_all<S: Service, C: Stream + Drop>(exchanges: &mut Exchanges<C>, service: &mut S)
+    ensures told { (peers : List ℕ) × OneByOne (IsTimedOut S.loses) peers service.old exchanges.old service.new exchanges.new }
+    ensures acted { ActsOn S.acts service.old service.new }
 {
     for _ in 0..u16::MAX {
         match exchanges.by_end.first() {

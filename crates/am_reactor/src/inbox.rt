@@ -1,8 +1,8 @@
 //! What comes back over an exchange.
 
 ghost use Rattle.std.specs.Prelude.{◌≡◌, ◌++◌, ◌<◌, ◌≤◌, Ok, length, IsErrOf, OnErr, OnOk};
-ghost use Rattle.std.specs.Io.KnownBytes.{IsAtEnd};
-ghost use Rattle.am_reactor.specs.Exchanges.{ComesBack, IsTooMuch};
+ghost use Rattle.std.specs.Io.KnownBytes.{Consumes, IsAtEnd};
+ghost use Rattle.am_reactor.specs.Exchanges.{BreaksOff, ComesBack, IsTooMuch};
 
 use crate::connection::Readiness;
 use crate::fault::LinkFault;
@@ -23,6 +23,7 @@ fn read_piece<C: Stream>(
 ) -> Result<ReadResult, LinkFault>
     ensures came { OnOk result (ComesBack (C.coming stream.old) (C.coming stream.new) answer.old.items answer.new.items) }
     ensures kept { OnErr result (answer.new.items ≡ answer.old.items) }
+    ensures dropped { OnErr result ((bytes : _) × Consumes (C.coming stream.old) (C.coming stream.new) bytes) }
     ensures too_long { IsErrOf result LinkFault.TooLong
         → IsTooMuch most (C.coming stream.old) (C.coming stream.new) answer.old.items }
     ensures within { length answer.old.items ≤ most → length answer.new.items ≤ most }
@@ -52,6 +53,7 @@ pub fn hear_on<C: Stream>(
 ) -> Result<Progress, LinkFault>
     // PROMISE: An answer is all that came over its own stream, up to its end and within its limit.
     ensures came { OnOk result (ComesBack (C.coming stream.old) (C.coming stream.new) answer.old.items answer.new.items) }
+    ensures failed { OnErr result (BreaksOff (C.coming stream.old) (C.coming stream.new) answer.old.items answer.new.items) }
     ensures longer { (more : _) × (answer.new.items ≡ answer.old.items ++ more) }
     ensures within { length answer.old.items ≤ most → length answer.new.items ≤ most }
     ensures ended { result ≡ Ok Progress.Done → 0 < length piece.old → IsAtEnd (C.coming stream.new) }

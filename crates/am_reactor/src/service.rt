@@ -1,6 +1,6 @@
 //! What a loop serves.
 
-ghost use Rattle.std.specs.Prelude.{◌≡◌, ◌↔◌, ℕ, ◌<◌, ◌≤◌, Bool, List, [], Option, IsTrue, length, drop};
+ghost use Rattle.std.specs.Prelude.{◌≡◌, ◌↔◌, ℕ, ◌<◌, ◌≤◌, Bool, List, [], Option, IfSome, IsTrue, length, drop};
 ghost use Rattle.std.specs.Option.{option_map};
 ghost use Rattle.std.specs.declared.time.Instant.{Instant};
 ghost use Rattle.am_reactor.specs.declared.fault.LinkFault.{LinkFault};
@@ -58,6 +58,9 @@ pub trait Service {
 
     /// What the service is once it was asked for more for a peer, and gave these bytes or none.
     ghost gives: { Self → ℕ → Option (List ℕ) → Self → Type 0 };
+
+    /// What the service is once it gave these bytes for a peer.
+    ghost offers: { Self → ℕ → List ℕ → Self → Type 0 };
 
     /// What the service is once a connection was accepted, whose session is this.
     ghost begins: { Self → Self.Session → Self → Type 0 };
@@ -150,7 +153,8 @@ pub trait Service {
 
     /// What goes to a peer next. It is asked after each call that may bring something, until there is nothing.
     fn outgoing(&mut self) -> Option<PeerBytes>
-        ensures { acts self.old self.new };
+        ensures offered { IfSome result (λ it. offers self.old it.peer it.bytes.items self.new) }
+        ensures acted { acts self.old self.new };
 
     /// What goes to a peer behind all that went out, over the link that is open to it; the link's time begins anew then. It is
     /// asked where all bytes of a link went out. Where there is nothing, the link is closed.

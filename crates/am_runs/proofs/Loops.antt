@@ -23,9 +23,6 @@ module _ {X : Type 0} (P : X → Type 0) where
       let more : take (n + 1) xs ≡ take n xs ++ x ∷ [] = take_more xs n x within ∙ ap (λ y. take n xs ++ y ∷ []) (sym is) in
       subst (All P) (sym more) (All-push P (take n xs) x all here)
 
-  pub all_done : (xs : List X) (n : ℕ) → length xs ≤ n → All P (take n xs) → All P xs
-  all_done xs n past all = subst (All P) (take_all n xs past) all
-
 -- of what steps delivered, where the steps are images
 module _ {A X : Type 0} (f : A → RunStep X) (P : X → Type 0) where
   pub delivered_more : (steps : List A) (n : ℕ) (s : A) → n < length steps → s ≡ get_or steps n s → All P (delivered_in (map f (take n steps))) → All P (delivered_by (f s)) → All P (delivered_in (map f (take (n + 1) steps)))

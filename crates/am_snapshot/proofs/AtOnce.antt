@@ -1,5 +1,5 @@
 -- A map that has the best of each key of some versions, and as many as they are, has just these.
-use Rattle.std.proofs.Common.{◌≡◌, ℕ, zero, suc, Bool, true, false, List, [], ◌∷◌, ◌++◌, length, map, get_or, Result, inl, inr, refl, sym, ap, subst, ◌∙◌, arith}
+use Rattle.std.proofs.Common.{◌≡◌, ℕ, zero, suc, Bool, true, false, List, [], ◌∷◌, length, get_or, Result, inl, inr, refl, sym, ap, subst, ◌∙◌, arith}
 use Rattle.std.specs.Prelude.{Contains, IsPermutation}
 use Rattle.std.specs.List.{IsDistinct, remove}
 use Rattle.std.proofs.lemmas.List.Sorted.{IsPermutation-refl, IsPermutation-sym, IsPermutation-trans, IsPermutation-cons, IsPermutation-remove, Contains-permutation, length_permutation}
@@ -9,17 +9,12 @@ use Rattle.std.specs.declared.cmp.Ordering.TheVariants.{Less, Equal, Greater}
 use Rattle.std.specs.Ordering.{eq_by_cmp, is_eq, ordering_reverse}
 use Rattle.am_version_order.specs.Versions.{Version}
 use Rattle.am_wire.specs.declared.error.WireError.{WireError}
-use Rattle.am_wire.specs.Inputs.{messages_of, sound, AreMessages}
+use Rattle.am_wire.specs.Inputs.{AreMessages}
 use Rattle.am_merge.specs.Maps.{IsMap}
 use Rattle.am_merge.specs.Views.{HoldsBest}
 use Rattle.am_merge.proofs.Keys.{IsKeyOrder, all_weaker, eq_itself}
 use Rattle.am_merge.proofs.Indexes.{Contains-head, Contains-tail, Contains-cases}
 use Rattle.am_snapshot.specs.Loads.{AreDistinct, IsLoaded}
-
--- ---- some of the messages of a row were read, and these are left
-module _ {X : Type 0} (reads : ℕ → List ℕ → Result X WireError) (row : List ℕ) where
-  abbrev pub AreRead : List X → List (Result X WireError) → Type 0
-  AreRead versions left = messages_of reads row ≡ map sound versions ++ left
 
 module _ {K X : Type 0} (seen : X → Version K) (cmp : K → K → Ordering) (keys : IsKeyOrder cmp) where
   abbrev alike : X → X → Bool

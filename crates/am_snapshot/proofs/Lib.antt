@@ -12,3 +12,4 @@ pub mod Saved
 pub mod PieceRows
 pub mod Fits
 pub mod AtOnce
+pub mod Rows

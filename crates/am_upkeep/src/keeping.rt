@@ -1,5 +1,7 @@
 //! What is to be on the disk before it is answered, and whether it is.
 
+ghost use Rattle.std.specs.Prelude.{◌≡◌};
+
 use am_instance::Place;
 use std::time::{Duration, Instant};
 
@@ -80,7 +82,9 @@ impl Keeping {
     }
 
     /// Whether something came since the last commit.
-    pub fn has_news(&self) -> bool {
+    pub fn has_news(&self) -> bool
+        ensures { result ≡ self.now.has_news }
+    {
         self.has_news
     }
 

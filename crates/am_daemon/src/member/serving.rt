@@ -1,5 +1,7 @@
 //! What a member does for the loop that serves it.
 
+ghost use Rattle.std.specs.Prelude.{◌≡◌, false};
+
 use super::clerk::Clerk;
 use super::guarding::{hears_at, lock_at};
 use am_attendant::Attendant;
@@ -28,6 +30,9 @@ fn fault_of(broken: Broken, is_over: bool) -> Fault {
 }
 
 impl<R: Host> Attendant for Clerk<'_, R> {
+    // (of the bytes this says nothing: only that all was committed that came before them)
+    ghost offers = { λ clerk peer bytes clerk'. clerk.upkeep.keeping.has_news ≡ false };
+
     fn begin(&mut self, entrance: Entrance) -> Conversation {
         self.upkeep.figures.begin();
         Conversation::new(

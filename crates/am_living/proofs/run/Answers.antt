@@ -1,14 +1,11 @@
 use Rattle.am_living.proofs.Lived.{history_lived}
 use Rattle.am_living.proofs.run.Goals as goal
 
-pub returns : goal.returns
-returns g c =
-    let led = c.run.ensures in
-    record {
-      lived = (
-        led.0,
-        led.1,
-        history_lived g.S.Living.instance_of g.S.Living.accords _ _ _ g.met.S.Living.begins_fresh g.met.S.Living.acts_alone g.met.S.Living.does_for_one _ _ _
-            led.1.happenings _ _ led.0 led.1.happens,
-      );
-    }
+pub returns-clause-lived : goal.returns-clause-lived
+returns-clause-lived g c =
+    let led = c.run.ensures.led in (
+      led.0,
+      led.1,
+      history_lived g.S.Living.instance_of g.S.Living.accords _ _ _ g.met.S.Living.begins_fresh g.met.S.Living.acts_alone g.met.S.Living.does_for_one _ _ _
+          led.1.happenings _ _ led.0 led.1.happens,
+    )

@@ -1,6 +1,6 @@
 //! Blocks of items.
 
-ghost use Rattle.std.specs.Prelude.{◌≡◌, ◌<◌, ◌≤◌, [], length, take, drop, slice_get, IfOk};
+ghost use Rattle.std.specs.Prelude.{◌≡◌, ◌<◌, ◌≤◌, [], length, take, drop, IfOk};
 ghost use Rattle.std.specs.List.{insert, remove};
 
 use std::alloc::{AllocError, Global};
@@ -8,6 +8,9 @@ use std::marker::Model;
 
 /// How many items a block has room for. It is cut once it has as many.
 pub const FULL: usize = 128;
+
+/// How many items a block has at most that is made of some at once: behind the last of them there is room for one more.
+pub const FILLED: usize = FULL - 1;
 
 /// Some of a list's items, with room for 128 from the start.
 ///
@@ -34,6 +37,16 @@ impl<T: Copy> Block<T> {
     {
         let items = Vec::with_capacity(alloc, FULL)?;
         Ok(Block { items })
+    }
+
+    /// A block of these items, or [`AllocError`] where memory runs out.
+    pub fn of(alloc: Global, items: &[T]) -> Result<Self, AllocError>
+        requires { length items.now < 128 }
+        ensures { IfOk result (λ block. block ≡ items.now) }
+    {
+        let mut block = Block::new(alloc)?;
+        let _copied = block.items.extend_from_slice(items);
+        Ok(block)
     }
 
     /// The items.

@@ -3,16 +3,17 @@ use Rattle.am_reactor.proofs.Histories.{acts_once}
 use Rattle.am_reactor.proofs.links.flush_link.Goals as goal
 
 pub returns-in-Ok-Going-Idle-clause-moved : goal.returns-in-Ok-Going-Idle-clause-moved
-returns-in-Ok-Going-Idle-clause-moved g c = inr (inl (c.is_open.ensures.open (cc), record { mid = c.advance.new.self; went = c.advance.ensures.out; next = inl (refl, refl) }))
+returns-in-Ok-Going-Idle-clause-moved g c = inr (inl (c.is_open.ensures.open (cc), record { mid = c.advance.new.self; open_ = c.advance.ensures.open; went = c.advance.ensures.out; next = inl (refl, refl) }))
 
 pub returns-in-Ok-Going-Busy-clause-moved : goal.returns-in-Ok-Going-Busy-clause-moved
-returns-in-Ok-Going-Busy-clause-moved g c = inr (inl (c.is_open.ensures.open (cc), record { mid = c.advance.new.self; went = c.advance.ensures.out; next = inl (refl, refl) }))
+returns-in-Ok-Going-Busy-clause-moved g c = inr (inl (c.is_open.ensures.open (cc), record { mid = c.advance.new.self; open_ = c.advance.ensures.open; went = c.advance.ensures.out; next = inl (refl, refl) }))
 
 pub returns-in-Ok-Done-clause-moved : goal.returns-in-Ok-Done-clause-moved
 returns-in-Ok-Done-clause-moved g c = inr (inl (
   c.is_open.ensures.open (cc),
   record {
     mid = c.advance.new.self;
+    open_ = c.advance.ensures.open;
     went = c.advance.ensures.out;
     next = inr (inl (c.advance.ensures.done (cc), c.ask_more.ensures.asked));
   },
@@ -23,6 +24,7 @@ returns-in-Err-clause-moved g c = inr (inl (
   c.is_open.ensures.open (cc),
   record {
     mid = c.advance.new.self;
+    open_ = c.advance.ensures.open;
     went = c.advance.ensures.out;
     next = inr (inr (c.close.ensures.closed, (_, c.lost.ensures.told)));
   },

@@ -1,5 +1,9 @@
+use Rattle.std.proofs.Common.{◌≡◌}
 use Rattle.am_reactor.specs.SendBuffer.{Empties}
 use Rattle.am_reactor.proofs.send_buffer.SendBuffer.send_on.Given as goal
 
 abbrev pub invariant-loop : goal.invariant-loop
-invariant-loop g l = Empties (g.C.Stream.gone l.fn.stream) (g.C.Stream.gone l.stream) l.fn.self l.self
+invariant-loop g l = record {
+  out : Empties (g.C.Stream.gone l.fn.stream) (g.C.Stream.gone l.stream) l.fn.self l.self;
+  unread : g.C.Stream.coming l.stream ≡ g.C.Stream.coming l.fn.stream;
+}
