@@ -49,7 +49,7 @@ Every function is proved safe: it returns on every input, without undefined beha
 TAIL = """## Only tested
 
 - **Definitions** mean what people want: [cases/](CASES.md), worked by hand.
-- **The loop** is fair, keeps deadlines, closes the right connection and counts unfinished bytes: tests/upkeep.py, tests/edges.py. Members under faults of network, process and disk: tests/chaos.py.
+- **The loop** is fair, hands on all that its service gives, keeps deadlines, closes the right connection and counts unfinished bytes: tests/upkeep.py, tests/edges.py. Members under faults of network, process and disk: tests/chaos.py.
 - **`--log`**: a reply and its frames wait for the log, so that members with logs are durable: tests/disk.py.
 - **A member's turns, figures, readiness and first pull**, and that it gives each step its moment: tests/turns.py, tests/operations.py, tests/three_members.py, tests/machines.py.
 - **Pages** go out, and once if nothing fails: tests/pages.py; beside real Alertmanagers tests/real_shims.py, on request.
