@@ -1,12 +1,12 @@
 //! A member that a loop serves, whoever attends to it.
 #![tactic(auto)]
 
-ghost use Rattle.std.specs.Prelude.{ℕ, List, Option};
+ghost use Rattle.std.specs.Prelude.{ℕ, Option};
 ghost use Rattle.am_dialogue.specs.Talks.{talk_of};
-ghost use Rattle.am_reactor.specs.History.{Happening, Line};
-ghost use Rattle.am_reactor.specs.Linked.{LinksGoFromNone};
+ghost use Rattle.am_reactor.specs.History.{IsCall, Leads, Line, no_lines};
+ghost use Rattle.am_reactor.specs.Peered.{LoopGoesFromNone};
 ghost use Rattle.am_living.specs.Living.{IsLived};
-ghost use Rattle.am_living.specs.Talking.{IsInAccord};
+ghost use Rattle.am_living.specs.Talking.{IsInAccord, IsReplied};
 
 mod member;
 
@@ -24,21 +24,24 @@ use std::rt::Clock;
 /// # Errors
 ///
 /// As [`am_living::run`].
-pub fn live<A: Attendant, R: Net + Clock + Input>(
+pub fn live<'a, A: Attendant, R: Net + Clock + Input>(
     alloc: Global,
     rt: &R,
     entrances: Entrances,
     peers: Peers<'_>,
-    member: &mut Member<A>,
+    member: &mut Member<'a, A>,
     limits: Limits,
 ) -> io::Result<()>
-    // PROMISE: What the program's member holds comes of one life: turns of its connections, each in accord with what was fed to it, and steps that it makes by itself.
-    ensures lived { (happenings : List Happening) × (left : ℕ → Option (Line Conversation TcpStream))
-        × IsLived (λ (m : Member A). m.instance) (λ (dialogue : Conversation). IsInAccord (talk_of dialogue)) member.old happenings member.new left }
-    // (of the links to its peers, over what its attendant says of the bytes that it gives)
-    ensures linked { LinksGoFromNone ⟦<Member<A> as Service>⟧.does ⟦<Member<A> as Service>⟧.begins ⟦<Member<A> as Service>⟧.acts ⟦<Member<A> as Service>⟧.pending
-        ⟦<TcpStream as Stream>⟧.coming ⟦<TcpStream as Stream>⟧.gone ⟦<Member<A> as Service>⟧.loses ⟦<Member<A> as Service>⟧.gives ⟦<Member<A> as Service>⟧.offers
-        member.old member.new }
+    // PROMISE: What the program's member holds comes of one life of its connections; and over each just one reply goes out: that of its own request's step, a refusal's line, or one that isn't about silences.
+    ensures lived { (left : ℕ → Option (Line Conversation TcpStream))
+        × (history : Leads ⟦<Member<'a, A> as Service>⟧.does ⟦<Member<'a, A> as Service>⟧.begins (IsCall ⟦<Member<'a, A> as Service>⟧.acts ⟦<Member<'a, A> as Service>⟧.loses
+        ⟦<Member<'a, A> as Service>⟧.answers ⟦<Member<'a, A> as Service>⟧.gives ⟦<Member<'a, A> as Service>⟧.offers ⟦<Member<'a, A> as Service>⟧.asks)
+        ⟦<Member<'a, A> as Service>⟧.pending ⟦<TcpStream as Stream>⟧.coming ⟦<TcpStream as Stream>⟧.gone member.old no_lines member.new left)
+        × IsLived (λ (m : Member A). m.instance) (λ (dialogue : Conversation). IsInAccord (talk_of dialogue)) IsReplied member.old history.happenings member.new left }
+    // (of the links to its peers and of the exchanges with them, over what its attendant says of the bytes that it gives)
+    ensures peered { LoopGoesFromNone ⟦<Member<'a, A> as Service>⟧.does ⟦<Member<'a, A> as Service>⟧.begins ⟦<Member<'a, A> as Service>⟧.acts ⟦<Member<'a, A> as Service>⟧.pending
+        ⟦<TcpStream as Stream>⟧.coming ⟦<TcpStream as Stream>⟧.gone ⟦<Member<'a, A> as Service>⟧.loses ⟦<Member<'a, A> as Service>⟧.answers ⟦<Member<'a, A> as Service>⟧.gives
+        ⟦<Member<'a, A> as Service>⟧.offers ⟦<Member<'a, A> as Service>⟧.asks member.old member.new }
 {
     am_living::run(alloc, rt, entrances, peers, member, limits)
 }

@@ -1,25 +1,28 @@
 //! A member: what it holds, and who attends to it.
 
-ghost use Rattle.std.specs.Prelude.{◌≡◌, ◌↔◌, ◌⊎◌, ◌≤◌, ℕ, List, IfSome, IsTrue, ⊤, drop, length};
-ghost use Rattle.am_api_silences.specs.Replies.{bytes_of};
+ghost use Rattle.std.specs.Prelude.{◌≡◌, ◌↔◌, ◌⊎◌, ◌≤◌, ℕ, List, IfSome, IsTrue, ⊤, length};
 ghost use Rattle.am_dialogue.specs.Answered.{ByItself, IsAnswered};
-ghost use Rattle.am_dialogue.specs.Talks.{Rests, closed, talk_of};
+ghost use Rattle.am_dialogue.specs.Talks.{Lasts, pending_of, talk_of};
 ghost use Rattle.am_http.specs.Sessions.{SaysEnd, Spoken, name_of, over as ended_under};
 ghost use Rattle.am_living.specs.Talking.{Does, IsLetIn, IsScreened, IsTakenUp, fresh_talk};
+ghost use Rattle.am_attendant.specs.Members.{IsSameMember};
 
 use am_dialogue::Conversation;
 use am_instance::{Config, Instance};
 use am_living::Living;
 use am_reactor::{Broken, Entrance, LinkFault, PeerBytes, Service, Wake};
+use am_seal::Lock;
 use std::io::ErrorKind;
 use std::time::Instant;
 
 /// A member that runs.
 #[derive(Drop)]
-pub struct Member<A> {
+pub struct Member<'a, A> {
     /// What it holds.
     pub instance: Instance,
-    /// Who does something with that.
+    /// By what the frames of its peers are opened, where they are sealed.
+    pub lock: Option<Lock<'a>>,
+    /// Who does something with what it holds.
     pub attendant: A,
 }
 
@@ -32,9 +35,15 @@ pub trait Attendant {
     fn begin(&mut self, entrance: Entrance) -> Conversation
         ensures { talk_of result ≡ fresh_talk };
 
-    fn feed(&mut self, instance: &mut Instance, dialogue: &mut Conversation, piece: &[u8])
+    fn feed(
+        &mut self,
+        instance: &mut Instance,
+        dialogue: &mut Conversation,
+        lock: Option<Lock<'_>>,
+        piece: &[u8],
+    )
         ensures { IsScreened instance.old (talk_of dialogue.old) instance.new (talk_of dialogue.new)
-            ⊎ IsLetIn piece.now instance.old (talk_of dialogue.old) instance.new (talk_of dialogue.new) };
+            ⊎ IsLetIn lock.entry piece.now instance.old (talk_of dialogue.old) instance.new (talk_of dialogue.new) };
 
     fn end(&mut self, instance: &mut Instance, dialogue: &mut Conversation)
         ensures { (said : Spoken) × SaysEnd dialogue.old.session said × IsAnswered said instance.old
@@ -53,20 +62,18 @@ pub trait Attendant {
     fn commit(&mut self, instance: &Instance);
 
     fn release(&mut self, dialogue: &mut Conversation)
-        ensures { Rests (talk_of dialogue.old) (talk_of dialogue.new) };
+        ensures { Lasts (talk_of dialogue.old) (talk_of dialogue.new) };
 
     fn come_due(&mut self, instance: &mut Instance, dialogue: &mut Conversation)
         ensures own { ByItself instance.old instance.new }
-        ensures rests { Rests (talk_of dialogue.old) (talk_of dialogue.new) };
+        ensures lasts { Lasts (talk_of dialogue.old) (talk_of dialogue.new) };
 
     fn hurry(&mut self, dialogue: &mut Conversation)
-        ensures { Rests (talk_of dialogue.old) (talk_of dialogue.new) };
+        ensures { Lasts (talk_of dialogue.old) (talk_of dialogue.new) };
 
     /// What of a connection is done is counted.
     fn count_done(&mut self, dialogue: &mut Conversation)
-        ensures reply { dialogue.new.reply ≡ dialogue.old.reply }
-        ensures written { dialogue.new.written ≡ dialogue.old.written }
-        ensures talk { talk_of dialogue.new ≡ talk_of dialogue.old };
+        ensures { talk_of dialogue.new ≡ talk_of dialogue.old };
 
     fn outgoing(&mut self, config: &Config) -> Option<PeerBytes>
         ensures { IfSome result (λ it. offers self.old it.peer it.bytes.items self.new) };
@@ -87,10 +94,10 @@ pub trait Attendant {
     fn accept_failed(&mut self, config: &Config, kind: ErrorKind);
 }
 
-impl<A: Attendant> Service for Member<A> {
+impl<A: Attendant> Service for Member<'_, A> {
     type Session = Conversation;
 
-    ghost pending = { λ dialogue. drop dialogue.written (bytes_of dialogue.reply) };
+    ghost pending = { λ dialogue. pending_of (talk_of dialogue).saying };
 
     ghost over = { λ dialogue. dialogue.session ≡ ended_under (name_of dialogue.session) };
 
@@ -100,26 +107,30 @@ impl<A: Attendant> Service for Member<A> {
 
     ghost due = { λ _ _. ⊤ };
 
-    ghost loses = { λ _ _ _ _. ⊤ };
+    ghost loses = { λ member _ _ member'. IsSameMember member member' };
 
-    ghost gives = { λ _ _ _ _. ⊤ };
+    ghost gives = { λ member _ _ member'. IsSameMember member member' };
 
-    ghost answers = { λ _ _ _ _. ⊤ };
+    ghost answers = { λ member _ _ member'. IsSameMember member member' };
 
-    ghost offers = { λ member peer bytes member'. A.offers member.attendant peer bytes member'.attendant };
+    ghost asks = { λ member _ _ member'. IsSameMember member member' };
 
-    ghost begins = { λ member dialogue member'. (member'.instance ≡ member.instance) × (talk_of dialogue ≡ fresh_talk) };
+    ghost offers = { λ member peer bytes member'. IsSameMember member member' × A.offers member.attendant peer bytes member'.attendant };
 
-    ghost acts = { λ member member'. ByItself member.instance member'.instance };
+    ghost begins = { λ member dialogue member'. IsSameMember member member' × (talk_of dialogue ≡ fresh_talk) };
 
-    ghost does = { λ member dialogue deed member' dialogue'. Does deed member.instance (talk_of dialogue) member'.instance (talk_of dialogue') };
+    ghost acts = { λ member member'. (member'.lock ≡ member.lock) × ByItself member.instance member'.instance };
+
+    ghost does = { λ member dialogue deed member' dialogue'. (member'.lock ≡ member.lock)
+        × Does member.lock deed member.instance (talk_of dialogue) member'.instance (talk_of dialogue') };
 
     fn begin(&mut self, entrance: Entrance) -> Conversation {
         self.attendant.begin(entrance)
     }
 
     fn feed(&mut self, session: &mut Conversation, piece: &[u8]) {
-        self.attendant.feed(&mut self.instance, session, piece);
+        self.attendant
+            .feed(&mut self.instance, session, self.lock, piece);
     }
 
     fn end(&mut self, session: &mut Conversation) {
@@ -221,20 +232,29 @@ impl<A: Attendant> Service for Member<A> {
     }
 }
 
-impl<A: Attendant> Living for Member<A> {
+impl<'a, A: Attendant> Living for Member<'a, A> {
     ghost use Rattle.am_dialogue.specs.Talks.{talk_of};
-    ghost use Rattle.am_living.proofs.Talking.{acts_alone, does_lives, fresh_in_accord};
-    ghost use Rattle.am_living.specs.Talking.{IsInAccord};
+    ghost use Rattle.am_living.proofs.Talking.{acts_alone, call_alone, does_lives, fresh_in_accord, none_replied, replied_in_accord};
+    ghost use Rattle.am_living.specs.Talking.{IsInAccord, IsReplied};
 
     ghost instance_of = { λ member. member.instance };
 
     ghost accords = { λ dialogue. IsInAccord (talk_of dialogue) };
 
-    ghost begins_fresh = { λ member dialogue member' begins. record { same = begins.0; accord = fresh_in_accord (talk_of dialogue) begins.1 } };
+    ghost is_so = { IsReplied };
 
-    ghost acts_alone = { λ member member' own.
-        let alone = acts_alone member.instance member'.instance own in record { deeds = alone.0; own = alone.1; life = alone.2 } };
+    ghost so_of_none = { none_replied };
 
-    ghost does_for_one = { λ member dialogue deed member' dialogue' does connection standings fed turns accord.
-        does_lives connection standings member.instance member'.instance turns fed (talk_of dialogue) (talk_of dialogue') deed accord does };
+    ghost so_of_accord = { λ dialogue. replied_in_accord (talk_of dialogue) };
+
+    ghost begins_fresh = { λ member dialogue member' begins. record { same = begins.0.1; accord = fresh_in_accord (talk_of dialogue) begins.1 } };
+
+    ghost acts_alone = { λ member member' call.
+        let alone = acts_alone member.instance member'.instance (call_alone (λ m. m.instance) ⟦<Member<'a, A> as Service>⟧.acts ⟦<Member<'a, A> as Service>⟧.loses ⟦<Member<'a, A> as Service>⟧.answers
+        ⟦<Member<'a, A> as Service>⟧.gives ⟦<Member<'a, A> as Service>⟧.offers ⟦<Member<'a, A> as Service>⟧.asks (λ _ _ acts. acts.1) (λ _ _ _ _ same. same.1)
+        (λ _ _ _ _ same. same.1) (λ _ _ _ _ same. same.1) (λ _ _ _ _ offered. offered.0.1) (λ _ _ _ _ same. same.1) member member' call) in
+        record { deeds = alone.0; own = alone.1; life = alone.2 } };
+
+    ghost does_for_one = { λ member dialogue deed member' dialogue' does connection standings passed turns accord.
+        does_lives connection standings member.instance member'.instance turns passed (talk_of dialogue) (talk_of dialogue') member.lock deed accord does.1 };
 }

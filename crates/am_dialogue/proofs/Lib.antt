@@ -1,3 +1,3 @@
-pub mod Finished
 pub mod Resting
+pub mod Sayings
 pub mod Steps

@@ -1,7 +1,7 @@
 -- Talks that rest, one after the other.
-use Rattle.std.proofs.Common.{◌≡◌, ◌⊎◌, ◌∙◌, inl, inr, Option, None, ap, refl, sym}
-use Rattle.am_http.specs.Sessions.{Spoken, Standing, name_of, over}
-use Rattle.am_dialogue.specs.Talks.{Closes, Rests, Stays, Talk, WaitsNoMore, closed}
+use Rattle.std.proofs.Common.{◌≡◌, ◌∙◌, inl, inr, ap}
+use Rattle.am_http.specs.Sessions.{Standing, name_of, over}
+use Rattle.am_dialogue.specs.Talks.{Closes, IsClosed, Rests, Stays, Talk, WaitsNoMore}
 
 waits_no_more : (a b c : Talk) → WaitsNoMore a b → WaitsNoMore b c → WaitsNoMore a c
 waits_no_more a b c (inl one) (inl other) = inl (other ∙ one)
@@ -18,14 +18,14 @@ over_over one other e = over_same one (over (name_of other)) e
 pub stays_same : (a b : Talk) → b ≡ a → Stays a b
 stays_same a b same = record { way = ap (λ (t : Talk). t.way) same; session = ap (λ (t : Talk). t.session) same; waiting = inl (ap (λ (t : Talk). t.waiting) same) }
 
-pub closes_closed : (a b : Talk) → b ≡ closed a → Closes a b
-closes_closed a b same = record { way = ap (λ (t : Talk). t.way) same; session = ap (λ (t : Talk). t.session) same; waiting = inr (ap (λ (t : Talk). t.waiting) same) }
+pub closes_closed : (a b : Talk) → IsClosed a b → Closes a b
+closes_closed a b closed = record { way = closed.way; session = closed.session; waiting = inr closed.waiting }
 
 pub rests_same : (a b : Talk) → b ≡ a → Rests a b
 rests_same a b same = inl (stays_same a b same)
 
-pub rests_closed : (a b : Talk) → b ≡ closed a → Rests a b
-rests_closed a b same = inr (closes_closed a b same)
+pub rests_closed : (a b : Talk) → IsClosed a b → Rests a b
+rests_closed a b closed = inr (closes_closed a b closed)
 
 pub stays_on : (a b c : Talk) → Stays a b → Stays b c → Stays a c
 stays_on a b c first then =

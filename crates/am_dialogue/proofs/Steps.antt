@@ -1,5 +1,5 @@
 -- Steps that a member makes by itself.
-use Rattle.std.proofs.Common.{◌≡◌, ◌⊎◌, ◌∙◌, inl, inr, ℕ, Bool, true, false, List, [], ◌∷◌, ◌++◌, Result, Ok, Err, refl, subst}
+use Rattle.std.proofs.Common.{◌≡◌, inl, inr, ℕ, Bool, true, false, List, [], ◌∷◌, ◌++◌, Result, Ok, Err, refl, subst}
 use Rattle.am_http.specs.Lines.{RefusalLine}
 use Rattle.am_http.specs.declared.refusal.Refusal.{Refusal}
 use Rattle.am_decision_json.specs.declared.notice.Notice.{Notice}

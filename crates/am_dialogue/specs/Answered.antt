@@ -1,13 +1,16 @@
 -- What comes of what a connection said, and what a member does by itself.
-use Rattle.std.specs.Prelude.{◌≡◌, ◌⊎◌, ℕ, List, [], ◌∷◌, Some}
+use Rattle.std.specs.Prelude.{◌≡◌, ◌⊎◌, ℕ, List, [], ◌∷◌, Option, None, Some}
+use Rattle.am_api_silences.specs.declared.pending_reply.PendingReply.{PendingReply}
 use Rattle.am_http.specs.Sessions.{Spoken, name_of}
 use Rattle.am_instance.specs.InstanceStates.{InstanceState}
 use Rattle.am_instance.specs.Laws.{Happened}
 use Rattle.am_instance.specs.OneStep.{IsStep}
-use Rattle.am_member.specs.Exchanging.{Answer, IsSessionAnswer, left_at}
+use Rattle.am_member.specs.declared.session_answer.SessionAnswer.{SessionAnswer}
+use Rattle.am_member.specs.Exchanging.{IsSessionAnswer, WhenFinished, left_at}
 use Rattle.am_member.specs.Lives.{IsOwnEvent}
 use Rattle.am_member.specs.Sparing.{spared}
-use Rattle.am_dialogue.specs.Talks.{Closes, IsRequest, Talk, WaitsNoMore}
+use Rattle.am_dialogue.specs.Talks.{Closes, IsElsewhere, IsRequest, Keeps, KeepsBy, KeepsGone, Saying, Talk, WaitsNoMore}
+use Rattle.am_dialogue.specs.Talks.Saying.{Silent}
 
 -- ---- what a member does by itself
 
@@ -24,27 +27,36 @@ pub record ByItself (old new : InstanceState) : Type 0 where
 
 -- ---- what comes of what was said
 
--- Its steps were made, as the contract of `apply_session_output` says, but for what its frames ask for.
+-- the reply that a step has begun is what is replied; where none was, what is replied stays
+abbrev pub SaysBy : Option PendingReply → Saying → Saying → Type 0
+SaysBy None old new = new ≡ old
+SaysBy (Some begun) old new = KeepsBy begun old new
+
+-- Its steps were made, as the contract of `apply_session_output` says, but for what its frames ask for; and it is replied what they have
+-- begun.
 pub record IsTaken (said : Spoken) (old : InstanceState) (talk : Talk) (new : InstanceState) (talk' : Talk) : Type 0 where
   pub bits : ℕ
   pub now : ℕ
-  pub answer : Answer
-  pub exchanged : IsSessionAnswer (name_of talk.session) bits now (spared said) old new answer
+  pub answer : SessionAnswer
+  pub exchanged : WhenFinished (IsSessionAnswer (name_of talk.session) bits now (spared said) old new) answer
   pub way : talk'.way ≡ talk.way
   pub session : talk'.session ≡ left_at answer.fault talk.session
   pub waiting : WaitsNoMore talk talk'
+  pub saying : SaysBy answer.reply talk.saying talk'.saying
 
 -- It waits: it is a request, and nothing was done.
 pub record IsKept (said : Spoken) (old : InstanceState) (talk : Talk) (new : InstanceState) (talk' : Talk) : Type 0 where
   pub request : IsRequest said
   pub same : new ≡ old
-  pub waits : talk' ≡ record talk { waiting = Some said }
+  pub waits : talk' ≡ record talk { waiting = Some said; saying = Silent }
 
--- Nothing of it is done but what the member does by itself, and no more is heard.
-pub record IsLeft (old : InstanceState) (talk : Talk) (new : InstanceState) (talk' : Talk) : Type 0 where
+-- Nothing of it is done but what the member does by itself, and no more is heard. What is replied is a line, but to what isn't about
+-- silences.
+pub record IsLeft (said : Spoken) (old : InstanceState) (talk : Talk) (new : InstanceState) (talk' : Talk) : Type 0 where
   pub own : ByItself old new
   pub closes : Closes talk talk'
+  pub saying : Keeps talk.saying talk'.saying ⊎ (IsElsewhere said × KeepsGone talk.saying talk'.saying)
 
 -- what comes of what was said
 abbrev pub IsAnswered : Spoken → InstanceState → Talk → InstanceState → Talk → Type 0
-IsAnswered said old talk new talk' = IsTaken said old talk new talk' ⊎ (IsKept said old talk new talk' ⊎ IsLeft old talk new talk')
+IsAnswered said old talk new talk' = IsTaken said old talk new talk' ⊎ (IsKept said old talk new talk' ⊎ IsLeft said old talk new talk')

@@ -4,7 +4,9 @@ ghost use Rattle.std.specs.Prelude.{◌≡◌, ◌≤◌, drop, length, true, So
 ghost use Rattle.am_api_silences.specs.Replies.{bytes_of};
 ghost use Rattle.am_gate.specs.Gates.{before};
 ghost use Rattle.am_http.specs.Sessions.{fresh, nothing, spoken};
-ghost use Rattle.am_dialogue.specs.Talks.{IsRequest, Rests, Stays, closed, talk_of};
+ghost use Rattle.am_dialogue.specs.Answered.{SaysBy};
+ghost use Rattle.am_dialogue.specs.Talks.{IsClosed, IsRequest, Keeps, KeepsBy, KeepsGone, Lasts, Rests, Stays, pending_of, said_next, sent_on, talk_of};
+ghost use Rattle.am_dialogue.specs.Talks.Saying.{Silent};
 
 use crate::counting::{Account, Census};
 use crate::turns::{Turn, bytes_of_request, is_dear_call};
@@ -23,7 +25,7 @@ use std::time::Instant;
 /// How many silences of a list are written in a turn of the loop.
 const STRETCH: usize = 512;
 
-/// A connection, what it said that waits to be answered, and the reply that is being made or goes out.
+/// A connection, and what is to be done for it.
 #[derive(Drop)]
 pub struct Conversation {
     /// What stands before the session.
@@ -33,11 +35,6 @@ pub struct Conversation {
     is_screened: bool,
     /// What is still to be done for it.
     pub work: Work,
-    pub reply: ReplyBytes,
-    /// How many bytes of the reply went out.
-    pub written: usize,
-    /// A reply that waits for the next commit.
-    held_back: Option<HeldBack>,
     /// What is counted of it.
     pub account: Account,
 }
@@ -52,6 +49,17 @@ pub enum Work {
     Judging(SessionOutput, Judging),
     /// A list is being written, whose step was made.
     PendingReply(PendingReply),
+    /// A request that isn't about silences is being answered.
+    Call(CallProgress),
+    /// A reply waits for the next commit.
+    HeldBack(HeldBack),
+    /// A reply goes out, or did.
+    Reply(Outgoing),
+}
+
+/// How far the answer to a request has come that isn't about silences.
+#[derive(Drop)]
+pub enum CallProgress {
     /// A request for a decision waits for this member's turn.
     Turn(Turn),
     /// One whose turn has come waits for its place in the line.
@@ -69,9 +77,8 @@ impl Work {
     fn held(&self) -> usize {
         match self {
             Work::Request(said) | Work::Judging(said, _) => bytes_kept(said),
-            Work::Turn(turn) | Work::Due(turn) => turn.bytes(),
-            Work::Nothing | Work::PendingReply(_) | Work::Deciding(_) | Work::Log(_) => 0,
-            Work::Counting(_) => 0,
+            Work::Call(CallProgress::Turn(turn) | CallProgress::Due(turn)) => turn.bytes(),
+            _ => 0,
         }
     }
 }
@@ -86,32 +93,51 @@ fn bytes_kept(said: &SessionOutput) -> usize {
 
 /// A reply that waits for the next commit.
 #[derive(Drop)]
-struct HeldBack {
-    reply: ReplyBytes,
+pub struct HeldBack {
+    pub reply: ReplyBytes,
     /// The request has changed something.
-    is_change: bool,
+    pub is_change: bool,
+}
+
+/// A reply that goes out.
+#[derive(Drop)]
+pub struct Outgoing {
+    pub reply: ReplyBytes,
+    /// How many bytes of it went out.
+    pub written: usize,
+}
+
+impl Outgoing {
+    /// The bytes that are still to be written.
+    fn left(&self) -> &[u8]
+        ensures { result.now ≡ drop self.now.written (bytes_of self.now.reply) }
+    {
+        let reply = self.reply.as_slice();
+        if self.written < reply.len() {
+            &reply[self.written..]
+        } else {
+            &[]
+        }
+    }
 }
 
 impl Conversation {
     /// Before the first byte of a connection of which this is heard. It takes no memory.
     pub fn new(alloc: Global, hears: Hears) -> Conversation
-        ensures { talk_of result ≡ record { way = before; session = fresh; waiting = None } }
+        ensures { talk_of result ≡ record { way = before; session = fresh; waiting = None; saying = Silent } }
     {
         Conversation {
             gate: Gate::new(alloc, hears),
             session: Session::new(alloc),
             is_screened: false,
             work: Work::Nothing,
-            reply: ReplyBytes::Fixed(&[]),
-            written: 0,
-            held_back: None,
             account: Account::new(),
         }
     }
 
     /// Keeps a request that has to wait, and gives what hasn't: lists wait for their turn, and all requests for the first pull.
     pub fn hold(&mut self, said: SessionOutput, waits_for_pull: bool) -> Option<SessionOutput>
-        ensures held { result ≡ None → IsRequest (spoken said) × (talk_of self.new ≡ record (talk_of self.old) { waiting = Some (spoken said) }) }
+        ensures held { result ≡ None → IsRequest (spoken said) × (talk_of self.new ≡ record (talk_of self.old) { waiting = Some (spoken said); saying = Silent }) }
         ensures given { IfSome result (λ given. (given ≡ said) × (talk_of self.new ≡ talk_of self.old)) }
     {
         if must_wait(&said, waits_for_pull) {
@@ -139,19 +165,27 @@ impl Conversation {
         }
     }
 
+    /// Has a whole reply go out, where none does yet.
+    fn say(&mut self, reply: ReplyBytes)
+        ensures { talk_of self.new ≡ record (talk_of self.old) { waiting = None; saying = said_next reply (talk_of self.old).saying } }
+    {
+        if !matches!(self.work, Work::Reply(_)) {
+            self.work = Work::Reply(Outgoing { reply, written: 0 });
+        }
+    }
+
     /// Answers a request by the line of a refusal, whatever it asks for, and hears no more.
     pub fn refuse(&mut self, alloc: Global, refusal: &Refusal)
-        ensures { talk_of self.new ≡ closed (talk_of self.old) }
+        ensures { IsClosed (talk_of self.old) (talk_of self.new) }
     {
-        self.work = Work::Nothing;
         self.session.stop();
         let PendingAnswer { making, .. } = refuse(alloc, refusal);
-        self.reply_with(alloc, Some(making));
+        self.say(making.finish(alloc));
     }
 
     /// Answers a request that waited for the first pull that nobody waits for any more, or not as long as the pull may take.
     pub fn refuse_unready(&mut self, alloc: Global, said: Option<SessionOutput>)
-        ensures { talk_of self.new ≡ closed (talk_of self.old) }
+        ensures { IsClosed (talk_of self.old) (talk_of self.new) }
     {
         let method = match &said {
             Some(said) => method_of(said),
@@ -162,98 +196,136 @@ impl Conversation {
 
     /// Has a reply go out, where there is one. A list waits until it is written.
     pub fn reply_with(&mut self, alloc: Global, reply: Option<PendingReply>)
-        ensures { Stays (talk_of self.old) (talk_of self.new) }
+        ensures stays { Stays (talk_of self.old) (talk_of self.new) }
+        ensures says { SaysBy reply (talk_of self.old).saying (talk_of self.new).saying }
     {
-        let Some(making) = reply else {
-            return;
-        };
-        if making.is_whole() {
-            self.reply = making.finish(alloc);
-        } else {
+        match reply {
+            Some(making) if making.is_whole() => self.say(making.finish(alloc)),
+            Some(making) => self.make(making),
+            None => {}
+        }
+    }
+
+    /// Has a reply wait until it is written, where none goes out yet.
+    fn make(&mut self, making: PendingReply)
+        ensures stays { Stays (talk_of self.old) (talk_of self.new) }
+        ensures says { KeepsBy making (talk_of self.old).saying (talk_of self.new).saying }
+    {
+        if !matches!(self.work, Work::Reply(_)) {
             self.work = Work::PendingReply(making);
         }
     }
 
     /// Has a whole reply go out, or that there was no memory for it.
     pub fn tell(&mut self, alloc: Global, reply: Result<Vec<u8>, AllocError>)
-        ensures { Rests (talk_of self.old) (talk_of self.new) }
+        ensures rests { Rests (talk_of self.old) (talk_of self.new) }
+        ensures gone { KeepsGone (talk_of self.old).saying (talk_of self.new).saying }
     {
         match reply {
-            Ok(bytes) => self.reply = ReplyBytes::Own(bytes),
+            Ok(bytes) => self.say(ReplyBytes::Own(bytes)),
             Err(_) => self.refuse(alloc, &Cause::Memory.refusal()),
         }
     }
 
     /// Whether nothing is left to be heard, done or written.
     pub fn is_done(&self) -> bool {
-        self.session.is_over()
-            && matches!(self.work, Work::Nothing)
-            && self.held_back.is_none()
-            && self.written >= self.reply.as_slice().len()
+        let is_idle = match &self.work {
+            Work::Nothing => true,
+            Work::Reply(outgoing) => outgoing.left().is_empty(),
+            _ => false,
+        };
+        self.session.is_over() && is_idle
     }
 
-    /// The three digits of the status of the reply.
+    /// The three digits of the status of the reply that goes out.
     pub fn status(&self) -> &[u8] {
-        self.reply.as_slice().get(9..12).unwrap_or(b"")
+        match &self.work {
+            Work::Reply(outgoing) => outgoing.reply.as_slice().get(9..12).unwrap_or(b""),
+            _ => b"",
+        }
     }
 
-    /// Has the reply wait for the next commit, where there is a whole one. The request has changed something, or not.
+    /// Has the reply wait for the next commit, where there is a whole one of which nothing went out. The request has changed
+    /// something, or not.
     pub fn hold_back(&mut self, is_change: bool)
-        ensures { talk_of self.new ≡ talk_of self.old }
+        ensures stays { Stays (talk_of self.old) (talk_of self.new) }
+        ensures says { Keeps (talk_of self.old).saying (talk_of self.new).saying }
     {
-        if !self.reply.as_slice().is_empty() && self.held_back.is_none() {
-            let reply = mem::replace(&mut self.reply, ReplyBytes::Fixed(&[]));
-            self.held_back = Some(HeldBack { reply, is_change });
-        }
+        self.work = match mem::replace(&mut self.work, Work::Nothing) {
+            Work::Reply(Outgoing { reply, written: 0 }) => Work::HeldBack(HeldBack {
+                reply,
+                is_change,
+            }),
+            other => other,
+        };
     }
 
     /// Whether a reply waits for the next commit.
     pub fn is_held_back(&self) -> bool {
-        self.held_back.is_some()
+        matches!(self.work, Work::HeldBack(_))
     }
 
     /// Has the reply go out that waited for a commit, by which all is kept, or not.
     pub fn release(&mut self, alloc: Global, is_kept: bool)
-        ensures { Rests (talk_of self.old) (talk_of self.new) }
+        ensures { Lasts (talk_of self.old) (talk_of self.new) }
     {
-        let Some(HeldBack { reply, is_change }) = self.held_back.take() else {
-            return;
-        };
-        if is_kept || !is_change {
-            self.reply = reply;
-        } else {
-            self.refuse(alloc, &Refusal::new(500, "held, but not kept on disk"));
+        match mem::replace(&mut self.work, Work::Nothing) {
+            Work::HeldBack(held) if is_kept || !held.is_change => self.say(held.reply),
+            Work::HeldBack(_) => self.refuse(
+                alloc,
+                &Refusal::new(500, "held, but not kept on disk"),
+            ),
+            other => self.work = other,
         }
     }
 
     /// Writes a stretch more of a list. Where none is left it goes out.
     pub fn go_on(&mut self, alloc: Global, making: PendingReply)
-        ensures { Stays (talk_of self.old) (talk_of self.new) }
+        ensures stays { Stays (talk_of self.old) (talk_of self.new) }
+        ensures says { KeepsBy making (talk_of self.old).saying (talk_of self.new).saying }
     {
         if making.is_whole() {
-            self.reply = making.finish(alloc);
+            self.say(making.finish(alloc));
         } else {
-            self.work = Work::PendingReply(making.go_on(STRETCH));
+            self.make(making.go_on(STRETCH));
+        }
+    }
+
+    /// Keeps a request of which some patterns are still to be compiled.
+    pub fn judge_later(&mut self, said: SessionOutput, judging: Judging)
+        ensures { talk_of self.new ≡ record (talk_of self.old) { waiting = Some (spoken said); saying = Silent } }
+    {
+        self.work = Work::Judging(said, judging);
+    }
+
+    /// Puts off what is still to be done for a request that isn't about silences, where no reply goes out yet.
+    pub fn put_off(&mut self, call: CallProgress)
+        ensures stays { Stays (talk_of self.old) (talk_of self.new) }
+        ensures gone { KeepsGone (talk_of self.old).saying (talk_of self.new).saying }
+    {
+        if !matches!(self.work, Work::Reply(_)) {
+            self.work = Work::Call(call);
         }
     }
 
     /// Writes a stretch more of the log. Where none is left it goes out.
     pub fn go_on_log(&mut self, alloc: Global, writing: LogWriting)
-        ensures { Rests (talk_of self.old) (talk_of self.new) }
+        ensures rests { Rests (talk_of self.old) (talk_of self.new) }
+        ensures gone { KeepsGone (talk_of self.old).saying (talk_of self.new).saying }
     {
         if writing.is_written() {
-            self.reply = writing.finish(alloc);
-            return;
+            return self.say(writing.finish(alloc));
         }
         match writing.go_on(alloc, STRETCH) {
-            Ok(writing) => self.work = Work::Log(writing),
+            Ok(writing) => self.put_off(CallProgress::Log(writing)),
             Err(refusal) => self.refuse(alloc, &refusal),
         }
     }
 
     /// Takes out the request that waits, where one does.
     pub fn take_waiting(&mut self) -> Option<SessionOutput>
-        ensures { Stays (talk_of self.old) (talk_of self.new) }
+        ensures stays { Stays (talk_of self.old) (talk_of self.new) }
+        ensures says { (talk_of self.new).saying ≡ (talk_of self.old).saying }
     {
         match mem::replace(&mut self.work, Work::Nothing) {
             Work::Request(said) => Some(said),
@@ -266,13 +338,17 @@ impl Conversation {
 
     /// Whether something waits for its place in the line.
     pub fn waits(&self) -> bool {
-        !matches!(self.work, Work::Nothing | Work::Turn(_))
+        match &self.work {
+            Work::Request(_) | Work::Judging(_, _) | Work::PendingReply(_) => true,
+            Work::Call(call) => !matches!(call, CallProgress::Turn(_)),
+            Work::Nothing | Work::HeldBack(_) | Work::Reply(_) => false,
+        }
     }
 
     /// When it is this member's turn, where a request waits for that.
     pub fn due(&self) -> Option<Instant> {
         match &self.work {
-            Work::Turn(turn) => Some(turn.due()),
+            Work::Call(CallProgress::Turn(turn)) => Some(turn.due()),
             _ => None,
         }
     }
@@ -285,24 +361,23 @@ impl Conversation {
 
     /// What is still to be written.
     pub fn output(&self) -> &[u8]
-        ensures { result.now ≡ drop self.now.written (bytes_of self.now.reply) }
+        ensures { result.now ≡ pending_of (talk_of self.now).saying }
     {
-        let reply = self.reply.as_slice();
-        if self.written < reply.len() {
-            &reply[self.written..]
-        } else {
-            &[]
+        match &self.work {
+            Work::Reply(outgoing) => outgoing.left(),
+            _ => &[],
         }
     }
 
     /// So many bytes of what was still to be written went out.
     pub fn sent(&mut self, count: usize)
-        requires within { count ≤ length (drop self.old.written (bytes_of self.old.reply)) }
-        ensures rest { drop self.new.written (bytes_of self.new.reply) ≡ drop count (drop self.old.written (bytes_of self.old.reply)) }
-        ensures talk { talk_of self.new ≡ talk_of self.old }
+        requires within { count ≤ length (pending_of (talk_of self.old).saying) }
+        ensures { talk_of self.new ≡ record (talk_of self.old) { saying = sent_on count (talk_of self.old).saying } }
     {
-        let end = self.reply.as_slice().len();
-        self.written = end.min(self.written.saturating_add(count));
+        if let Work::Reply(outgoing) = &mut self.work {
+            let end = outgoing.reply.as_slice().len().max(outgoing.written);
+            outgoing.written = end.min(outgoing.written.saturating_add(count));
+        }
     }
 }
 

@@ -1,7 +1,10 @@
 //! What is counted of connections: what was asked and since when, and the silences by their states.
 
-ghost use Rattle.std.specs.Prelude.{◌<◌};
+ghost use Rattle.std.specs.Prelude.{◌<◌, IfSome};
+ghost use Rattle.am_http.specs.Sessions.{spoken};
+ghost use Rattle.am_dialogue.specs.Talks.{IsElsewhere};
 
+use crate::turns::is_elsewhere;
 use am_api_decisions as decisions;
 use am_api_silences::Read;
 use am_api_status::{Resource, resource_of};
@@ -19,9 +22,19 @@ use std::time::{Duration, Instant};
 const STRETCH: usize = 8_192;
 
 /// What was asked of the member itself, where that is what was said.
-pub fn asked_of_itself(said: &SessionOutput) -> Option<Resource> {
+pub fn asked_of_itself(said: &SessionOutput) -> Option<Resource>
+    ensures { IfSome result (λ _. IsElsewhere (spoken said.now)) }
+{
     match &said.request {
-        Some(Read::Whole(request)) => resource_of(&request.target),
+        Some(read) if is_elsewhere(read) => resource_in(read),
+        _ => None,
+    }
+}
+
+/// The resource of the member that a request names, where it does.
+fn resource_in(read: &Read) -> Option<Resource> {
+    match read {
+        Read::Whole(request) => resource_of(&request.target),
         _ => None,
     }
 }

@@ -9,7 +9,7 @@ mod share;
 mod timers;
 mod turns;
 
-pub use conversation::{Conversation, Work, ends_pull, is_nothing, may_change};
+pub use conversation::{CallProgress, Conversation, Work, ends_pull, is_nothing, may_change};
 pub use counting::{Account, Census, asked_of_itself, request_of};
 pub use room::{bytes_said, post_bytes};
 pub use share::Share;

@@ -1,8 +1,13 @@
 //! Requests for a decision that wait for their member's turn.
 
+ghost use Rattle.std.specs.Prelude.{IsTrue};
+ghost use Rattle.am_http.specs.Sessions.{spoken};
+ghost use Rattle.am_dialogue.specs.Talks.{AsksElsewhere, IsElsewhere};
+
 use am_api_decisions::is_for_decisions;
 use am_api_silences::{Read, Request};
 use am_http::session::SessionOutput;
+use am_http::{Cause, call_of};
 use std::time::Instant;
 
 /// The most bytes of a body that is read as soon as its turn has come. A larger one waits for its place in the line, so that
@@ -76,11 +81,34 @@ impl Turns {
     }
 }
 
-/// Whether what was said is a call of a program that sends pages.
-pub fn is_call(said: &SessionOutput) -> bool {
-    match &said.request {
-        Some(Read::Whole(request)) => is_for_decisions(request),
+/// Whether what was read is a whole request whose path isn't one of the API of silences.
+pub fn is_elsewhere(read: &Read) -> bool
+    ensures { IsTrue result → AsksElsewhere read.now }
+{
+    match read {
+        Read::Whole(request) => matches!(
+            call_of(&request.method, &request.target),
+            Err(Cause::NoSuchPath)
+        ),
         _ => false,
+    }
+}
+
+/// Whether what was read is a call of a program that sends pages.
+fn is_of_decisions(read: &Read) -> bool {
+    match read {
+        Read::Whole(request) => is_for_decisions(request),
+        _ => false,
+    }
+}
+
+/// Whether what was said is a call of a program that sends pages.
+pub fn is_call(said: &SessionOutput) -> bool
+    ensures { IsTrue result → IsElsewhere (spoken said.now) }
+{
+    match &said.request {
+        Some(read) => is_elsewhere(read) && is_of_decisions(read),
+        None => false,
     }
 }
 

@@ -1,45 +1,56 @@
 -- What calls make of a member's connections, as its life.
-use Rattle.std.proofs.Common.{◌≡◌, ◌≢◌, ◌⊎◌, ◌∙◌, ◌<◌, ◌≤◌, ◌+◌, ℕ, Bool, List, [], ◌∷◌, ◌++◌, take, drop, length, Option, None, Some, Result, Ok, Err, ap, sym, subst, refl, inl, inr, append-nil, append_assoc, arith}
-use Rattle.std.specs.Prelude.{option_map}
+use Rattle.std.proofs.Math.Seq.{take-add}
+use Rattle.std.proofs.lemmas.List.{length-take, take_min}
+use Rattle.std.proofs.Common.{◌≡◌, ◌≢◌, ◌⊎◌, ◌∙◌, ℕ, List, [], ◌∷◌, ◌++◌, take, drop, length, Option, None, Some, Result, Ok, Err, ap, sym, subst, refl, inl, inr, append-nil, append_assoc, arith}
 use Rattle.std.proofs.lemmas.Bool.{cases_lt}
 use Rattle.std.proofs.lemmas.Bool.{cases_order}
 use Rattle.std.proofs.lemmas.Option.{none-some}
-use Rattle.am_dialogue.proofs.Resting.{rests_same}
+use Rattle.am_dialogue.proofs.Sayings.{keeps_same}
 use Rattle.am_dialogue.proofs.Steps.{nothing_made}
 use Rattle.am_dialogue.specs.Answered.{AreOwnSteps, ByItself, IsAnswered, IsKept, IsLeft, IsTaken}
-use Rattle.am_dialogue.specs.Talks.{Closes, IsRequest, Rests, Stays, Talk, WaitsNoMore, closed}
+use Rattle.am_dialogue.specs.Answered.{SaysBy}
+use Rattle.am_dialogue.specs.Talks.{AsksElsewhere, Idles, IsClosed, IsElsewhere, IsOwed, IsRequest, Keeps, Lasts, Owed, Saying, Talk, WaitsNoMore, gone_of, pending_of, sent_on}
+use Rattle.am_dialogue.specs.Talks.Owed.{Line, Reply}
+use Rattle.am_dialogue.specs.Talks.Saying.{Silent, Making, Elsewhere, Held as HeldBack, Out}
 use Rattle.am_gate.specs.declared.fault.GateFault.{GateFault}
 use Rattle.am_gate.specs.declared.passing.Hears.{Hears}
 use Rattle.am_gate.specs.declared.passing.Hears.TheVariants.{Requests, Frames, Both}
-use Rattle.am_gate.specs.Gates.{Asks as AsksAtGate, Begins as BeginsAtGate, Greets as GreetsSealed, GoesOn as SealedGoesOn, GreetsBy, IsFailed, IsGreeted as IsGreetedSealed, IsTurnedBack, Knocks, Passes, PassesOn, Sends, TakesSealed, Told, Unseals, UnsealsFrom, Waits, Way}
+use Rattle.am_gate.specs.Gates.{Asks as AsksAtGate, Begins as BeginsAtGate, Greets as GreetsSealed, GoesOn as SealedGoesOn, GreetsBy, IsFailed, IsGreeted as IsGreetedSealed, IsTurnedBack, Knocks, Passes, PassesOn, Sends, TakesSealed, Told, UnsealsFrom, Waits, Way}
 use Rattle.am_gate.specs.Gates.Way.{before, passing, greeting, sealed, shut}
 use Rattle.am_gossip.specs.declared.error.FrameError.{FrameError}
 use Rattle.am_gossip.specs.declared.frame.Frame.{Frame}
 use Rattle.am_gossip.specs.Hellos.{hello_of}
 use Rattle.am_http.specs.declared.request.Read.{Read}
+use Rattle.am_http.specs.declared.refusal.Refusal.{Refusal}
 use Rattle.am_http.specs.declared.request.Read.TheVariants.{More, Whole, Refused}
 use Rattle.am_http.specs.declared.session.fault.SessionFault.{SessionFault}
-use Rattle.am_http.specs.Sessions.{Asks, Begins, Feeds, Greets, Hears as HearsPiece, IsAsked, IsGreeted, IsHeard as IsHeardStream, LacksMemory, Says, SaysEnd, Spoken, Standing, heard, name_of, nothing}
+use Rattle.am_http.specs.Sessions.{Feeds, Greets, Hears as HearsPiece, IsAsked, IsGreeted, IsHeard as IsHeardStream, LacksMemory, Says, SaysEnd, Spoken, Standing, heard, name_of, nothing}
 use Rattle.am_http.specs.Sessions.Standing.{fresh, InRequest, InGreeting, InFrames, over}
 use Rattle.am_instance.specs.InstanceStates.{InstanceState}
 use Rattle.am_instance.specs.Laws.{Happened}
 use Rattle.am_member.specs.declared.session_answer.StepEffects.{StepEffects}
-use Rattle.am_member.specs.Exchanging.{Answer, AreHeard, AreStepped, IsSessionAnswer, MakesNamed, left_at}
-use Rattle.am_member.specs.Incoming.{StopsAt, no_effects}
-use Rattle.am_member.specs.Lives.{Came, Deed as LifeDeed, IsGreetedBy, IsLife, Tells, Turn, bytes_in, bytes_of, standings_in, turns_of}
+use Rattle.am_api_silences.specs.Replies.{bytes_of as reply_bytes}
+use Rattle.am_api_silences.specs.declared.pending_reply.PendingReply.{PendingReply}
+use Rattle.am_api_silences.specs.declared.replies.ReplyBytes.{ReplyBytes}
+use Rattle.am_member.proofs.Finished.{finish_where}
+use Rattle.am_member.specs.declared.session_answer.SessionAnswer.{SessionAnswer}
+use Rattle.am_member.specs.Exchanging.{Answer, AreHeard, AreStepped, IsFinished, IsSessionAnswer, MakesNamed, WhenFinished, left_at, with_reply}
+use Rattle.am_member.specs.Incoming.{no_effects}
+use Rattle.am_member.specs.Lives.{Came, Deed as LifeDeed, IsGreetedBy, IsLife, Tells, Turn, bytes_in, bytes_of, turns_of}
 use Rattle.am_member.specs.Lives.Came.{Heard, Fed as FedAnyhow, AtEnd, Opened}
 use Rattle.am_member.specs.Lives.Deed.{Served, Own}
 use Rattle.am_member.specs.Sparing.{spared}
 use Rattle.am_peers.specs.declared.fault.Fault.{Fault}
 use Rattle.am_peers.specs.declared.fault.Fault.TheVariants.{Read as InRead, Write, TooLarge, Frame as InFrame, UnknownName, Step}
-use Rattle.am_refusals.specs.declared.error.StepError.{StepError}
 use Rattle.am_reactor.specs.Deeds.{Deed}
 use Rattle.am_reactor.specs.Deeds.Deed.{Fed, Ended, Sent, Resumed, Released, CameDue, Hurried, BrokenOff}
-use Rattle.am_reactor.specs.History.{fed_in}
+use Rattle.am_reactor.specs.declared.fault.LinkFault.{LinkFault}
+use Rattle.am_reactor.specs.History.{IsCall}
+use Rattle.am_reactor.specs.Sending.{IsFirstPart}
 use Rattle.am_seal.specs.declared.seal.Lock.{Lock}
 use Rattle.am_seal.specs.declared.seal.SealError.{SealError}
-use Rattle.am_living.specs.Living.{AreOf, AreOwn, LivesOn}
-use Rattle.am_living.specs.Talking.{AreFed, Does, HasAsked, IsAlone, IsDone, IsEnded, IsFed, IsHeard, IsInAccord, IsLetIn, IsTakenUp, fresh_talk}
+use Rattle.am_living.specs.Living.{AreOf, AreOwn, LivesOn, Passed, nothing_passed, passed_on}
+use Rattle.am_living.specs.Talking.{AreFed, HasAskedElsewhere, Does, HasAsked, IsAlone, IsDone, IsEnded, IsFed, IsHeard, IsInAccord, IsLetIn, IsReplied, IsSent, IsTakenUp, fresh_talk, owed_after, owed_by, owed_on}
 use Rattle.am_living.proofs.Lived.{chosen_is, own_stay}
 
 -- ---- a request ends what is heard
@@ -106,6 +117,59 @@ told_over old (FedAnyhow piece) said new (inr lacks) request = lacks_over old pi
 told_over old AtEnd said new tells request = over_name new (name_of old) tells.1
 told_over old (Opened greeting_ frames) said new tells request = no_request _ said (request_of said _ tells.says) request
 
+-- where a request was said, nothing is at fault with the connection
+fault_of : (one other : Spoken) → one ≡ other → one.fault ≡ other.fault
+fault_of one other e = ap (λ (s : Spoken). s.fault) e
+
+asked_sound : (read : Read) (bytes : List ℕ) (said : Spoken) (new : Standing) → IsAsked bytes read said new → said.fault ≡ None
+asked_sound More bytes said new is = fault_of said nothing is.0
+asked_sound (Whole whole) bytes said new is = fault_of said _ is.0
+asked_sound (Refused refusal) bytes said new is = fault_of said _ is.0
+
+says_sound : (old : Standing) (piece : List ℕ) (said : Spoken) (new : Standing) → Says old piece said new → IsRequest said → said.fault ≡ None
+says_sound fresh [] said new says request = no_request _ said (request_of said nothing says.0) request
+says_sound fresh (first ∷ bytes) said new says request = elim (cases_lt first 32) [
+  | inl below ↦ no_request _ said (greets_frames (first ∷ bytes) said new (says.peer below)) request
+  | inr from ↦ let is = says.request from in asked_sound is.0 (first ∷ bytes) said new is.2
+]
+says_sound (InRequest bytes) piece said new says request = asked_sound says.0 (bytes ++ piece) said new says.2
+says_sound (InGreeting bytes) piece said new says request = no_request _ said (greets_frames (bytes ++ piece) said new says) request
+says_sound (InFrames name count rest) piece said new says request = no_request _ said (hears_frames name count rest piece said new says) request
+says_sound (over name) piece said new says request = no_request _ said (request_of said nothing says.0) request
+
+lacks_sound : (old : Standing) (piece : List ℕ) (said : Spoken) (new : Standing) → LacksMemory old piece said new → IsRequest said → said.fault ≡ None
+lacks_sound fresh [] said new lacks request = absurd lacks
+lacks_sound fresh (first ∷ bytes) said new lacks request = elim (cases_lt first 32) [
+  | inl below ↦ no_request _ said (request_of said _ (lacks.peer below).0) request
+  | inr from ↦ fault_of said _ (lacks.request from).0.1
+]
+lacks_sound (InRequest bytes) piece said new lacks request = fault_of said _ lacks.0.1
+lacks_sound (InGreeting bytes) piece said new lacks request = no_request _ said (request_of said _ lacks.0) request
+lacks_sound (InFrames name count rest) piece said new lacks request = no_request _ said (request_of said _ lacks.0) request
+lacks_sound (over name) piece said new lacks request = absurd lacks
+
+feeds_sound : (old : Standing) (piece : List ℕ) (said : Spoken) (new : Standing) → Feeds old piece said new → IsRequest said → said.fault ≡ None
+feeds_sound old piece said new (inl says) request = says_sound old piece said new says request
+feeds_sound old piece said new (inr lacks) request = lacks_sound old piece said new lacks request
+
+-- what is said elsewhere is a request
+elsewhere_asked : (said : Spoken) → IsElsewhere said → IsRequest said
+elsewhere_asked said elsewhere = (elsewhere.0, elsewhere.1)
+
+-- no whole request is said by the end of the input
+one_read : (one other : Read) → Some one ≡ Some other → one ≡ other
+one_read one other e = cc
+
+not_cut : (A : Type 0) (said : Spoken) (refusal : Refusal) → said.request ≡ Some (Refused refusal) → IsElsewhere said → A
+not_cut A said refusal is elsewhere = absurd (subst AsksElsewhere (one_read elsewhere.0 (Refused refusal) (sym elsewhere.1 ∙ is)) elsewhere.2)
+
+end_elsewhere : (A : Type 0) (old : Standing) (said : Spoken) → SaysEnd old said → IsElsewhere said → A
+end_elsewhere A fresh said says elsewhere = no_request A said (request_of said nothing says) (elsewhere_asked said elsewhere)
+end_elsewhere A (InRequest bytes) said says elsewhere = not_cut A said says.refusal (request_of said _ says.is) elsewhere
+end_elsewhere A (InGreeting bytes) said says elsewhere = no_request A said (request_of said nothing says) (elsewhere_asked said elsewhere)
+end_elsewhere A (InFrames name count rest) said says elsewhere = no_request A said (request_of said nothing says) (elsewhere_asked said elsewhere)
+end_elsewhere A (over name) said says elsewhere = no_request A said (request_of said nothing says) (elsewhere_asked said elsewhere)
+
 -- ---- what says nothing makes no step
 
 nil_parts : (frame : Frame) (made others : List Frame) → [] ≡ made ++ frame ∷ others → ⊥
@@ -143,20 +207,67 @@ left_rests (Some (Write written)) s = inl refl
 left_rests (Some TooLarge) s = inl refl
 left_rests (Some (InFrame error)) s = inl refl
 
-taken_rests : (said : Spoken) (old new : InstanceState) (talk talk' : Talk) → IsTaken said old talk new talk' → Rests talk talk'
-taken_rests said old new talk talk' taken = elim (left_rests taken.answer.fault talk.session) [
-  | inl on ↦ inl (record { way = taken.way; session = taken.session ∙ on; waiting = taken.waiting })
-  | inr ends ↦ inr (record { way = taken.way; session = taken.session ∙ ends; waiting = taken.waiting })
+no_more : (talk talk' : Talk) → talk.waiting ≡ None → WaitsNoMore talk talk' → talk'.waiting ≡ None
+no_more talk talk' none (inl same) = same ∙ none
+no_more talk talk' none (inr is) = is
+
+-- a reply is begun where a request was said alone
+begun_where : (name : Option (List ℕ)) (bits now : ℕ) (said : Spoken) (old new : InstanceState) (answer : SessionAnswer) (reply : Option PendingReply) (whole : Option ReplyBytes)
+    → IsFinished reply whole → IsSessionAnswer name bits now (spared said) old new (with_reply answer whole) → said.request ≡ None → reply ≡ None
+begun_where name bits now said old new answer None whole finished done none = refl
+begun_where name bits now said old new answer (Some begun) None finished done none = absurd finished
+begun_where name bits now said old new answer (Some begun) (Some reply) finished done none = absurd (none-some reply (sym (done.heard none).0))
+
+silent_answer : (name : Option (List ℕ)) (bits now : ℕ) (said : Spoken) (old new : InstanceState) (answer : SessionAnswer)
+    → WhenFinished (IsSessionAnswer name bits now (spared said) old new) answer → said.request ≡ None → answer.reply ≡ None
+silent_answer name bits now said old new answer done none =
+    let whole = finish_where answer.reply in begun_where name bits now said old new answer answer.reply whole.0 whole.1 (done whole.0 whole.1) none
+
+-- nothing is replied that wasn't
+unsaid : (reply : Option PendingReply) (old new : Saying) → reply ≡ None → SaysBy reply old new → new ≡ old
+unsaid reply old new none says = subst (λ (r : Option PendingReply). SaysBy r old new) none says
+
+taken_lasts : (said : Spoken) (old new : InstanceState) (talk talk' : Talk) → said.request ≡ None → talk.waiting ≡ None → IsTaken said old talk new talk' → Lasts talk talk'
+taken_lasts said old new talk talk' silent none taken =
+    let same = unsaid taken.answer.reply talk.saying talk'.saying (silent_answer (name_of talk.session) taken.bits taken.now said old new taken.answer taken.exchanged silent) taken.saying in
+    elim (left_rests taken.answer.fault talk.session) [
+      | inl on ↦ inl (record {
+        stays = record { way = taken.way; session = taken.session ∙ on; waiting = taken.waiting };
+        silent = λ was. same ∙ was;
+        saying = keeps_same talk.saying talk'.saying same;
+      })
+      | inr ends ↦ inr (record {
+        way = taken.way;
+        session = taken.session ∙ ends;
+        waiting = no_more talk talk' none taken.waiting;
+        saying = keeps_same talk.saying talk'.saying same;
+      })
+    ]
+
+left_keeps : (said : Spoken) (old new : InstanceState) (talk talk' : Talk) → said.request ≡ None → IsLeft said old talk new talk' → Keeps talk.saying talk'.saying
+left_keeps said old new talk talk' silent left = elim left.saying [
+  | inl keeps ↦ keeps
+  | inr elsewhere ↦ no_request _ said silent (elsewhere_asked said elsewhere.0)
 ]
 
-silent_alone : (fault : Option SessionFault) (said : Spoken) (old new : InstanceState) (talk talk' : Talk) → said ≡ heard [] fault → IsAnswered said old talk new talk' → IsAlone old talk new talk'
-silent_alone fault said old new talk talk' says (inl taken) = record {
-  own = nothing_made old new (exchanged_nothing (name_of talk.session) taken.bits taken.now fault old new taken.answer
-      (subst (λ (s : Spoken). IsSessionAnswer (name_of talk.session) taken.bits taken.now (spared s) old new taken.answer) says taken.exchanged));
-  rests = taken_rests said old new talk talk' taken;
+silent_alone : (fault : Option SessionFault) (said : Spoken) (old new : InstanceState) (talk talk' : Talk) → said ≡ heard [] fault → talk.waiting ≡ None →
+    IsAnswered said old talk new talk' → IsAlone old talk new talk'
+silent_alone fault said old new talk talk' says none (inl taken) =
+    let whole = finish_where taken.answer.reply in record {
+      own = nothing_made old new (exchanged_nothing (name_of talk.session) taken.bits taken.now fault old new (with_reply taken.answer whole.0)
+          (subst (λ (s : Spoken). IsSessionAnswer (name_of talk.session) taken.bits taken.now (spared s) old new (with_reply taken.answer whole.0)) says (taken.exchanged whole.0 whole.1)));
+      lasts = taken_lasts said old new talk talk' (request_of said _ says) none taken;
+    }
+silent_alone fault said old new talk talk' says none (inr (inl kept)) = no_request _ said (request_of said _ says) kept.request
+silent_alone fault said old new talk talk' says none (inr (inr left)) = record {
+  own = left.own;
+  lasts = inr (record {
+    way = left.closes.way;
+    session = left.closes.session;
+    waiting = no_more talk talk' none left.closes.waiting;
+    saying = left_keeps said old new talk talk' (request_of said _ says) left;
+  });
 }
-silent_alone fault said old new talk talk' says (inr (inl kept)) = no_request _ said (request_of said _ says) kept.request
-silent_alone fault said old new talk talk' says (inr (inr left)) = record { own = left.own; rests = inr left.closes }
 
 -- ---- deeds
 
@@ -229,117 +340,215 @@ along way way' fed turns more same e = subst (λ (w : Way). AreFed w fed turns m
 
 -- ---- accord
 
-no_more : (talk talk' : Talk) → talk.waiting ≡ None → WaitsNoMore talk talk' → talk'.waiting ≡ None
-no_more talk talk' none (inl same) = same ∙ none
-no_more talk talk' none (inr is) = is
-
-same_session : (talk talk' : Talk) → talk.session ≡ over (name_of talk.session) → Rests talk talk' → talk'.session ≡ talk.session
-same_session talk talk' ended (inl stays) = stays.session
+same_session : (talk talk' : Talk) → talk.session ≡ over (name_of talk.session) → Lasts talk talk' → talk'.session ≡ talk.session
+same_session talk talk' ended (inl idles) = idles.stays.session
 same_session talk talk' ended (inr closes) = closes.session ∙ sym ended
 
-same_way : (talk talk' : Talk) → Rests talk talk' → talk'.way ≡ talk.way
-same_way talk talk' (inl stays) = stays.way
+same_way : (talk talk' : Talk) → Lasts talk talk' → talk'.way ≡ talk.way
+same_way talk talk' (inl idles) = idles.stays.way
 same_way talk talk' (inr closes) = closes.way
 
-no_more_waits : (talk talk' : Talk) → Rests talk talk' → WaitsNoMore talk talk'
-no_more_waits talk talk' (inl stays) = stays.waiting
-no_more_waits talk talk' (inr closes) = closes.waiting
+no_more_waits : (talk talk' : Talk) → talk.waiting ≡ None → Lasts talk talk' → talk'.waiting ≡ None
+no_more_waits talk talk' none (inl idles) = no_more talk talk' none idles.stays.waiting
+no_more_waits talk talk' none (inr closes) = closes.waiting
 
-ended_on : (talk talk' : Talk) → talk.session ≡ over (name_of talk.session) → Rests talk talk' → talk'.session ≡ over (name_of talk'.session)
-ended_on talk talk' ended rests = over_name talk'.session (name_of talk.session) (same_session talk talk' ended rests ∙ ended)
+ended_on : (talk talk' : Talk) → talk.session ≡ over (name_of talk.session) → Lasts talk talk' → talk'.session ≡ over (name_of talk'.session)
+ended_on talk talk' ended lasts = over_name talk'.session (name_of talk.session) (same_session talk talk' ended lasts ∙ ended)
+
+keeps_saying : (talk talk' : Talk) → Lasts talk talk' → Keeps talk.saying talk'.saying
+keeps_saying talk talk' (inl idles) = idles.saying
+keeps_saying talk talk' (inr closes) = closes.saying
+
+-- nothing is owed that isn't replied
+silent_owed : (owed : Owed) (saying : Saying) → saying ≡ Silent → IsOwed owed saying
+silent_owed owed saying silent = subst (IsOwed owed) (sym silent) tt
+
+-- where it stands
+abbrev Stands : List ℕ → Standing → List Turn → Talk → Type 0
+Stands fed standing turns talk = IsHeard talk fed standing turns ⊎ (HasAsked talk fed standing turns ⊎ IsDone talk fed standing turns)
 
 module _ (fed : List ℕ) (standing : Standing) (turns : List Turn) (talk talk' : Talk) where
-  asked_on : (asked : HasAsked talk fed standing turns) → Rests talk talk' → WaitsNoMore talk talk' → IsInAccord talk' fed standing turns
-  asked_on asked rests (inl same) = inr (inl (record {
+  asked_done : (asked : HasAsked talk fed standing turns) → Lasts talk talk' → talk'.waiting ≡ None → IsDone talk' fed standing turns
+  asked_done asked lasts none = record {
+    rest = bytes_of asked.came;
+    waiting = none;
+    ended = ended_on talk talk' asked.ended lasts;
+    bytes = along talk.way talk'.way fed turns (bytes_of asked.came) (same_way talk talk' lasts) asked.bytes;
+    owed = inl ((keeps_saying talk talk' lasts).owed (owed_by turns) (silent_owed (owed_by turns) talk.saying asked.silent));
+  }
+
+  asked_idles : (asked : HasAsked talk fed standing turns) (idles : Idles talk talk') → WaitsNoMore talk talk' → HasAsked talk' fed standing turns ⊎ IsDone talk' fed standing turns
+  asked_idles asked idles (inl same) = inl (record {
     said = asked.said;
     came = asked.came;
     waiting = same ∙ asked.waiting;
     request = asked.request;
-    tells = subst (λ (s : Standing). Tells standing asked.came asked.said s) (sym (same_session talk talk' asked.ended rests)) asked.tells;
-    ended = ended_on talk talk' asked.ended rests;
-    bytes = along talk.way talk'.way fed turns (bytes_of asked.came) (same_way talk talk' rests) asked.bytes;
-  }))
-  asked_on asked rests (inr none) = inr (inr (record {
-    rest = bytes_of asked.came;
-    waiting = none;
-    ended = ended_on talk talk' asked.ended rests;
-    bytes = along talk.way talk'.way fed turns (bytes_of asked.came) (same_way talk talk' rests) asked.bytes;
-  }))
-
-  -- what rests stays in accord
-  rests_in_accord : IsInAccord talk fed standing turns → Rests talk talk' → IsInAccord talk' fed standing turns
-  rests_in_accord (inl is) (inl stays) = inl (record {
-    waiting = no_more talk talk' is.waiting stays.waiting;
-    session = stays.session ∙ is.session;
-    bytes = along talk.way talk'.way fed turns [] stays.way is.bytes;
+    tells = subst (λ (s : Standing). Tells standing asked.came asked.said s) (sym idles.stays.session) asked.tells;
+    ended = ended_on talk talk' asked.ended (inl idles);
+    bytes = along talk.way talk'.way fed turns (bytes_of asked.came) idles.stays.way asked.bytes;
+    plain = asked.plain;
+    silent = idles.silent asked.silent;
   })
-  rests_in_accord (inl is) (inr closes) = inr (inr (record {
+  asked_idles asked idles (inr none) = inr (asked_done asked (inl idles) none)
+
+  -- what lasts stands where it stood
+  lasts_standing : Stands fed standing turns talk → Lasts talk talk' → Stands fed standing turns talk'
+  lasts_standing (inl is) (inl idles) = inl (record {
+    waiting = no_more talk talk' is.waiting idles.stays.waiting;
+    session = idles.stays.session ∙ is.session;
+    bytes = along talk.way talk'.way fed turns [] idles.stays.way is.bytes;
+    silent = λ still. idles.silent (is.silent (λ e. still (over_name talk'.session (name_of talk.session) (idles.stays.session ∙ e))));
+    owed = idles.saying.owed (owed_by turns) is.owed;
+  })
+  lasts_standing (inl is) (inr closes) = inr (inr (record {
     rest = [];
-    waiting = no_more talk talk' is.waiting closes.waiting;
+    waiting = closes.waiting;
     ended = over_name talk'.session (name_of talk.session) closes.session;
     bytes = along talk.way talk'.way fed turns [] closes.way is.bytes;
+    owed = inl (closes.saying.owed (owed_by turns) is.owed);
   }))
-  rests_in_accord (inr (inl asked)) rests = asked_on asked rests (no_more_waits talk talk' rests)
-  rests_in_accord (inr (inr done)) rests = inr (inr (record {
+  lasts_standing (inr (inl asked)) (inl idles) = inr (asked_idles asked idles idles.stays.waiting)
+  lasts_standing (inr (inl asked)) (inr closes) = inr (inr (asked_done asked (inr closes) closes.waiting))
+  lasts_standing (inr (inr done)) lasts = inr (inr (record {
     rest = done.rest;
-    waiting = no_more talk talk' done.waiting (no_more_waits talk talk' rests);
-    ended = ended_on talk talk' done.ended rests;
-    bytes = along talk.way talk'.way fed turns done.rest (same_way talk talk' rests) done.bytes;
+    waiting = no_more_waits talk talk' done.waiting lasts;
+    ended = ended_on talk talk' done.ended lasts;
+    bytes = along talk.way talk'.way fed turns done.rest (same_way talk talk' lasts) done.bytes;
+    owed = elim done.owed [ inl owed ↦ inl ((keeps_saying talk talk' lasts).owed (owed_by turns) owed) | inr asks ↦ inr asks ];
   }))
+
+-- what lasts stays in accord
+lasts_in_accord : (passed : Passed) (standing : Standing) (turns : List Turn) (talk talk' : Talk) → IsInAccord talk passed standing turns → Lasts talk talk' →
+    IsInAccord talk' passed standing turns
+lasts_in_accord passed standing turns talk talk' accord lasts = record {
+  gone = accord.gone ∙ sym (keeps_saying talk talk' lasts).gone;
+  stands = lasts_standing passed.fed standing turns talk talk' accord.stands lasts;
+}
+
+-- ---- what is owed
+
+owed_append : (owed : Owed) (turns : List Turn) (turn : Turn) → owed_on owed (turns ++ turn ∷ []) ≡ owed_after (owed_on owed turns) turn.answer.reply
+owed_append owed [] turn = refl
+owed_append owed (first ∷ turns) turn = owed_append (owed_after owed first.answer.reply) turns turn
+
+-- what a step has begun is owed from then on
+begun_owed : (owed : Owed) (reply : Option PendingReply) (old new : Saying) → old ≡ Silent → SaysBy reply old new → IsOwed (owed_after owed reply) new
+begun_owed owed None old new silent same = silent_owed owed new (same ∙ silent)
+begun_owed owed (Some begun) old new silent by = by.owed (Reply begun) (silent_owed (Reply begun) old silent) (λ reply made. inl made)
+
+begun_gone : (reply : Option PendingReply) (old new : Saying) → SaysBy reply old new → gone_of new ≡ gone_of old
+begun_gone None old new same = ap gone_of same
+begun_gone (Some begun) old new by = by.gone
+
+request_where : (A : Type 0) (request : Option Read) (said : Spoken) → said.request ≡ request → (said.request ≡ None → A) → (IsRequest said → A) → A
+request_where A None said e none some = none e
+request_where A (Some read) said e none some = some (read, e)
+
+left_over : (fault : Option Fault) (s : Standing) → s ≡ over (name_of s) → left_at fault s ≡ over (name_of (left_at fault s))
+left_over fault s ended = elim (left_rests fault s) [
+  | inl on ↦ over_name (left_at fault s) (name_of s) (on ∙ ended)
+  | inr ends ↦ over_name (left_at fault s) (name_of s) ends
+]
 
 -- ---- what is said is answered
 
-module _ (connection : ℕ) (standings : ℕ → Standing) (old new : InstanceState) (turns : List Turn) (fed : List ℕ) (said : Spoken) (came : Came) (talk talk' : Talk) where
+module _ (connection : ℕ) (standings : ℕ → Standing) (old new : InstanceState) (turns : List Turn) (passed : Passed) (said : Spoken) (came : Came) (talk talk' : Talk) where
   -- the turn that it is
   abbrev turn_of : IsTaken said old talk new talk' → Turn
   turn_of taken =
       record { connection = connection; came = came; now = taken.now; bits = taken.bits; said = said; heard = talk.session; answer = taken.answer; left = new }
 
-  taken_lives : talk.waiting ≡ None → Tells (standings connection) came said talk.session → AreFed talk.way fed turns (bytes_of came) → IsTaken said old talk new talk' →
-      LivesOn connection standings old new turns (IsInAccord talk' fed)
-  taken_lives none tells are taken =
+  -- what comes of it, where nothing waited and nothing was replied
+  record Comes : Type 0 where
+    none : talk.waiting ≡ None
+    silent : talk.saying ≡ Silent
+    gone : passed.gone ≡ gone_of talk.saying
+    tells : Tells (standings connection) came said talk.session
+    are : AreFed talk.way passed.fed turns (bytes_of came)
+    plain : IsElsewhere said → passed.fed ≡ bytes_in turns ++ bytes_of came
+
+  asked_ends : Comes → IsRequest said → talk.session ≡ over (name_of talk.session)
+  asked_ends comes request = told_over (standings connection) came said talk.session comes.tells request
+
+  taken_silent : (comes : Comes) (taken : IsTaken said old talk new talk') → talk'.session ≢ over (name_of talk'.session) → talk'.saying ≡ Silent
+  taken_silent comes taken still = request_where (talk'.saying ≡ Silent) said.request said refl
+      (λ none. unsaid taken.answer.reply talk.saying talk'.saying (silent_answer (name_of talk.session) taken.bits taken.now said old new taken.answer taken.exchanged none) taken.saying ∙ comes.silent)
+      (λ request. absurd (still (subst (λ (s : Standing). s ≡ over (name_of s)) (sym taken.session) (left_over taken.answer.fault talk.session (asked_ends comes request)))))
+
+  taken_lives : Comes → IsTaken said old talk new talk' → LivesOn connection standings old new turns (IsInAccord talk' passed)
+  taken_lives comes taken =
       let turn : Turn = turn_of taken in
       record {
         deeds = Served turn ∷ [];
         of = (refl, tt);
-        life = (record { tells = tells; answered = taken.exchanged }, refl);
-        accord = subst (λ (s : Standing). IsInAccord talk' fed s (turns ++ turns_of connection (Served turn ∷ [])))
+        life = (record { tells = comes.tells; answered = taken.exchanged }, refl);
+        accord = subst (λ (s : Standing). IsInAccord talk' passed s (turns ++ turns_of connection (Served turn ∷ [])))
             (sym (chosen_is connection connection (left_at taken.answer.fault talk.session) (standings connection) refl))
-            (subst (λ (l : List Turn). IsInAccord talk' fed (left_at taken.answer.fault talk.session) (turns ++ l)) (sym (chosen_is connection connection (turn ∷ []) [] refl))
-            (inl (record {
-              waiting = no_more talk talk' none taken.waiting;
-              session = taken.session;
-              bytes = along talk.way talk'.way fed (turns ++ turn ∷ []) [] taken.way (are_fed_by_turn talk.way fed turns turn are);
-            })));
+            (subst (λ (l : List Turn). IsInAccord talk' passed (left_at taken.answer.fault talk.session) (turns ++ l)) (sym (chosen_is connection connection (turn ∷ []) [] refl))
+            (record {
+              gone = comes.gone ∙ sym (begun_gone taken.answer.reply talk.saying talk'.saying taken.saying);
+              stands = inl (record {
+                waiting = no_more talk talk' comes.none taken.waiting;
+                session = taken.session;
+                bytes = along talk.way talk'.way passed.fed (turns ++ turn ∷ []) [] taken.way (are_fed_by_turn talk.way passed.fed turns turn comes.are);
+                silent = taken_silent comes taken;
+                owed = subst (λ (o : Owed). IsOwed o talk'.saying) (sym (owed_append Line turns turn))
+                    (begun_owed (owed_by turns) taken.answer.reply talk.saying talk'.saying comes.silent taken.saying);
+              });
+            }));
       }
 
-  kept_lives : Tells (standings connection) came said talk.session → AreFed talk.way fed turns (bytes_of came) → IsKept said old talk new talk' →
-      LivesOn connection standings old new turns (IsInAccord talk' fed)
-  kept_lives tells are kept =
+  kept_lives : Comes → IsKept said old talk new talk' → LivesOn connection standings old new turns (IsInAccord talk' passed)
+  kept_lives comes kept =
       let session : talk'.session ≡ talk.session = ap (λ (t : Talk). t.session) kept.waits in
-      alone connection standings old new turns (nothing_made old new kept.same) (IsInAccord talk' fed) (inr (inl (record {
-        said = said;
-        came = came;
-        waiting = ap (λ (t : Talk). t.waiting) kept.waits;
-        request = kept.request;
-        tells = subst (λ (s : Standing). Tells (standings connection) came said s) (sym session) tells;
-        ended = over_name talk'.session (name_of talk.session) (session ∙ told_over (standings connection) came said talk.session tells kept.request);
-        bytes = along talk.way talk'.way fed turns (bytes_of came) (ap (λ (t : Talk). t.way) kept.waits) are;
-      })))
+      let silent : talk'.saying ≡ Silent = ap (λ (t : Talk). t.saying) kept.waits in
+      alone connection standings old new turns (nothing_made old new kept.same) (IsInAccord talk' passed) (record {
+        gone = comes.gone ∙ ap gone_of (comes.silent ∙ sym silent);
+        stands = inr (inl (record {
+          said = said;
+          came = came;
+          waiting = ap (λ (t : Talk). t.waiting) kept.waits;
+          request = kept.request;
+          tells = subst (λ (s : Standing). Tells (standings connection) came said s) (sym session) comes.tells;
+          ended = over_name talk'.session (name_of talk.session) (session ∙ asked_ends comes kept.request);
+          bytes = along talk.way talk'.way passed.fed turns (bytes_of came) (ap (λ (t : Talk). t.way) kept.waits) comes.are;
+          plain = comes.plain;
+          silent = silent;
+        }));
+      })
 
-  left_lives : talk.waiting ≡ None → AreFed talk.way fed turns (bytes_of came) → IsLeft old talk new talk' → LivesOn connection standings old new turns (IsInAccord talk' fed)
-  left_lives none are left = alone connection standings old new turns left.own (IsInAccord talk' fed) (inr (inr (record {
-    rest = bytes_of came;
-    waiting = no_more talk talk' none left.closes.waiting;
-    ended = over_name talk'.session (name_of talk.session) left.closes.session;
-    bytes = along talk.way talk'.way fed turns (bytes_of came) left.closes.way are;
-  })))
+  left_owed : Comes → IsLeft said old talk new talk' → IsOwed (owed_by turns) talk'.saying ⊎ HasAskedElsewhere passed.fed (standings connection) turns
+  left_owed comes left = elim left.saying [
+    | inl keeps ↦ inl (keeps.owed (owed_by turns) (silent_owed (owed_by turns) talk.saying comes.silent))
+    | inr elsewhere ↦ inr (record {
+      came = came;
+      said = said;
+      left = talk.session;
+      tells = comes.tells;
+      elsewhere = elsewhere.0;
+      bytes = comes.plain elsewhere.0;
+    })
+  ]
 
-  answered_lives : talk.waiting ≡ None → Tells (standings connection) came said talk.session → AreFed talk.way fed turns (bytes_of came) → IsAnswered said old talk new talk' →
-      LivesOn connection standings old new turns (IsInAccord talk' fed)
-  answered_lives none tells are (inl taken) = taken_lives none tells are taken
-  answered_lives none tells are (inr (inl kept)) = kept_lives tells are kept
-  answered_lives none tells are (inr (inr left)) = left_lives none are left
+  left_gone : IsLeft said old talk new talk' → gone_of talk'.saying ≡ gone_of talk.saying
+  left_gone left = elim left.saying [ inl keeps ↦ keeps.gone | inr elsewhere ↦ elsewhere.1 ]
+
+  left_lives : Comes → IsLeft said old talk new talk' → LivesOn connection standings old new turns (IsInAccord talk' passed)
+  left_lives comes left = alone connection standings old new turns left.own (IsInAccord talk' passed) (record {
+    gone = comes.gone ∙ sym (left_gone left);
+    stands = inr (inr (record {
+      rest = bytes_of came;
+      waiting = no_more talk talk' comes.none left.closes.waiting;
+      ended = over_name talk'.session (name_of talk.session) left.closes.session;
+      bytes = along talk.way talk'.way passed.fed turns (bytes_of came) left.closes.way comes.are;
+      owed = left_owed comes left;
+    }));
+  })
+
+  answered_lives : Comes → IsAnswered said old talk new talk' → LivesOn connection standings old new turns (IsInAccord talk' passed)
+  answered_lives comes (inl taken) = taken_lives comes taken
+  answered_lives comes (inr (inl kept)) = kept_lives comes kept
+  answered_lives comes (inr (inr left)) = left_lives comes left
 
 -- ---- what passes a gate
 
@@ -348,6 +557,7 @@ record IsSaidBy (way : Way) (session : Standing) (piece : List ℕ) (said : Spok
   came : Came
   tells : Tells session came said session'
   fed : (fed : List ℕ) (turns : List Turn) → AreFed way fed turns [] → AreFed way' (fed ++ piece) turns (bytes_of came)
+  plain : IsRequest said → (fed : List ℕ) (turns : List Turn) → AreFed way fed turns [] → fed ++ piece ≡ bytes_in turns ++ bytes_of came
 
 -- nothing is said, and nothing is claimed of what was fed
 record IsSilent (session : Standing) (said : Spoken) (way' : Way) (session' : Standing) : Type 0 where
@@ -389,8 +599,8 @@ module _ (way : Way) (session : Standing) (piece : List ℕ) (told : Told) (way'
   passes_through : ((fed : List ℕ) (turns : List Turn) → AreFed way fed turns [] → AreFed passing fed turns []) → PassesOn session piece told way' session' →
       GoesThrough way session piece told.said way' session'
   passes_through opens passes = elim passes.0 [
-    | inl says ↦ inl (record { came = Heard piece; tells = says; fed = fed_on opens passes.2 })
-    | inr lacks ↦ inl (record { came = FedAnyhow piece; tells = inr lacks; fed = fed_on opens passes.2 })
+    | inl says ↦ inl (record { came = Heard piece; tells = says; fed = fed_on opens passes.2; plain = λ asked fed turns are. fed_piece fed piece turns (opens fed turns are) })
+    | inr lacks ↦ inl (record { came = FedAnyhow piece; tells = inr lacks; fed = fed_on opens passes.2; plain = λ asked fed turns are. fed_piece fed piece turns (opens fed turns are) })
   ]
 
   -- sealed frames, behind a greeting or none
@@ -401,6 +611,7 @@ module _ (way : Way) (session : Standing) (piece : List ℕ) (told : Told) (way'
     came = Opened greeting_ frames;
     tells = record { says = says; mid = mid; greets = met; goes_on = goes_on };
     fed = λ fed turns was. are (fed ++ piece) turns greeting_;
+    plain = λ asked. no_request _ told.said (request_of told.said _ says) asked;
   })
 
   sealed_unclaimed : (rest : List ℕ) → way' ≡ sealed rest → (fed : List ℕ) (turns : List Turn) (more : List ℕ) → AreFed way' fed turns more
@@ -424,6 +635,7 @@ module _ (way : Way) (session : Standing) (piece : List ℕ) (told : Told) (way'
         came = FedAnyhow text;
         tells = subst (λ (s : Standing). Feeds session text told.said s) (sym lacks.2) (subst (λ (s : Spoken). Feeds session text s is.mid) (sym (said_of is.said None lacks.0)) is.greets);
         fed = λ fed turns was. shut_unclaimed lacks.1 (fed ++ piece) turns text;
+        plain = λ asked. absurd (none-some fault (sym (feeds_sound session text is.said is.mid is.greets (subst IsRequest (said_of is.said None lacks.0) asked)) ∙ e));
       })
 
   hello_through : (lock : Lock) (bytes : List ℕ) (hello : Result (Option (List ℕ × ℕ)) FrameError) → GreetsBy hello lock session bytes told way' session' →
@@ -493,78 +705,237 @@ gate_through kind (Some lock) shut session piece told way' session' some passes 
 
 -- ---- calls
 
-module _ (connection : ℕ) (standings : ℕ → Standing) (old new : InstanceState) (turns : List Turn) (fed : List ℕ) (talk talk' : Talk) where
-  -- how it goes on, behind this that was fed
-  abbrev OnBehind : List ℕ → Type 0
+-- bytes more went out
+nothing_first : (bytes : List ℕ) → IsFirstPart bytes [] → bytes ≡ []
+nothing_first [] first = refl
+nothing_first (byte ∷ bytes) first = absurd (let e : byte ∷ bytes ≡ [] = first in cc)
+
+none_more : (bytes : List ℕ) → IsFirstPart bytes [] → [] ≡ [] ++ bytes
+none_more bytes first = sym (nothing_first bytes first)
+
+sent_gone : (bytes : List ℕ) (saying : Saying) → IsFirstPart bytes (pending_of saying) → gone_of (sent_on (length bytes) saying) ≡ gone_of saying ++ bytes
+sent_gone bytes Silent first = none_more bytes first
+sent_gone bytes (Making making) first = none_more bytes first
+sent_gone bytes Elsewhere first = none_more bytes first
+sent_gone bytes (HeldBack reply) first = none_more bytes first
+sent_gone bytes (Out reply written) first =
+    take-add written (length bytes) (reply_bytes reply) ∙ ap (λ (l : List ℕ). take written (reply_bytes reply) ++ l) (sym first)
+
+sent_owed : (count : ℕ) (owed : Owed) (saying : Saying) → IsOwed owed saying → IsOwed owed (sent_on count saying)
+sent_owed count owed Silent was = was
+sent_owed count owed (Making making) was = was
+sent_owed count owed Elsewhere was = was
+sent_owed count owed (HeldBack reply) was = was
+sent_owed count owed (Out reply written) was = was
+
+sent_silent : (count : ℕ) (saying : Saying) → saying ≡ Silent → sent_on count saying ≡ Silent
+sent_silent count saying silent = ap (sent_on count) silent
+
+module _ (fed : List ℕ) (standing : Standing) (turns : List Turn) (talk : Talk) (count : ℕ) where
+  abbrev talk_sent : Talk
+  talk_sent = record talk { saying = sent_on count talk.saying }
+
+  sent_standing : Stands fed standing turns talk → Stands fed standing turns talk_sent
+  sent_standing (inl is) = inl (record {
+    waiting = is.waiting;
+    session = is.session;
+    bytes = is.bytes;
+    silent = λ still. sent_silent count talk.saying (is.silent still);
+    owed = sent_owed count (owed_by turns) talk.saying is.owed;
+  })
+  sent_standing (inr (inl asked)) = inr (inl (record {
+    said = asked.said;
+    came = asked.came;
+    waiting = asked.waiting;
+    request = asked.request;
+    tells = asked.tells;
+    ended = asked.ended;
+    bytes = asked.bytes;
+    plain = asked.plain;
+    silent = sent_silent count talk.saying asked.silent;
+  }))
+  sent_standing (inr (inr done)) = inr (inr (record {
+    rest = done.rest;
+    waiting = done.waiting;
+    ended = done.ended;
+    bytes = done.bytes;
+    owed = elim done.owed [ inl owed ↦ inl (sent_owed count (owed_by turns) talk.saying owed) | inr asks ↦ inr asks ];
+  }))
+
+-- what passed, by what was fed more, or went out
+abbrev both : List ℕ → List ℕ → Passed
+both fed gone = record { fed = fed; gone = gone }
+
+passed_same : (f f' g g' : List ℕ) → f ≡ f' → g ≡ g' → both f g ≡ both f' g'
+passed_same f f' g g' e h = ap (λ (x : List ℕ). both x g) e ∙ ap (λ (y : List ℕ). both f' y) h
+
+module _ (connection : ℕ) (standings : ℕ → Standing) (old new : InstanceState) (turns : List Turn) (passed : Passed) (talk talk' : Talk) where
+  -- how it goes on, behind what passed
+  abbrev OnBehind : Passed → Type 0
   OnBehind more = LivesOn connection standings old new turns (IsInAccord talk' more)
 
-  alone_lives : IsInAccord talk fed (standings connection) turns → IsAlone old talk new talk' → OnBehind fed
-  alone_lives accord is = alone connection standings old new turns is.own (IsInAccord talk' fed) (rests_in_accord fed (standings connection) turns talk talk' accord is.rests)
+  abbrev fed_more : List ℕ → Passed
+  fed_more piece = both (passed.fed ++ piece) passed.gone
 
-  screened_lives : (piece : List ℕ) → IsHeard talk fed (standings connection) turns → new ≡ old → talk' ≡ closed talk → OnBehind (fed ++ piece)
-  screened_lives piece is same closes = alone connection standings old new turns (nothing_made old new same) (IsInAccord talk' (fed ++ piece)) (inr (inr (record {
-    rest = piece;
-    waiting = ap (λ (t : Talk). t.waiting) closes;
-    ended = over_name talk'.session (name_of talk.session) (ap (λ (t : Talk). t.session) closes);
-    bytes = along talk.way talk'.way (fed ++ piece) turns piece (ap (λ (t : Talk). t.way) closes) (are_fed_piece talk.way fed piece turns is.bytes);
-  })))
+  alone_lives : IsInAccord talk passed (standings connection) turns → IsAlone old talk new talk' → OnBehind passed
+  alone_lives accord is = alone connection standings old new turns is.own (IsInAccord talk' passed) (lasts_in_accord passed (standings connection) turns talk talk' accord is.lasts)
+
+  screened_lives : (piece : List ℕ) → passed.gone ≡ gone_of talk.saying → IsHeard talk passed.fed (standings connection) turns → new ≡ old → IsClosed talk talk' → OnBehind (fed_more piece)
+  screened_lives piece gone is same closes = alone connection standings old new turns (nothing_made old new same) (IsInAccord talk' (fed_more piece)) (record {
+    gone = gone ∙ sym closes.saying.gone;
+    stands = inr (inr (record {
+      rest = piece;
+      waiting = closes.waiting;
+      ended = over_name talk'.session (name_of talk.session) closes.session;
+      bytes = along talk.way talk'.way (passed.fed ++ piece) turns piece closes.way (are_fed_piece talk.way passed.fed piece turns is.bytes);
+      owed = inl (closes.saying.owed (owed_by turns) is.owed);
+    }));
+  })
 
   -- it is behind its gate
   abbrev behind_gate : Way → Standing → Talk
   behind_gate way session = record talk { way = way; session = session }
 
-  silent_accord : (piece : List ℕ) (said : Spoken) (way : Way) (session : Standing) → IsHeard talk fed (standings connection) turns → IsSilent talk.session said way session →
-      ((session ≡ talk.session) ⊎ (session ≡ over (name_of talk.session))) → IsInAccord (behind_gate way session) (fed ++ piece) (standings connection) turns
-  silent_accord piece said way session is silent (inl same) = inl (record { waiting = is.waiting; session = same ∙ is.session; bytes = silent.fed (fed ++ piece) turns [] })
-  silent_accord piece said way session is silent (inr ends) =
-      inr (inr (record { rest = []; waiting = is.waiting; ended = over_name session (name_of talk.session) ends; bytes = silent.fed (fed ++ piece) turns [] }))
+  silent_standing : (piece : List ℕ) (said : Spoken) (way : Way) (session : Standing) → IsHeard talk passed.fed (standings connection) turns → talk.saying ≡ Silent → IsSilent talk.session said way session →
+      ((session ≡ talk.session) ⊎ (session ≡ over (name_of talk.session))) →
+      Stands (passed.fed ++ piece) (standings connection) turns (behind_gate way session)
+  silent_standing piece said way session is quiet silent (inl same) = inl (record {
+    waiting = is.waiting;
+    session = same ∙ is.session;
+    bytes = silent.fed (passed.fed ++ piece) turns [];
+    silent = λ still. quiet;
+    owed = is.owed;
+  })
+  silent_standing piece said way session is quiet silent (inr ends) = inr (inr (record {
+    rest = [];
+    waiting = is.waiting;
+    ended = over_name session (name_of talk.session) ends;
+    bytes = silent.fed (passed.fed ++ piece) turns [];
+    owed = inl is.owed;
+  }))
 
-  let_in_lives : (piece : List ℕ) → IsHeard talk fed (standings connection) turns → (let_in : IsLetIn piece old talk new talk') →
-      GoesThrough talk.way talk.session piece let_in.told.said let_in.way let_in.session → OnBehind (fed ++ piece)
-  let_in_lives piece is let_in (inl said) = answered_lives connection standings old new turns (fed ++ piece) let_in.told.said said.came (behind_gate let_in.way let_in.session) talk' is.waiting
-      (subst (λ (s : Standing). Tells s said.came let_in.told.said let_in.session) is.session said.tells) (said.fed fed turns is.bytes) let_in.answered
-  let_in_lives piece is let_in (inr silent) =
-      let quiet = silent_alone silent.fault let_in.told.said old new (behind_gate let_in.way let_in.session) talk' silent.says let_in.answered in
-      alone connection standings old new turns quiet.own (IsInAccord talk' (fed ++ piece)) (rests_in_accord (fed ++ piece) (standings connection) turns (behind_gate let_in.way let_in.session) talk'
-      (silent_accord piece let_in.told.said let_in.way let_in.session is silent silent.stands) quiet.rests)
+  let_in_lives : (lock : Option Lock) (piece : List ℕ) → passed.gone ≡ gone_of talk.saying → IsHeard talk passed.fed (standings connection) turns → talk.saying ≡ Silent →
+      (let_in : IsLetIn lock piece old talk new talk') → GoesThrough talk.way talk.session piece let_in.told.said let_in.way let_in.session → OnBehind (fed_more piece)
+  let_in_lives lock piece gone is quiet let_in (inl said) =
+      answered_lives connection standings old new turns (fed_more piece) let_in.told.said said.came (behind_gate let_in.way let_in.session) talk'
+      (record {
+        none = is.waiting;
+        silent = quiet;
+        gone = gone;
+        tells = subst (λ (s : Standing). Tells s said.came let_in.told.said let_in.session) is.session said.tells;
+        are = said.fed passed.fed turns is.bytes;
+        plain = λ elsewhere. said.plain (elsewhere_asked let_in.told.said elsewhere) passed.fed turns is.bytes;
+      }) let_in.answered
+  let_in_lives lock piece gone is quiet let_in (inr silent) =
+      let alone_ = silent_alone silent.fault let_in.told.said old new (behind_gate let_in.way let_in.session) talk' silent.says is.waiting let_in.answered in
+      alone connection standings old new turns alone_.own (IsInAccord talk' (fed_more piece))
+      (lasts_in_accord (fed_more piece) (standings connection) turns (behind_gate let_in.way let_in.session) talk'
+      (record { gone = gone; stands = silent_standing piece let_in.told.said let_in.way let_in.session is quiet silent silent.stands }) alone_.lasts)
 
-  fed_lives : (piece : List ℕ) → IsInAccord talk fed (standings connection) turns → IsFed piece old talk new talk' → OnBehind (fed ++ piece)
-  fed_lives piece (inl is) call = elim call.comes [
-    | inl screened ↦ screened_lives piece is screened.0 screened.1
-    | inr let_in ↦ let_in_lives piece is let_in (gate_through let_in.hears let_in.lock talk.way talk.session piece let_in.told let_in.way let_in.session call.has_byte let_in.passes)
+  fed_lives : (lock : Option Lock) (piece : List ℕ) → IsInAccord talk passed (standings connection) turns → IsFed lock piece old talk new talk' → OnBehind (fed_more piece)
+  fed_lives lock piece accord call = elim accord.stands [
+    | inl is ↦ elim call.comes [
+      | inl screened ↦ screened_lives piece accord.gone is screened.0 screened.1
+      | inr let_in ↦ let_in_lives lock piece accord.gone is (is.silent call.open_) let_in
+          (gate_through let_in.hears lock talk.way talk.session piece let_in.told let_in.way let_in.session call.has_byte let_in.passes)
+    ]
+    | inr (inl asked) ↦ absurd (call.open_ asked.ended)
+    | inr (inr done) ↦ absurd (call.open_ done.ended)
   ]
-  fed_lives piece (inr (inl asked)) call = absurd (call.open_ asked.ended)
-  fed_lives piece (inr (inr done)) call = absurd (call.open_ done.ended)
 
-  ended_lives : IsInAccord talk fed (standings connection) turns → IsEnded old talk new talk' → OnBehind fed
-  ended_lives (inl is) call = answered_lives connection standings old new turns fed call.said AtEnd (record talk { session = over (name_of talk.session) }) talk' is.waiting
-      (subst (λ (s : Standing). Tells s AtEnd call.said (over (name_of talk.session))) is.session (call.says, refl)) is.bytes call.answered
-  ended_lives (inr (inl asked)) call = absurd (call.open_ asked.ended)
-  ended_lives (inr (inr done)) call = absurd (call.open_ done.ended)
+  ended_lives : IsInAccord talk passed (standings connection) turns → IsEnded old talk new talk' → OnBehind passed
+  ended_lives accord call = elim accord.stands [
+    | inl is ↦ answered_lives connection standings old new turns passed call.said AtEnd (record talk { session = over (name_of talk.session) }) talk'
+        (record {
+          none = is.waiting;
+          silent = is.silent call.open_;
+          gone = accord.gone;
+          tells = subst (λ (s : Standing). Tells s AtEnd call.said (over (name_of talk.session))) is.session (call.says, refl);
+          are = is.bytes;
+          plain = λ elsewhere. end_elsewhere _ talk.session call.said call.says elsewhere;
+        }) call.answered
+    | inr (inl asked) ↦ absurd (call.open_ asked.ended)
+    | inr (inr done) ↦ absurd (call.open_ done.ended)
+  ]
 
   abbrev taken_up : Option Spoken → Type 0
   taken_up waiting = IsTakenUp waiting old talk new talk'
 
-  resumed_lives : IsInAccord talk fed (standings connection) turns → IsTakenUp talk.waiting old talk new talk' → OnBehind fed
-  resumed_lives (inl is) call = alone_lives (inl is) (subst taken_up is.waiting call)
-  resumed_lives (inr (inl asked)) call = answered_lives connection standings old new turns fed asked.said asked.came (record talk { waiting = None }) talk' refl asked.tells asked.bytes
-      (subst taken_up asked.waiting call asked.request)
-  resumed_lives (inr (inr done)) call = alone_lives (inr (inr done)) (subst taken_up done.waiting call)
+  resumed_lives : IsInAccord talk passed (standings connection) turns → IsTakenUp talk.waiting old talk new talk' → OnBehind passed
+  resumed_lives accord call = elim accord.stands [
+    | inl is ↦ alone_lives accord (subst taken_up is.waiting call)
+    | inr (inl asked) ↦ answered_lives connection standings old new turns passed asked.said asked.came (record talk { waiting = None }) talk'
+        (record { none = refl; silent = asked.silent; gone = accord.gone; tells = asked.tells; are = asked.bytes; plain = asked.plain })
+        (subst taken_up asked.waiting call asked.request)
+    | inr (inr done) ↦ alone_lives accord (subst taken_up done.waiting call)
+  ]
 
-  fed_none : OnBehind fed → OnBehind (fed ++ [])
-  fed_none on = subst OnBehind (sym (append-nil fed)) on
+  sent_lives : (bytes : List ℕ) → IsInAccord talk passed (standings connection) turns → IsSent bytes old talk new talk' → OnBehind (both passed.fed (passed.gone ++ bytes))
+  sent_lives bytes accord call = alone connection standings old new turns (nothing_made old new call.same) (IsInAccord talk' (both passed.fed (passed.gone ++ bytes)))
+      (subst (λ (t : Talk). IsInAccord t (both passed.fed (passed.gone ++ bytes)) (standings connection) turns) (sym call.sent) (record {
+        gone = ap (λ (l : List ℕ). l ++ bytes) accord.gone ∙ sym (sent_gone bytes talk.saying call.first);
+        stands = sent_standing passed.fed (standings connection) turns talk (length bytes) accord.stands;
+      }))
+
+  nothing_more : OnBehind passed → OnBehind (passed_on passed [])
+  nothing_more on = subst OnBehind (passed_same passed.fed (passed.fed ++ []) passed.gone (passed.gone ++ []) (sym (append-nil passed.fed)) (sym (append-nil passed.gone))) on
 
   -- a call for a connection is turns of it, and steps that the member makes by itself
-  pub does_lives : (deed : Deed) → IsInAccord talk fed (standings connection) turns → Does deed old talk new talk' → OnBehind (fed ++ fed_in (deed ∷ []))
-  does_lives (Fed piece) accord call = subst OnBehind (ap (λ (l : List ℕ). fed ++ l) (sym (append-nil piece))) (fed_lives piece accord call)
-  does_lives Ended accord call = fed_none (ended_lives accord call)
-  does_lives Resumed accord call = fed_none (resumed_lives accord call)
-  does_lives (Sent count) accord call = fed_none (alone_lives accord call)
-  does_lives Released accord call = fed_none (alone_lives accord call)
-  does_lives CameDue accord call = fed_none (alone_lives accord call)
-  does_lives Hurried accord call = fed_none (alone_lives accord call)
-  does_lives (BrokenOff broken) accord call = fed_none (alone_lives accord call)
+  pub does_lives : (lock : Option Lock) (deed : Deed) → IsInAccord talk passed (standings connection) turns → Does lock deed old talk new talk' → OnBehind (passed_on passed (deed ∷ []))
+  does_lives lock (Fed piece) accord call = subst OnBehind (passed_same _ _ _ _ (ap (λ (l : List ℕ). passed.fed ++ l) (sym (append-nil piece))) (sym (append-nil passed.gone))) (fed_lives lock piece accord call)
+  does_lives lock Ended accord call = nothing_more (ended_lives accord call)
+  does_lives lock Resumed accord call = nothing_more (resumed_lives accord call)
+  does_lives lock (Sent bytes) accord call = subst OnBehind (passed_same _ _ _ _ (sym (append-nil passed.fed)) (ap (λ (l : List ℕ). passed.gone ++ l) (sym (append-nil bytes)))) (sent_lives bytes accord call)
+  does_lives lock Released accord call = nothing_more (alone_lives accord call)
+  does_lives lock CameDue accord call = nothing_more (alone_lives accord call)
+  does_lives lock Hurried accord call = nothing_more (alone_lives accord call)
+  does_lives lock (BrokenOff broken) accord call = nothing_more (alone_lives accord call)
 
--- a connection of which nothing came is in accord
-pub fresh_in_accord : (talk : Talk) → talk ≡ fresh_talk → IsInAccord talk [] fresh []
-fresh_in_accord talk same = subst (λ (t : Talk). IsInAccord t [] fresh []) (sym same) (inl (record { waiting = refl; session = refl; bytes = refl }))
+-- a connection over which nothing passed is in accord
+pub fresh_in_accord : (talk : Talk) → talk ≡ fresh_talk → IsInAccord talk nothing_passed fresh []
+fresh_in_accord talk same = subst (λ (t : Talk). IsInAccord t nothing_passed fresh []) (sym same)
+    (record { gone = refl; stands = inl (record { waiting = refl; session = refl; bytes = refl; silent = λ still. refl; owed = tt }) })
+
+-- ---- what was replied
+
+pub none_replied : IsReplied nothing_passed fresh []
+none_replied = inl refl
+
+first_taken : (written : ℕ) (bytes : List ℕ) → IsFirstPart (take written bytes) bytes
+first_taken written bytes = sym (ap (λ n. take n bytes) (length-take written bytes) ∙ take_min written bytes)
+
+module _ (passed : Passed) (standing : Standing) (turns : List Turn) where
+  owed_replied : (saying : Saying) → passed.gone ≡ gone_of saying → IsOwed (owed_by turns) saying ⊎ HasAskedElsewhere passed.fed standing turns → IsReplied passed standing turns
+  owed_replied Silent gone owed = inl gone
+  owed_replied (Making making) gone owed = inl gone
+  owed_replied Elsewhere gone owed = inl gone
+  owed_replied (HeldBack reply) gone owed = inl gone
+  owed_replied (Out reply written) gone owed =
+      inr (reply, subst (λ (l : List ℕ). IsFirstPart l (reply_bytes reply)) (sym gone) (first_taken written (reply_bytes reply)), owed)
+
+-- what went out over a connection in accord is of one reply, and of the right one
+pub replied_in_accord : (talk : Talk) (passed : Passed) (standing : Standing) (turns : List Turn) → IsInAccord talk passed standing turns → IsReplied passed standing turns
+replied_in_accord talk passed standing turns accord = elim accord.stands [
+  | inl is ↦ owed_replied passed standing turns talk.saying accord.gone (inl is.owed)
+  | inr (inl asked) ↦ inl (accord.gone ∙ ap gone_of asked.silent)
+  | inr (inr done) ↦ owed_replied passed standing turns talk.saying accord.gone done.owed
+]
+
+-- ---- calls that are for no session
+
+module _ {S : Type 0} (instance_of : S → InstanceState) (acts : S → S → Type 0) (loses : S → ℕ → LinkFault → S → Type 0) (answers : S → ℕ → List ℕ → S → Type 0)
+    (gives : S → ℕ → Option (List ℕ) → S → Type 0) (offers asks : S → ℕ → List ℕ → S → Type 0) where
+  -- one that is for a peer leaves the instance, and another makes steps by itself
+  pub call_alone : ((s s' : S) → acts s s' → ByItself (instance_of s) (instance_of s'))
+      → ((s : S) (peer : ℕ) (fault : LinkFault) (s' : S) → loses s peer fault s' → instance_of s' ≡ instance_of s)
+      → ((s : S) (peer : ℕ) (bytes : List ℕ) (s' : S) → answers s peer bytes s' → instance_of s' ≡ instance_of s)
+      → ((s : S) (peer : ℕ) (more : Option (List ℕ)) (s' : S) → gives s peer more s' → instance_of s' ≡ instance_of s)
+      → ((s : S) (peer : ℕ) (bytes : List ℕ) (s' : S) → offers s peer bytes s' → instance_of s' ≡ instance_of s)
+      → ((s : S) (peer : ℕ) (bytes : List ℕ) (s' : S) → asks s peer bytes s' → instance_of s' ≡ instance_of s)
+      → (s s' : S) → IsCall acts loses answers gives offers asks s s' → ByItself (instance_of s) (instance_of s')
+  call_alone acted lost answered given offered asked s s' (inl call) = acted s s' call
+  call_alone acted lost answered given offered asked s s' (inr (inl call)) = nothing_made (instance_of s) (instance_of s') (lost s call.0 call.1 s' call.2)
+  call_alone acted lost answered given offered asked s s' (inr (inr (inl call))) = nothing_made (instance_of s) (instance_of s') (answered s call.0 call.1 s' call.2)
+  call_alone acted lost answered given offered asked s s' (inr (inr (inr (inl call)))) = nothing_made (instance_of s) (instance_of s') (given s call.0 call.1 s' call.2)
+  call_alone acted lost answered given offered asked s s' (inr (inr (inr (inr (inl call))))) = nothing_made (instance_of s) (instance_of s') (offered s call.0 call.1 s' call.2)
+  call_alone acted lost answered given offered asked s s' (inr (inr (inr (inr (inr call))))) = nothing_made (instance_of s) (instance_of s') (asked s call.0 call.1 s' call.2)

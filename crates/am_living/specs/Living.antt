@@ -1,12 +1,12 @@
 -- What a loop did, as a member's life.
-use Rattle.std.specs.Prelude.{◌≡◌, ◌==◌, ℕ, ◌+◌, ◌<◌, ◌≤◌, List, [], ◌∷◌, ◌++◌, Option, Some, None, ⊤, if◌then◌else◌}
+use Rattle.std.specs.Prelude.{◌≡◌, ◌==◌, ℕ, ◌+◌, ◌<◌, ◌≤◌, List, [], ◌∷◌, ◌++◌, Option, Some, ⊤, if◌then◌else◌}
 use Rattle.am_http.specs.Sessions.{Standing, fresh}
 use Rattle.am_instance.specs.InstanceStates.{InstanceState}
 use Rattle.am_member.specs.Lives.{Deed as LifeDeed, IsLife, IsOwnEvent, Turn, standings_in, turns_of}
 use Rattle.am_member.specs.Lives.Deed.{Served, Own}
 use Rattle.am_reactor.specs.Deeds.{Deed}
-use Rattle.am_reactor.specs.History.{Happening, Happens, Line, fed_in}
-use Rattle.am_reactor.specs.History.Happening.{Came, Called, Thrown, Closed, Acted}
+use Rattle.am_reactor.specs.History.{Happening, Line, fed_in, out_in}
+use Rattle.am_reactor.specs.History.Happening.{Came, Called}
 
 -- ---- connections, each with a number that is never used again
 
@@ -25,16 +25,29 @@ abbrev pub numbers_by : ℕ → (ℕ → ℕ) → List Happening → ℕ → ℕ
 numbers_by count numbers [] = numbers
 numbers_by count numbers (happening ∷ happenings) = numbers_by (count_after count happening) (numbers_after count numbers happening) happenings
 
--- the bytes that were fed to the session under each key
-abbrev pub fed_after : (ℕ → List ℕ) → Happening → ℕ → List ℕ
-fed_after fed (Came key) = λ other. if other == key then [] else fed other
-fed_after fed (Called key deeds) = λ other. if other == key then fed key ++ fed_in deeds else fed other
-fed_after fed _ = fed
+-- the bytes that passed over a connection: those that were fed to its session, and those that went out
+pub record Passed : Type 0 where
+  pub fed : List ℕ
+  pub gone : List ℕ
 
--- those that were fed by these happenings
-abbrev pub fed_by : (ℕ → List ℕ) → List Happening → ℕ → List ℕ
-fed_by fed [] = fed
-fed_by fed (happening ∷ happenings) = fed_by (fed_after fed happening) happenings
+-- none
+abbrev pub nothing_passed : Passed
+nothing_passed = record { fed = []; gone = [] }
+
+-- those that pass by calls come behind
+abbrev pub passed_on : Passed → List Deed → Passed
+passed_on passed deeds = record { fed = passed.fed ++ fed_in deeds; gone = passed.gone ++ out_in deeds }
+
+-- those of each connection, by its number
+abbrev pub passed_after : (ℕ → ℕ) → (ℕ → Passed) → Happening → ℕ → Passed
+passed_after numbers passed (Called key deeds) = λ number. if number == numbers key then passed_on (passed number) deeds else passed number
+passed_after numbers passed _ = passed
+
+-- those that passed by these happenings
+abbrev pub passed_by : ℕ → (ℕ → ℕ) → (ℕ → Passed) → List Happening → ℕ → Passed
+passed_by count numbers passed [] = passed
+passed_by count numbers passed (happening ∷ happenings) =
+    passed_by (count_after count happening) (numbers_after count numbers happening) (passed_after numbers passed happening) happenings
 
 -- ---- what a member does, as its life
 
@@ -69,17 +82,17 @@ pub record LivesOn (connection : ℕ) (standings : ℕ → Standing) (old new : 
   pub life : IsLife standings old deeds new
   pub accord : IsInAccord (standings_in standings deeds connection) (turns ++ turns_of connection deeds)
 
-module _ {S T : Type 0} (instance_of : S → InstanceState) (accords : T → List ℕ → Standing → List Turn → Type 0) where
+module _ {S T : Type 0} (instance_of : S → InstanceState) (accords : T → Passed → Standing → List Turn → Type 0) where
   -- a session begins with a connection of which nothing came
   pub record BeginsFresh (service : S) (session : T) (service' : S) : Type 0 where
     pub same : instance_of service' ≡ instance_of service
-    pub accord : accords session [] fresh []
+    pub accord : accords session nothing_passed fresh []
 
   -- A call for a session is turns of its connection, whichever that is, and steps by itself.
   abbrev pub DoesForOne : S → T → Deed → S → T → Type 0
   DoesForOne service session deed service' session' =
-      (connection : ℕ) (standings : ℕ → Standing) (fed : List ℕ) (turns : List Turn) → accords session fed (standings connection) turns
-      → LivesOn connection standings (instance_of service) (instance_of service') turns (accords session' (fed ++ fed_in (deed ∷ [])))
+      (connection : ℕ) (standings : ℕ → Standing) (passed : Passed) (turns : List Turn) → accords session passed (standings connection) turns
+      → LivesOn connection standings (instance_of service) (instance_of service') turns (accords session' (passed_on passed (deed ∷ [])))
 
 -- ---- what a loop did, as a life
 
@@ -87,14 +100,16 @@ module _ {S T : Type 0} (instance_of : S → InstanceState) (accords : T → Lis
 abbrev pub StandsUnder : {T C : Type 0} → (ℕ → Option (Line T C)) → ℕ → Type 0
 StandsUnder {T} {C} lines key = (line : Line T C) × (lines key ≡ Some line)
 
--- How the connections stand in a life: each session accords with the bytes that were fed to it, and with the turns of its connection,
--- by its number. No two have one number, and each number was given already; of those that weren't nothing came.
-pub record Accords {T C : Type 0} (accords : T → List ℕ → Standing → List Turn → Type 0) (count : ℕ) (numbers : ℕ → ℕ) (fed : ℕ → List ℕ)
-    (standings : ℕ → Standing) (turns : ℕ → List Turn) (lines : ℕ → Option (Line T C)) : Type 0 where
-  pub each : (key : ℕ) (line : Line T C) → lines key ≡ Some line → accords line.session (fed key) (standings (numbers key)) (turns (numbers key))
+-- How the connections stand in a life: each session accords with the bytes that passed over its connection, and with its turns, by its
+-- number. No two have one number, and each number was given already; over those that weren't nothing passed. Of each connection that
+-- ever came, this is so of the bytes that passed over it, of how far it came and of its turns.
+pub record Accords {T C : Type 0} (accords : T → Passed → Standing → List Turn → Type 0) (is_so : Passed → Standing → List Turn → Type 0) (count : ℕ) (numbers : ℕ → ℕ)
+    (passed : ℕ → Passed) (standings : ℕ → Standing) (turns : ℕ → List Turn) (lines : ℕ → Option (Line T C)) : Type 0 where
+  pub each : (key : ℕ) (line : Line T C) → lines key ≡ Some line → accords line.session (passed (numbers key)) (standings (numbers key)) (turns (numbers key))
   pub given : (key : ℕ) → StandsUnder lines key → numbers key < count
   pub apart : (one other : ℕ) → StandsUnder lines one → StandsUnder lines other → numbers one ≡ numbers other → one ≡ other
-  pub unused : (number : ℕ) → count ≤ number → (standings number ≡ fresh) × (turns number ≡ [])
+  pub unused : (number : ℕ) → count ≤ number → (passed number ≡ nothing_passed) × (standings number ≡ fresh) × (turns number ≡ [])
+  pub ever : (number : ℕ) → is_so (passed number) (standings number) (turns number)
 
 -- how many connections came by these happenings
 abbrev pub count_by : ℕ → List Happening → ℕ
@@ -103,10 +118,10 @@ count_by count (happening ∷ happenings) = count_by (count_after count happenin
 
 -- What a loop did is the life of a member: turns of its connections, each by its number, and steps that the member made by itself, lead
 -- its instance from where it stood to where it stands.
-pub record IsLived {S T C : Type 0} (instance_of : S → InstanceState) (accords : T → List ℕ → Standing → List Turn → Type 0)
+pub record IsLived {S T C : Type 0} (instance_of : S → InstanceState) (accords : T → Passed → Standing → List Turn → Type 0) (is_so : Passed → Standing → List Turn → Type 0)
     (first : S) (happenings : List Happening) (service : S) (lines : ℕ → Option (Line T C)) : Type 0 where
   pub deeds : List LifeDeed
   pub life : IsLife (λ _. fresh) (instance_of first) deeds (instance_of service)
   pub own : OwnsItsOwn deeds
-  pub accord : Accords accords (count_by 0 happenings) (numbers_by 0 (λ _. 0) happenings) (fed_by (λ _. []) happenings) (standings_in (λ _. fresh) deeds)
-      (λ connection. turns_of connection deeds) lines
+  pub accord : Accords accords is_so (count_by 0 happenings) (numbers_by 0 (λ _. 0) happenings) (passed_by 0 (λ _. 0) (λ _. nothing_passed) happenings)
+      (standings_in (λ _. fresh) deeds) (λ connection. turns_of connection deeds) lines

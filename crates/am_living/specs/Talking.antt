@@ -1,20 +1,27 @@
 -- When a connection of a member that runs accords with the member's life, and what calls make of it.
-use Rattle.std.specs.Prelude.{◌≡◌, ◌≢◌, ◌⊎◌, ℕ, List, [], ◌∷◌, ◌++◌, Option, Some, None, ⊤}
+use Rattle.std.specs.Prelude.{◌≡◌, ◌≢◌, ◌⊎◌, ℕ, List, [], ◌∷◌, ◌++◌, length, Option, Some, None, ⊤}
+use Rattle.am_api_silences.specs.Replies.{bytes_of as reply_bytes}
+use Rattle.am_api_silences.specs.declared.pending_reply.PendingReply.{PendingReply}
+use Rattle.am_api_silences.specs.declared.replies.ReplyBytes.{ReplyBytes}
 use Rattle.am_dialogue.specs.Answered.{ByItself, IsAnswered}
-use Rattle.am_dialogue.specs.Talks.{IsRequest, Rests, Talk, closed}
+use Rattle.am_dialogue.specs.Talks.{IsClosed, IsElsewhere, IsOwed, IsReplyTo, IsRequest, Lasts, Owed, Talk, gone_of, pending_of, sent_on}
+use Rattle.am_dialogue.specs.Talks.Owed.{Line, Reply}
+use Rattle.am_dialogue.specs.Talks.Saying.{Silent}
 use Rattle.am_gate.specs.declared.passing.Hears.{Hears}
 use Rattle.am_gate.specs.Gates.{Passes, Told, Way}
-use Rattle.am_gate.specs.Gates.Way.{before, passing, greeting, sealed, shut}
+use Rattle.am_gate.specs.Gates.Way.{before, passing}
 use Rattle.am_http.specs.Sessions.{SaysEnd, Spoken, Standing, fresh, name_of, over}
 use Rattle.am_instance.specs.InstanceStates.{InstanceState}
 use Rattle.am_member.specs.Lives.{Came, Tells, Turn, bytes_in, bytes_of}
 use Rattle.am_reactor.specs.Deeds.{Deed}
 use Rattle.am_reactor.specs.Deeds.Deed.{Fed, Ended, Sent, Resumed, Released, CameDue, Hurried, BrokenOff}
+use Rattle.am_reactor.specs.Sending.{IsFirstPart}
 use Rattle.am_seal.specs.declared.seal.Lock.{Lock}
+use Rattle.am_living.specs.Living.{Passed}
 
 -- before anything came
 abbrev pub fresh_talk : Talk
-fresh_talk = record { way = before; session = fresh; waiting = None }
+fresh_talk = record { way = before; session = fresh; waiting = None; saying = Silent }
 
 -- ---- accord
 
@@ -24,13 +31,37 @@ AreFed before fed turns more = fed ≡ bytes_in turns ++ more
 AreFed passing fed turns more = fed ≡ bytes_in turns ++ more
 AreFed way_ fed turns more = ⊤
 
--- It stands where its connection does in the life, all that came was heard in turns, and nothing waits.
+-- what a connection is owed by its turns: the reply that the last of them has begun, where one has, and else a line at most
+abbrev pub owed_after : Owed → Option PendingReply → Owed
+owed_after owed None = owed
+owed_after owed (Some begun) = Reply begun
+
+abbrev pub owed_on : Owed → List Turn → Owed
+owed_on owed [] = owed
+owed_on owed (turn ∷ turns) = owed_on (owed_after owed turn.answer.reply) turns
+
+abbrev pub owed_by : List Turn → Owed
+owed_by turns = owed_on Line turns
+
+-- What was fed last, behind the turns, says a request that isn't about silences, from where the connection stands in the life.
+pub record HasAskedElsewhere (fed : List ℕ) (standing : Standing) (turns : List Turn) : Type 0 where
+  pub came : Came
+  pub said : Spoken
+  pub left : Standing
+  pub tells : Tells standing came said left
+  pub elsewhere : IsElsewhere said
+  pub bytes : fed ≡ bytes_in turns ++ bytes_of came
+
+-- It stands where its connection does in the life, all that came was heard in turns, and nothing waits. It is replied what its turns
+-- owe, and nothing before no more is heard.
 pub record IsHeard (talk : Talk) (fed : List ℕ) (standing : Standing) (turns : List Turn) : Type 0 where
   pub waiting : talk.waiting ≡ None
   pub session : talk.session ≡ standing
   pub bytes : AreFed talk.way fed turns []
+  pub silent : talk.session ≢ over (name_of talk.session) → talk.saying ≡ Silent
+  pub owed : IsOwed (owed_by turns) talk.saying
 
--- A request waits: what came last says it, from where the connection stands in the life. No more is heard.
+-- A request waits: what came last says it, from where the connection stands in the life. No more is heard, and nothing is replied yet.
 pub record HasAsked (talk : Talk) (fed : List ℕ) (standing : Standing) (turns : List Turn) : Type 0 where
   pub said : Spoken
   pub came : Came
@@ -39,24 +70,37 @@ pub record HasAsked (talk : Talk) (fed : List ℕ) (standing : Standing) (turns 
   pub tells : Tells standing came said talk.session
   pub ended : talk.session ≡ over (name_of talk.session)
   pub bytes : AreFed talk.way fed turns (bytes_of came)
+  pub plain : IsElsewhere said → fed ≡ bytes_in turns ++ bytes_of came
+  pub silent : talk.saying ≡ Silent
 
--- No more is heard, and no turn comes any more; the turns had a first part of what was fed.
-pub record IsDone (talk : Talk) (fed : List ℕ) (turns : List Turn) : Type 0 where
+-- No more is heard, and no turn comes any more; the turns had a first part of what was fed. It is replied what its turns owe, but to what
+-- isn't about silences.
+pub record IsDone (talk : Talk) (fed : List ℕ) (standing : Standing) (turns : List Turn) : Type 0 where
   pub rest : List ℕ
   pub waiting : talk.waiting ≡ None
   pub ended : talk.session ≡ over (name_of talk.session)
   pub bytes : AreFed talk.way fed turns rest
+  pub owed : IsOwed (owed_by turns) talk.saying ⊎ HasAskedElsewhere fed standing turns
 
--- a connection accords with what was fed to it, with where it stands in the life, and with its turns there
-abbrev pub IsInAccord : Talk → List ℕ → Standing → List Turn → Type 0
-IsInAccord talk fed standing turns = IsHeard talk fed standing turns ⊎ (HasAsked talk fed standing turns ⊎ IsDone talk fed turns)
+-- a connection accords with the bytes that passed over it, with where it stands in the life, and with its turns there
+pub record IsInAccord (talk : Talk) (passed : Passed) (standing : Standing) (turns : List Turn) : Type 0 where
+  pub gone : passed.gone ≡ gone_of talk.saying
+  pub stands : IsHeard talk passed.fed standing turns ⊎ (HasAsked talk passed.fed standing turns ⊎ IsDone talk passed.fed standing turns)
+
+-- what may be replied by turns, and to what was asked else
+abbrev pub IsMeantFor : List ℕ → Standing → List Turn → ReplyBytes → Type 0
+IsMeantFor fed standing turns reply = IsReplyTo (owed_by turns) reply ⊎ HasAskedElsewhere fed standing turns
+
+-- All that went out over a connection is a first part of one reply: the one that the step of its own request has begun, or a line; or one
+-- to a request that isn't about silences.
+abbrev pub IsReplied : Passed → Standing → List Turn → Type 0
+IsReplied passed standing turns = (passed.gone ≡ []) ⊎ ((reply : ReplyBytes) × IsFirstPart passed.gone (reply_bytes reply) × IsMeantFor passed.fed standing turns reply)
 
 -- ---- calls
 
--- The piece passes the gate, and what is said then is answered.
-pub record IsLetIn (piece : List ℕ) (old : InstanceState) (talk : Talk) (new : InstanceState) (talk' : Talk) : Type 0 where
+-- The piece passes the gate, which has this lock or none, and what is said then is answered.
+pub record IsLetIn (lock : Option Lock) (piece : List ℕ) (old : InstanceState) (talk : Talk) (new : InstanceState) (talk' : Talk) : Type 0 where
   pub hears : Hears
-  pub lock : Option Lock
   pub told : Told
   pub way : Way
   pub session : Standing
@@ -65,13 +109,13 @@ pub record IsLetIn (piece : List ℕ) (old : InstanceState) (talk : Talk) (new :
 
 -- The piece names a host or a site that isn't the member's, and no more is heard.
 abbrev pub IsScreened : InstanceState → Talk → InstanceState → Talk → Type 0
-IsScreened old talk new talk' = (new ≡ old) × (talk' ≡ closed talk)
+IsScreened old talk new talk' = (new ≡ old) × IsClosed talk talk'
 
 -- a piece comes of a connection of which is heard
-pub record IsFed (piece : List ℕ) (old : InstanceState) (talk : Talk) (new : InstanceState) (talk' : Talk) : Type 0 where
+pub record IsFed (lock : Option Lock) (piece : List ℕ) (old : InstanceState) (talk : Talk) (new : InstanceState) (talk' : Talk) : Type 0 where
   pub open_ : talk.session ≢ over (name_of talk.session)
   pub has_byte : piece ≢ []
-  pub comes : IsScreened old talk new talk' ⊎ IsLetIn piece old talk new talk'
+  pub comes : IsScreened old talk new talk' ⊎ IsLetIn lock piece old talk new talk'
 
 -- its input ends
 pub record IsEnded (old : InstanceState) (talk : Talk) (new : InstanceState) (talk' : Talk) : Type 0 where
@@ -83,20 +127,26 @@ pub record IsEnded (old : InstanceState) (talk : Talk) (new : InstanceState) (ta
 -- nothing comes of it but what the member does by itself
 pub record IsAlone (old : InstanceState) (talk : Talk) (new : InstanceState) (talk' : Talk) : Type 0 where
   pub own : ByItself old new
-  pub rests : Rests talk talk'
+  pub lasts : Lasts talk talk'
+
+-- these bytes went out, the first of those that waited
+pub record IsSent (bytes : List ℕ) (old : InstanceState) (talk : Talk) (new : InstanceState) (talk' : Talk) : Type 0 where
+  pub same : new ≡ old
+  pub first : IsFirstPart bytes (pending_of talk.saying)
+  pub sent : talk' ≡ record talk { saying = sent_on (length bytes) talk.saying }
 
 -- what waits is taken up, where something does
 abbrev pub IsTakenUp : Option Spoken → InstanceState → Talk → InstanceState → Talk → Type 0
 IsTakenUp None old talk new talk' = IsAlone old talk new talk'
 IsTakenUp (Some said) old talk new talk' = IsRequest said → IsAnswered said old (record talk { waiting = None }) new talk'
 
--- what a call for a connection makes of the instance and of the connection
-abbrev pub Does : Deed → InstanceState → Talk → InstanceState → Talk → Type 0
-Does (Fed piece) old talk new talk' = IsFed piece old talk new talk'
-Does Ended old talk new talk' = IsEnded old talk new talk'
-Does Resumed old talk new talk' = IsTakenUp talk.waiting old talk new talk'
-Does (Sent count) old talk new talk' = IsAlone old talk new talk'
-Does Released old talk new talk' = IsAlone old talk new talk'
-Does CameDue old talk new talk' = IsAlone old talk new talk'
-Does Hurried old talk new talk' = IsAlone old talk new talk'
-Does (BrokenOff broken) old talk new talk' = IsAlone old talk new talk'
+-- what a call for a connection makes of the instance and of the connection, behind this lock or none
+abbrev pub Does : Option Lock → Deed → InstanceState → Talk → InstanceState → Talk → Type 0
+Does lock (Fed piece) old talk new talk' = IsFed lock piece old talk new talk'
+Does lock Ended old talk new talk' = IsEnded old talk new talk'
+Does lock Resumed old talk new talk' = IsTakenUp talk.waiting old talk new talk'
+Does lock (Sent bytes) old talk new talk' = IsSent bytes old talk new talk'
+Does lock Released old talk new talk' = IsAlone old talk new talk'
+Does lock CameDue old talk new talk' = IsAlone old talk new talk'
+Does lock Hurried old talk new talk' = IsAlone old talk new talk'
+Does lock (BrokenOff broken) old talk new talk' = IsAlone old talk new talk'

@@ -2,14 +2,14 @@
 //! other.
 #![tactic(auto)]
 
-ghost use Rattle.std.specs.Prelude.{◌≡◌, ℕ, List, Option};
-ghost use Rattle.am_http.specs.Sessions.{Standing};
+ghost use Rattle.std.specs.Prelude.{[], ℕ, List, Option};
+ghost use Rattle.am_http.specs.Sessions.{Standing, fresh};
 ghost use Rattle.am_instance.specs.InstanceStates.{InstanceState};
 ghost use Rattle.am_member.specs.Lives.{Turn};
 ghost use Rattle.am_reactor.specs.Deeds.{Deed};
-ghost use Rattle.am_reactor.specs.History.{Leads, Line, no_lines};
-ghost use Rattle.am_reactor.specs.Linked.{LinksGoFromNone};
-ghost use Rattle.am_living.specs.Living.{ActsAlone, BeginsFresh, DoesForOne, IsLived};
+ghost use Rattle.am_reactor.specs.History.{IsCall, Leads, Line, no_lines};
+ghost use Rattle.am_reactor.specs.Peered.{LoopGoesFromNone};
+ghost use Rattle.am_living.specs.Living.{ActsAlone, BeginsFresh, DoesForOne, IsLived, Passed, nothing_passed};
 
 use am_reactor::{Entrances, Limits, Peers, Service, Stream};
 use mio::net::TcpStream;
@@ -23,14 +23,23 @@ pub trait Living: Service {
     /// The instance that it holds.
     ghost instance_of: { Self → InstanceState };
 
-    /// A session accords with the bytes that were fed to it, with how far its connection has come in the member's life, and with
+    /// A session accords with the bytes that passed over its connection, with how far that has come in the member's life, and with
     /// the turns that the connection had in it.
-    ghost accords: { Self.Session → List ℕ → Standing → List Turn → Type 0 };
+    ghost accords: { Self.Session → Passed → Standing → List Turn → Type 0 };
+
+    /// What is so of the bytes that passed over a connection, of how far it came and of its turns, whether it is still open or not.
+    ghost is_so: { Passed → Standing → List Turn → Type 0 };
 
     ghost begins_fresh: { (service : Self) (session : Self.Session) (service' : Self) → Self.begins service session service' →
         BeginsFresh instance_of accords service session service' };
 
-    ghost acts_alone: { (service : Self) (service' : Self) → Self.acts service service' → ActsAlone instance_of service service' };
+    ghost so_of_none: { is_so nothing_passed fresh [] };
+
+    ghost so_of_accord: { (session : Self.Session) (passed : Passed) (standing : Standing) (turns : List Turn) →
+        accords session passed standing turns → is_so passed standing turns };
+
+    ghost acts_alone: { (service : Self) (service' : Self) → IsCall Self.acts Self.loses Self.answers Self.gives Self.offers Self.asks service service' →
+        ActsAlone instance_of service service' };
 
     ghost does_for_one: { (service : Self) (session : Self.Session) (deed : Deed) (service' : Self) (session' : Self.Session) →
         Self.does service session deed service' session' → DoesForOne instance_of accords service session deed service' session' };
@@ -38,7 +47,7 @@ pub trait Living: Service {
 
 /// Serves the connections of listeners as [`am_reactor::run`] does. What happened is what that tells of it, and it is a life of
 /// the member: turns of the connections, each by its number, and steps that the member made by itself, one after the other. Of the
-/// links to peers it tells what that tells.
+/// links to peers and of the exchanges with them it tells what that tells.
 ///
 /// # Errors
 ///
@@ -53,9 +62,10 @@ pub fn run<S: Living, R: Net + Clock + Input>(
 ) -> io::Result<()>
     // PROMISE: A member that the loop runs has lived a life: one list of steps, each connection's own bytes in order.
     ensures lived { (left : ℕ → Option (Line S.Session TcpStream))
-        × (history : Leads S.does S.begins S.acts S.pending ⟦<TcpStream as Stream>⟧.coming ⟦<TcpStream as Stream>⟧.gone service.old no_lines service.new left)
-        × IsLived S.instance_of S.accords service.old history.happenings service.new left }
-    ensures linked { LinksGoFromNone S.does S.begins S.acts S.pending ⟦<TcpStream as Stream>⟧.coming ⟦<TcpStream as Stream>⟧.gone S.loses S.gives S.offers service.old service.new }
+        × (history : Leads S.does S.begins (IsCall S.acts S.loses S.answers S.gives S.offers S.asks) S.pending ⟦<TcpStream as Stream>⟧.coming ⟦<TcpStream as Stream>⟧.gone
+        service.old no_lines service.new left)
+        × IsLived S.instance_of S.accords S.is_so service.old history.happenings service.new left }
+    ensures peered { LoopGoesFromNone S.does S.begins S.acts S.pending ⟦<TcpStream as Stream>⟧.coming ⟦<TcpStream as Stream>⟧.gone S.loses S.answers S.gives S.offers S.asks service.old service.new }
 {
     am_reactor::run(alloc, rt, entrances, peers, service, limits)
 }

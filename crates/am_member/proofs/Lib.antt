@@ -1,3 +1,4 @@
+pub mod Finished
 pub mod Making
 pub mod Greeted
 pub mod Names

@@ -15,6 +15,7 @@ use Rattle.am_instance.specs.declared.event.Event.{Event}
 use Rattle.am_instance.specs.declared.event.Event.TheVariants as events
 use Rattle.am_instance.specs.declared.reply.Outcome.{Outcome}
 use Rattle.am_api_silences.specs.Answers.{Answered, ComesOf}
+use Rattle.am_api_silences.specs.declared.replies.ReplyBytes.{ReplyBytes}
 use Rattle.am_http.specs.declared.session.fault.SessionFault.{SessionFault}
 use Rattle.am_http.specs.Sessions.{Standing, name_of}
 use Rattle.am_member.specs.Sparing.{spared}
@@ -22,7 +23,8 @@ use Rattle.am_peers.specs.declared.fault.Fault.{Fault}
 use Rattle.am_peers.specs.declared.fault.Fault.TheVariants.{Read as InRead, Write, TooLarge, Frame as InFrame, UnknownName, Step}
 use Rattle.am_member.specs.declared.session_answer.StepEffects.{StepEffects}
 use Rattle.am_member.specs.Incoming.{MakesAll, StopsAt, no_effects}
-use Rattle.am_member.specs.Exchanging.{Answer, AreHeard, AreStepped, IsAnsweredTo, IsFromNobody, MakesNamed, is_stopped}
+use Rattle.am_member.proofs.Finished.{finish_where}
+use Rattle.am_member.specs.Exchanging.{Answer, AreHeard, AreStepped, IsAnsweredTo, IsFromNobody, IsSessionAnswer, MakesNamed, is_stopped, with_reply}
 use Rattle.am_member.specs.Lives.{AreEventsOf, AreEventsOfFrames, AreEventsOfRead, AreStepsOf, AreStepsOfAll, Deed, IsLife, IsTurn, Turn, listed, standings_after}
 use Rattle.am_member.specs.Lives.Deed.{Served, Own}
 
@@ -225,18 +227,18 @@ or_given other (Some x) = x
 some_is : {A : Type 0} (x y : A) (o : Option A) → o ≡ Some x → o ≡ Some y → x ≡ y
 some_is x y o is also = ap (or_given x) (sym is ∙ also)
 
-turn_by : (standing : Standing) (old : InstanceState) (turn : Turn) (request : Option Read) → (spared turn.said).request ≡ request → IsTurn standing old turn →
-    (steps : List Happened) × AreStepsOf old turn steps
-turn_by standing old turn (Some read) is done =
-    let found = read_steps read turn.bits turn.now (is_stopped turn.answer.fault) old turn.left turn.answer (done.answered.asked read is) in
+turn_by : (old : InstanceState) (turn : Turn) (whole : Option ReplyBytes) (request : Option Read) → (spared turn.said).request ≡ request →
+    IsSessionAnswer (name_of turn.heard) turn.bits turn.now (spared turn.said) old turn.left (with_reply turn.answer whole) → (steps : List Happened) × AreStepsOf old turn steps
+turn_by old turn whole (Some read) is done =
+    let found = read_steps read turn.bits turn.now (is_stopped turn.answer.fault) old turn.left (with_reply turn.answer whole) (done.asked read is) in
     steps_of_turn old turn found.asked
     (record {
       of_request = λ other also. subst (λ (r : Read). AreEventsOfRead r turn.bits found.asked) (some_is read other (spared turn.said).request is also) found.are;
       of_frames = λ none. absurd (none-some read (sym none ∙ is));
     })
     found.steps
-turn_by standing old turn None is done =
-    let found = heard_steps (name_of turn.heard) turn.now (spared turn.said).frames (spared turn.said).fault old turn.left turn.answer.effects turn.answer.fault (done.answered.heard is).1 in
+turn_by old turn whole None is done =
+    let found = heard_steps (name_of turn.heard) turn.now (spared turn.said).frames (spared turn.said).fault old turn.left turn.answer.effects turn.answer.fault (done.heard is).1 in
     steps_of_turn old turn found.asked
     (record {
       of_request = λ read some. absurd (none-some read (sym is ∙ some));
@@ -244,8 +246,11 @@ turn_by standing old turn None is done =
     })
     found.steps
 
+-- (its steps don't hang on what its reply is finished with)
 pub turn_steps : (standing : Standing) (old : InstanceState) (turn : Turn) → IsTurn standing old turn → (steps : List Happened) × AreStepsOf old turn steps
-turn_steps standing old turn done = turn_by standing old turn (spared turn.said).request refl done
+turn_steps standing old turn done =
+    let whole = finish_where turn.answer.reply in
+    turn_by old turn whole.0 (spared turn.said).request refl (done.answered whole.0 whole.1)
 
 -- all deeds
 pub life_steps : (standings : ℕ → Standing) (start new : InstanceState) (deeds : List Deed) → IsLife standings start deeds new →

@@ -27,7 +27,8 @@ use Rattle.am_api_silences.specs.Replies.{IsReplyBytes, Says, line_bytes, memory
 use Rattle.am_api_silences.specs.Table.{clock_line}
 use Rattle.am_api_silences.specs.declared.replies.ReplyBytes.{ReplyBytes}
 use Rattle.am_http.specs.Sessions.{Feeds, Says as SaysPiece, SaysEnd, Spoken, Standing, and_then, name_of, nothing, over}
-use Rattle.am_member.specs.Exchanging.{Answer, IsSessionAnswer, IsFromNobody, IsSender, is_stopped, left_at}
+use Rattle.am_member.specs.declared.session_answer.SessionAnswer.{SessionAnswer}
+use Rattle.am_member.specs.Exchanging.{Answer, IsSessionAnswer, IsFromNobody, IsSender, WhenFinished, is_stopped, left_at}
 use Rattle.am_member.specs.Sparing.{spared}
 
 -- what came of a connection: a piece that there was memory for, any piece, or the end of its input; or frames that were sealed, with the
@@ -64,7 +65,7 @@ Tells old AtEnd said new = SaysEnd old said × (new ≡ over (name_of old))
 Tells old (Opened greeting frames) said new = SaysOpened old greeting frames said new
 
 -- A turn of a member: something came of a connection, at a moment and with random bits; what it said and how far the connection
--- had come with it, what the member answered, with the reply that its making was finished with, and the instance as it left it.
+-- had come with it, what the member answered, with a reply that may still be made, and the instance as it left it.
 pub record Turn : Type 0 where
   pub connection : ℕ
   pub came : Came
@@ -72,14 +73,14 @@ pub record Turn : Type 0 where
   pub bits : ℕ
   pub said : Spoken
   pub heard : Standing
-  pub answer : Answer
+  pub answer : SessionAnswer
   pub left : InstanceState
 
 -- What came is told by the connection's own session; what its frames ask for is left to the member's own steps, and the rest is
--- answered as the contract of `apply_session_output` says.
+-- answered as the contract of `apply_session_output` says, whatever the reply is finished with.
 pub record IsTurn (standing : Standing) (old : InstanceState) (turn : Turn) : Type 0 where
   pub tells : Tells standing turn.came turn.said turn.heard
-  pub answered : IsSessionAnswer (name_of turn.heard) turn.bits turn.now (spared turn.said) old turn.left turn.answer
+  pub answered : WhenFinished (IsSessionAnswer (name_of turn.heard) turn.bits turn.now (spared turn.said) old turn.left) turn.answer
 
 -- how far its connection has come after a turn, and each other one as before
 abbrev pub standings_after : (ℕ → Standing) → Turn → ℕ → Standing

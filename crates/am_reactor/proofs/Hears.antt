@@ -6,9 +6,9 @@ use Rattle.std.specs.Io.KnownBytes.{Consumes, IsAtEnd}
 use Rattle.am_reactor.specs.declared.connection.Connection.{Connection}
 use Rattle.am_reactor.specs.declared.reading.ReadResult.{ReadResult}
 use Rattle.am_reactor.specs.declared.reading.ReadResult.TheVariants.{Bytes, End, Nothing, Interrupted, Failed}
-use Rattle.am_reactor.specs.Deeds.{Deed, Did, ending, feeds, sends}
+use Rattle.am_reactor.specs.Deeds.{Deed, Did, ending, feeds, joined, sends}
 use Rattle.am_reactor.specs.Deeds.Deed.{Fed, Ended, Sent}
-use Rattle.am_reactor.specs.Reading.{EndsWith, FitsPiece, Hears, brought_by, joined, told_of}
+use Rattle.am_reactor.specs.Reading.{EndsWith, FitsPiece, Hears, brought_by, told_of}
 use Rattle.am_reactor.specs.Sending.{counted}
 
 -- ---- calls one after the other
@@ -17,11 +17,11 @@ feeds_more : (pieces : List (List ℕ)) (piece : List ℕ) → feeds (pieces ++ 
 feeds_more [] piece = refl
 feeds_more (p ∷ ps) piece = ap (λ l. Fed p ∷ l) (feeds_more ps piece)
 
-pub sends_more : (counts : List ℕ) (count : ℕ) → sends (counts ++ count ∷ []) ≡ sends counts ++ Sent count ∷ []
-sends_more [] count = refl
-sends_more (n ∷ ns) count = ap (λ l. Sent n ∷ l) (sends_more ns count)
+pub sends_more : (pieces : List (List ℕ)) (piece : List ℕ) → sends (pieces ++ piece ∷ []) ≡ sends pieces ++ Sent piece ∷ []
+sends_more [] piece = refl
+sends_more (p ∷ ps) piece = ap (λ l. Sent p ∷ l) (sends_more ps piece)
 
-joined_more : (pieces : List (List ℕ)) (piece : List ℕ) → joined (pieces ++ piece ∷ []) ≡ joined pieces ++ piece
+pub joined_more : (pieces : List (List ℕ)) (piece : List ℕ) → joined (pieces ++ piece ∷ []) ≡ joined pieces ++ piece
 joined_more [] piece = append-nil piece
 joined_more (p ∷ ps) piece = ap (λ l. p ++ l) (joined_more ps piece) ∙ sym (append_assoc p (joined ps) piece)
 

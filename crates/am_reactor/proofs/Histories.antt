@@ -1,19 +1,17 @@
 -- What a loop did, one happening more.
-use Rattle.std.proofs.Common.{◌≡◌, ◌≢◌, ◌∙◌, ◌==◌, ap, sym, subst, ℕ, zero, suc, ◌+◌, Bool, true, false, List, [], ◌∷◌, ◌++◌, take, sum, refl, Option, None, Some, IsSome, option_map, append-nil, arith, if◌then◌else◌, inl, inr, ◌⊎◌}
+use Rattle.std.proofs.Common.{◌≡◌, ◌≢◌, ◌∙◌, ◌==◌, ap, sym, subst, ℕ, zero, suc, Bool, true, false, List, [], ◌∷◌, ◌++◌, length, take, refl, Option, None, Some, IsSome, option_map, arith, if◌then◌else◌, inl, inr, ◌⊎◌, take_at}
 use Rattle.std.proofs.KnownBytes.{Appends-nil, Consumes-nil, Consumes-trans}
-use Rattle.std.proofs.lemmas.List.Sums.{sum_by-cons}
 use Rattle.std.proofs.lemmas.Bool.Decides.{nat_tests}
 use Rattle.std.specs.Io.KnownBytes.{Appends, Consumes}
-use Rattle.am_reactor.specs.Deeds.{Deed, Did, ending, feeds, sends}
-use Rattle.am_reactor.specs.Deeds.Deed.{Fed, Ended, Sent}
+use Rattle.am_reactor.specs.Deeds.{Deed, ending, feeds, joined, sends}
 use Rattle.am_reactor.specs.declared.connection.Connection.{Connection}
 use Rattle.am_reactor.specs.declared.connection.Phase.{Phase}
 use Rattle.am_reactor.specs.declared.connection.Phase.TheVariants.{Open, Lingering}
 use Rattle.am_reactor.specs.Connections.{KeepsOthers}
-use Rattle.am_reactor.specs.History.{Line, Happening, line_of, lines, leaves_in, AreSame, fed_in, sent_in, with_line, Acts, ActsOn, Calls, Closes, Stays, StaysUnder, Throws, Makes, Happens, Leads, LeadsOn, LeadsUnder}
+use Rattle.am_reactor.specs.History.{Line, Happening, line_of, lines, leaves_in, AreSame, fed_in, out_in, with_line, Acts, ActsOn, Calls, Closes, Stays, StaysUnder, Throws, Makes, Happens, Leads, LeadsOn, LeadsUnder}
 use Rattle.am_reactor.specs.History.Happening.{Came, TurnedAway, Called, Thrown, Closed, Acted}
-use Rattle.am_reactor.specs.Reading.{Hears, joined}
-use Rattle.am_reactor.specs.Sending.{SendsOn}
+use Rattle.am_reactor.specs.Reading.{Hears}
+use Rattle.am_reactor.specs.Sending.{IsFirstPart, SendsOn}
 use Rattle.slab.specs.Slab.{Slab, Updates, get, with_value}
 use Rattle.slab.proofs.SlabLemmas.{Updates-with_value}
 
@@ -128,23 +126,27 @@ fed_pieces : (pieces : List (List ℕ)) (was is : Bool) → fed_in (feeds pieces
 fed_pieces [] was is = fed_end was is
 fed_pieces (p ∷ ps) was is = ap (λ l. p ++ l) (fed_pieces ps was is)
 
-sent_end : (was is : Bool) → sent_in (ending was is) ≡ 0
-sent_end false false = refl
-sent_end false true = refl
-sent_end true false = refl
-sent_end true true = refl
+out_end : (was is : Bool) → out_in (ending was is) ≡ []
+out_end false false = refl
+out_end false true = refl
+out_end true false = refl
+out_end true true = refl
 
-sent_pieces : (pieces : List (List ℕ)) (was is : Bool) → sent_in (feeds pieces ++ ending was is) ≡ 0
-sent_pieces [] was is = sent_end was is
-sent_pieces (p ∷ ps) was is = sent_pieces ps was is
+out_pieces : (pieces : List (List ℕ)) (was is : Bool) → out_in (feeds pieces ++ ending was is) ≡ []
+out_pieces [] was is = out_end was is
+out_pieces (p ∷ ps) was is = out_pieces ps was is
 
-fed_sends : (counts : List ℕ) → fed_in (sends counts) ≡ []
+fed_sends : (pieces : List (List ℕ)) → fed_in (sends pieces) ≡ []
 fed_sends [] = refl
-fed_sends (n ∷ ns) = fed_sends ns
+fed_sends (p ∷ ps) = fed_sends ps
 
-sent_sends : (counts : List ℕ) → sent_in (sends counts) ≡ sum counts
-sent_sends [] = refl
-sent_sends (n ∷ ns) = ap (λ k. n + k) (sent_sends ns) ∙ sym (sum_by-cons (λ x. x) n ns)
+out_sends : (pieces : List (List ℕ)) → out_in (sends pieces) ≡ joined pieces
+out_sends [] = refl
+out_sends (p ∷ ps) = ap (λ l. p ++ l) (out_sends ps)
+
+-- bytes before the rest are a first part
+first_part : (bytes rest whole : List ℕ) → whole ≡ bytes ++ rest → IsFirstPart bytes whole
+first_part bytes rest whole e = sym (ap (take (length bytes)) e ∙ take_at bytes rest (length bytes) refl)
 
 module _ {S T C : Type 0} (does : S → T → Deed → S → T → Type 0) (begins : S → T → S → Type 0) (acts : S → S → Type 0)
     (pending : T → List ℕ) (coming gone : C → Option (List ℕ)) where
@@ -157,8 +159,9 @@ module _ {S T C : Type 0} (does : S → T → Deed → S → T → Type 0) (begi
         did = h.did;
         came = subst (Consumes (coming c.stream) (coming c'.stream)) (sym (fed_pieces h.pieces c.ended c'.ended)) h.came;
         heard = λ _. stays;
-        went = subst (λ n. Appends (gone c.stream) (gone c'.stream) (take n (pending c.session))) (sym (sent_pieces h.pieces c.ended c'.ended))
+        went = subst (Appends (gone c.stream) (gone c'.stream)) (sym (out_pieces h.pieces c.ended c'.ended))
             (subst (λ x. Appends (gone c.stream) x []) (sym h.unwritten) (Appends-nil (gone c.stream)));
+        first = subst (λ l. IsFirstPart l (pending c.session)) (sym (out_pieces h.pieces c.ended c'.ended)) refl;
         leaves = ap leaves_in h.phase;
       })
 
@@ -167,12 +170,13 @@ module _ {S T C : Type 0} (does : S → T → Deed → S → T → Type 0) (begi
       → SendsOn does pending s c.session s' c'.session (gone c.stream) (gone c'.stream) counter next → coming c'.stream ≡ coming c.stream → c'.leaves ≡ c.leaves
       → LeadsUnder does begins acts pending coming gone s c s' c'
   leads_tells s c s' c' counter next sent unread leaves =
-      leads_calls does begins acts pending coming gone (sends sent.counts) s c s' c'
+      leads_calls does begins acts pending coming gone (sends sent.pieces) s c s' c'
       (record {
         did = sent.did;
-        came = subst (Consumes (coming c.stream) (coming c'.stream)) (sym (fed_sends sent.counts)) (subst (λ x. Consumes (coming c.stream) x []) (sym unread) (Consumes-nil (coming c.stream)));
-        heard = λ some. absurd (some (fed_sends sent.counts));
-        went = subst (λ n. Appends (gone c.stream) (gone c'.stream) (take n (pending c.session))) (sym (sent_sends sent.counts)) sent.out.written;
+        came = subst (Consumes (coming c.stream) (coming c'.stream)) (sym (fed_sends sent.pieces)) (subst (λ x. Consumes (coming c.stream) x []) (sym unread) (Consumes-nil (coming c.stream)));
+        heard = λ some. absurd (some (fed_sends sent.pieces));
+        went = subst (Appends (gone c.stream) (gone c'.stream)) (sym (out_sends sent.pieces)) sent.out.written;
+        first = subst (λ l. IsFirstPart l (pending c.session)) (sym (out_sends sent.pieces)) (first_part (joined sent.pieces) (pending c'.session) (pending c.session) sent.out.rest);
         leaves = leaves;
       })
 
@@ -185,11 +189,12 @@ module _ {S T C : Type 0} (does : S → T → Deed → S → T → Type 0) (begi
         came = subst (λ x. Consumes (coming c.stream) x []) (sym stays.unread) (Consumes-nil (coming c.stream));
         heard = λ some. absurd (some refl);
         went = subst (λ x. Appends (gone c.stream) x []) (sym stays.unwritten) (Appends-nil (gone c.stream));
+        first = refl;
         leaves = stays.leaves;
       })
 
   -- one call that neither reads nor writes
-  pub leads_call : (deed : Deed) (s : S) (c : Line T C) (s' : S) (c' : Line T C) → does s c.session deed s' c'.session → fed_in (deed ∷ []) ≡ [] → sent_in (deed ∷ []) ≡ 0
+  pub leads_call : (deed : Deed) (s : S) (c : Line T C) (s' : S) (c' : Line T C) → does s c.session deed s' c'.session → fed_in (deed ∷ []) ≡ [] → out_in (deed ∷ []) ≡ []
       → c'.stream ≡ c.stream → c'.leaves ≡ c.leaves → LeadsUnder does begins acts pending coming gone s c s' c'
   leads_call deed s c s' c' did unfed unsent stream leaves =
       leads_calls does begins acts pending coming gone (deed ∷ []) s c s' c'
@@ -197,8 +202,8 @@ module _ {S T C : Type 0} (does : S → T → Deed → S → T → Type 0) (begi
         did = (s', c'.session, did, (refl, refl));
         came = subst (Consumes (coming c.stream) (coming c'.stream)) (sym unfed) (subst (λ x. Consumes (coming c.stream) (coming x) []) (sym stream) (Consumes-nil (coming c.stream)));
         heard = λ some. absurd (some unfed);
-        went = subst (λ n. Appends (gone c.stream) (gone c'.stream) (take n (pending c.session))) (sym unsent)
-            (subst (λ x. Appends (gone c.stream) (gone x) []) (sym stream) (Appends-nil (gone c.stream)));
+        went = subst (Appends (gone c.stream) (gone c'.stream)) (sym unsent) (subst (λ x. Appends (gone c.stream) (gone x) []) (sym stream) (Appends-nil (gone c.stream)));
+        first = subst (λ l. IsFirstPart l (pending c.session)) (sym unsent) refl;
         leaves = leaves;
       })
 

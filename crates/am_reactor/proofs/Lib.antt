@@ -1,6 +1,6 @@
 pub mod Drives
 pub mod Hears
 pub mod Histories
-pub mod Linking
 pub mod Moves
+pub mod Peering
 mod Sends

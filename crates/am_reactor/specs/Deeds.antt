@@ -1,13 +1,14 @@
 -- What a service is called for, one connection at a time.
 use Rattle.std.specs.Prelude.{◌≡◌, ℕ, Bool, true, false, List, [], ◌∷◌}
+use Rattle.std.specs.List.{flat_map}
 use Rattle.am_reactor.specs.declared.fault.Broken.{Broken}
 
--- A call for the session of one connection: these bytes came, or its input ended; so many of its bytes went out; a stretch of
+-- A call for the session of one connection: these bytes came, or its input ended; these bytes of it went out; a stretch of
 -- what waits is done; its commit is over, or its moment has come; what waits is done at once or given up; it is broken off.
 pub data Deed : Type 0 where
   Fed : List ℕ → Deed
   Ended : Deed
-  Sent : ℕ → Deed
+  Sent : List ℕ → Deed
   Resumed : Deed
   Released : Deed
   CameDue : Deed
@@ -24,10 +25,14 @@ abbrev pub ending : Bool → Bool → List Deed
 ending false true = Ended ∷ []
 ending was is = []
 
--- the calls that tell of what went out
-abbrev pub sends : List ℕ → List Deed
+-- the calls that tell of pieces that went out
+abbrev pub sends : List (List ℕ) → List Deed
 sends [] = []
-sends (count ∷ counts) = Sent count ∷ sends counts
+sends (piece ∷ pieces) = Sent piece ∷ sends pieces
+
+-- all the bytes of pieces, one after the other
+abbrev pub joined : List (List ℕ) → List ℕ
+joined pieces = flat_map (λ piece. piece) pieces
 
 module _ {S T : Type 0} (does : S → T → Deed → S → T → Type 0) where
   -- what calls, one after the other, make of a service and of a session

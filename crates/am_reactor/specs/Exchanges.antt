@@ -31,6 +31,10 @@ module _ {C : Type 0} where
   abbrev pub exchange_with : Exchanges C → ℕ → Option (Exchange C)
   exchange_with exchanges peer = slice_index_or exchanges.open.items peer None
 
+  -- no exchange is under way
+  abbrev pub HasNoExchange : Exchanges C → Type 0
+  HasNoExchange exchanges = (peer : ℕ) → exchange_with exchanges peer ≡ None
+
   -- the exchanges with other peers are as they were
   abbrev pub KeepsExchanges : ℕ → Exchanges C → Exchanges C → Type 0
   KeepsExchanges peer old new = (other : ℕ) → other ≢ peer → exchange_with new other ≡ exchange_with old other

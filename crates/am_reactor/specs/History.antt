@@ -1,12 +1,14 @@
 -- What a loop did, call by call.
-use Rattle.std.specs.Prelude.{◌≡◌, ◌⊎◌, ◌≢◌, ◌==◌, ℕ, zero, suc, ◌+◌, Bool, true, false, List, [], ◌∷◌, ◌++◌, take, Option, None, Some, option_map, if◌then◌else◌}
+use Rattle.std.specs.Prelude.{◌≡◌, ◌⊎◌, ◌≢◌, ◌==◌, ℕ, zero, suc, Bool, true, false, List, [], ◌∷◌, ◌++◌, Option, None, Some, option_map, if◌then◌else◌}
 use Rattle.std.specs.Io.KnownBytes.{Appends, Consumes}
 use Rattle.slab.specs.Slab.{Slab, get}
 use Rattle.am_reactor.specs.declared.connection.Connection.{Connection}
 use Rattle.am_reactor.specs.declared.connection.Phase.{Phase}
 use Rattle.am_reactor.specs.declared.connection.Phase.TheVariants.{Open, Lingering}
+use Rattle.am_reactor.specs.declared.fault.LinkFault.{LinkFault}
 use Rattle.am_reactor.specs.Deeds.{Deed, Did}
 use Rattle.am_reactor.specs.Deeds.Deed.{Fed, Sent}
+use Rattle.am_reactor.specs.Sending.{IsFirstPart}
 
 -- what a connection is to its service: a session, what that goes over, and whether it is let go
 pub record Line (T C : Type 0) : Type 0 where
@@ -68,11 +70,22 @@ fed_in [] = []
 fed_in (Fed piece ∷ deeds) = piece ++ fed_in deeds
 fed_in (_ ∷ deeds) = fed_in deeds
 
--- how many bytes went out by calls
-abbrev pub sent_in : List Deed → ℕ
-sent_in [] = 0
-sent_in (Sent count ∷ deeds) = count + sent_in deeds
-sent_in (_ ∷ deeds) = sent_in deeds
+-- all the bytes that went out by calls
+abbrev pub out_in : List Deed → List ℕ
+out_in [] = []
+out_in (Sent piece ∷ deeds) = piece ++ out_in deeds
+out_in (_ ∷ deeds) = out_in deeds
+
+-- A call that is for no session, whatever it is for: one for no peer either; one that tells of a peer that what waited for it, or was asked of it,
+-- is lost, or what it answered; one that asks for more for a peer, or in which bytes were given for a peer, or were asked of it.
+abbrev pub IsCall : {S : Type 0} → (S → S → Type 0) → (S → ℕ → LinkFault → S → Type 0) → (S → ℕ → List ℕ → S → Type 0) → (S → ℕ → Option (List ℕ) → S → Type 0)
+    → (S → ℕ → List ℕ → S → Type 0) → (S → ℕ → List ℕ → S → Type 0) → S → S → Type 0
+IsCall acts loses answers gives offers asks service service' = acts service service'
+    ⊎ (((peer : ℕ) × (fault : LinkFault) × loses service peer fault service')
+    ⊎ (((peer : ℕ) × (bytes : List ℕ) × answers service peer bytes service')
+    ⊎ (((peer : ℕ) × (more : Option (List ℕ)) × gives service peer more service')
+    ⊎ (((peer : ℕ) × (bytes : List ℕ) × offers service peer bytes service')
+    ⊎ ((peer : ℕ) × (bytes : List ℕ) × asks service peer bytes service')))))
 
 -- What happens in a loop: a connection comes, under a key that is free, or is turned away, for which there is no place; calls for the session under a key, one after the other; bytes
 -- come of a connection that is let go, and are thrown away; connections are closed; and calls that are for no session.
@@ -101,7 +114,8 @@ module _ {S T C : Type 0} (does : S → T → Deed → S → T → Type 0) (begi
     pub did : Did does service line.session deeds service' line'.session
     pub came : Consumes (coming line.stream) (coming line'.stream) (fed_in deeds)
     pub heard : fed_in deeds ≢ [] → line.leaves ≡ false
-    pub went : Appends (gone line.stream) (gone line'.stream) (take (sent_in deeds) (pending line.session))
+    pub went : Appends (gone line.stream) (gone line'.stream) (out_in deeds)
+    pub first : IsFirstPart (out_in deeds) (pending line.session)
     pub leaves : line'.leaves ≡ line.leaves
 
   -- what a happening makes of a service and of the connections

@@ -1,11 +1,10 @@
 -- What is read, and what is told of it.
 use Rattle.std.specs.Prelude.{◌≡◌, ◌<◌, ◌≤◌, ℕ, true, false, List, [], ◌∷◌, ◌++◌, length, take, Option}
-use Rattle.std.specs.List.{flat_map}
 use Rattle.std.specs.Io.KnownBytes.{Consumes, IsAtEnd}
 use Rattle.am_reactor.specs.declared.connection.Connection.{Connection}
 use Rattle.am_reactor.specs.declared.reading.ReadResult.{ReadResult}
 use Rattle.am_reactor.specs.declared.reading.ReadResult.TheVariants.{Bytes, End, Nothing, Interrupted, Failed}
-use Rattle.am_reactor.specs.Deeds.{Deed, Did, ending, feeds}
+use Rattle.am_reactor.specs.Deeds.{Deed, Did, ending, feeds, joined}
 use Rattle.am_reactor.specs.Deeds.Deed.{Fed, Ended}
 use Rattle.am_reactor.specs.Sending.{counted}
 
@@ -36,10 +35,6 @@ told_of piece End = Ended ∷ []
 told_of piece Nothing = []
 told_of piece Interrupted = []
 told_of piece (Failed kind) = []
-
--- all the bytes of pieces, one after the other
-abbrev pub joined : List (List ℕ) → List ℕ
-joined pieces = flat_map (λ piece. piece) pieces
 
 -- Of a connection is read: just the bytes that came are fed to its own session, in pieces one after the other, each once; and then,
 -- where the end is met, it is told. Nothing goes out, and the connection is the same otherwise. There is room for so many bytes

@@ -1,5 +1,5 @@
 -- What a write may say.
-use Rattle.std.specs.Prelude.{ℕ, ◌<◌, List, [], ◌∷◌}
+use Rattle.std.specs.Prelude.{ℕ, ◌<◌, List, [], ◌∷◌, take}
 use Rattle.am_reactor.specs.declared.writing.WriteResult.{WriteResult}
 use Rattle.am_reactor.specs.declared.writing.WriteResult.TheVariants.{All, Part, Nothing, Interrupted, Failed}
 use Rattle.am_reactor.specs.Deeds.{Deed}
@@ -21,10 +21,10 @@ HasByte Nothing = Unit {0}
 HasByte Interrupted = Unit {0}
 HasByte (Failed kind) = Unit {0}
 
--- what is told of a write: how many bytes went out, where some did
-abbrev pub written_of : WriteResult → List Deed
-written_of All = []
-written_of (Part count) = Sent count ∷ []
-written_of Nothing = []
-written_of Interrupted = []
-written_of (Failed kind) = []
+-- what is told of a write of these bytes: just those that went out, where some did
+abbrev pub written_of : List ℕ → WriteResult → List Deed
+written_of waiting All = []
+written_of waiting (Part count) = Sent (take count waiting) ∷ []
+written_of waiting Nothing = []
+written_of waiting Interrupted = []
+written_of waiting (Failed kind) = []

@@ -2,8 +2,7 @@
 
 ghost use Rattle.std.specs.Prelude.{◌≡◌, [], ℕ, List, None, false, length, IfOk, IfSome, IsTrue, Ok, OnErr, OnOk};
 ghost use Rattle.std.specs.Option.{IsSome};
-ghost use Rattle.am_reactor.specs.Exchanges.{Fails, Goes, GoesOn, IsAsked, IsAskedOf, IsBegun, IsDriven, IsEnded, IsTimedOut, KeepsExchanges, OneByOne, exchange_with};
-ghost use Rattle.am_reactor.specs.History.{ActsOn};
+ghost use Rattle.am_reactor.specs.Exchanges.{Fails, Goes, GoesOn, HasNoExchange, IsAsked, IsAskedOf, IsBegun, IsDriven, IsEnded, IsTimedOut, KeepsExchanges, OneByOne, exchange_with};
 
 use crate::connection::Readiness;
 use crate::exchange::Exchange;
@@ -44,7 +43,7 @@ impl<C: Stream + Drop> Exchanges<C> {
     ) -> Result<Exchanges<C>, AllocError>
         ensures addresses { IfOk result (λ exchanges. exchanges.addresses.items ≡ addresses.now) }
         ensures most { IfOk result (λ exchanges. exchanges.most ≡ most) }
-        ensures none { IfOk result (λ exchanges. (peer : ℕ) → exchange_with exchanges peer ≡ None) }
+        ensures none { IfOk result HasNoExchange }
     {
         let Ok(count) = u16::try_from(addresses.len()) else {
             return Err(AllocError);
@@ -212,7 +211,6 @@ pub fn ask<S: Service, R: Net>(
 )
     ensures others { KeepsExchanges asked.now.peer exchanges.old exchanges.new }
     ensures asked { IsAskedOf S.loses asked.now.peer asked.now.bytes.items service.old exchanges.old service.new exchanges.new }
-    ensures acted { ActsOn S.acts service.old service.new }
 {
     if let Err(fault) = exchanges.begin(rt, registry, asked, end) {
         service.lost(asked.peer, fault);
@@ -230,7 +228,6 @@ fn deliver_answer<S: Service, C: Stream + Drop>(
     ensures told { IfSome (exchange_with exchanges.old peer) (λ exchange. S.answers service.old peer exchange.answer.items service.new) }
     ensures closed { exchange_with exchanges.new peer ≡ None }
     ensures others { KeepsExchanges peer exchanges.old exchanges.new }
-    ensures acted { ActsOn S.acts service.old service.new }
 {
     if let Some(exchange) = exchanges.close(peer) {
         service.answered(peer, exchange.into_answer());
@@ -248,7 +245,6 @@ pub fn drive_exchange<S: Service, C: Stream + Drop>(
     ensures others { KeepsExchanges peer exchanges.old exchanges.new }
     // PROMISE: What a peer answered is told once, whole, once all was asked of it; or it is told that it is lost.
     ensures heard { IsDriven C.coming C.gone S.answers S.loses (length piece.old) peer service.old exchanges.old service.new exchanges.new }
-    ensures acted { ActsOn S.acts service.old service.new }
 {
     if !exchanges.is_open(peer) {
         return;
@@ -270,9 +266,8 @@ pub fn hear_all<S: Service, C: Stream + Drop>(
     service: &mut S,
     piece: &mut [u8],
 )
-    ensures heard { (peers : List ℕ) × OneByOne (IsDriven C.coming C.gone S.answers S.loses (length piece.old)) peers
+    ensures { (peers : List ℕ) × OneByOne (IsDriven C.coming C.gone S.answers S.loses (length piece.old)) peers
         service.old exchanges.old service.new exchanges.new }
-    ensures acted { ActsOn S.acts service.old service.new }
 {
     for _ in 0..exchanges.busy.len() {
         match exchanges.busy.pop() {
@@ -290,7 +285,6 @@ fn time_out_exchange<S: Service, C: Stream + Drop>(
 )
     ensures others { KeepsExchanges peer exchanges.old exchanges.new }
     ensures told { IsTimedOut S.loses peer service.old exchanges.old service.new exchanges.new }
-    ensures acted { ActsOn S.acts service.old service.new }
 {
     if let Some(exchange) = exchanges.close(peer) {
         let written = exchange.written();
@@ -304,8 +298,7 @@ pub fn expire<S: Service, C: Stream + Drop>(
     service: &mut S,
     now: Instant,
 )
-    ensures told { (peers : List ℕ) × OneByOne (IsTimedOut S.loses) peers service.old exchanges.old service.new exchanges.new }
-    ensures acted { ActsOn S.acts service.old service.new }
+    ensures { (peers : List ℕ) × OneByOne (IsTimedOut S.loses) peers service.old exchanges.old service.new exchanges.new }
 {
     for _ in 0..u16::MAX {
         match exchanges.overdue(now) {
@@ -317,8 +310,7 @@ pub fn expire<S: Service, C: Stream + Drop>(
 
 /// Closes every exchange.
 pub fn give_up_all<S: Service, C: Stream + Drop>(exchanges: &mut Exchanges<C>, service: &mut S)
-    ensures told { (peers : List ℕ) × OneByOne (IsTimedOut S.loses) peers service.old exchanges.old service.new exchanges.new }
-    ensures acted { ActsOn S.acts service.old service.new }
+    ensures { (peers : List ℕ) × OneByOne (IsTimedOut S.loses) peers service.old exchanges.old service.new exchanges.new }
 {
     for _ in 0..u16::MAX {
         match exchanges.by_end.first() {

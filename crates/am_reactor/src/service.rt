@@ -1,6 +1,6 @@
 //! What a loop serves.
 
-ghost use Rattle.std.specs.Prelude.{◌≡◌, ◌↔◌, ℕ, ◌<◌, ◌≤◌, Bool, List, [], Option, IfSome, IsTrue, length, drop};
+ghost use Rattle.std.specs.Prelude.{◌≡◌, ◌↔◌, ℕ, ◌<◌, ◌≤◌, Bool, List, [], Option, MatchOption, IsTrue, length, take, drop};
 ghost use Rattle.std.specs.Option.{option_map};
 ghost use Rattle.std.specs.declared.time.Instant.{Instant};
 ghost use Rattle.am_reactor.specs.declared.fault.LinkFault.{LinkFault};
@@ -62,10 +62,13 @@ pub trait Service {
     /// What the service is once it gave these bytes for a peer.
     ghost offers: { Self → ℕ → List ℕ → Self → Type 0 };
 
+    /// What the service is once it asked this of a peer.
+    ghost asks: { Self → ℕ → List ℕ → Self → Type 0 };
+
     /// What the service is once a connection was accepted, whose session is this.
     ghost begins: { Self → Self.Session → Self → Type 0 };
 
-    /// What a call that is for no session makes of the service.
+    /// What a call that is for no session and for no peer makes of the service.
     ghost acts: { Self → Self → Type 0 };
 
     /// What a call for the session of one connection makes of the service and of the session.
@@ -142,7 +145,7 @@ pub trait Service {
     fn sent(&mut self, session: &mut Self::Session, count: usize)
         requires within { count ≤ length (pending session.old) }
         ensures rest { pending session.new ≡ drop count (pending session.old) }
-        ensures did { does self.old session.old (Sent count) self.new session.new };
+        ensures did { does self.old session.old (Sent (take count (pending session.old))) self.new session.new };
 
     /// Whether nothing more is read. Once nothing waits and all is written, the connection is let go.
     fn is_over(&self, session: &Self::Session) -> bool
@@ -153,30 +156,26 @@ pub trait Service {
 
     /// What goes to a peer next. It is asked after each call that may bring something, until there is nothing.
     fn outgoing(&mut self) -> Option<PeerBytes>
-        ensures offered { IfSome result (λ it. offers self.old it.peer it.bytes.items self.new) }
-        ensures acted { acts self.old self.new };
+        ensures { MatchOption result (acts self.old self.new) (λ it. offers self.old it.peer it.bytes.items self.new) };
 
     /// What goes to a peer behind all that went out, over the link that is open to it; the link's time begins anew then. It is
     /// asked where all bytes of a link went out. Where there is nothing, the link is closed.
     fn more(&mut self, peer: usize) -> Option<Vec<u8>>
-        ensures given { gives self.old peer (option_map (λ bytes. bytes.items) result) self.new }
-        ensures acted { acts self.old self.new };
+        ensures { gives self.old peer (option_map (λ bytes. bytes.items) result) self.new };
 
     /// What is asked of a peer next, over a connection of its own: behind these bytes the peer is heard until it ends its
     /// stream. It is asked for once in each turn of the loop, until there is nothing. What is asked of a peer while it hasn't
     /// answered is lost.
     fn question(&mut self) -> Option<PeerBytes>
-        ensures { acts self.old self.new };
+        ensures { MatchOption result (acts self.old self.new) (λ it. asks self.old it.peer it.bytes.items self.new) };
 
     /// A peer took all that was asked of it, answered with these bytes, perhaps none, and ended its stream.
     fn answered(&mut self, peer: usize, answer: Vec<u8>)
-        ensures told { answers self.old peer answer.items self.new }
-        ensures acted { acts self.old self.new };
+        ensures { answers self.old peer answer.items self.new };
 
     /// What waited for a peer is lost, or what was asked of it. It is told once of a link and of a question.
     fn lost(&mut self, peer: usize, fault: LinkFault)
-        ensures told { loses self.old peer fault self.new }
-        ensures acted { acts self.old self.new };
+        ensures { loses self.old peer fault self.new };
 
     /// The timer: it is called in each turn, before the loop waits.
     fn wake(&mut self, now: Instant) -> Wake

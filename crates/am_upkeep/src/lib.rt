@@ -16,6 +16,7 @@ mod upkeep;
 pub use counting::since_1970;
 pub use host::Host;
 pub use keeping::{DISK, Keeping};
+pub use loading::{config_of, secret_of};
 pub use room::Room;
 pub use sending::lock_of;
 pub use upkeep::{Upkeep, place_of, sooner};

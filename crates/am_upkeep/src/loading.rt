@@ -15,6 +15,7 @@ use am_jobs::Options;
 use am_lines::{Lines, Watch};
 use am_nflog::MeshEntry;
 use am_peers::next_moment;
+use am_seal::Lock;
 use am_secret::{Secret, read_secret};
 use am_silence::MeshSilence;
 use am_version_order::Moment;
@@ -48,7 +49,11 @@ fn check_replicas(options: &Options<'_>) -> Result<(), ConfigError> {
 }
 
 /// The names of the members, and how long things are kept.
-fn config(alloc: Global, options: &Options<'_>) -> Result<Config, Fault> {
+///
+/// # Errors
+///
+/// The [`Fault`] of the first name that can't be one.
+pub fn config_of(alloc: Global, options: &Options<'_>) -> Result<Config, Fault> {
     check_replicas(options)?;
     let Ok(name) = Text::copied(alloc, options.name) else {
         return Err(Fault::Config(ConfigError::Memory));
@@ -115,7 +120,11 @@ fn loaded_of(
 }
 
 /// The secret of the members, where they have one. It is told where others may read it.
-fn secret<R: Host>(rt: &R, options: &Options<'_>) -> Result<Option<Secret>, Fault> {
+///
+/// # Errors
+///
+/// The [`Fault`] of its file.
+pub fn secret_of<R: Host>(rt: &R, options: &Options<'_>) -> Result<Option<Secret>, Fault> {
     let Some(path) = options.secret else {
         return Ok(None);
     };
@@ -147,7 +156,7 @@ fn empty<R: Host>(
 fn upkeep_of<'a, R: Host>(
     rt: &'a R,
     options: &'a Options<'a>,
-    secret: Option<Secret>,
+    lock: Option<Lock<'a>>,
     loaded: Loaded,
     figures: Figures,
     lines: Lines,
@@ -163,7 +172,7 @@ fn upkeep_of<'a, R: Host>(
     let upkeep = Upkeep {
         rt,
         options,
-        secret,
+        lock,
         silences,
         log,
         room,
@@ -183,14 +192,17 @@ impl<'a, R: Host> Upkeep<'a, R> {
     ///
     /// # Errors
     ///
-    /// The first [`Fault`] of names, secret, memory, silences, log.
-    pub fn load(rt: &'a R, options: &'a Options<'a>) -> Result<(Instance, Self), Fault> {
-        let config = config(rt.alloc(), options)?;
-        let secret = secret(rt, options)?;
+    /// The first [`Fault`] of memory, silences, log.
+    pub fn load(
+        rt: &'a R,
+        options: &'a Options<'a>,
+        config: Config,
+        lock: Option<Lock<'a>>,
+    ) -> Result<(Instance, Self), Fault> {
         let Ok((figures, lines)) = empty(rt, &config, options) else {
             return Err(Fault::Config(ConfigError::Memory));
         };
         let loaded = load(rt, config, options)?;
-        Ok(upkeep_of(rt, options, secret, loaded, figures, lines))
+        Ok(upkeep_of(rt, options, lock, loaded, figures, lines))
     }
 }

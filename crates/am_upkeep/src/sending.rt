@@ -26,7 +26,7 @@ impl<R: Host> Upkeep<'_, R> {
     /// The bytes of frames for a peer, sealed where members have a secret. Where there is no memory for them there are none.
     fn bytes_for(&self, config: &Config, peer: Place, frames: &[Frame]) -> Option<Vec<u8>> {
         let alloc = self.rt.alloc();
-        let Some(lock) = lock_of(self.options, &self.secret) else {
+        let Some(lock) = self.lock else {
             return frames_text(alloc, frames).ok();
         };
         let name = config.members().get(peer as usize)?;

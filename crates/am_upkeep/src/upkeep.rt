@@ -17,7 +17,7 @@ use am_instance::{Config, Event, FrameSender, Instance, Place, Unsent};
 use am_jobs::Options;
 use am_lines::{Lines, Told, Watch};
 use am_peers::{Fault as ConnectionFault, next_moment};
-use am_secret::Secret;
+use am_seal::Lock;
 use std::rt::Clock;
 use std::time::{Duration, Instant};
 
@@ -25,8 +25,8 @@ use std::time::{Duration, Instant};
 pub struct Upkeep<'a, R> {
     pub rt: &'a R,
     pub options: &'a Options<'a>,
-    /// The secret of the members, where they have one.
-    pub secret: Option<Secret>,
+    /// What members know one another by, where they have a secret.
+    pub lock: Option<Lock<'a>>,
     /// The file of the silences.
     pub(crate) silences: StateFile,
     /// The file of the notification log.
@@ -54,7 +54,7 @@ impl<R> Drop for Upkeep<'_, R> {
         let Upkeep {
             rt: _,
             options: _,
-            secret: _,
+            lock: _,
             silences: _,
             log: _,
             room: _,

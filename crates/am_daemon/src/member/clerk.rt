@@ -1,11 +1,9 @@
 //! What a member does with what it holds. Only who is handed the instance to be changed makes steps of it.
 
-ghost use Rattle.std.specs.Prelude.{◌≡◌};
 ghost use Rattle.am_dialogue.specs.Answered.{ByItself};
-ghost use Rattle.am_dialogue.specs.Talks.{talk_of, waiting_in};
 
 use am_beside::Replicas;
-use am_dialogue::{Conversation, Share, Timers, Turns, Work};
+use am_dialogue::{Share, Timers, Turns};
 use am_faults::Fault;
 use am_instance::{Instance, Place};
 use am_lines::signals;
@@ -40,13 +38,6 @@ pub struct Clerk<'a, R> {
     pub stops: bool,
     /// Its stop has ended the first pull, so that what waits for that is turned away.
     pub turns_away: bool,
-}
-
-/// Puts off what is still to be done for a connection.
-pub fn put_off(dialogue: &mut Conversation, work: Work)
-    ensures { talk_of dialogue.new ≡ record (talk_of dialogue.old) { waiting = waiting_in work } }
-{
-    dialogue.work = work;
 }
 
 impl<R: Host> Clerk<'_, R> {

@@ -70,9 +70,7 @@ impl<R: Host> Clerk<'_, R> {
 
     /// Counts a connection that is done, and what it was answered.
     pub(super) fn count_where_done(&mut self, dialogue: &mut Conversation)
-        ensures reply { dialogue.new.reply ≡ dialogue.old.reply }
-        ensures written { dialogue.new.written ≡ dialogue.old.written }
-        ensures talk { talk_of dialogue.new ≡ talk_of dialogue.old }
+        ensures { talk_of dialogue.new ≡ talk_of dialogue.old }
     {
         if dialogue.is_done() && dialogue.account.close() {
             self.count_end(dialogue);

@@ -1,13 +1,13 @@
 //! Decisions for programs that send pages: what they ask is answered at once, or at this member's turn.
 
 ghost use Rattle.am_dialogue.specs.Answered.{ByItself};
-ghost use Rattle.am_dialogue.specs.Talks.{Closes, Rests, talk_of};
+ghost use Rattle.am_dialogue.specs.Talks.{Closes, KeepsGone, Rests, talk_of};
 
-use super::clerk::{Clerk, put_off};
+use super::clerk::Clerk;
 use super::telling::time_between;
 use am_api_decisions::{Asked, Deciding, Notice, Question, asked_of, begin_log, log_notice};
 use am_api_silences::{PendingAnswer, PendingReply, Read, Refusal, Request};
-use am_dialogue::{Conversation, Turn, Work};
+use am_dialogue::{CallProgress, Conversation, Turn};
 use am_figures::Step;
 use am_http::session::SessionOutput;
 use am_instance::{Config, FrameSender, Instance};
@@ -48,6 +48,7 @@ impl<R: Host> Clerk<'_, R> {
     )
         ensures own { ByItself instance.old instance.new }
         ensures closes { Closes (talk_of dialogue.old) (talk_of dialogue.new) }
+        ensures gone { KeepsGone (talk_of dialogue.old).saying (talk_of dialogue.new).saying }
     {
         dialogue.session.stop();
         let SessionOutput { request, .. } = said;
@@ -70,6 +71,7 @@ impl<R: Host> Clerk<'_, R> {
     )
         ensures own { ByItself instance.old instance.new }
         ensures rests { Rests (talk_of dialogue.old) (talk_of dialogue.new) }
+        ensures gone { KeepsGone (talk_of dialogue.old).saying (talk_of dialogue.new).saying }
     {
         match asked {
             Asked::Decide(question) => match self.turn_of(instance, &question) {
@@ -96,10 +98,11 @@ impl<R: Host> Clerk<'_, R> {
 
     /// Has a request wait for its turn, where another one may.
     fn wait_for_turn(&mut self, dialogue: &mut Conversation, turn: Turn)
-        ensures { Rests (talk_of dialogue.old) (talk_of dialogue.new) }
+        ensures rests { Rests (talk_of dialogue.old) (talk_of dialogue.new) }
+        ensures gone { KeepsGone (talk_of dialogue.old).saying (talk_of dialogue.new).saying }
     {
         if self.turns.begin() {
-            put_off(dialogue, Work::Turn(turn));
+            dialogue.put_off(CallProgress::Turn(turn));
         } else {
             dialogue.refuse(self.upkeep.rt.alloc(), &Refusal::new(503, "too many wait"));
         }
@@ -115,12 +118,13 @@ impl<R: Host> Clerk<'_, R> {
     )
         ensures own { ByItself instance.old instance.new }
         ensures rests { Rests (talk_of dialogue.old) (talk_of dialogue.new) }
+        ensures gone { KeepsGone (talk_of dialogue.old).saying (talk_of dialogue.new).saying }
     {
         self.turns.end();
         if self.stops {
             dialogue.refuse(self.upkeep.rt.alloc(), &Refusal::new(503, "member stops"));
         } else if turn.is_dear() {
-            put_off(dialogue, Work::Due(turn));
+            dialogue.put_off(CallProgress::Due(turn));
         } else {
             self.answer_turn(instance, dialogue, &turn);
         }
@@ -135,6 +139,7 @@ impl<R: Host> Clerk<'_, R> {
     )
         ensures own { ByItself instance.old instance.new }
         ensures rests { Rests (talk_of dialogue.old) (talk_of dialogue.new) }
+        ensures gone { KeepsGone (talk_of dialogue.old).saying (talk_of dialogue.new).saying }
     {
         let alloc = self.upkeep.rt.alloc();
         match asked_of(alloc, turn.request()) {
@@ -153,6 +158,7 @@ impl<R: Host> Clerk<'_, R> {
     )
         ensures own { ByItself instance.old instance.new }
         ensures rests { Rests (talk_of dialogue.old) (talk_of dialogue.new) }
+        ensures gone { KeepsGone (talk_of dialogue.old).saying (talk_of dialogue.new).saying }
     {
         let alerts = question.message.alerts.len() as u64;
         self.upkeep.figures.step(Step::Mutes, alerts);
@@ -170,6 +176,7 @@ impl<R: Host> Clerk<'_, R> {
     )
         ensures own { ByItself instance.old instance.new }
         ensures rests { Rests (talk_of dialogue.old) (talk_of dialogue.new) }
+        ensures gone { KeepsGone (talk_of dialogue.old).saying (talk_of dialogue.new).saying }
     {
         let Reached { deciding, now } = match self.ask_on(instance, deciding) {
             Ok(reached) => reached,
@@ -178,7 +185,7 @@ impl<R: Host> Clerk<'_, R> {
         if deciding.is_asked() {
             self.decide(instance, dialogue, deciding, now);
         } else {
-            put_off(dialogue, Work::Deciding(deciding));
+            dialogue.put_off(CallProgress::Deciding(deciding));
         }
     }
 
@@ -224,6 +231,7 @@ impl<R: Host> Clerk<'_, R> {
     )
         ensures own { ByItself instance.old instance.new }
         ensures rests { Rests (talk_of dialogue.old) (talk_of dialogue.new) }
+        ensures gone { KeepsGone (talk_of dialogue.old).saying (talk_of dialogue.new).saying }
     {
         let alloc = self.upkeep.rt.alloc();
         let reply = deciding.decide(alloc, instance, now);
@@ -240,6 +248,7 @@ impl<R: Host> Clerk<'_, R> {
     fn log(&mut self, instance: &mut Instance, dialogue: &mut Conversation, notice: Notice)
         ensures own { ByItself instance.old instance.new }
         ensures rests { Rests (talk_of dialogue.old) (talk_of dialogue.new) }
+        ensures gone { KeepsGone (talk_of dialogue.old).saying (talk_of dialogue.new).saying }
     {
         self.upkeep.is_changed = true;
         let now = next_moment(self.upkeep.rt, instance.last());
@@ -254,12 +263,13 @@ impl<R: Host> Clerk<'_, R> {
 
     /// Begins to write the entries of the log that are live.
     fn list_log(&mut self, instance: &Instance, dialogue: &mut Conversation)
-        ensures { Rests (talk_of dialogue.old) (talk_of dialogue.new) }
+        ensures rests { Rests (talk_of dialogue.old) (talk_of dialogue.new) }
+        ensures gone { KeepsGone (talk_of dialogue.old).saying (talk_of dialogue.new).saying }
     {
         let alloc = self.upkeep.rt.alloc();
         let now = next_moment(self.upkeep.rt, instance.last());
         match begin_log(alloc, instance, now) {
-            Ok(writing) => put_off(dialogue, Work::Log(writing)),
+            Ok(writing) => dialogue.put_off(CallProgress::Log(writing)),
             Err(refusal) => dialogue.refuse(alloc, &refusal),
         }
     }
@@ -272,13 +282,11 @@ impl<R: Host> Clerk<'_, R> {
         making: PendingReply,
         outbox: FrameSender,
     )
-        ensures { Rests (talk_of dialogue.old) (talk_of dialogue.new) }
+        ensures rests { Rests (talk_of dialogue.old) (talk_of dialogue.new) }
+        ensures gone { KeepsGone (talk_of dialogue.old).saying (talk_of dialogue.new).saying }
     {
         let news = self.upkeep.keeping.news();
         self.upkeep.follow_step(config, outbox);
-        dialogue.reply_with(self.upkeep.rt.alloc(), Some(making));
-        if self.upkeep.keeping.has_news() {
-            dialogue.hold_back(self.upkeep.keeping.news() != news);
-        }
+        self.reply_by(dialogue, making, news);
     }
 }

@@ -14,14 +14,9 @@ use am_instance::Instance;
 use am_jobs::Options;
 use am_peers::greeting;
 use am_reactor::Entrance;
-use am_seal::{Lock, SEALED};
-use am_upkeep::{Host, Upkeep, lock_of, place_of};
+use am_seal::SEALED;
+use am_upkeep::{Host, place_of};
 use std::alloc::{AllocError, Global};
-
-/// What a member opens sealed frames by, where it has a secret.
-pub fn lock_at<'a, R: Host>(upkeep: &'a Upkeep<'_, R>) -> Option<Lock<'a>> {
-    lock_of(upkeep.options, &upkeep.secret)
-}
 
 /// What is heard of those who come by an entrance: frames without a secret only where none but this machine reaches it, or where
 /// that is wanted.

@@ -2,11 +2,12 @@
 
 ghost use Rattle.std.specs.Prelude.{◌≡◌, ℕ, IsTrue};
 ghost use Rattle.am_http.specs.Sessions.{name_of, spoken};
-ghost use Rattle.am_dialogue.specs.Answered.{IsAnswered, IsTaken};
-ghost use Rattle.am_dialogue.specs.Talks.{Closes, Stays, closed, talk_of};
+ghost use Rattle.am_dialogue.specs.Answered.{IsAnswered, IsTaken, SaysBy};
+ghost use Rattle.am_dialogue.specs.Talks.{Closes, IsClosed, KeepsBy, Stays, talk_of};
 ghost use Rattle.am_member.specs.Exchanging.{WhenFinished, IsSessionAnswer, left_at};
 
 use super::clerk::Clerk;
+use am_api_silences::PendingReply;
 use am_dialogue::{Conversation, asked_of_itself, bytes_said, ends_pull, is_nothing, may_change};
 use am_faults::Fault;
 use am_figures::Request;
@@ -51,7 +52,7 @@ impl<R: Host> Clerk<'_, R> {
 
     /// Refuses to hear a request that names a host or a site which isn't this member's.
     pub(super) fn refuse(&self, dialogue: &mut Conversation, refusal: &Refusal)
-        ensures { talk_of dialogue.new ≡ closed (talk_of dialogue.old) }
+        ensures { IsClosed (talk_of dialogue.old) (talk_of dialogue.new) }
     {
         dialogue
             .account
@@ -80,6 +81,7 @@ impl<R: Host> Clerk<'_, R> {
     /// Refuses who greets by a name that is nobody's, as that of the disk, and answers whether somebody did.
     fn refuses_inner(&mut self, config: &Config, dialogue: &mut Conversation) -> bool
         ensures refused { IsTrue result → Closes (talk_of dialogue.old) (talk_of dialogue.new) }
+        ensures saying { (talk_of dialogue.new).saying ≡ (talk_of dialogue.old).saying }
         ensures heard { ¬ IsTrue result → talk_of dialogue.new ≡ talk_of dialogue.old }
     {
         let is_inner = match dialogue.session.name() {
@@ -128,9 +130,10 @@ impl<R: Host> Clerk<'_, R> {
         apply_session_output(self.upkeep.rt.alloc(), instance, session, said, bits, now)
     }
 
-    /// Has go out what comes of steps: behind the next commit, where something came since the last one.
+    /// Has go out what comes of steps.
     fn reply(&mut self, config: &Config, dialogue: &mut Conversation, exchanged: SessionAnswer)
-        ensures { Stays (talk_of dialogue.old) (talk_of dialogue.new) }
+        ensures stays { Stays (talk_of dialogue.old) (talk_of dialogue.new) }
+        ensures says { SaysBy exchanged.reply (talk_of dialogue.old).saying (talk_of dialogue.new).saying }
     {
         let SessionAnswer {
             reply,
@@ -140,7 +143,18 @@ impl<R: Host> Clerk<'_, R> {
         let news = self.upkeep.keeping.news();
         let peer = place_of(config, dialogue.session.name());
         self.upkeep.follow(config, peer, effects.outbox, fault);
-        dialogue.reply_with(self.upkeep.rt.alloc(), reply);
+        if let Some(making) = reply {
+            self.reply_by(dialogue, making, news);
+        }
+    }
+
+    /// Has a reply go out: behind the next commit, where something came since the last one. `news` counts what had come before
+    /// its step sent anything.
+    pub(super) fn reply_by(&self, dialogue: &mut Conversation, making: PendingReply, news: u64)
+        ensures stays { Stays (talk_of dialogue.old) (talk_of dialogue.new) }
+        ensures says { KeepsBy making (talk_of dialogue.old).saying (talk_of dialogue.new).saying }
+    {
+        dialogue.reply_with(self.upkeep.rt.alloc(), Some(making));
         if self.upkeep.keeping.has_news() {
             dialogue.hold_back(self.upkeep.keeping.news() != news);
         }

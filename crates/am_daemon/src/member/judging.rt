@@ -3,11 +3,11 @@
 ghost use Rattle.std.specs.Prelude.{◌≡◌, IfOk, IfSome, IsTrue};
 ghost use Rattle.am_http.specs.Sessions.{spoken};
 ghost use Rattle.am_dialogue.specs.Answered.{IsAnswered};
-ghost use Rattle.am_dialogue.specs.Talks.{IsRequest, closed, talk_of};
+ghost use Rattle.am_dialogue.specs.Talks.{IsClosed, IsRequest, talk_of};
 
-use super::clerk::{Clerk, put_off};
+use super::clerk::Clerk;
 use am_api_silences::{Read, Refusal};
-use am_dialogue::{Conversation, Work, is_call, post_bytes};
+use am_dialogue::{Conversation, is_call, post_bytes};
 use am_http::Cause;
 use am_http::session::SessionOutput;
 use am_instance::Instance;
@@ -63,7 +63,7 @@ impl<R: Host> Clerk<'_, R> {
         dialogue: &mut Conversation,
         said: &SessionOutput,
     ) -> bool
-        ensures refused { IsTrue result → talk_of dialogue.new ≡ closed (talk_of dialogue.old) }
+        ensures refused { IsTrue result → IsClosed (talk_of dialogue.old) (talk_of dialogue.new) }
         ensures heard { ¬ IsTrue result → talk_of dialogue.new ≡ talk_of dialogue.old }
     {
         match post_bytes(said) {
@@ -89,7 +89,7 @@ impl<R: Host> Clerk<'_, R> {
     {
         let alloc = self.upkeep.rt.alloc();
         match judging_of(alloc, &said) {
-            Ok(Some(judging)) => put_off(dialogue, Work::Judging(said, judging)),
+            Ok(Some(judging)) => dialogue.judge_later(said, judging),
             Ok(None) => self.answer(instance, dialogue, said),
             Err(_) => dialogue.refuse(alloc, &Cause::Memory.refusal()),
         }
@@ -108,7 +108,7 @@ impl<R: Host> Clerk<'_, R> {
         let mut judging = judging;
         match is_judged(&mut judging) {
             Ok(true) => self.answer_by(instance, dialogue, said, judging),
-            Ok(false) => put_off(dialogue, Work::Judging(said, judging)),
+            Ok(false) => dialogue.judge_later(said, judging),
             Err(refusal) => dialogue.refuse(self.upkeep.rt.alloc(), &refusal),
         }
     }

@@ -2,11 +2,11 @@
 
 ghost use Rattle.am_http.specs.Sessions.{spoken};
 ghost use Rattle.am_dialogue.specs.Answered.{ByItself, IsAnswered};
-ghost use Rattle.am_dialogue.specs.Talks.{Rests, talk_of};
+ghost use Rattle.am_dialogue.specs.Talks.{KeepsGone, Lasts, Rests, talk_of};
 ghost use Rattle.am_living.specs.Talking.{IsTakenUp};
 
-use super::clerk::{Clerk, put_off};
-use am_dialogue::{Conversation, Work};
+use super::clerk::Clerk;
+use am_dialogue::{CallProgress, Conversation, Work};
 use am_http::session::SessionOutput;
 use am_instance::Instance;
 use am_upkeep::Host;
@@ -17,17 +17,32 @@ impl<R: Host> Clerk<'_, R> {
     pub(super) fn go_on(&mut self, instance: &mut Instance, dialogue: &mut Conversation)
         ensures { IsTakenUp (talk_of dialogue.old).waiting instance.old (talk_of dialogue.old) instance.new (talk_of dialogue.new) }
     {
-        let alloc = self.upkeep.rt.alloc();
         match mem::replace(&mut dialogue.work, Work::Nothing) {
             Work::Request(said) => self.answer_late(instance, dialogue, said),
             Work::Judging(said, judging) => self.go_on_judging(instance, dialogue, said, judging),
-            Work::Due(turn) => self.answer_turn(instance, dialogue, &turn),
-            Work::Deciding(deciding) => self.go_on_deciding(instance, dialogue, deciding),
-            Work::PendingReply(making) => dialogue.go_on(alloc, making),
-            Work::Log(writing) => dialogue.go_on_log(alloc, writing),
-            Work::Counting(census) => self.go_on_counting(instance, dialogue, census),
-            Work::Turn(turn) => put_off(dialogue, Work::Turn(turn)),
-            Work::Nothing => {}
+            Work::PendingReply(making) => dialogue.go_on(self.upkeep.rt.alloc(), making),
+            Work::Call(call) => self.go_on_call(instance, dialogue, call),
+            other => dialogue.work = other,
+        }
+    }
+
+    /// Goes on with the answer to a request that isn't about silences.
+    fn go_on_call(
+        &mut self,
+        instance: &mut Instance,
+        dialogue: &mut Conversation,
+        call: CallProgress,
+    )
+        ensures own { ByItself instance.old instance.new }
+        ensures rests { Rests (talk_of dialogue.old) (talk_of dialogue.new) }
+        ensures gone { KeepsGone (talk_of dialogue.old).saying (talk_of dialogue.new).saying }
+    {
+        match call {
+            CallProgress::Turn(turn) => dialogue.put_off(CallProgress::Turn(turn)),
+            CallProgress::Due(turn) => self.answer_turn(instance, dialogue, &turn),
+            CallProgress::Deciding(deciding) => self.go_on_deciding(instance, dialogue, deciding),
+            CallProgress::Log(writing) => dialogue.go_on_log(self.upkeep.rt.alloc(), writing),
+            CallProgress::Counting(census) => self.go_on_counting(instance, dialogue, census),
         }
     }
 
@@ -50,11 +65,11 @@ impl<R: Host> Clerk<'_, R> {
     /// The moment has come for which a request waited.
     pub(super) fn go_on_in_turn(&mut self, instance: &mut Instance, dialogue: &mut Conversation)
         ensures own { ByItself instance.old instance.new }
-        ensures rests { Rests (talk_of dialogue.old) (talk_of dialogue.new) }
+        ensures lasts { Lasts (talk_of dialogue.old) (talk_of dialogue.new) }
     {
         match mem::replace(&mut dialogue.work, Work::Nothing) {
-            Work::Turn(turn) => self.take_turn(instance, dialogue, turn),
-            other => put_off(dialogue, other),
+            Work::Call(CallProgress::Turn(turn)) => self.take_turn(instance, dialogue, turn),
+            other => dialogue.work = other,
         }
     }
 }

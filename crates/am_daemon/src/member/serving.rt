@@ -3,13 +3,14 @@
 ghost use Rattle.std.specs.Prelude.{◌≡◌, false};
 
 use super::clerk::Clerk;
-use super::guarding::{hears_at, lock_at};
+use super::guarding::hears_at;
 use am_attendant::Attendant;
 use am_dialogue::Conversation;
 use am_faults::Fault;
 use am_instance::{Config, Instance, Place};
 use am_peers::Fault as ConnectionFault;
 use am_reactor::{Broken, Entrance, Failure, LinkFault, PeerBytes, Wake};
+use am_seal::Lock;
 use am_upkeep::{Host, place_of, sooner};
 use std::io::ErrorKind;
 use std::time::Instant;
@@ -41,11 +42,16 @@ impl<R: Host> Attendant for Clerk<'_, R> {
         )
     }
 
-    fn feed(&mut self, instance: &mut Instance, dialogue: &mut Conversation, piece: &[u8]) {
+    fn feed(
+        &mut self,
+        instance: &mut Instance,
+        dialogue: &mut Conversation,
+        lock: Option<Lock<'_>>,
+        piece: &[u8],
+    ) {
         if let Some(refusal) = dialogue.screen(piece, self.hosts.as_slice()) {
             return self.refuse(dialogue, &refusal);
         }
-        let lock = lock_at(&self.upkeep);
         let heard = dialogue.gate.feed(&mut dialogue.session, lock, piece);
         self.hear_at_gate(instance, dialogue, heard);
         self.count_where_done(dialogue);

@@ -11,8 +11,9 @@ use am_instance::{Config, ConfigError, Instance, Place};
 use am_jobs::Options;
 use am_lines::signals;
 use am_reactor::{Entrances, Limits, Peers, listen};
+use am_seal::Lock;
 use am_self::Started;
-use am_upkeep::{Host, Upkeep};
+use am_upkeep::{Host, Upkeep, config_of, lock_of, secret_of};
 use rand::make_rng;
 use rand::rngs::StdRng;
 use std::alloc::{AllocError, Global};
@@ -44,7 +45,9 @@ pub fn run<'a, R: Host>(rt: &'a R, options: &'a Options<'a>) -> u8 {
 ///
 /// The first [`Fault`] of the start, in the order of names, secret, silences, log, listeners.
 fn run_on<'a, R: Host>(rt: &'a R, options: &'a Options<'a>) -> Result<Option<Fault>, Fault> {
-    let member = member(rt, options)?;
+    let config = config_of(rt.alloc(), options)?;
+    let secret = secret_of(rt, options)?;
+    let member = member(rt, options, config, lock_of(options, &secret))?;
     let entrances = entrances(rt, options)?;
     Ok(run_member(member, entrances))
 }
@@ -68,23 +71,25 @@ fn entrances<R: Host>(rt: &R, options: &Options<'_>) -> Result<Entrances, Fault>
 }
 
 /// Runs a member that listens. Answers with which fault it ended, which is told.
-fn run_member<R: Host>(member: Member<Clerk<'_, R>>, entrances: Entrances) -> Option<Fault> {
+fn run_member<R: Host>(member: Member<'_, Clerk<'_, R>>, entrances: Entrances) -> Option<Fault> {
     let mut member = member;
     begin(&mut member);
     let failed = serve(&mut member, entrances);
     let Member {
         instance,
         attendant: clerk,
+        ..
     } = member;
     let mut clerk = clerk;
     clerk.upkeep.end(&instance, failed)
 }
 
 /// Tells of the start of a member, and does what that leaves to be done.
-fn begin<R: Host>(member: &mut Member<Clerk<'_, R>>) {
+fn begin<R: Host>(member: &mut Member<'_, Clerk<'_, R>>) {
     let Member {
         instance,
         attendant: clerk,
+        ..
     } = member;
     tell_start(instance, clerk);
     clerk.upkeep.tell_torn(instance.config());
@@ -114,7 +119,7 @@ enum Unserved {
 
 /// Serves whoever connects, until the member is told to end or has taken its connections. Answers why it doesn't, or no more,
 /// which is told.
-fn serve<R: Host>(member: &mut Member<Clerk<'_, R>>, entrances: Entrances) -> Option<Fault> {
+fn serve<R: Host>(member: &mut Member<'_, Clerk<'_, R>>, entrances: Entrances) -> Option<Fault> {
     match serve_peers(member, entrances) {
         Ok(()) => None,
         Err(Unserved::Memory) => {
@@ -129,17 +134,18 @@ fn serve<R: Host>(member: &mut Member<Clerk<'_, R>>, entrances: Entrances) -> Op
 }
 
 /// Prints a fault.
-fn tell<R: Host>(member: &mut Member<Clerk<'_, R>>, fault: Fault) {
+fn tell<R: Host>(member: &mut Member<'_, Clerk<'_, R>>, fault: Fault) {
     let Member {
         instance,
         attendant: clerk,
+        ..
     } = member;
     clerk.upkeep.tell(instance.config(), fault);
 }
 
 /// Serves whoever connects, and the peers.
 fn serve_peers<R: Host>(
-    member: &mut Member<Clerk<'_, R>>,
+    member: &mut Member<'_, Clerk<'_, R>>,
     entrances: Entrances,
 ) -> Result<(), Unserved> {
     let Clerk {
@@ -149,7 +155,7 @@ fn serve_peers<R: Host>(
         ..
     } = &member.attendant;
     let rt = upkeep.rt;
-    let is_sealed = upkeep.secret.is_some();
+    let is_sealed = member.lock.is_some();
     let Ok(greeting) = opening(rt.alloc(), upkeep.options.name, is_sealed) else {
         return Err(Unserved::Memory);
     };
@@ -196,8 +202,13 @@ struct Places<'a> {
 }
 
 /// The member before it listens.
-fn member<'a, R: Host>(rt: &'a R, options: &'a Options<'a>) -> Result<Member<Clerk<'a, R>>, Fault> {
-    let (instance, upkeep) = Upkeep::load(rt, options)?;
+fn member<'a, R: Host>(
+    rt: &'a R,
+    options: &'a Options<'a>,
+    config: Config,
+    lock: Option<Lock<'a>>,
+) -> Result<Member<'a, Clerk<'a, R>>, Fault> {
+    let (instance, upkeep) = Upkeep::load(rt, options, config, lock)?;
     let Ok(places) = places_of(rt.alloc(), instance.config(), options) else {
         return Err(Fault::Config(ConfigError::Memory));
     };
@@ -206,6 +217,7 @@ fn member<'a, R: Host>(rt: &'a R, options: &'a Options<'a>) -> Result<Member<Cle
     let clerk = clerk_of(upkeep, places, random, duties);
     Ok(Member {
         instance,
+        lock,
         attendant: clerk,
     })
 }

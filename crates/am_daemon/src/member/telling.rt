@@ -1,14 +1,14 @@
 //! What a member tells of itself.
 
-ghost use Rattle.am_dialogue.specs.Talks.{Closes, Rests, talk_of};
+ghost use Rattle.am_dialogue.specs.Talks.{Closes, KeepsGone, Rests, talk_of};
 
-use super::clerk::{Clerk, put_off};
+use super::clerk::Clerk;
 use am_api_silences::Read;
 use am_api_status::{
     Call, MemberStatus, Peer, Resource, call_of, metrics_reply, not_ready, page_reply,
     receivers_reply, status_reply, well_reply,
 };
-use am_dialogue::{Census, Conversation, Work};
+use am_dialogue::{CallProgress, Census, Conversation};
 use am_figures::{PeerName, Shown, families};
 use am_http::Cause;
 use am_http::session::SessionOutput;
@@ -40,7 +40,8 @@ impl<R: Host> Clerk<'_, R> {
         said: SessionOutput,
         resource: Resource,
     )
-        ensures { Closes (talk_of dialogue.old) (talk_of dialogue.new) }
+        ensures closes { Closes (talk_of dialogue.old) (talk_of dialogue.new) }
+        ensures gone { KeepsGone (talk_of dialogue.old).saying (talk_of dialogue.new).saying }
     {
         dialogue.session.stop();
         let SessionOutput { request, .. } = said;
@@ -55,7 +56,8 @@ impl<R: Host> Clerk<'_, R> {
 
     /// Answers a call.
     fn tell_call(&mut self, instance: &Instance, dialogue: &mut Conversation, call: Call)
-        ensures { Rests (talk_of dialogue.old) (talk_of dialogue.new) }
+        ensures rests { Rests (talk_of dialogue.old) (talk_of dialogue.new) }
+        ensures gone { KeepsGone (talk_of dialogue.old).saying (talk_of dialogue.new).saying }
     {
         let alloc = self.upkeep.rt.alloc();
         let Call { resource, is_bare } = call;
@@ -76,7 +78,8 @@ impl<R: Host> Clerk<'_, R> {
 
     /// Tells whether it answers requests.
     fn tell_readiness(&self, dialogue: &mut Conversation, is_bare: bool)
-        ensures { Rests (talk_of dialogue.old) (talk_of dialogue.new) }
+        ensures rests { Rests (talk_of dialogue.old) (talk_of dialogue.new) }
+        ensures gone { KeepsGone (talk_of dialogue.old).saying (talk_of dialogue.new).saying }
     {
         let alloc = self.upkeep.rt.alloc();
         if self.is_ready() {
@@ -88,7 +91,8 @@ impl<R: Host> Clerk<'_, R> {
 
     /// Tells who it is.
     fn tell_status(&self, config: &Config, dialogue: &mut Conversation, is_bare: bool)
-        ensures { Rests (talk_of dialogue.old) (talk_of dialogue.new) }
+        ensures rests { Rests (talk_of dialogue.old) (talk_of dialogue.new) }
+        ensures gone { KeepsGone (talk_of dialogue.old).saying (talk_of dialogue.new).saying }
     {
         let alloc = self.upkeep.rt.alloc();
         let reply = match self.standing(config) {
@@ -135,13 +139,14 @@ impl<R: Host> Clerk<'_, R> {
 
     /// Begins to count the silences. While a first pull is waited for nothing that waits is done, so they are counted at once.
     fn begin_counting(&self, instance: &Instance, dialogue: &mut Conversation, is_bare: bool)
-        ensures { Rests (talk_of dialogue.old) (talk_of dialogue.new) }
+        ensures rests { Rests (talk_of dialogue.old) (talk_of dialogue.new) }
+        ensures gone { KeepsGone (talk_of dialogue.old).saying (talk_of dialogue.new).saying }
     {
         let census = Census::new(is_bare);
         if self.duties.waits_for_pull() {
             self.follow_counting(instance, dialogue, self.counted(instance, census));
         } else {
-            put_off(dialogue, Work::Counting(census));
+            dialogue.put_off(CallProgress::Counting(census));
         }
     }
 
@@ -170,7 +175,8 @@ impl<R: Host> Clerk<'_, R> {
         dialogue: &mut Conversation,
         census: Census,
     )
-        ensures { Rests (talk_of dialogue.old) (talk_of dialogue.new) }
+        ensures rests { Rests (talk_of dialogue.old) (talk_of dialogue.new) }
+        ensures gone { KeepsGone (talk_of dialogue.old).saying (talk_of dialogue.new).saying }
     {
         self.follow_counting(instance, dialogue, self.counted_on(instance, census));
     }
@@ -182,12 +188,13 @@ impl<R: Host> Clerk<'_, R> {
         dialogue: &mut Conversation,
         counted: Result<Census, AllocError>,
     )
-        ensures { Rests (talk_of dialogue.old) (talk_of dialogue.new) }
+        ensures rests { Rests (talk_of dialogue.old) (talk_of dialogue.new) }
+        ensures gone { KeepsGone (talk_of dialogue.old).saying (talk_of dialogue.new).saying }
     {
         let alloc = self.upkeep.rt.alloc();
         match counted {
             Ok(census) if census.is_done() => dialogue.tell(alloc, self.figures(instance, &census)),
-            Ok(census) => put_off(dialogue, Work::Counting(census)),
+            Ok(census) => dialogue.put_off(CallProgress::Counting(census)),
             Err(_) => dialogue.refuse(alloc, &Cause::Memory.refusal()),
         }
     }

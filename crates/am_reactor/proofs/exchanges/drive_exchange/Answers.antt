@@ -1,6 +1,5 @@
 use Rattle.std.proofs.Common.{◌∙◌, ap, Ok}
 use Rattle.am_reactor.proofs.Drives.{driven_lost, driven_none, driven_on, driven_told}
-use Rattle.am_reactor.proofs.Histories.{acts_once}
 use Rattle.am_reactor.proofs.exchanges.drive_exchange.Goals as goal
 
 pub returns-then-not-is_open-clause-heard : goal.returns-then-not-is_open-clause-heard
@@ -20,7 +19,4 @@ returns-in-Ok-Done-clause-heard g c =
 
 pub returns-in-Err-clause-heard : goal.returns-in-Err-clause-heard
 returns-in-Err-clause-heard g c =
-    driven_lost _ _ _ _ _ _ _ _ _ _ _ _ (c.is_open.ensures.open (cc)) c.advance.ensures.open c.in-Err.ensures.failed c.lost.ensures.told c.close.ensures.closed
-
-pub returns-in-Err-clause-acted : goal.returns-in-Err-clause-acted
-returns-in-Err-clause-acted g c = acts_once _ _ _ c.lost.ensures.acted
+    driven_lost _ _ _ _ _ _ _ _ _ _ _ _ (c.is_open.ensures.open (cc)) c.advance.ensures.open c.in-Err.ensures.failed c.lost.ensures c.close.ensures.closed

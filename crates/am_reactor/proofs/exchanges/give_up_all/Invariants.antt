@@ -1,8 +1,6 @@
 use Rattle.std.proofs.Common.{ℕ, List}
 use Rattle.am_reactor.specs.Exchanges.{IsTimedOut, OneByOne}
-use Rattle.am_reactor.specs.History.{ActsOn}
 use Rattle.am_reactor.proofs.exchanges.give_up_all.Given as goal
 
 abbrev pub invariant-loop : goal.invariant-loop
-invariant-loop g l = ((peers : List ℕ) × OneByOne (IsTimedOut g.S.Service.loses) peers l.fn.service l.fn.exchanges l.service l.exchanges)
-    × ActsOn g.S.Service.acts l.fn.service l.service
+invariant-loop g l = (peers : List ℕ) × OneByOne (IsTimedOut g.S.Service.loses) peers l.fn.service l.fn.exchanges l.service l.exchanges

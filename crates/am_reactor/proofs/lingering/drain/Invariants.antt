@@ -1,4 +1,4 @@
-use Rattle.std.proofs.Common.{◌≡◌, ℕ, List}
+use Rattle.std.proofs.Common.{ℕ, List}
 use Rattle.am_reactor.specs.History.{Throws, line_of}
 use Rattle.am_reactor.proofs.lingering.drain.Given as goal
 

@@ -1,5 +1,4 @@
 use Rattle.std.proofs.Common.{refl, inl, inr}
-use Rattle.am_reactor.proofs.Histories.{acts_once}
 use Rattle.am_reactor.proofs.links.flush_link.Goals as goal
 
 pub returns-in-Ok-Going-Idle-clause-moved : goal.returns-in-Ok-Going-Idle-clause-moved
@@ -26,9 +25,6 @@ returns-in-Err-clause-moved g c = inr (inl (
     mid = c.advance.new.self;
     open_ = c.advance.ensures.open;
     went = c.advance.ensures.out;
-    next = inr (inr (c.close.ensures.closed, (_, c.lost.ensures.told)));
+    next = inr (inr (c.close.ensures.closed, (_, c.lost.ensures)));
   },
 ))
-
-pub returns-in-Err-clause-acted : goal.returns-in-Err-clause-acted
-returns-in-Err-clause-acted g c = acts_once _ _ _ c.lost.ensures.acted

@@ -1,12 +1,7 @@
-use Rattle.std.proofs.Common.{ap, refl}
-use Rattle.am_reactor.specs.History.{lines}
-use Rattle.am_reactor.proofs.Histories.{leads_same}
-use Rattle.am_reactor.proofs.Linking.{links_same}
+use Rattle.std.proofs.Common.{refl}
+use Rattle.am_reactor.proofs.Peering.{loops_same}
 use Rattle.am_reactor.proofs.turn.run_busy.Goals as goal
 
 pub loop-preserved : goal.loop-preserved
-loop-preserved g c = (
-  λ first begun leads. c.visit.ensures.led first begun (leads_same _ _ _ _ _ _ _ (lines c.loop.reactor.connections.table) (lines c.pop_busy.new.self.table) (λ key. ap (λ t. lines t key) c.pop_busy.ensures) first begun (c.loop.invariant.0 first begun leads)),
-  λ first begun opened links. c.visit.ensures.linked first begun opened
-      (links_same _ _ _ _ _ _ _ _ _ _ _ _ _ _ c.pop_busy.ensures refl first begun opened (c.loop.invariant.1 first begun opened links)),
-)
+loop-preserved g c first begun loops =
+    c.visit.ensures first begun (loops_same _ _ _ _ _ _ _ _ _ _ _ _ _ _ _ _ _ _ c.pop_busy.ensures refl refl first begun (c.loop.invariant first begun loops))

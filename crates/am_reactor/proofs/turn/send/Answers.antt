@@ -1,20 +1,12 @@
-use Rattle.am_reactor.proofs.Histories.{leads_act, leads_acts}
-use Rattle.am_reactor.proofs.Linking.{links_act, links_handed}
+use Rattle.am_reactor.proofs.Peering.{loops_act, loops_handed}
 use Rattle.am_reactor.proofs.turn.send.Goals as goal
 
 pub loop-init : goal.loop-init
-loop-init g c = (λ first begun leads. leads, λ first begun opened links. links)
+loop-init g c first begun loops = loops
 
 pub loop-preserved : goal.loop-preserved
-loop-preserved g c = (
-  λ first begun leads. leads_acts _ _ _ _ _ _ _ _ _ c.hand.ensures.acted first begun (leads_act _ _ _ _ _ _ _ _ _ c.outgoing.ensures.acted first begun (c.loop.invariant.0 first begun leads)),
-  λ first begun opened links. links_handed _ _ _ _ _ _ _ _ _ _ _ _ _ _ _ _ _ c.in-Some.ensures.offered c.hand.ensures.others c.hand.ensures.handed first begun opened
-      (c.loop.invariant.1 first begun opened links),
-)
+loop-preserved g c first begun loops =
+    loops_handed _ _ _ _ _ _ _ _ _ _ _ _ _ _ _ _ _ _ _ _ c.in-Some.ensures c.hand.ensures.others c.hand.ensures.handed first begun (c.loop.invariant first begun loops)
 
-pub returns-in_default-clause-led : goal.returns-in_default-clause-led
-returns-in_default-clause-led g c first begun leads = leads_act _ _ _ _ _ _ _ _ _ c.outgoing.ensures.acted first begun (c.loop.invariant.0 first begun leads)
-
-pub returns-in_default-clause-linked : goal.returns-in_default-clause-linked
-returns-in_default-clause-linked g c first begun opened links =
-    links_act _ _ _ _ _ _ _ _ _ _ _ _ _ c.outgoing.ensures.acted first begun opened (c.loop.invariant.1 first begun opened links)
+pub returns-in-None : goal.returns-in-None
+returns-in-None g c first begun loops = loops_act _ _ _ _ _ _ _ _ _ _ _ _ _ _ _ _ c.in-None.ensures first begun (c.loop.invariant first begun loops)

@@ -12,7 +12,7 @@ loop-preserved g c =
     let t = c.write_some.ensures in
     elim c.match-write_some.branch [
       | in-Part w ↦ record {
-        out = sends_part _ _ _ _ _ _ _ _ w.in-Part.count _ _ _ _ _ _ h.out (rw w.in-Part.is at t.did) (rw w.in-Part.is at t.out) (w.written-is ∙ w.count_on.ensures);
+        out = sends_part _ _ _ _ _ _ _ _ w.in-Part.count _ _ _ _ _ _ h.out (rw w.in-Part.is at t.within) (rw w.in-Part.is at t.did) (rw w.in-Part.is at t.out) (w.written-is ∙ w.count_on.ensures);
         unread = t.unread ∙ h.unread;
       }
       | in-Interrupted w ↦ record {

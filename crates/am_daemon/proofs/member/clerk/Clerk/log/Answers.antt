@@ -1,5 +1,5 @@
-use Rattle.am_dialogue.proofs.Finished.{finish_of}
 use Rattle.am_dialogue.proofs.Steps.{logged_made}
+use Rattle.am_member.proofs.Finished.{finish_of}
 use Rattle.am_daemon.proofs.member.clerk.Clerk.log.Goals as goal
 
 pub returns-clause-own : goal.returns-clause-own

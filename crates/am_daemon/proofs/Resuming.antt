@@ -1,0 +1,28 @@
+-- A list that is being written is taken out, and goes on.
+use Rattle.std.proofs.Common.{◌≡◌, refl, subst}
+use Rattle.am_api_silences.specs.declared.pending_reply.PendingReply.{PendingReply}
+use Rattle.am_dialogue.proofs.Sayings.{making_lasts}
+use Rattle.am_dialogue.proofs.Steps.{nothing_made}
+use Rattle.am_dialogue.specs.Talks.{KeepsBy, Stays, Talk, saying_in, waiting_in}
+use Rattle.am_dialogue.specs.declared.conversation.Work.{Work}
+use Rattle.am_dialogue.specs.declared.conversation.Work.TheVariants as works
+use Rattle.am_gate.specs.Gates.{Way}
+use Rattle.am_http.specs.Sessions.{Standing}
+use Rattle.am_instance.specs.InstanceStates.{InstanceState}
+use Rattle.am_living.specs.Talking.{IsTakenUp}
+
+-- a connection for which this is to be done
+abbrev pub talk_with : Way → Standing → Work → Talk
+talk_with way session work = record { way = way; session = session; waiting = waiting_in work; saying = saying_in work }
+
+-- (nothing else is left to be done meanwhile)
+pub list_taken_up : (way : Way) (session : Standing) (work left : Work) (old new : InstanceState) (next : Talk) (making : PendingReply) →
+    left ≡ works.Nothing → works.PendingReply making ≡ work → new ≡ old → Stays (talk_with way session left) next →
+    KeepsBy making (saying_in left) next.saying → IsTakenUp (waiting_in work) old (talk_with way session work) new next
+list_taken_up way session work left old new next making emptied is same stays by =
+    subst (λ (w : Work). IsTakenUp (waiting_in w) old (talk_with way session w) new next) is (record {
+      own = nothing_made old new same;
+      lasts = making_lasts making (talk_with way session (works.PendingReply making)) next refl
+          (subst (λ (w : Work). Stays (talk_with way session w) next) emptied stays)
+          (subst (λ (w : Work). KeepsBy making (saying_in w) next.saying) emptied by);
+    })

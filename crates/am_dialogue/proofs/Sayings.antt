@@ -1,0 +1,145 @@
+-- What is replied, one call after the other.
+use Rattle.std.proofs.Common.{◌≡◌, ◌∙◌, [], None, inl, inr, refl, sym, subst, ap}
+use Rattle.am_api_silences.specs.Answers.{IsTurnedAway, WhenMade}
+use Rattle.am_api_silences.specs.PendingReply.{IsMadeOf, Makes}
+use Rattle.am_api_silences.specs.Replies.{Says, line_bytes}
+use Rattle.am_api_silences.specs.Table.{memory_line}
+use Rattle.am_api_silences.specs.declared.answering.PendingAnswer.{PendingAnswer}
+use Rattle.am_api_silences.specs.declared.pending_reply.PendingReply.{PendingReply}
+use Rattle.am_api_silences.specs.declared.replies.ReplyBytes.{ReplyBytes}
+use Rattle.am_api_silences.specs.declared.replies.ReplyBytes.TheVariants.{Own, Fixed}
+use Rattle.am_http.specs.Lines.{RefusalLine, line_seen}
+use Rattle.am_http.specs.declared.refusal.Refusal.{Refusal}
+use Rattle.am_instance.specs.InstanceStates.{InstanceState}
+use Rattle.am_dialogue.proofs.Resting.{stays_same}
+use Rattle.am_dialogue.specs.Talks.{IsClosed, IsLine, IsOwed, IsReplyTo, Keeps, KeepsBy, KeepsGone, Lasts, Owed, Rests, Saying, Stays, Talk, WaitsNoMore, gone_of, said_next}
+use Rattle.am_dialogue.specs.Talks.Owed.{Line, Reply, Other}
+use Rattle.am_dialogue.specs.Talks.Saying.{Silent, Making, Elsewhere, Held, Out}
+
+pub keeps_same : (old new : Saying) → new ≡ old → Keeps old new
+keeps_same old new same = record { owed = λ owed was. subst (IsOwed owed) (sym same) was; gone = ap gone_of same }
+
+pub keeps_on : (a b c : Saying) → Keeps a b → Keeps b c → Keeps a c
+keeps_on a b c first then = record { owed = λ owed was. then.owed owed (first.owed owed was); gone = then.gone ∙ first.gone }
+
+-- finished from this, and kept then
+pub by_on : (making : PendingReply) (a b c : Saying) → KeepsBy making a b → Keeps b c → KeepsBy making a c
+by_on making a b c first then = record { owed = λ owed was makes. then.owed owed (first.owed owed was makes); gone = then.gone ∙ first.gone }
+
+-- a line is replied whatever was owed
+line_to : (owed : Owed) (reply : ReplyBytes) → IsLine reply → IsReplyTo owed reply
+line_to Line reply line = line
+line_to (Reply begun) reply line = inr line
+line_to Other reply line = tt
+
+next_owed : (owed : Owed) (reply : ReplyBytes) (old : Saying) → IsOwed owed old → IsReplyTo owed reply → IsOwed owed (said_next reply old)
+next_owed owed reply Silent was is = is
+next_owed owed reply (Making making) was is = is
+next_owed owed reply Elsewhere was is = is
+next_owed owed reply (Held held) was is = is
+next_owed owed reply (Out other written) was is = was
+
+pub next_gone : (reply : ReplyBytes) (old : Saying) → KeepsGone old (said_next reply old)
+next_gone reply Silent = refl
+next_gone reply (Making making) = refl
+next_gone reply Elsewhere = refl
+next_gone reply (Held held) = refl
+next_gone reply (Out other written) = refl
+
+pub keeps_line : (reply : ReplyBytes) (old new : Saying) → new ≡ said_next reply old → IsLine reply → Keeps old new
+keeps_line reply old new is line = keeps_on old (said_next reply old) new
+    (record { owed = λ owed was. next_owed owed reply old was (line_to owed reply line); gone = next_gone reply old }) (keeps_same _ new is)
+
+-- such a line is what a refusal is told by
+says_line : (line : RefusalLine) (reply : ReplyBytes) → Says (λ bytes. bytes ≡ line_bytes line) reply → IsLine reply
+says_line line (Own bytes) says = (line, says)
+says_line line (Fixed bytes) says = (memory_line, says)
+
+-- (whatever an instance is, a refusal tells nothing of it)
+no_instance : InstanceState
+no_instance = record { config = record { members = []; place = 0; retention = 0; peer_timeout = 0 }; silences = []; log = []; last = 0 }
+
+pub line_made : (refusal : Refusal) (begun : PendingAnswer) (reply : ReplyBytes) → ((stand : InstanceState) → WhenMade (λ answered. IsTurnedAway refusal stand answered stand) begun)
+    → IsMadeOf begun.making reply → IsLine reply
+line_made refusal begun reply refused made = says_line (line_seen refusal) reply (refused no_instance reply made).says
+
+-- what it is finished with goes out
+pub by_reply : (making : PendingReply) (reply : ReplyBytes) (old new : Saying) → new ≡ said_next reply old → IsMadeOf making reply → KeepsBy making old new
+by_reply making reply old new is made = by_on making old (said_next reply old) new
+    (record { owed = λ owed was makes. next_owed owed reply old was (makes reply made); gone = next_gone reply old }) (keeps_same _ new is)
+
+-- a reply that waited for a commit goes out
+pub keeps_held : (reply : ReplyBytes) (new : Saying) → new ≡ Out reply 0 → Keeps (Held reply) new
+keeps_held reply new is = keeps_on (Held reply) (Out reply 0) new (record { owed = λ owed was. was; gone = refl }) (keeps_same (Out reply 0) new is)
+
+-- one that goes on is finished with what it would be finished with
+pub by_more : (making more : PendingReply) (old new : Saying) → Makes (IsMadeOf making) more → KeepsBy more old new → KeepsBy making old new
+by_more making more old new same by =
+    record { owed = λ owed was makes. by.owed owed was (λ reply made. makes reply (same reply made)); gone = by.gone }
+
+-- of what isn't about silences nothing is said
+pub other_owed : (saying : Saying) → IsOwed Other saying
+other_owed Silent = tt
+other_owed (Making making) = λ reply made. tt
+other_owed Elsewhere = refl
+other_owed (Held reply) = tt
+other_owed (Out reply written) = tt
+
+pub elsewhere_keeps : (new : Saying) → KeepsGone Elsewhere new → Keeps Elsewhere new
+elsewhere_keeps new gone = record { owed = λ owed is. subst (λ (o : Owed). IsOwed o new) (sym is) (other_owed new); gone = gone }
+
+elsewhere_loud : Elsewhere ≡ Silent → ⊥
+elsewhere_loud e = cc
+
+making_loud : (making : PendingReply) → Making making ≡ Silent → ⊥
+making_loud making e = cc
+
+none_waits : (old new : Talk) → old.waiting ≡ None → WaitsNoMore (record old { saying = Silent }) new → new.waiting ≡ None
+none_waits old new none (inl same) = same ∙ none
+none_waits old new none (inr is) = is
+
+-- a list goes on being made
+pub making_keeps : (making : PendingReply) (new : Saying) → KeepsBy making Silent new → Keeps (Making making) new
+making_keeps making new by = record { owed = λ owed was. by.owed owed tt was; gone = by.gone }
+
+-- ---- a connection that lasts
+
+pub lasts_same : (old new : Talk) → new ≡ old → Lasts old new
+lasts_same old new same = inl (record {
+  stays = stays_same old new same;
+  silent = λ none. ap (λ (t : Talk). t.saying) same ∙ none;
+  saying = keeps_same old.saying new.saying (ap (λ (t : Talk). t.saying) same);
+})
+
+-- something is replied, so that it isn't silent
+pub lasts_by : (old new : Talk) → Stays old new → ¬ (old.saying ≡ Silent) → Keeps old.saying new.saying → Lasts old new
+lasts_by old new stays loud keeps = inl (record { stays = stays; silent = λ none. absurd (loud none); saying = keeps })
+
+-- what is closed from silence is closed, where nothing went out
+pub silent_closes : (old new : Talk) → gone_of old.saying ≡ [] → IsClosed (record old { waiting = None; saying = Silent }) new → IsClosed old new
+silent_closes old new none closed = record {
+  way = closed.way;
+  session = closed.session;
+  waiting = closed.waiting;
+  saying = record { owed = λ owed was. closed.saying.owed owed tt; gone = closed.saying.gone ∙ sym none };
+}
+
+-- what isn't about silences goes on
+pub elsewhere_lasts : (old new : Talk) → old.saying ≡ Elsewhere → old.waiting ≡ None → Rests (record old { saying = Silent }) new → KeepsGone Silent new.saying → Lasts old new
+elsewhere_lasts old new here none (inl stays) gone = lasts_by old new
+    (record { way = stays.way; session = stays.session; waiting = stays.waiting })
+    (λ e. absurd (elsewhere_loud (sym here ∙ e)))
+    (subst (λ (s : Saying). Keeps s new.saying) (sym here) (elsewhere_keeps new.saying gone))
+elsewhere_lasts old new here none (inr closes) gone = inr (record {
+  way = closes.way;
+  session = closes.session;
+  waiting = none_waits old new none closes.waiting;
+  saying = subst (λ (s : Saying). Keeps s new.saying) (sym here) (elsewhere_keeps new.saying gone);
+})
+
+-- a list goes on being made
+pub making_lasts : (making : PendingReply) (old new : Talk) → old.saying ≡ Making making → Stays (record old { saying = Silent }) new → KeepsBy making Silent new.saying → Lasts old new
+making_lasts making old new here stays by = lasts_by old new
+    (record { way = stays.way; session = stays.session; waiting = stays.waiting })
+    (λ e. absurd (making_loud making (sym here ∙ e)))
+    (subst (λ (s : Saying). Keeps s new.saying) (sym here) (making_keeps making new.saying by))
