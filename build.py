@@ -13,14 +13,12 @@ in any case. How far it is goes to standard error: at the start how long all tak
 import contextlib
 import hashlib
 import os
-import queue
 import re
 import shutil
 import signal
 import subprocess
 import sys
 import tempfile
-import threading
 import time
 
 TOP = os.path.dirname(os.path.abspath(__file__))
@@ -42,11 +40,6 @@ PACES = {
 }  # fmt: skip
 # That of a crate which was not measured.
 PACE = 90
-
-# The crate whose proof takes longest, on which the program alone stands: as soon as what it stands on is done it is proved in a
-# run of its own, which can give it two processes. How many times sooner it is done then.
-LONGEST = "am_daemon"
-SOONER = 1.5
 
 # How many times as long they took where whole builds were measured, and for how many seconds that counts beside what crates
 # have taken in this one.
@@ -138,15 +131,13 @@ class Plan:
     those with the longest chain of others behind them, by lines. That is told here once more, with what crates take for how
     long they are said to take. Each has one process, since RT_JOBS is set: of itself rt ci gives a proof more of them where
     processors are idle, but begins it only where it is sure of memory, and so has two or three proofs side by side in 23 GB
-    where there is room for four. So what comes last, behind all others, has runs of its own, without RT_JOBS.
+    where there is room for four.
     """
 
-    def __init__(self, tree, folder, number, in_turn=False):
+    def __init__(self, tree, folder, number):
         self.tree, self.number = tree, number
-        # (without a kit that keeps, a run would prove again what an earlier one proved)
-        self.last = [it for it in tree if LONGEST in with_below([it], tree)] if in_turn else []
         lines = {name: lines_of(folder, name) for name in tree}
-        self.seconds = {name: seconds_of(name, lines[name]) / (SOONER if name in self.last else 1) for name in tree}
+        self.seconds = {name: seconds_of(name, lines[name]) for name in tree}
         self.behind = dict(lines)
         for name in reversed(with_below(tree, tree)):
             above = [self.behind[it] for it in tree if name in tree[it]]
@@ -158,20 +149,11 @@ class Plan:
     def next_of(self, done, running):
         """The crate that begins next, if one is ready."""
         ready = [it for it in self.tree if it not in done and it not in running and done.issuperset(self.tree[it])]
-        return max(ready, key=lambda it: (it in self.last, self.behind[it]), default=None)
+        return max(ready, key=self.behind.get, default=None)
 
     def fill(self, now):
         while len(self.running) < self.number and (name := self.next_of(self.done, self.running)):
             self.running[name] = now
-
-    def runs(self):
-        """The crates that each run of rt ci names, in their order. The last names none: so it proves all, and builds programs."""
-        return [[it for it in self.tree if it not in self.last], *([it] for it in self.last[:-1]), []] if self.last else [[]]
-
-    def may_begin(self, names):
-        """Whether a run may begin: the first at once, and each other as soon as all is done that its last crate stands on."""
-        last = [None, *self.last, *names][-1]
-        return last not in self.last or self.done.issuperset(self.tree[last])
 
     def end(self, name, now, is_kept):
         begun = self.running.pop(name, None)
@@ -252,56 +234,25 @@ def prove(folder, told=None, words=(), last=None):
     Where a crate is named as the last, it ends once that is proved, and runs no program.
     """
     told = told or Told(Plan(dependencies(folder), folder, places()), keeps())
-    waiting, running, said = told.plan.runs(), {}, queue.SimpleQueue()
-    number = told.plan.number
-    with contextlib.ExitStack() as runs:
-        while waiting or running:
-            while waiting and told.plan.may_begin(waiting[0]):
-                ran = runs.enter_context(ended(run_ci(folder, [*waiting.pop(0), *words], number)))
-                running[ran.pid], number = (ran, []), None
-                threading.Thread(target=pass_on, args=(ran, said), daemon=True).start()
-            at, line = said.get()
-            ran, lines = running[at]
-            if line is None:
-                del running[at]
-                if ran.wait():
-                    return "".join(lines) + f"rt ci ended with status {ran.returncode}\n"
-            elif not hear(line, lines, told):
-                return "".join(lines)
-            elif last in told.plan.done:
+    how = {"cwd": folder, "stdin": subprocess.DEVNULL, "stdout": subprocess.PIPE, "stderr": subprocess.STDOUT, "errors": "replace"}
+    said = []
+    with ended(subprocess.Popen(["rt", "ci", *words], env={**os.environ, "RT_JOBS": str(told.plan.number)}, **how)) as ran:
+        for line in ran.stdout:
+            if line.startswith("== "):
+                said.clear()
+            said.append(line)
+            waits = WAITS.match(line)
+            if waits:
+                say(waits[1])
+            done = DONE.match(line)
+            if done and done[2] == "NOT PROVED":
+                return "".join(said)
+            if done:
+                told.done(done[1], done[2])
+                said.clear()
+            if done and done[1] == last:
                 return None
-    return None
-
-
-def run_ci(folder, words, number):
-    """A run of rt ci over a tree, with so many checks side by side, or as many as rt ci sees fit."""
-    how = {"stdin": subprocess.DEVNULL, "stdout": subprocess.PIPE, "stderr": subprocess.STDOUT, "errors": "replace"}
-    env = {it: value for it, value in os.environ.items() if it != "RT_JOBS"}
-    return subprocess.Popen(["rt", "ci", *words], cwd=folder, env=env | ({"RT_JOBS": str(number)} if number else {}), **how)
-
-
-def pass_on(ran, said):
-    """Passes on the lines of a run, and then its end."""
-    for line in ran.stdout:
-        said.put((ran.pid, line))
-    said.put((ran.pid, None))
-
-
-def hear(line, lines, told):
-    """Takes a line of rt ci, behind those since the last crate that was done; whether none failed."""
-    if line.startswith("== "):
-        lines.clear()
-    lines.append(line)
-    if waits := WAITS.match(line):
-        say(waits[1])
-    done = DONE.match(line)
-    if not done or done[1] in told.plan.done:
-        return True
-    if done[2] == "NOT PROVED":
-        return False
-    told.done(done[1], done[2])
-    lines.clear()
-    return True
+        return "".join(said) + f"rt ci ended with status {ran.returncode}\n" if ran.wait() else None
 
 
 @contextlib.contextmanager
@@ -357,7 +308,7 @@ def build(words, reports):
         if content(f"{PROGRAM}.sum") == stamp(sources) and "--anew" not in words:
             say("nothing has changed since it was built")
         else:
-            told = Told(Plan({it: crates[it] for it in names}, folder, places(), keeps() and not words), keeps())
+            told = Told(Plan({it: crates[it] for it in names}, folder, places()), keeps())
             failed = prove(folder, told, words if told.keeps else ())
             if failed is not None:
                 say(f"not built; rt said:\n{failed[-4000:]}")
