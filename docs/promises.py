@@ -49,12 +49,12 @@ Every function is proved safe: it returns on every input, without undefined beha
 TAIL = """## Only tested
 
 - **Definitions** mean what people want: [cases/](CASES.md), worked by hand.
-- **The loop** is fair, keeps deadlines, closes the right connection and counts unfinished bytes: tests/upkeep.py, tests/edges.py. Members under faults of network, process and disk: tests/chaos.py.
+- **The loop** is fair, keeps deadlines, closes the right connection, tells answers once their peers end, and counts unfinished bytes; replies come: tests/upkeep.py, tests/edges.py. Members under faults of network, process and disk: tests/chaos.py.
 - **`--log`**: a reply and its frames wait for the log, so that members with logs are durable: tests/disk.py.
 - **A member's turns, figures, readiness and first pull**, and that it gives each step its moment: tests/turns.py, tests/operations.py, tests/three_members.py, tests/machines.py.
 - **Pages** go out, and once if nothing fails: tests/pages.py; beside real Alertmanagers tests/real_shims.py, on request.
 - **Command lines, servers, logs that are read, pictures' layout, the page for people**: tests/command_line.py, live_sources.py, log_sources.py, gossip.py, pictures.py, page.py (with chromium).
-- **That a member's lock is its secret's, that what is sealed opens, that a reply which isn't about silences is that of its call, that `push` sends just the lacking rows, and that a member beside Alertmanagers asks and tells them**: tests/machines.py, tests/gossip.py, tests/beside.py.
+- **That a member's lock is its secret's, that an entrance hears what it should, that what is sealed opens, that a reply which isn't about silences is that of its call, that `push` sends just the lacking rows, and that a member beside Alertmanagers asks and tells them**: tests/machines.py, tests/gossip.py, tests/beside.py.
 - **Refused memory and hostile input**: tests/refused_memory.py, tests/fuzz.py, am_tests.
 - **Real replicas** of prometheus-alertmanager 0.25.0: tests/real_replicas.py, on request.
 
