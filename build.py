@@ -35,8 +35,8 @@ PACES = {
     "am_files": 80, "am_command_line": 120, "am_daemon": 235, "am_tool": 500, "am_decision_json": 74, "am_api_decisions": 77,
     "am_dialogue": 75, "am_lines": 81, "am_alert_hash": 73, "am_jobs": 62, "am_commands": 130, "am_player": 90,
     "am_metrics": 105, "am_figures": 96, "am_api_status": 30, "am_refusals": 118, "am_peers": 91, "am_upkeep": 120,
-    "am_self": 146, "am_lzw": 90, "am_memberlist": 65, "am_mend": 135, "am_seal": 67, "am_gate": 74, "am_address": 88,
-    "am_secret": 165, "am_beside": 110, "am_living": 300, "am_attendant": 150, "am_disk": 96,
+    "am_self": 146, "am_lzw": 90, "am_memberlist": 65, "am_mend": 135, "am_seal": 67, "am_gate": 74,
+    "am_beside": 110, "am_living": 300, "am_attendant": 150, "am_disk": 96,
 }  # fmt: skip
 # That of a crate which was not measured.
 PACE = 90

@@ -15,7 +15,7 @@ TOP = os.path.dirname(os.path.dirname(os.path.abspath(__file__)))
 sys.path[1:1] = [TOP, f"{TOP}/tests"]
 
 NAMES = (
-    "folding extremes memory diff api instance held mutes decide feed parse replay runs serve sealed logs decisions hostile"
+    "folding extremes memory diff api instance held mutes decide feed parse replay runs serve sealed logs pulls decisions hostile"
     " processors functions"
 ).split()
 

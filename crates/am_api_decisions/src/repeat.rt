@@ -5,7 +5,7 @@ ghost use Rattle.std.specs.Prelude.{◌≡◌, ◌*◌, ◌≤◌};
 use am_version_order::Interval;
 
 /// After how many seconds a notification is repeated: 1 to 9,223,372,036, since an interval has fewer than 2^63 nanoseconds.
-#[derive(Clone, Copy, Debug)]
+#[derive(Clone, Copy)]
 pub struct Repeat {
     pub seconds: u64,
     pub ghost in_range: { (1 ≤ seconds) × (seconds ≤ 9_223_372_036) },

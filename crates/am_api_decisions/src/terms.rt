@@ -13,7 +13,7 @@ use am_wire::Text;
 use std::alloc::Global;
 
 /// On which terms a decision is asked for, by the words of the query.
-#[derive(Debug, Drop)]
+#[derive(Drop)]
 pub struct Terms {
     /// `repeat`, in seconds: after how long a notification is repeated.
     pub repeat: Repeat,

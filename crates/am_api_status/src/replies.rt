@@ -12,7 +12,7 @@ use am_metrics::{Family, write_families};
 use std::alloc::{AllocError, Global};
 
 /// What a body is written in.
-#[derive(Clone, Copy, Debug, PartialEq, Eq)]
+#[derive(Clone, Copy, PartialEq, Eq)]
 pub enum Format {
     /// A text for people.
     Plain,

@@ -7,7 +7,7 @@ use am_version_order::Moment;
 use std::alloc::{AllocError, Global};
 
 /// What goes on with a replica.
-#[derive(Clone, Copy, Debug, PartialEq, Eq)]
+#[derive(Clone, Copy, PartialEq, Eq)]
 enum Way {
     Nothing,
     /// It is asked for all it holds.

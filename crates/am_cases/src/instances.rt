@@ -6,12 +6,11 @@ use crate::connections::{connect, send};
 use crate::events::asks;
 use crate::members::{begin, hold, say_config, say_state};
 use crate::steps::happen;
-use am_address::{AddressWord, address_of, peer_of};
 use am_api_silences::to_bytes;
 use am_instance::{Instance, Reply};
 use am_part_cases::common::{Case, Printed, cut};
 use am_part_cases::{given, parts, say, say_some};
-use am_peers::{later_moment, number_within, port_of};
+use am_peers::{AddressWord, address_of, later_moment, number_within, peer_of, port_of};
 use am_silence::SilenceError;
 use std::time::Duration;
 

@@ -14,7 +14,7 @@ use am_peers::{Fault as ConnectionFault, ServerFault};
 use am_reactor::LinkFault;
 use am_refusals::ConfigError;
 use am_report::Word;
-use am_secret::SecretFault;
+use am_seal::SecretFault;
 use am_silence_json::ListError;
 use am_snapshot::SnapshotError;
 use meaning::meaning_of;

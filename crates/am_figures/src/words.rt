@@ -1,7 +1,7 @@
 //! The words that labels may have: none comes from who asks.
 
 /// What a request asks for.
-#[derive(Clone, Copy, Debug, PartialEq, Eq)]
+#[derive(Clone, Copy, PartialEq, Eq)]
 pub enum Request {
     List,
     Get,
@@ -54,7 +54,7 @@ pub fn status_place(status: &[u8]) -> usize {
 }
 
 /// What makes a step of the instance.
-#[derive(Clone, Copy, Debug, PartialEq, Eq)]
+#[derive(Clone, Copy, PartialEq, Eq)]
 pub enum Step {
     List,
     Get,
@@ -74,7 +74,7 @@ pub const STEPS: [&str; 10] = [
 ];
 
 /// What a frame is to Alertmanager: news of one thing, or all that is held; or a Tick, which it hasn't.
-#[derive(Clone, Copy, Debug, PartialEq, Eq)]
+#[derive(Clone, Copy, PartialEq, Eq)]
 pub enum Kind {
     Update,
     FullState,
@@ -98,7 +98,7 @@ pub enum Cause {
 pub const CAUSES: [&str; 5] = ["connect", "write", "time", "full", "memory"];
 
 /// Why a connection is closed before its end.
-#[derive(Clone, Copy, Debug, PartialEq, Eq)]
+#[derive(Clone, Copy, PartialEq, Eq)]
 pub enum Failing {
     Read,
     Write,

@@ -9,7 +9,7 @@ use am_http::session::{Session, SessionOutput};
 use std::alloc::Global;
 
 /// What is heard of those who come by an entrance.
-#[derive(Clone, Copy, Debug, PartialEq, Eq)]
+#[derive(Clone, Copy, PartialEq, Eq)]
 pub enum Hears {
     Requests,
     Frames,

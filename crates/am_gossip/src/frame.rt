@@ -42,7 +42,7 @@ impl StateKey {
 }
 
 /// Versions of one state, as a row of messages.
-#[derive(Debug, Drop)]
+#[derive(Drop)]
 pub struct Part {
     pub key: StateKey,
     pub bytes: Bytes,
@@ -66,7 +66,7 @@ impl Part {
 }
 
 /// Parts in their order, which may hold one state twice. Contracts see the list.
-#[derive(Debug, Drop)]
+#[derive(Drop)]
 pub struct FullState {
     parts: Vec<Part>,
 }
@@ -119,7 +119,7 @@ impl FullState {
 }
 
 /// What one peer sends to another.
-#[derive(Debug, Drop)]
+#[derive(Drop)]
 pub enum Frame {
     Delta(Part),
     Push(FullState),

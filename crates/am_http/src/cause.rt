@@ -8,7 +8,7 @@ use crate::refusal::Refusal;
 use am_silence_json::Key;
 
 /// What a path of API v2 names.
-#[derive(Clone, Copy, Debug, PartialEq, Eq)]
+#[derive(Clone, Copy, Debug)]
 pub enum Resource {
     /// `/api/v2/silences`
     Silences,
@@ -17,7 +17,7 @@ pub enum Resource {
 }
 
 /// What is at fault in a request before a step is made, in the order in which it is tested.
-#[derive(Clone, Copy, Debug, PartialEq, Eq)]
+#[derive(Clone, Copy, Debug)]
 pub enum Cause {
     /// The head doesn't end in 16,384 bytes, or has over 64 fields.
     HeadTooLarge,

@@ -34,7 +34,7 @@ fn content_length(value: &[u8]) -> Option<u64>
 }
 
 /// The values of a field.
-#[derive(Clone, Copy, Debug)]
+#[derive(Clone, Copy)]
 pub enum Named<'a> {
     Missing,
     Once(&'a [u8]),

@@ -14,7 +14,7 @@ pub const MOST_HEAD_BYTES: usize = 16_384;
 pub const MOST_FIELDS: usize = 64;
 
 /// What stands at the front of the bytes.
-#[derive(Clone, Copy, Debug)]
+#[derive(Clone, Copy)]
 pub enum Head {
     /// A head that isn't whole.
     Open,

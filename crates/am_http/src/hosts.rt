@@ -15,7 +15,7 @@ use httparse::spans::{EMPTY_HEADER_SPAN, HeaderSpan};
 const OWN_NAMES: [&str; 2] = ["127.0.0.1", "localhost"];
 
 /// What a request names that isn't the server's own.
-#[derive(Clone, Copy, Debug, PartialEq, Eq)]
+#[derive(Clone, Copy)]
 pub enum Foreign {
     /// The host that it is for.
     Host,
@@ -24,7 +24,7 @@ pub enum Foreign {
 }
 
 /// What is known of where a request comes from.
-#[derive(Clone, Copy, Debug, PartialEq, Eq)]
+#[derive(Clone, Copy)]
 pub enum Screened {
     /// The head isn't whole, and may become one.
     Open,

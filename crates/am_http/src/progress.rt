@@ -10,7 +10,7 @@ use crate::head::{Head, MOST_FIELDS, read_head, window};
 use httparse::spans::{EMPTY_HEADER_SPAN, Span};
 
 /// The parts of a whole request.
-#[derive(Clone, Copy, Debug)]
+#[derive(Clone, Copy)]
 pub struct Parts<'a> {
     pub method: &'a str,
     pub target: &'a str,
@@ -18,7 +18,7 @@ pub struct Parts<'a> {
 }
 
 /// How far a request has come.
-#[derive(Clone, Copy, Debug)]
+#[derive(Clone, Copy)]
 pub enum RequestProgress<'a> {
     /// The head isn't whole.
     Head,

@@ -3,7 +3,7 @@
 ghost use Rattle.http.specs.StatusCode.{IsStatusCode};
 
 /// A line of the table of statuses.
-#[derive(Clone, Copy, Debug, PartialEq, Eq)]
+#[derive(Clone, Copy)]
 pub struct Refusal {
     pub status: u16,
     /// What the body says.

@@ -9,7 +9,7 @@ use crate::refusal::Refusal;
 use std::alloc::{AllocError, Global};
 
 /// A whole request.
-#[derive(Debug, Drop)]
+#[derive(Drop)]
 pub struct Request {
     pub method: String,
     /// The target as it came: nothing in it is decoded.
@@ -18,7 +18,7 @@ pub struct Request {
 }
 
 /// What was read of the bytes that came.
-#[derive(Debug, Drop)]
+#[derive(Drop)]
 pub enum Read {
     /// Nothing is decided yet.
     More,

@@ -7,7 +7,7 @@ ghost use Rattle.am_http.specs.Paths.{IsCallOf, IsPathOf, path_of, query_of};
 use crate::cause::{Cause, Resource};
 
 /// A call on silences.
-#[derive(Clone, Copy, Debug, PartialEq, Eq)]
+#[derive(Clone, Copy, Debug)]
 pub enum Call<'a> {
     /// All silences that pass the filters of the query, which is not decoded.
     List { query: &'a str },

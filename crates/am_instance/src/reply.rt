@@ -36,7 +36,7 @@ pub enum Reply {
 }
 
 /// Frames that were left out.
-#[derive(Clone, Copy, Debug, PartialEq, Eq)]
+#[derive(Clone, Copy, PartialEq, Eq)]
 pub struct Unsent {
     /// There was no memory for so many.
     pub memory: usize,

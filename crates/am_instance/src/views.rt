@@ -67,6 +67,21 @@ pub fn silences_shown(
     Ok(shown)
 }
 
+/// Shows one entry of the log, if it is in view.
+fn show_entry(
+    alloc: Global,
+    version: &MeshEntry,
+    now: Moment,
+    shown: &mut Vec<MeshEntry>,
+) -> Result<(), AllocError>
+    ensures { OnOk result (shown.new.items ≡ shown.old.items ++ log_in_view now (version.now ∷ [])) }
+{
+    if now < version.expires() {
+        shown.push(version.try_clone(alloc)?)?;
+    }
+    Ok(())
+}
+
 /// The log's entries in view, in the order of their keys.
 ///
 /// # Errors
@@ -81,9 +96,7 @@ pub fn log_shown(
 {
     let mut shown = Vec::new(alloc);
     for version in log.iter() {
-        if now < version.expires() {
-            shown.push(version.try_clone(alloc)?)?;
-        }
+        show_entry(alloc, version, now, &mut shown)?;
     }
     Ok(shown)
 }

@@ -1,6 +1,6 @@
 //! How a member is run.
 
-use am_address::Peer;
+use am_peers::Peer;
 use am_version_order::Interval;
 use std::net::SocketAddr;
 use std::time::Duration;

@@ -4,9 +4,8 @@
 ghost use Rattle.std.specs.Prelude.{◌<◌};
 
 use crate::standard_error::StandardError;
-use am_address::shown_name;
 use am_faults::{Fault, KINDS, Occasion, print, print_count};
-use am_peers::later_moment;
+use am_peers::{later_moment, shown_name};
 use am_refusals::Place;
 use am_version_order::Moment;
 use am_wire::Text;

@@ -6,7 +6,7 @@ use Rattle.std.proofs.lemmas.List.{append_cancel_right}
 use Rattle.am_silence.specs.declared.matcher.Matcher.{Matcher}
 use Rattle.am_silence.specs.declared.matcher.MatcherKind.{MatcherKind}
 use Rattle.am_matcher.specs.declared.pieces.Piece.{Piece}
-use Rattle.am_matcher.specs.Filters.{pieces, quote, is_quote, IsInside, IsSplit, IsFilter}
+use Rattle.am_matcher.specs.Filters.{pieces, quote, is_quote, IsInside, IsSplit, IsValue, IsFilter}
 use Rattle.am_matcher.proofs.Splits.{steps_of, same_steps, SameParts}
 
 -- ---- quotes
@@ -49,20 +49,26 @@ pub no_filter-split : (bytes text : List ℕ) → text ≡ chars bytes → ((kin
 no_filter-split bytes text is none m f =
     none m.kind f.name f.written (subst (λ (l : List ℕ). IsSplit l m.kind f.name f.written) (sym is) f.split)
 
-pub no_filter-value : (bytes text : List ℕ) (kind : MatcherKind) (name written : List ℕ) (all : List Piece) → text ≡ chars bytes → IsSplit text kind name written → all ≡ pieces written → ((inside : List Piece) → IsInside all inside → ⊥) → (m : Matcher) → IsFilter bytes m → ⊥
-no_filter-value bytes text kind name written all is split is_all none m f =
+pub no_filter-value : (bytes text : List ℕ) (kind : MatcherKind) (name written : List ℕ) → text ≡ chars bytes → IsSplit text kind name written → ((value : List ℕ) → IsValue written value → ⊥) → (m : Matcher) → IsFilter bytes m → ⊥
+no_filter-value bytes text kind name written is split none m f =
     let moved : IsSplit text m.kind f.name f.written = subst (λ (l : List ℕ). IsSplit l m.kind f.name f.written) (sym is) f.split in
     let parts = same_split text kind m.kind name f.name written f.written split moved in
-    let same : pieces f.written ≡ all = ap pieces (sym parts.same_written) ∙ sym is_all in
-    none f.is_value.inside (subst (λ (l : List Piece). IsInside l f.is_value.inside) same f.is_value.is_inside)
+    none f.value (subst (λ (l : List ℕ). IsValue l f.value) (sym parts.same_written) f.is_value)
 
-pub filter_of_parts : (bytes text : List ℕ) (m : Matcher) (name written : List ℕ) (all inside : List Piece) → text ≡ chars bytes → IsSplit text m.kind name written → all ≡ pieces written → IsInside all inside → m.name ≡ encode_utf8_all name → m.pattern ≡ encode_utf8_all (map (λ piece. piece.character) inside) → IsFilter bytes m
-filter_of_parts bytes text m name written all inside is split is_all is_inside name_is pattern_is = record {
+pub no_value : (written : List ℕ) (all : List Piece) → all ≡ pieces written → ((inside : List Piece) → IsInside all inside → ⊥) → (value : List ℕ) → IsValue written value → ⊥
+no_value written all is_all none value v = none v.inside (subst (λ (l : List Piece). IsInside l v.inside) (sym is_all) v.is_inside)
+
+pub value_of_pieces : (written : List ℕ) (all inside : List Piece) → all ≡ pieces written → IsInside all inside → IsValue written (map (λ piece. piece.character) inside)
+value_of_pieces written all inside is_all is_inside =
+    record { inside = inside; is_inside = subst (λ (l : List Piece). IsInside l inside) is_all is_inside; characters = refl }
+
+pub filter_of_parts : (bytes text : List ℕ) (m : Matcher) (name written value : List ℕ) → text ≡ chars bytes → IsSplit text m.kind name written → IsValue written value → m.name ≡ encode_utf8_all name → m.pattern ≡ encode_utf8_all value → IsFilter bytes m
+filter_of_parts bytes text m name written value is split is_value name_is pattern_is = record {
   name = name;
   written = written;
-  value = map (λ piece. piece.character) inside;
+  value = value;
   split = subst (λ (l : List ℕ). IsSplit l m.kind name written) is split;
-  is_value = record { inside = inside; is_inside = subst (λ (l : List Piece). IsInside l inside) is_all is_inside; characters = refl };
+  is_value = is_value;
   name_is = name_is;
   pattern_is = pattern_is;
 }

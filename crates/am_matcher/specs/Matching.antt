@@ -15,6 +15,10 @@ use Rattle.am_matcher.specs.declared.labels.Label.{Label}
 use Rattle.am_matcher.specs.Patterns.{is_match, IsSound, IsBroken}
 use Rattle.am_matcher.specs.Sizes.{CompiledPattern}
 
+-- the value is the text, or matches the pattern from end to end
+abbrev pub is_found_by : MatcherKind → List ℕ → List ℕ → Bool
+is_found_by kind pattern value = if is_regexp kind then is_match pattern value else is_text pattern value
+
 -- the value is the text, or is not, or matches the pattern from end to end, or does not
 abbrev pub is_met : MatcherKind → List ℕ → List ℕ → Bool
 is_met kind pattern value = elim kind [

@@ -18,7 +18,7 @@ use std::marker::Model;
 const MOST_BYTES: usize = 64 << 20;
 
 /// What came of a pattern that is to be kept.
-#[derive(Clone, Copy, Debug, PartialEq, Eq)]
+#[derive(Clone, Copy, PartialEq, Eq)]
 pub struct Prepared {
     /// The bytes that are counted for what was compiled: of a broken pattern those of its text alone, and none where it was
     /// kept before.

@@ -1,7 +1,7 @@
 //! A matcher that is ready to be asked.
 
 ghost use Rattle.std.specs.Prelude.{◌≡◌, List, ℕ, IfOk, OnOk, IsErrOf};
-ghost use Rattle.am_matcher.specs.Matching.{matches_value, IsSoundMatcher, IsBrokenMatcher};
+ghost use Rattle.am_matcher.specs.Matching.{is_found_by, is_met, matches_value, IsSoundMatcher, IsBrokenMatcher};
 
 use crate::cache::PatternCache;
 use crate::whole::Whole;
@@ -158,9 +158,16 @@ impl Compiled {
             Some(whole) => whole.matches(value)?,
             None => self.matcher.pattern.as_str() == value,
         };
-        Ok(match self.matcher.kind {
-            MatcherKind::Equal | MatcherKind::Regexp => found,
-            MatcherKind::NotEqual | MatcherKind::NotRegexp => !found,
-        })
+        Ok(as_wanted(self.matcher.kind, found))
+    }
+}
+
+/// Whether a value that matches its pattern, or doesn't, is as a matcher of the kind wants it.
+pub fn as_wanted(kind: MatcherKind, found: bool) -> bool
+    ensures { (pattern value : List ℕ) → found ≡ is_found_by kind pattern value → result ≡ is_met kind pattern value }
+{
+    match kind {
+        MatcherKind::Equal | MatcherKind::Regexp => found,
+        MatcherKind::NotEqual | MatcherKind::NotRegexp => !found,
     }
 }

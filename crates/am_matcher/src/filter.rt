@@ -1,8 +1,8 @@
 //! The filters of a query.
 
-ghost use Rattle.std.specs.Prelude.{◌≡◌, ◌≢◌, List, ℕ, chars, IfOk, IsErrOf, if◌then◌else◌};
+ghost use Rattle.std.specs.Prelude.{◌≡◌, ◌≢◌, List, ℕ, chars, encode_utf8_all, string_bytes, IfOk, IsErrOf, if◌then◌else◌};
 ghost use Rattle.am_silence.specs.declared.matcher.Matcher.{Matcher};
-ghost use Rattle.am_matcher.specs.Filters.{IsFilter};
+ghost use Rattle.am_matcher.specs.Filters.{IsFilter, IsValue};
 ghost use Rattle.am_matcher.specs.Texts.{is_text};
 ghost use Rattle.am_matcher.specs.Matching.{IsSoundMatcher, IsBrokenMatcher, pattern_in, passes, regexp_of};
 
@@ -61,6 +61,19 @@ fn characters_of(alloc: Global, text: &str) -> Result<Vec<char>, AllocError>
     text.chars().collect(alloc)
 }
 
+/// The text that a value stands for, as it is written.
+fn value_of(alloc: Global, written: &[char]) -> Result<String, FilterError>
+    ensures read { IfOk result (λ text. (value : List ℕ) × IsValue written.now value × (string_bytes text ≡ encode_utf8_all value)) }
+    ensures syntax { IsErrOf result FilterError.Syntax → (value : List ℕ) → ¬ IsValue written.now value }
+    ensures no_pattern { result ≢ Err FilterError.BadPattern }
+{
+    let pieces = pieces_of(alloc, written)?;
+    let Some(inside) = inside_of(&pieces) else {
+        return Err(FilterError::Syntax);
+    };
+    Ok(text_of_pieces(alloc, inside)?)
+}
+
 /// What a text that is a filter stands for.
 fn read_filter(alloc: Global, text: &str) -> Result<Matcher, FilterError>
     ensures read { IfOk result (IsFilter text.now) }
@@ -71,12 +84,8 @@ fn read_filter(alloc: Global, text: &str) -> Result<Matcher, FilterError>
     let Some(parts) = parts_of(&characters) else {
         return Err(FilterError::Syntax);
     };
-    let pieces = pieces_of(alloc, parts.written)?;
-    let Some(inside) = inside_of(&pieces) else {
-        return Err(FilterError::Syntax);
-    };
+    let pattern = value_of(alloc, parts.written)?;
     let name = text_of(alloc, parts.name)?;
-    let pattern = text_of_pieces(alloc, inside)?;
     Ok(Matcher {
         kind: parts.kind,
         name: Text::new(name),

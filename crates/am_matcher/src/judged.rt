@@ -7,9 +7,9 @@ ghost use Rattle.am_matcher.specs.Matching.{matches_value, has_regexp, IsSoundMa
 ghost use Rattle.am_matcher.specs.Uses.{PatternsPass, TextsPass};
 
 use crate::cache::PatternCache;
-use crate::compiled::BuildError;
+use crate::compiled::{BuildError, as_wanted};
 use crate::labels::{Label, value_of};
-use am_silence::{MatcherIter, MatcherKind, MatcherRef, Matchers, Verdict};
+use am_silence::{MatcherIter, MatcherRef, Matchers, Verdict};
 use std::alloc::{AllocError, Global};
 
 /// Whether the value of a matcher's label matches. Its pattern may be kept if `keeps` says so.
@@ -33,10 +33,7 @@ fn judge(
     } else {
         matcher.pattern() == value
     };
-    Ok(match matcher.kind() {
-        MatcherKind::Equal | MatcherKind::Regexp => found,
-        MatcherKind::NotEqual | MatcherKind::NotRegexp => !found,
-    })
+    Ok(as_wanted(matcher.kind(), found))
 }
 
 /// Whether each of the matchers matches its label's value. All patterns are judged, whatever the

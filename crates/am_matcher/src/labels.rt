@@ -8,7 +8,7 @@ use am_wire::Text;
 use std::marker::Model;
 
 /// A name, and its value.
-#[derive(Debug, Drop)]
+#[derive(Drop)]
 pub struct Label {
     pub name: Text,
     pub value: Text,
@@ -18,7 +18,7 @@ pub struct Label {
 ///
 /// Contracts see the list of the labels. Of labels with one name the last one counts, and a label
 /// that is absent is the empty text.
-#[derive(Debug, Drop)]
+#[derive(Drop)]
 pub struct Labels {
     labels: Vec<Label>,
 }

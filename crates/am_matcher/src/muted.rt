@@ -6,7 +6,7 @@ use am_wire::Text;
 use std::marker::Model;
 
 /// Ids of silences. Contracts see the list.
-#[derive(Debug, Drop)]
+#[derive(Drop)]
 pub struct Ids {
     ids: Vec<Text>,
 }
@@ -42,7 +42,7 @@ impl Ids {
 }
 
 /// The silences that mute an alert, and those that may not be asked, each in the order of the ids.
-#[derive(Debug, Drop)]
+#[derive(Drop)]
 pub struct Mutes {
     /// The active silences that are not broken and whose matchers all match.
     pub ids: Ids,

@@ -7,7 +7,7 @@ ghost use Rattle.am_matcher.specs.Filters.{escape_of, pieces, quote, is_quote, I
 use std::alloc::{AllocError, Global};
 
 /// What stands for one character of a value: an escape, or the character itself.
-#[derive(Clone, Copy, Debug)]
+#[derive(Clone, Copy)]
 pub struct Piece {
     pub escaped: bool,
     pub character: char,

@@ -4,9 +4,9 @@ ghost use Rattle.std.specs.Prelude.{◌≡◌, ◌-◌, ◌^◌, min, IfOk, OnOk
 ghost use Rattle.regex.specs.declared.error.Error.{Error};
 ghost use Rattle.regex_hir.specs.Meaning.{meaning};
 ghost use Rattle.regex_compile.specs.Implements.{Implements};
-ghost use Rattle.am_matcher.specs.Patterns.{is_match, IsReadable, IsSound, IsBroken, IsRefusedFor};
+ghost use Rattle.am_matcher.specs.Patterns.{is_match, whole_text, IsReadable, IsSound, IsBroken, IsRefusedFor};
 ghost use Rattle.am_matcher.specs.Searches.{Finds};
-ghost use Rattle.am_matcher.specs.Sizes.{size_of};
+ghost use Rattle.am_matcher.specs.Sizes.{compiled_pattern, size_of};
 
 use crate::compiled::BuildError;
 use crate::counting::{SEARCH_BYTES, counted};
@@ -45,20 +45,15 @@ impl Drop for Whole {
 }
 
 impl Model for Whole {
-    ghost use Rattle.std.specs.Prelude.{string_bytes, vec_len, if◌then◌else◌};
+    ghost use Rattle.std.specs.Prelude.{string_bytes};
     ghost use Rattle.regex_dfa.specs.Search.{IsForwardFor};
     ghost use Rattle.am_matcher.specs.Patterns.{whole_text};
     ghost use Rattle.am_matcher.specs.Searches.{Finds};
-    ghost use Rattle.am_matcher.specs.Sizes.{CompiledPattern};
+    ghost use Rattle.am_matcher.specs.Sizes.{CompiledPattern, compiled_pattern};
 
     ghost Value = { CompiledPattern };
 
-    ghost view = { λ w. record {
-      text = string_bytes w.pattern;
-      states = vec_len w.dfa.value.nfa.states;
-      transitions = vec_len w.dfa.value.nfa.transitions;
-      tables = (if w.dfa.value.needs.unicode then 2 else 1);
-    } };
+    ghost view = { λ w. compiled_pattern (string_bytes w.pattern) w.dfa.value };
 
     ghost invariant = { λ w. Finds w.dfa.value.nfa (whole_text (string_bytes w.pattern)) × IsForwardFor w.forward w.dfa.value };
 }
@@ -97,6 +92,17 @@ fn dfa_of(alloc: Global, text: &str) -> Result<Dfa, BuildError>
     Ok(dfa)
 }
 
+/// What the pattern `p` is compiled to, as `^(?:p)$`.
+fn dfa_of_pattern(alloc: Global, pattern: &str) -> Result<Dfa, BuildError>
+    ensures finds { IfOk result (λ dfa. Finds dfa.nfa (whole_text pattern.now)) }
+    ensures sound { OnOk result (IsSound pattern.now) }
+    ensures broken { IsErrOf result BuildError.BadPattern → IsBroken pattern.now }
+{
+    read_alone(alloc, pattern)?;
+    let text = format!(in alloc; "^(?:{pattern})$")?;
+    dfa_of(alloc, text.as_str())
+}
+
 impl Whole {
     /// Compiles the pattern `p` as `^(?:p)$`.
     pub fn build(alloc: Global, pattern: &str) -> Result<Whole, BuildError>
@@ -104,12 +110,18 @@ impl Whole {
         ensures sound { OnOk result (IsSound pattern.now) }
         ensures broken { IsErrOf result BuildError.BadPattern → IsBroken pattern.now }
     {
-        read_alone(alloc, pattern)?;
-        let text = format!(in alloc; "^(?:{pattern})$")?;
-        let dfa = dfa_of(alloc, text.as_str())?;
+        let dfa = dfa_of_pattern(alloc, pattern)?;
+        let dfa = shared(alloc, dfa)?;
+        Ok(Whole::over(alloc, pattern, dfa)?)
+    }
+
+    /// The pattern with what it was compiled to. Searches build their own tables.
+    fn over(alloc: Global, pattern: &str, dfa: Rc<Dfa>) -> Result<Whole, AllocError>
+        requires { Finds dfa.value.nfa (whole_text pattern.now) }
+        ensures { IfOk result (λ whole. whole ≡ compiled_pattern pattern.now dfa.value) }
+    {
         let forward = Forward::with_budget(alloc, &dfa, false, SEARCH_BYTES)?;
         let pattern = String::from_str(alloc, pattern)?;
-        let dfa = shared(alloc, dfa)?;
         Ok(Whole {
             pattern,
             dfa,
@@ -122,15 +134,8 @@ impl Whole {
     pub fn share(&self) -> Result<Whole, AllocError>
         ensures { IfOk result (λ whole. whole ≡ self.now) }
     {
-        let forward = Forward::with_budget(self.alloc, &self.dfa, false, SEARCH_BYTES)?;
-        let pattern = String::from_str(self.alloc, self.pattern.as_str())?;
         let dfa = self.dfa.clone()?;
-        Ok(Whole {
-            pattern,
-            dfa,
-            forward,
-            alloc: self.alloc,
-        })
+        Whole::over(self.alloc, self.pattern.as_str(), dfa)
     }
 
     /// The text of the pattern.

@@ -18,7 +18,7 @@ use std::marker::Model;
 pub const MOST_PATTERN_BYTES: usize = 10 << 20;
 
 /// How far the patterns of a request have come.
-#[derive(Clone, Copy, Debug, PartialEq, Eq)]
+#[derive(Clone, Copy, PartialEq, Eq)]
 pub enum Judged {
     /// Some are still to be compiled.
     More,

@@ -26,7 +26,7 @@ const PUSH_PULL: u8 = 6;
 const ERROR: u8 = 13;
 
 /// What a replica said.
-#[derive(Clone, Copy, Debug)]
+#[derive(Clone, Copy)]
 pub enum Said<'a> {
     /// Its states.
     States(&'a [u8]),

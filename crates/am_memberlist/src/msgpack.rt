@@ -10,7 +10,7 @@ use crate::number::big_endian;
 use std::alloc::Global;
 
 /// A value that stands in a map.
-#[derive(Clone, Copy, Debug)]
+#[derive(Clone, Copy)]
 pub enum Scalar<'a> {
     Number(u64),
     /// A text, or bytes.
@@ -20,14 +20,14 @@ pub enum Scalar<'a> {
 }
 
 /// A key with its value.
-#[derive(Clone, Copy, Debug)]
+#[derive(Clone, Copy)]
 pub struct Pair<'a> {
     pub key: &'a [u8],
     pub value: Scalar<'a>,
 }
 
 /// Of how many bytes a number is.
-#[derive(Clone, Copy, Debug, PartialEq, Eq)]
+#[derive(Clone, Copy, PartialEq, Eq)]
 pub enum Width {
     One,
     Two,
@@ -51,7 +51,7 @@ impl Width {
 }
 
 /// What the first byte of a scalar says.
-#[derive(Clone, Copy, Debug, PartialEq, Eq)]
+#[derive(Clone, Copy, PartialEq, Eq)]
 pub enum Lead {
     /// It is this number.
     Number(u8),

@@ -7,7 +7,7 @@ ghost use Rattle.am_mend.specs.Mending.{why_refused};
 use am_version_order::{Moment, Version};
 
 /// Why an Alertmanager doesn't hold a version that it was sent.
-#[derive(Clone, Copy, Debug, PartialEq, Eq)]
+#[derive(Clone, Copy, PartialEq, Eq)]
 pub enum Refused {
     /// Its expiry is past, and so it is dropped.
     Expired,

@@ -27,7 +27,7 @@ pub enum Taken {
 }
 
 /// Memory ran out in a merge, after this many versions of the other map were taken.
-#[derive(Clone, Copy, Debug, PartialEq, Eq)]
+#[derive(Clone, Copy, PartialEq, Eq)]
 pub struct MergeError {
     pub taken: usize,
 }

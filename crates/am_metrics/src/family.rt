@@ -6,7 +6,7 @@ ghost use Rattle.am_metrics.specs.Kinds.{kind_text};
 use am_wire::Text;
 
 /// What the figures of a family are.
-#[derive(Clone, Copy, Debug, PartialEq, Eq)]
+#[derive(Clone, Copy, PartialEq, Eq)]
 pub enum Kind {
     /// They only grow, from 0 at the start on.
     Counter,
@@ -29,7 +29,7 @@ impl Kind {
 }
 
 /// A number.
-#[derive(Clone, Copy, Debug, PartialEq, Eq)]
+#[derive(Clone, Copy, PartialEq, Eq)]
 pub enum Number {
     Whole(u64),
     /// So many billionths beside a whole number.
@@ -37,14 +37,14 @@ pub enum Number {
 }
 
 /// A label of a figure.
-#[derive(Debug, Drop)]
+#[derive(Drop)]
 pub struct Label {
     pub name: &'static str,
     pub value: Text,
 }
 
 /// A figure of a family.
-#[derive(Debug, Drop)]
+#[derive(Drop)]
 pub struct Sample {
     /// What stands behind the name of the family: nothing, or which part of a histogram it is.
     pub suffix: &'static str,
@@ -53,7 +53,7 @@ pub struct Sample {
 }
 
 /// The figures of one name.
-#[derive(Debug, Drop)]
+#[derive(Drop)]
 pub struct Family {
     pub name: &'static str,
     /// What they say.

@@ -1,4 +1,5 @@
 pub mod Counts
 pub mod Lists
+pub mod Orders
 pub mod Packs
 pub mod Spelling

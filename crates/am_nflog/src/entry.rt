@@ -18,7 +18,7 @@ use std::alloc::{AllocError, Global};
 use std::marker::Model;
 
 /// What was notified of a group to a receiver: which alerts were firing then, and which resolved.
-#[derive(Debug, Drop)]
+#[derive(Drop)]
 pub struct Entry {
     pub key: LogKey,
     /// It is read, kept and written, and nothing looks at it.

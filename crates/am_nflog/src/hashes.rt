@@ -7,7 +7,7 @@ use std::alloc::{AllocError, Global};
 use std::marker::Model;
 
 /// Hashes of alerts, in their order. Contracts see the list.
-#[derive(Debug, Drop)]
+#[derive(Drop)]
 pub struct Hashes {
     hashes: Vec<u64>,
 }

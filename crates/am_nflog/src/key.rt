@@ -8,6 +8,7 @@ ghost use Rattle.std.specs.Ordering.{as_partial_cmp};
 ghost use Rattle.std.specs.Str.{IsUtf8};
 ghost use Rattle.am_nflog.specs.Keys.{key_cmp, key_eq};
 
+use crate::order::compare_bytes;
 use crate::receiver::Receiver;
 use std::alloc::{AllocError, Global};
 use std::cmp::Ordering;
@@ -18,7 +19,6 @@ use std::marker::Model;
 ///
 /// The three texts stand in one, one behind the other. One of 2^32 bytes or more is refused as one that memory is
 /// not enough for.
-#[derive(Debug)]
 pub struct LogKey {
     text: Vec<u8>,
     // Where the group name begins.
@@ -192,7 +192,7 @@ impl Ord for LogKey {
     ghost matches_eq = { Prim.search (comparing, rules) depth 9 };
 
     fn cmp(&self, other: &LogKey) -> Ordering {
-        match self.group_key().cmp(other.group_key()) {
+        match compare_bytes(self.group_key(), other.group_key()) {
             Ordering::Equal => {}
             order => return order,
         }

@@ -9,6 +9,7 @@ mod key;
 mod make;
 mod mesh;
 mod offsets;
+mod order;
 mod receiver;
 mod record;
 

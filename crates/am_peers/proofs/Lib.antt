@@ -1,3 +1,5 @@
+mod Cuts
+mod Signs
 mod Whole
 mod Decimals
 mod Queued

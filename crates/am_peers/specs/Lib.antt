@@ -1,3 +1,5 @@
+pub mod Addresses
+pub mod Names
 pub mod Replies
 pub mod Requests
 pub mod Shown

@@ -11,7 +11,7 @@ use std::rt::Clock;
 use std::time::{Duration, Instant};
 
 /// A server: its host and port as they are written, the path below which its API stands, and where it listens.
-#[derive(Clone, Copy, Debug)]
+#[derive(Clone, Copy)]
 pub struct Server<'a> {
     pub host: &'a str,
     /// It begins with a slash and doesn't end with one, or is empty.
@@ -51,7 +51,7 @@ pub fn server_of(place: &str) -> Option<Server<'_>> {
     }
     if let Some((name, digits)) = host.rsplit_once(':') {
         if name == LOCALHOST {
-            let port = crate::peer::port_of(digits)?;
+            let port = crate::number::port_of(digits)?;
             return Some(Server {
                 host,
                 path,

@@ -1,11 +1,14 @@
 //! The peers of a member, and servers of API v2: where each listens, what goes to them, what comes of it, and the moments of events.
 #![tactic(auto)]
 
+mod address;
 pub mod asking;
+mod beside;
 mod clock;
 mod error;
 mod fault;
 mod fetching;
+mod number;
 mod peer;
 mod queue;
 mod reply;
@@ -14,11 +17,14 @@ mod timed;
 mod times;
 mod writing;
 
+pub use address::{AddressWord, address_of, is_loopback};
+pub use beside::{name_beside, shown_name};
 pub use clock::{is_behind, later_moment, next_moment};
 pub use error::ServerFault;
 pub use fault::Fault;
 pub use fetching::{Server, ask, fetch, server_of};
-pub use peer::{number_within, port_of};
+pub use number::{number_within, port_of};
+pub use peer::{Peer, peer_of};
 pub use queue::{Parted, split_by_peer};
 pub use reply::body_of;
 pub use shown::{held_of, shown_of_row};

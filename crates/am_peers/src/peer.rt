@@ -1,48 +1,27 @@
-//! Numbers and ports of the command line.
+//! Peers.
 
-ghost use Rattle.std.specs.Prelude.{◌≡◌, ◌<◌, ◌^◌};
-ghost use Rattle.std.specs.List.{list_all};
-ghost use Rattle.std.specs.Char.{is_ascii_digit};
-ghost use Rattle.std.specs.Option.{SomeIff};
-ghost use Rattle.am_peers.specs.Peers.{IsNumber, IsNumberWithin, decimal_of};
+ghost use Rattle.std.specs.Prelude.{List, ℕ, IfNone, IfSome};
+ghost use Rattle.std.specs.declared.net.socket_addr.SocketAddr.{SocketAddr};
+ghost use Rattle.am_peers.specs.Addresses.{IsPeerWord};
 
-/// Whether all bytes are ASCII digits.
-fn are_digits(bytes: &[u8]) -> bool
-    ensures { result ≡ list_all is_ascii_digit bytes.now }
-{
-    bytes.iter().all(|byte| byte.is_ascii_digit())
+use crate::address::address_of;
+use std::net::SocketAddr;
+
+/// A peer: its name, and the address at which it listens.
+#[derive(Clone, Copy)]
+pub struct Peer<'a> {
+    pub name: &'a str,
+    pub address: SocketAddr,
 }
 
-/// A number below 2^64, in ASCII digits alone.
-fn number_of(word: &str) -> Option<u64>
-    ensures { SomeIff result (IsNumber word.now × (decimal_of word.now < 2 ^ 64)) (decimal_of word.now) }
+/// A peer as `NAME=ADDRESS:PORT` or `NAME=PORT`, which is cut at the last `=`.
+pub fn peer_of(word: &str) -> Option<Peer<'_>>
+    ensures some { IfSome result (λ peer. IsPeerWord word.now peer.name.now peer.address) }
+    ensures none { IfNone result ((name : List ℕ) (address : SocketAddr) → ¬ IsPeerWord word.now name address) }
 {
-    if word.is_empty() || !are_digits(word.as_bytes()) {
-        return None;
-    }
-    match word.parse::<u64>() {
-        Ok(number) => Some(number),
-        Err(_) => None,
-    }
-}
-
-/// A number from `least` to `most`, in ASCII digits alone.
-pub fn number_within(least: u64, most: u64, word: &str) -> Option<u64>
-    ensures { SomeIff result (IsNumberWithin least most word.now) (decimal_of word.now) }
-{
-    let number = number_of(word)?;
-    if number < least || number > most {
-        return None;
-    }
-    Some(number)
-}
-
-/// A port, from 1 to 65,535.
-pub fn port_of(word: &str) -> Option<u16>
-    ensures { SomeIff result (IsNumberWithin 1 65535 word.now) (decimal_of word.now) }
-{
-    match number_within(1, 65_535, word) {
-        Some(port) => Some(port as u16),
+    let (name, text) = word.rsplit_once('=')?;
+    match address_of(text) {
+        Some(address) => Some(Peer { name, address }),
         None => None,
     }
 }

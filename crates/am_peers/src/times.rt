@@ -5,7 +5,7 @@ ghost use Rattle.am_peers.specs.Times.{flight_time, spread_time};
 
 /// How long it takes at the longest until what one member makes has come to all, and how long a frame is on its way at the
 /// longest, in seconds.
-#[derive(Clone, Copy, Debug, PartialEq, Eq)]
+#[derive(Clone, Copy, PartialEq, Eq)]
 pub struct Times {
     pub spread: u64,
     pub flight: u64,

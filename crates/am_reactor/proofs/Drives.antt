@@ -36,6 +36,14 @@ err_then (Err e) f p = f p
 pub comes_none : (a : Option (List ℕ)) (x : List ℕ) → ComesBack a a x x
 comes_none a x = record { bytes = []; came = Consumes-nil a; behind = sym (append-nil x) }
 
+-- one read more
+pub comes_on : (a b c : Option (List ℕ)) (x y z : List ℕ) → ComesBack a b x y → ComesBack b c y z → ComesBack a c x z
+comes_on a b c x y z h t = record {
+  bytes = h.bytes ++ t.bytes;
+  came = Consumes-trans a b c _ _ h.came t.came;
+  behind = t.behind ∙ (ap (λ l. l ++ t.bytes) h.behind ∙ append_assoc x h.bytes t.bytes);
+}
+
 -- one read more, of which these bytes are dropped
 pub breaks_off : (a b c : Option (List ℕ)) (x y z dropped : List ℕ) → ComesBack a b x y → Consumes b c dropped → z ≡ y → BreaksOff a c x z
 breaks_off a b c x y z dropped h came e = record { bytes = h.bytes; dropped = dropped; came = Consumes-trans a b c _ _ h.came came; behind = e ∙ h.behind }

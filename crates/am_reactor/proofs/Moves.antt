@@ -1,5 +1,6 @@
 -- What is done to one link after the other, one more.
 use Rattle.std.proofs.Common.{◌≡◌, ◌∙◌, ℕ, zero, suc, get_or, Bool, true, false, if◌then◌else◌, List, [], ◌∷◌, ◌++◌, Option, None, IsSome, refl, sym, subst, inl, inr}
+use Rattle.std.proofs.lemmas.Bool.{false≢true}
 use Rattle.std.specs.Prelude.{IfSome}
 use Rattle.am_reactor.specs.declared.fault.LinkFault.{LinkFault}
 use Rattle.am_reactor.specs.declared.link.Link.{Link}
@@ -55,3 +56,7 @@ pub none_if_more : {X : Type 0} (more : Bool) (xs : List (Option X)) → ((i : �
     → get_or (if more then xs ++ None ∷ [] else xs) i None ≡ None
 none_if_more true xs none i = none_more xs none i
 none_if_more false xs none i = none i
+
+-- an item is there that is some
+pub not_none : {T : Type 0} (items : List (Option T)) (place : ℕ) (item : Option T) → item ≡ get_or items place item → item ≡ None → IsSome (get_or items place None) → ⊥
+not_none items place item is none some = false≢true (subst (λ o. IsSome o) (sym (subst (λ o. o ≡ get_or items place o) none is)) some)

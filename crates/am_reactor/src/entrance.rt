@@ -3,7 +3,7 @@
 use std::net::TcpListener;
 
 /// By which listener a connection came.
-#[derive(Clone, Copy, Debug, PartialEq, Eq)]
+#[derive(Clone, Copy)]
 pub enum Entrance {
     Main,
     /// The one that is there for peers alone.

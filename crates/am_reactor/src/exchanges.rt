@@ -7,6 +7,7 @@ ghost use Rattle.am_reactor.specs.Exchanges.{Fails, Goes, GoesOn, HasNoExchange,
 use crate::connection::Readiness;
 use crate::exchange::Exchange;
 use crate::fault::LinkFault;
+use crate::peers::{address_of, vacant};
 use crate::queue::Queue;
 use crate::send_buffer::Progress;
 use crate::service::{PeerBytes, Service};
@@ -48,14 +49,10 @@ impl<C: Stream + Drop> Exchanges<C> {
         let Ok(count) = u16::try_from(addresses.len()) else {
             return Err(AllocError);
         };
-        let mut open = Vec::with_capacity(alloc, addresses.len())?;
-        for _ in addresses {
-            open.push(None)?;
-        }
         Ok(Exchanges {
             alloc,
             addresses: Vec::from_slice(alloc, addresses)?,
-            open,
+            open: vacant(alloc, addresses.len())?,
             most,
             by_end: Queue::new(alloc, count)?,
             busy: Queue::new(alloc, count)?,
@@ -181,10 +178,7 @@ impl Exchanges<TcpStream> {
     ) -> Result<Exchange<TcpStream>, LinkFault>
         ensures { IfOk result (λ exchange. IsBegun exchange request.now) }
     {
-        let (Some(Some(address)), Ok(place)) = (
-            self.addresses.get(peer).copied(),
-            u16::try_from(peer),
-        ) else {
+        let Some((address, place)) = address_of(&self.addresses, peer) else {
             return Err(LinkFault::NoPeer);
         };
         let token = Source::Exchange(place).token();
@@ -234,6 +228,21 @@ fn deliver_answer<S: Service, C: Stream + Drop>(
     }
 }
 
+/// Closes the exchange with a peer, and tells the service why it is lost.
+fn lose<S: Service, C: Stream + Drop>(
+    exchanges: &mut Exchanges<C>,
+    service: &mut S,
+    peer: usize,
+    fault: LinkFault,
+)
+    ensures closed { exchange_with exchanges.new peer ≡ None }
+    ensures others { KeepsExchanges peer exchanges.old exchanges.new }
+    ensures lost { S.loses service.old peer fault service.new }
+{
+    let _ = exchanges.close(peer);
+    service.lost(peer, fault);
+}
+
 /// Has the exchange with a peer go on as far as it can now. Tells the service of what came back, once all did, and why it is
 /// lost, where it fails.
 pub fn drive_exchange<S: Service, C: Stream + Drop>(
@@ -253,10 +262,7 @@ pub fn drive_exchange<S: Service, C: Stream + Drop>(
         Ok(Progress::Going(Readiness::Idle)) => {}
         Ok(Progress::Going(Readiness::Busy)) => exchanges.busy.push(peer),
         Ok(Progress::Done) => deliver_answer(exchanges, service, peer),
-        Err(fault) => {
-            let _ = exchanges.close(peer);
-            service.lost(peer, fault);
-        }
+        Err(fault) => lose(exchanges, service, peer, fault),
     }
 }
 

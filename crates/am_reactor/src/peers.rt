@@ -1,5 +1,8 @@
 //! Where peers are.
 
+ghost use Rattle.std.specs.Prelude.{◌≡◌, ℕ, None, slice_index_or, IfOk};
+
+use std::alloc::{AllocError, Global};
 use std::net::SocketAddr;
 
 /// Where peers are, by place: one table may have fewer places than the other.
@@ -11,4 +14,22 @@ pub struct Peers<'a> {
     pub greeting: &'a [u8],
     /// The addresses of those who are asked.
     pub asked: &'a [Option<SocketAddr>],
+}
+
+/// The address of the peer at a place, where there is one, and the place as a source has it.
+pub fn address_of(addresses: &[Option<SocketAddr>], peer: usize) -> Option<(SocketAddr, u16)> {
+    let address = (*addresses.get(peer)?)?;
+    let place = u16::try_from(peer).ok()?;
+    Some((address, place))
+}
+
+/// So many places, with nothing at any of them.
+pub fn vacant<T: Drop>(alloc: Global, count: usize) -> Result<Vec<Option<T>>, AllocError>
+    ensures { IfOk result (λ places. (place : ℕ) → slice_index_or places.items place None ≡ None) }
+{
+    let mut places = Vec::with_capacity(alloc, count)?;
+    for _ in 0..count {
+        places.push(None)?;
+    }
+    Ok(places)
 }

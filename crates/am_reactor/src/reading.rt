@@ -16,7 +16,7 @@ use std::io::ErrorKind;
 pub const PIECES: u32 = 16;
 
 /// What one read brought.
-#[derive(Clone, Copy, Debug, PartialEq, Eq)]
+#[derive(Clone, Copy)]
 pub enum ReadResult {
     /// So many bytes, at least one.
     Bytes(usize),

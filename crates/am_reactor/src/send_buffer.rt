@@ -31,7 +31,7 @@ impl Model for SendBuffer {
 }
 
 /// How far what goes over a link is.
-#[derive(Clone, Copy, Debug, PartialEq, Eq)]
+#[derive(Clone, Copy)]
 pub enum Progress {
     /// Something is still to be written.
     Going(Readiness),

@@ -22,7 +22,7 @@ pub struct PeerBytes {
 }
 
 /// What the timer says.
-#[derive(Clone, Copy, Debug, PartialEq, Eq)]
+#[derive(Clone, Copy)]
 pub enum Wake {
     /// The loop goes on, and wakes the service after so long at the latest.
     GoOn(Option<Duration>),

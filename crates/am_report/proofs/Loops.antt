@@ -49,8 +49,8 @@ none_more test sides i d less none here =
     ∙ rw (sym (any_of_holdings test (take i sides)) ∙ none, here) refl
 
 -- and one
-pub one_here : {X : Type 0} (test : Holding X → Bool) (sides : List (Side X)) (i : ℕ) (d : Side X) → i < length sides → test (holding_of (get_or sides i d)) ≡ true → list_any test (map holding_of sides) ≡ true
-one_here test sides i d less here = any_of_holdings test sides ∙ list_any_at (λ side. test (holding_of side)) sides i d less here
+pub one_here : {X : Type 0} (test : Holding X → Bool) (sides : List (Side X)) (i : ℕ) (d : Side X) → i < length sides → test (holding_of (get_or sides i d)) ≡ true → true ≡ list_any test (map holding_of sides)
+one_here test sides i d less here = sym (any_of_holdings test sides ∙ list_any_at (λ side. test (holding_of side)) sides i d less here)
 
 -- what an iterator gave, with what it left, is what it had
 pub front_is : {X : Type 0} (r : Option (Bor X)) (old new : List X) → MatchOption r ((old ≡ []) × (new ≡ [])) (λ x. old ≡ x.now ∷ new) → front_of (option_copied r) new ≡ old

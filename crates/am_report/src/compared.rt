@@ -1,7 +1,7 @@
 //! What is compared.
 
 /// What is compared of what sources hold.
-#[derive(Clone, Copy, Debug, PartialEq, Eq)]
+#[derive(Clone, Copy)]
 pub enum Compared {
     /// What they show at the moment: what is live.
     Shown,

@@ -59,7 +59,6 @@ pub fn is_same<V: Version>(one: Option<&V>, other: Option<&V>) -> bool
 }
 
 /// Whether not all sources are the same at the key where the walk is.
-#[tactic(auto, using(crate::proofs::Loops::none_more, crate::proofs::Loops::one_here))]
 fn is_different<V: Version>(sides: &[Side<'_, V>], compared: Compared, now: Moment) -> bool
     ensures { result ≡ is_different V.seen compared now (map holding_of sides.now) }
 {

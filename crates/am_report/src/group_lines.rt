@@ -35,7 +35,6 @@ fn part_name(part: Part) -> &'static str
 }
 
 /// Appends what a line says of the sources that have this version, in their relation to the others.
-#[tactic(auto, unfolding(crate::specs::ReportLine::group_words))]
 fn append_group<V: ReportLine>(
     out: &mut String,
     sides: &[Side<'_, V>],

@@ -40,7 +40,6 @@ fn below<'a, V: Version>(version: Option<&'a V>, bound: &V) -> Option<&'a V>
 }
 
 /// The greatest version that a source holds at the key where the walk is.
-#[tactic(auto, using(crate::proofs::Loops::greatest_more, crate::proofs::Loops::unbounded))]
 pub fn greatest_of<'a, V: Version>(sides: &[Side<'a, V>]) -> Option<&'a V>
     ensures { option_copied result ≡ greatest_within V.seen None (map holding_of sides.now) }
 {
@@ -52,7 +51,6 @@ pub fn greatest_of<'a, V: Version>(sides: &[Side<'a, V>]) -> Option<&'a V>
 }
 
 /// The greatest version that a source holds there and that is less than this one.
-#[tactic(auto, using(crate::proofs::Loops::greatest_more))]
 pub fn next_below<'a, V: Version>(sides: &[Side<'a, V>], above: &V) -> Option<&'a V>
     ensures { option_copied result ≡ greatest_within V.seen (Some above.now) (map holding_of sides.now) }
 {

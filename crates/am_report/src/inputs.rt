@@ -31,7 +31,7 @@ pub struct Input<'n, R: Drop> {
 }
 
 /// Why sources were not compared; the first fault that stands.
-#[derive(Clone, Copy, Debug, PartialEq, Eq, Error)]
+#[derive(Clone, Copy, Debug, Error)]
 pub enum DiffError {
     /// In the row of the first source that is at fault, by its number from 0 on.
     #[error("in source {number}: {fault}")]

@@ -21,7 +21,6 @@ pub fn nothing<'a, V: Version>(_sides: &[Side<'a, V>]) -> Option<&'a V>
 }
 
 /// Whether a source holds this there.
-#[tactic(auto, using(crate::proofs::Loops::none_more, crate::proofs::Loops::one_here))]
 pub fn is_held<V: Version>(sides: &[Side<'_, V>], here: Option<&V>) -> bool
     ensures { result ≡ list_any (λ holding. is_same V.seen holding.here (option_copied here.entry)) (map holding_of sides.now) }
 {

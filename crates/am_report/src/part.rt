@@ -1,7 +1,7 @@
 //! The parts of the order of versions.
 
 /// By which of the three parts of the order one version is less than another.
-#[derive(Clone, Copy, Debug, PartialEq, Eq)]
+#[derive(Clone, Copy)]
 pub enum Part {
     /// The update moment.
     Update,

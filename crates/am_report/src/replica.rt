@@ -53,7 +53,6 @@ impl<'a, V: Version> Replica<'a, V> {
 /// # Errors
 ///
 /// [`AllocError`] where memory runs out.
-#[tactic(auto, using(crate::proofs::Loops::sides_more))]
 pub fn sides_of<'a, 'n, V: Version>(
     alloc: Global,
     replicas: &'a [Replica<'n, V>],

@@ -8,9 +8,10 @@ use crate::lists::Numbers;
 use crate::long::{append_long_key, append_long_silence};
 use crate::manner::Manner;
 use crate::moments::shown_moment;
+use crate::view_lines::{Key, state_name};
 use crate::words::Word;
 use am_nflog::{LogKey, MeshEntry};
-use am_silence::{MeshSilence, State};
+use am_silence::MeshSilence;
 use am_version_order::Version;
 use am_wire::Text;
 use std::alloc::AllocError;
@@ -63,11 +64,7 @@ fn shown_state(silence: &MeshSilence, manner: &Manner) -> &'static str
     if manner.has_expiries && manner.moment >= silence.expires() {
         return "gone";
     }
-    match silence.state_at(manner.moment) {
-        State::Pending => "pending",
-        State::Active => "active",
-        State::Expired => "expired",
-    }
+    state_name(silence.state_at(manner.moment))
 }
 
 impl ReportLine for MeshSilence {
@@ -115,13 +112,9 @@ impl ReportLine for MeshEntry {
 
     ghost more = { more_of_entry };
 
-    #[tactic(auto, unfolding(crate::specs::Views::key_words))]
     fn append_key(out: &mut String, key: &LogKey) -> Result<(), AllocError> {
-        let group = Word(key.group_key());
-        let name = Word(key.group_name().as_bytes());
-        let integration = Word(key.integration().as_bytes());
-        let idx = key.idx();
-        write!(out, "nfl {group} {name} {integration} {idx}")
+        let key = Key(key);
+        write!(out, "nfl {key}")
     }
 
     #[tactic(auto, unfolding(crate::specs::Versions::told_entry))]

@@ -32,7 +32,7 @@ impl Display for Owner<'_> {
 
 /// The key of an entry as words: the group key, the group name, the integration and the index.
 #[derive(Clone, Copy)]
-struct Key<'a>(&'a LogKey);
+pub struct Key<'a>(pub &'a LogKey);
 
 impl Display for Key<'_> {
     ghost use Rattle.std.specs.Prelude.{Some};
@@ -94,7 +94,6 @@ pub fn append_silence(
 }
 
 /// Appends the line of an entry of the log.
-#[tactic(auto, unfolding(crate::specs::Views::entry_line))]
 pub fn append_entry(
     out: &mut String,
     owner: Owner<'_>,

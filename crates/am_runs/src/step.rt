@@ -7,7 +7,7 @@ ghost use Rattle.am_runs.specs.Steps.{is_at, moment, delivered_by, flights_by};
 use am_version_order::Moment;
 
 /// Where the versions that a step delivers come from.
-#[derive(Clone, Copy, Debug, PartialEq, Eq)]
+#[derive(Clone, Copy, PartialEq, Eq)]
 pub enum Source {
     /// The step made them.
     Made,

@@ -12,3 +12,4 @@ pub mod Taking
 pub mod Runs
 pub mod Firsts
 pub mod Hashes
+pub mod Values

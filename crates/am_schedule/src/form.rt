@@ -7,7 +7,7 @@ ghost use Rattle.am_schedule.specs.Forms.{verb_in, form_in};
 use crate::word::{word_count, word_of};
 
 /// What a line asks of a member.
-#[derive(Clone, Copy, PartialEq, Eq)]
+#[derive(Clone, Copy)]
 pub(crate) enum Verb {
     From,
     Post,
@@ -42,14 +42,14 @@ pub(crate) fn verb_of(line: &str) -> Option<Verb>
 }
 
 /// A line that gives a version a label.
-#[derive(Clone, Copy, PartialEq, Eq)]
+#[derive(Clone, Copy)]
 pub(crate) enum VersionForm {
     Silence,
     Log,
 }
 
 /// A line that is neither the cluster's nor a version's.
-#[derive(Clone, Copy, PartialEq, Eq)]
+#[derive(Clone, Copy)]
 pub(crate) enum LineForm {
     At,
     Stop,
@@ -60,7 +60,7 @@ pub(crate) enum LineForm {
 }
 
 /// What a line is, by its first word.
-#[derive(Clone, Copy, PartialEq, Eq)]
+#[derive(Clone, Copy)]
 pub(crate) enum Form {
     Cluster,
     Version(VersionForm),

@@ -1,10 +1,11 @@
 //! The lines that give a version a label, and the labels of a `from`.
 
-ghost use Rattle.std.specs.Prelude.{◌≡◌, ℕ, List, map};
+ghost use Rattle.std.specs.Prelude.{◌≡◌, ℕ, List, [], ◌∷◌, ◌++◌, map, filter_map, OnOk, IfErr};
+ghost use Rattle.am_schedule.specs.declared.error.FaultKind.TheVariants.{Memory};
 ghost use Rattle.am_schedule.specs.Readings.{GivesUnlessMemory};
 ghost use Rattle.am_schedule.specs.Tables.{value_in};
 ghost use Rattle.am_schedule.specs.VersionLines.{silence_in, log_in, version_in};
-ghost use Rattle.am_schedule.specs.Labels.{versions_in};
+ghost use Rattle.am_schedule.specs.Labels.{silence_of, log_of, of_one_state, versions_in};
 
 use crate::error::FaultKind;
 use crate::form::VersionForm;
@@ -93,12 +94,36 @@ pub(crate) fn versions_of(
     let mut silences = Vec::new(alloc);
     let mut log = Vec::new(alloc);
     for label in labels {
-        match look_up(versions, label) {
-            Some(VersionLine::Silence(line)) => silences.push(line.share()?)?,
-            Some(VersionLine::Log(line)) => log.push(line.share()?)?,
-            None => return Err(FaultKind::Name),
-        }
+        let version = look_up(versions, label).ok_or(FaultKind::Name)?;
+        push_version(&mut silences, &mut log, version)?;
     }
+    of_one_state(silences, log)
+}
+
+/// Puts a version behind those of its state.
+fn push_version(
+    silences: &mut Vec<Shared<SilenceLine>>,
+    log: &mut Vec<Shared<LogLine>>,
+    version: &VersionLine,
+) -> Result<(), FaultKind>
+    ensures silences { OnOk result (silences.new.items ≡ silences.old.items ++ filter_map silence_of (version.now ∷ [])) }
+    ensures log { OnOk result (log.new.items ≡ log.old.items ++ filter_map log_of (version.now ∷ [])) }
+    ensures fault { IfErr result (λ kind. kind ≡ Memory) }
+{
+    match version {
+        VersionLine::Silence(line) => silences.push(line.share()?)?,
+        VersionLine::Log(line) => log.push(line.share()?)?,
+    }
+    Ok(())
+}
+
+/// Versions that are all of one state, or `Words`.
+fn of_one_state(
+    silences: Vec<Shared<SilenceLine>>,
+    log: Vec<Shared<LogLine>>,
+) -> Result<Versions, FaultKind>
+    ensures { result ≡ of_one_state silences.items log.items }
+{
     match (silences.is_empty(), log.is_empty()) {
         (_, true) => Ok(Versions::Silences(Items::new(silences))),
         (true, false) => Ok(Versions::Log(Items::new(log))),

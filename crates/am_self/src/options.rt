@@ -1,7 +1,7 @@
 //! The options of a member as text: as they stand on its command line, one in a line.
 
-use am_address::{AddressWord, Peer};
 use am_jobs::Options;
+use am_peers::{AddressWord, Peer};
 use am_version_order::{Interval, Moment};
 use std::alloc::{AllocError, Global};
 use std::fmt;

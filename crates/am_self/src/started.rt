@@ -1,7 +1,7 @@
 //! What is printed of a member that has started.
 
-use am_address::{AddressWord, Peer};
 use am_jobs::Options;
+use am_peers::{AddressWord, Peer};
 use am_report::Word;
 use std::fmt;
 

@@ -14,7 +14,7 @@ use std::alloc::{AllocError, Global};
 use std::marker::Model;
 
 /// How a label's value is compared.
-#[derive(Clone, Copy, Debug, PartialEq, Eq)]
+#[derive(Clone, Copy, PartialEq, Eq)]
 pub enum MatcherKind {
     /// It is the pattern.
     Equal,
@@ -70,7 +70,7 @@ impl MatcherKind {
 }
 
 /// What the value of the label `name` is compared with; an absent label is the empty text.
-#[derive(Debug, Drop)]
+#[derive(Drop)]
 pub struct Matcher {
     pub kind: MatcherKind,
     pub name: Text,
@@ -105,7 +105,7 @@ impl Matcher {
 }
 
 /// A matcher whose texts are another's. Contracts see the matcher.
-#[derive(Debug, Drop)]
+#[derive(Drop)]
 pub struct MatcherRef<'a> {
     kind: MatcherKind,
     name: &'a str,

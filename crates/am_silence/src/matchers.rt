@@ -17,7 +17,6 @@ use std::marker::Model;
 /// The matchers of a silence, in their order. Contracts see the list.
 ///
 /// They are kept as their canonical text.
-#[derive(Debug)]
 pub struct Matchers {
     text: Vec<u8>,
 }

@@ -21,7 +21,7 @@ use am_wire::Text;
 use std::alloc::Global;
 
 /// A silence as it is posted: under the identifier of one that is there, or as a new one.
-#[derive(Debug, Drop)]
+#[derive(Drop)]
 pub struct Posted {
     pub id: Option<Text>,
     pub matchers: Matchers,

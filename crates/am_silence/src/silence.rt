@@ -17,7 +17,7 @@ use am_wire::{Field, Message, Text, WireError, WireType};
 use std::alloc::{AllocError, Global};
 
 /// A silence: from `starts_at` until `ends_at`, alerts whose labels pass all matchers are muted.
-#[derive(Debug, Drop)]
+#[derive(Drop)]
 pub struct Silence {
     pub id: Text,
     pub matchers: Matchers,

@@ -1,5 +1,5 @@
 -- Silences that objects show, one after the other.
-use Rattle.std.proofs.Common.{◌≡◌, ℕ, ◌+◌, ◌<◌, List, [], ◌∷◌, ◌++◌, length, take, get_or, map, Some, refl, sym, ap, ◌∙◌}
+use Rattle.std.proofs.Common.{rules, ◌≡◌, ℕ, ◌+◌, ◌<◌, List, [], ◌∷◌, ◌++◌, length, take, get_or, map, Some, None, refl, sym, ap, ◌∙◌}
 use Rattle.std.specs.Prelude.{All}
 use Rattle.std.proofs.lemmas.List.{take_more, map-append, take-map}
 use Rattle.std.proofs.lemmas.List.Elements.{All-nil, All-cons, All-head, All-tail}
@@ -13,7 +13,8 @@ use Rattle.am_silence.specs.declared.matcher.Matcher.{Matcher}
 use Rattle.am_silence_json.specs.declared.shown.Shown.{Shown}
 use Rattle.am_silence_json.specs.Posts.{matchers_in}
 use Rattle.am_silence_json.specs.Borrowed.{HasShown, shown_silence}
-use Rattle.am_silence_json.specs.Shown.{IsShown, AreShown, FitsMessage, until_end}
+use Rattle.am_silence_json.specs.Shown.{IsShown, AreShown, FitsMessage, until_end, IsFirstUnshown}
+use Rattle.am_silence_json.specs.declared.key.ShownKey.TheVariants as keys
 use Rattle.am_silence_json.specs.Lists.{IsReadable, IsFirst, IsJsonText, IsListText}
 
 shown_more : (ds : List Data) (ms : List Mesh) (d : Data) (m : Mesh) → AreShown ds ms → IsShown d m → AreShown (ds ++ d ∷ []) (ms ++ m ∷ [])
@@ -43,6 +44,22 @@ pub first_at :
 first_at vs i v ms h e shown fits = record {
   here = rw (slice_get-map view vs i, slice_get-get_or vs i v h, ← e) refl;
   before = rw (take-map view i vs) (are_readable _ ms shown fits);
+}
+
+-- the object's matchers alone are wrong
+pub first_unshown : (d : Data) (s : Shown) → HasShown d s → matchers_in d ≡ None → IsFirstUnshown d keys.Matchers
+first_unshown d s h none = record {
+  wrong = λ some. let no = rw none at some in absurd cc;
+  before = (
+    rw h.id (search rules),
+    (
+      (_, h.starts_at.here),
+      (
+        (_, h.ends_at.here),
+        ((_, h.updated_at.here), (rw h.created_by (search rules), (rw h.comment (search rules), tt))),
+      ),
+    ),
+  );
 }
 
 -- the version of an object's parts

@@ -32,7 +32,7 @@ impl Key {
 }
 
 /// A key of a silence that is shown, in the order in which they are looked at.
-#[derive(Clone, Copy, Debug, PartialEq, Eq)]
+#[derive(Clone, Copy, Debug)]
 pub enum ShownKey {
     Id,
     StartsAt,

@@ -6,7 +6,7 @@ use std::fmt;
 use thiserror::Error;
 
 /// Why the body of a list is refused. Places in the list count from 0; the first silence at fault is told.
-#[derive(Clone, Copy, Debug, PartialEq, Eq, Error)]
+#[derive(Clone, Copy, Debug, Error)]
 pub enum ListError {
     /// It is no JSON.
     #[error("BadJson")]

@@ -40,6 +40,13 @@ module _ {K X : Type 0} (seen : X → Version K) where
     pub counted_more : total + length (delimited (seen v).content) + length (row_text seen rest) ≡ length (row_text seen held)
     counted_more = omega (arith, count, row_first seen left rest v is)
 
+    -- where there is no room for the next one, there is none for all
+    pub no_room :
+        ¬ ((length (seen v).content ≤ most) × (total + length (delimited (seen v).content) ≤ limit)) → (All IsShort held → All IsShort left)
+        → ¬ FitsRow seen limit held
+    no_room refused long fits =
+        refused (All-head IsShort v rest (subst (λ (vs : List X). All IsShort vs) is (long fits.short)), omega (arith, fits.size, counted_more))
+
   -- what all that are left are, all are that are held, where the next one is
   pub all_on : (P : X → Type 0) (left rest held : List X) (v : X) → left ≡ v ∷ rest → P v → (All P left → All P held) → All P rest → All P held
   all_on P left rest held v is one all others = all (subst (λ (vs : List X). All P vs) (sym is) (All-cons P v rest one others))

@@ -21,6 +21,11 @@ use Rattle.am_snapshot.specs.declared.error.SnapshotError.{SnapshotError}
 use Rattle.am_snapshot.specs.declared.error.SnapshotError.TheVariants.{Read, Write, Wire, DuplicateKey, TooLarge, Memory}
 use Rattle.am_snapshot.proofs.RowReads.{ReadsSoFar, HasRead-whole, some_then}
 
+-- what holds of all holds of what is there
+pub always : {A : Type 0} (P : A → Type 0) → ((x : A) → P x) → (o : Option A) → IfSome o P
+always P all None = tt
+always P all (Some x) = all x
+
 -- two facts of what is there
 both_then : {A : Type 0} (P Q R : A → Type 0) → ((x : A) → P x → Q x → R x) → (o : Option A) → IfSome o P → IfSome o Q → IfSome o R
 both_then P Q R follows None p q = tt

@@ -6,7 +6,7 @@ ghost use Rattle.am_streams.specs.Reading.{ReadsOn, ReadsOnce};
 use std::io::Read;
 
 /// Why no bytes came, though the input has not ended.
-#[derive(Clone, Copy, Debug, PartialEq, Eq)]
+#[derive(Clone, Copy, PartialEq, Eq)]
 pub enum Stop {
     /// A read failed.
     Read,

@@ -7,7 +7,7 @@ ghost use Rattle.am_streams.specs.Writing.{WritesPart};
 use std::io::Write;
 
 /// A write failed or took nothing, when so many bytes had gone out.
-#[derive(Clone, Copy, Debug, PartialEq, Eq)]
+#[derive(Clone, Copy, PartialEq, Eq)]
 pub struct WriteFault {
     pub written: u64,
 }

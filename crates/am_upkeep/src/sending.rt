@@ -8,8 +8,7 @@ use am_instance::{Config, Place};
 use am_jobs::Options;
 use am_peers::{Parted, frames_text, split_by_peer};
 use am_reactor::PeerBytes;
-use am_seal::{Lock, sealed_text};
-use am_secret::Secret;
+use am_seal::{Lock, Secret, sealed_text};
 
 /// What members of a cluster know one another by: the secret, where they have one, and the name of this one.
 pub fn lock_of<'a>(options: &Options<'a>, secret: &'a Option<Secret>) -> Option<Lock<'a>> {

@@ -327,8 +327,12 @@ module _ {A : Type 0} (reads : ℕ → List ℕ → Result A WireError) (limit a
           let begins : at + (length (front.0 ++ back.0) - length back.0) ≡ start = omega (arith, length-append front.0 back.0, front.2.place) in
           (back.0, whole.2, rw (begins, ← whole.0, ← is) e)
 
-      pub ends_below : start + size ≤ limit
-      ends_below = omega (arith, whole.1, whole.3, length-append front.0 back.0, front.2.place)
+      -- the reader stands within its limit
+      pub ends_below : (place bound : ℕ) → Before (start + size) limit ≡ Before place bound → place ≤ bound
+      ends_below place bound same =
+          let ends : start + size ≡ place = cc in
+          let stays : limit ≡ bound = cc in
+          omega (arith, ends, stays, whole.1, whole.3, length-append front.0 back.0, front.2.place)
 
       pub answers_value : (now : List ℕ) → now ≡ items → (v : A) → reads start now ≡ Ok v → (bytes : List ℕ) × Consumes a c bytes × Answers reads (Before at limit) bytes c (Ok (Some v)) (Before (start + size) limit)
       answers_value now is v e =

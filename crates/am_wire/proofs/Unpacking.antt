@@ -70,6 +70,10 @@ packed_filled (n ∷ ns) filled =
 more_than_none : (n : ℕ) → eqb (suc n) 0 ≡ false
 more_than_none n = grind (arith, nat_tests)
 
+pub none_packed : (ns : List ℕ) → true ≡ eqb (length ns) 0 → ns ≡ []
+none_packed [] empty = refl
+none_packed (n ∷ ns) empty = absurd (cc (more_than_none (length ns)))
+
 -- and those that are not there have none
 pub none_alike : (ns : List ℕ) → (length (flat_map shortest ns) == 0) ≡ (length ns == 0)
 none_alike [] = refl

@@ -55,7 +55,7 @@ impl From<AllocError> for RowFault {
 }
 
 /// Where a reader of rows stands.
-#[derive(Clone, Copy, Debug, PartialEq, Eq)]
+#[derive(Clone, Copy)]
 pub enum RowPosition {
     /// The next row begins at this offset, and the input may have so many bytes.
     Before { at: usize, limit: u32 },

@@ -13,7 +13,7 @@ use std::cmp::Ordering;
 use std::marker::Model;
 
 /// A text in UTF-8. Contracts see its bytes; texts are compared byte by byte.
-#[derive(Debug, Drop)]
+#[derive(Drop)]
 pub struct Text {
     string: String,
 }

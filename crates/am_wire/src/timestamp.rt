@@ -1,10 +1,11 @@
 //! Timestamps, which stand for moments.
 
-ghost use Rattle.std.specs.Prelude.{◌≡◌, ℕ, List, [], ◌∷◌, ◌++◌, OnOk, IfErr};
+ghost use Rattle.std.specs.Prelude.{◌≡◌, ℕ, ◌%◌, ◌≤◌, List, [], ◌∷◌, ◌++◌, OnOk, IfErr};
+ghost use Rattle.am_version_order.specs.Moments.{greatest};
 ghost use Rattle.am_wire.specs.Fields.{FieldAt, field_of};
 ghost use Rattle.am_wire.specs.Parts.{IsPart};
 ghost use Rattle.am_wire.specs.Reading.{GivesUnlessMemory, fault_or_value};
-ghost use Rattle.am_wire.specs.Timestamps.{timestamp, moment_of, moment_test};
+ghost use Rattle.am_wire.specs.Timestamps.{timestamp, moment_of, moment_test, seconds_number};
 ghost use Rattle.am_wire.specs.TimestampDrafts.{IsTimestampDraft};
 
 use crate::error::WireError;
@@ -92,6 +93,16 @@ pub fn moment_in(alloc: Global, part: Submessage<TimestampDraft>) -> Result<Mome
     }
 }
 
+/// The numbers by which a moment is written: its seconds in two's complement, and its nanoseconds.
+fn numbers_of(moment: Moment) -> (u64, u64)
+    ensures seconds { result.0 ≡ seconds_number moment }
+    ensures nanos { result.1 ≡ moment % 1_000_000_000 }
+    ensures within { moment ≤ greatest }
+{
+    let (seconds, nanos) = moment.parts();
+    (seconds.cast_unsigned(), u64::from(nanos))
+}
+
 impl Message for Moment {
     ghost use Rattle.am_wire.specs.Timestamps.{reads_moment, writes_moment};
     ghost use Rattle.std.specs.Prelude.{◌≤◌};
@@ -108,15 +119,15 @@ impl Message for Moment {
 
     #[tactic(auto, unfolding(crate::specs::Timestamps::writes_moment))]
     fn size(&self) -> u64 {
-        let (seconds, nanos) = self.parts();
-        number_size(1, seconds.cast_unsigned()) + number_size(2, u64::from(nanos))
+        let (seconds, nanos) = numbers_of(*self);
+        number_size(1, seconds) + number_size(2, nanos)
     }
 
     #[tactic(auto, unfolding(crate::specs::Timestamps::writes_moment))]
     fn write(&self, out: &mut Vec<u8>) -> Result<(), AllocError> {
-        let (seconds, nanos) = self.parts();
-        write_number(out, 1, seconds.cast_unsigned())?;
-        write_number(out, 2, u64::from(nanos))
+        let (seconds, nanos) = numbers_of(*self);
+        write_number(out, 1, seconds)?;
+        write_number(out, 2, nanos)
     }
 
     #[tactic(auto, unfolding(crate::specs::Timestamps::reads_moment))]

@@ -4,7 +4,7 @@ ghost use Rattle.std.specs.Prelude.{◌+◌, ◌<◌, ◌^◌};
 ghost use Rattle.am_wire.specs.Length.{payload_len};
 
 /// How the payload of a field is laid out.
-#[derive(Clone, Copy, Debug, PartialEq, Eq)]
+#[derive(Clone, Copy, PartialEq, Eq)]
 pub enum WireType {
     /// A number in groups of seven bits.
     Varint,
@@ -17,7 +17,7 @@ pub enum WireType {
 }
 
 /// What stands behind a field's tag.
-#[derive(Clone, Copy, Debug, PartialEq, Eq)]
+#[derive(Clone, Copy, Debug)]
 pub enum Value<'a> {
     Varint(u64),
     Eight(u64),
@@ -26,7 +26,7 @@ pub enum Value<'a> {
 }
 
 /// A field, and the offset of its tag in the outermost input.
-#[derive(Clone, Copy, Debug, PartialEq, Eq)]
+#[derive(Clone, Copy)]
 pub struct Field<'a> {
     pub number: u32,
     pub value: Value<'a>,

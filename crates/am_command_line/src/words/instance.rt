@@ -5,10 +5,9 @@ ghost use Rattle.std.specs.Prelude.{◌≤◌, IfSome};
 mod options;
 
 use super::{WordsError, mistake};
-use am_address::{Peer, address_of, is_loopback, peer_of};
 use am_disk::are_one_file;
 use am_jobs::Options;
-use am_peers::number_within;
+use am_peers::{Peer, address_of, is_loopback, number_within, peer_of};
 use am_version_order::Interval;
 use clap::ArgMatches;
 pub use options::command;

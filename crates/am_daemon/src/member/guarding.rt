@@ -5,14 +5,13 @@ ghost use Rattle.am_dialogue.specs.Answered.{IsAnswered};
 ghost use Rattle.am_dialogue.specs.Talks.{talk_of};
 
 use super::clerk::Clerk;
-use am_address::is_loopback;
 use am_dialogue::Conversation;
 use am_faults::Fault;
 use am_gate::{Heard, Hears};
 use am_gossip::FrameError;
 use am_instance::Instance;
 use am_jobs::Options;
-use am_peers::greeting;
+use am_peers::{greeting, is_loopback};
 use am_reactor::Entrance;
 use am_seal::SEALED;
 use am_upkeep::{Host, place_of};

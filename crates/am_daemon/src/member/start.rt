@@ -2,7 +2,6 @@
 
 use super::clerk::Clerk;
 use super::guarding::{hosts_of, opening};
-use am_address::{Peer, shown_name};
 use am_attendant::{Member, live};
 use am_beside::Replicas;
 use am_dialogue::{Intervals, Share, Timers, Turns};
@@ -10,6 +9,7 @@ use am_faults::{Fault, report, status};
 use am_instance::{Config, ConfigError, Instance, Place};
 use am_jobs::Options;
 use am_lines::signals;
+use am_peers::{Peer, shown_name};
 use am_reactor::{Entrances, Limits, Peers, listen};
 use am_seal::Lock;
 use am_self::Started;
@@ -209,17 +209,23 @@ fn member<'a, R: Host>(
     lock: Option<Lock<'a>>,
 ) -> Result<Member<'a, Clerk<'a, R>>, Fault> {
     let (instance, upkeep) = Upkeep::load(rt, options, config, lock)?;
-    let Ok(places) = places_of(rt.alloc(), instance.config(), options) else {
-        return Err(Fault::Config(ConfigError::Memory));
-    };
-    let random = random(rt)?;
-    let duties = duties(rt, options)?;
-    let clerk = clerk_of(upkeep, places, random, duties);
+    let attendant = clerk_with(upkeep, instance.config())?;
     Ok(Member {
         instance,
         lock,
-        attendant: clerk,
+        attendant,
     })
+}
+
+/// The clerk of a member that has these files.
+fn clerk_with<'a, R: Host>(upkeep: Upkeep<'a, R>, config: &Config) -> Result<Clerk<'a, R>, Fault> {
+    let (rt, options) = (upkeep.rt, upkeep.options);
+    let random = random(rt)?;
+    let duties = duties(rt, options)?;
+    match places_of(rt.alloc(), config, options) {
+        Ok(places) => Ok(clerk_of(upkeep, places, random, duties)),
+        Err(_) => Err(Fault::Config(ConfigError::Memory)),
+    }
 }
 
 /// The clerk that has all this.
@@ -229,6 +235,7 @@ fn clerk_of<'a, R: Host>(
     random: StdRng,
     duties: Timers,
 ) -> Clerk<'a, R> {
+    let waiting = upkeep.options.waiting.min(upkeep.options.at_once / 2);
     let Places {
         hosts,
         addresses,
@@ -237,7 +244,6 @@ fn clerk_of<'a, R: Host>(
         awaited,
         shares,
     } = places;
-    let waiting = upkeep.options.waiting.min(upkeep.options.at_once / 2);
     Clerk {
         upkeep,
         hosts,

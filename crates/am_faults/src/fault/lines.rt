@@ -1,8 +1,8 @@
 //! Faults of the libraries, as their names and numbers.
 
-use am_address::AddressWord;
 use am_lzw::LzwError;
 use am_memberlist::AnswerError;
+use am_peers::AddressWord;
 use am_reactor::LinkFault;
 use std::fmt::{self, Display, Formatter};
 use std::io::ErrorKind;

@@ -4,7 +4,7 @@ use am_gossip::FrameError;
 use thiserror::Error;
 
 /// Why no more is heard of a connection of frames.
-#[derive(Clone, Copy, Debug, PartialEq, Eq, Error)]
+#[derive(Clone, Copy, Debug, Error)]
 pub enum SessionFault {
     /// Over 134,217,728 bytes came.
     #[error("the connection has too many bytes")]

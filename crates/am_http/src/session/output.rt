@@ -10,7 +10,7 @@ use am_gossip::{Frame, FrameError};
 use std::alloc::Global;
 
 /// What a piece of a connection said.
-#[derive(Debug, Drop)]
+#[derive(Drop)]
 pub struct SessionOutput {
     /// The frames that end in the piece, in their order.
     pub frames: Vec<Frame>,

@@ -3,7 +3,7 @@
 /// A place in a list: before the item of this offset in the block of this number.
 ///
 /// It is good until the list changes.
-#[derive(Clone, Copy, Debug, PartialEq, Eq)]
+#[derive(Clone, Copy, PartialEq, Eq)]
 pub struct Cursor {
     /// The number of the block.
     pub block: usize,

@@ -15,17 +15,8 @@ returns-in_err-found-clause-kept c = λ test passes pass.
     let is : is_regexp c.args.matcher.now.kind ≡ true = search rules in
     c.is_match.ensures.kept test (subst (λ (t : List ℕ). test t ≡ true) (sym c.pattern.ensures) (passes is)) pass
 
-pub returns-in-Equal-clause-kept : goal.returns-in-Equal-clause-kept
-returns-in-Equal-clause-kept c = λ test passes pass.
-    elim c.if-is_regexp.branch [
-      | then-is_regexp+in_ok-found w ↦
-          let is : is_regexp c.args.matcher.now.kind ≡ true = sym (c.is_regexp.ensures ∙ ap is_regexp c.kind.ensures) ∙ w.if-is_regexp.true in
-          subst (TextsPass test) (sym w.patterns-is) (w.is_match.ensures.kept test (subst (λ (t : List ℕ). test t ≡ true) (sym w.pattern.ensures) (passes is)) pass)
-      | else-is_regexp w ↦ subst (TextsPass test) (sym w.patterns-is) pass
-    ]
-
-pub returns-in-NotEqual-clause-kept : goal.returns-in-NotEqual-clause-kept
-returns-in-NotEqual-clause-kept c = λ test passes pass.
+pub returns-clause-kept : goal.returns-clause-kept
+returns-clause-kept c = λ test passes pass.
     elim c.if-is_regexp.branch [
       | then-is_regexp+in_ok-found w ↦
           let is : is_regexp c.args.matcher.now.kind ≡ true = sym (c.is_regexp.ensures ∙ ap is_regexp c.kind.ensures) ∙ w.if-is_regexp.true in

@@ -19,4 +19,4 @@ returns-in-Ok-Done-clause-heard g c =
 
 pub returns-in-Err-clause-heard : goal.returns-in-Err-clause-heard
 returns-in-Err-clause-heard g c =
-    driven_lost _ _ _ _ _ _ _ _ _ _ _ _ (c.is_open.ensures.open (cc)) c.advance.ensures.open c.in-Err.ensures.failed c.lost.ensures c.close.ensures.closed
+    driven_lost _ _ _ _ _ _ _ _ _ _ _ _ (c.is_open.ensures.open (cc)) c.advance.ensures.open c.in-Err.ensures.failed c.lose.ensures.lost c.lose.ensures.closed

@@ -1,4 +1,5 @@
-use Rattle.std.proofs.Common.{◌++◌, ◌∷◌, [], Bool, ap, List, Result, Ok}
+use Rattle.std.proofs.Common.{◌++◌, ◌∷◌, [], ℕ, Bool, ap, List, Result, Ok}
+use Rattle.std.specs.Prelude.{⊤}
 use Rattle.std.specs.declared.alloc.AllocError.{AllocError}
 use Rattle.std.proofs.lemmas.Result.{err_from_is_err_and}
 use Rattle.std.proofs.lemmas.List.Sorted.{IsPermutation-refl}
@@ -7,7 +8,7 @@ use Rattle.am_merge.proofs.Keys.{key_order}
 use Rattle.am_snapshot.specs.Loads.{AreDistinct}
 use Rattle.am_snapshot.proofs.Inserts.{distinct_none, members_more, distinct_more, earlier}
 use Rattle.am_snapshot.proofs.RowReads.{reads_none, reads_more, reads_end, reads_stop_with}
-use Rattle.am_snapshot.proofs.Stops.{some_found, none_found, load_reading, load_end, load_repeat}
+use Rattle.am_snapshot.proofs.Stops.{always, some_found, none_found, load_reading, load_end, load_repeat}
 use Rattle.am_snapshot.proofs.loading.load_within.Goals as goal
 
 abbrev answered : Bool → Result Bool AllocError
@@ -62,3 +63,14 @@ returns-clause-size g c =
     let (bytes, versions, so_far, _, _, _) = c.loop-rows.invariant in
     let (row, read, answer) = rw c.in_default.is at c.in_ok-version.ensures in
     (reads_end g.V.Message.reads _ _ _ _ _ _ bytes row versions so_far read answer).2
+
+pub returns-in_err-is_new-clause-stopped : goal.returns-in_err-is_new-clause-stopped
+returns-in_err-is_new-clause-stopped g c =
+    let p = err_from_is_err_and c.from_residual-in_err-is_new.result c.from_residual-in_err-is_new.ensures.1 in
+    rw (p.1, p.2) (always (λ (input : List ℕ). ⊤) (λ input. tt) _)
+
+pub returns-clause-end : goal.returns-clause-end
+returns-clause-end g c =
+    let (bytes, versions, so_far, _, _, _) = c.loop-rows.invariant in
+    let (row, read, answer) = rw c.in_default.is at c.in_ok-version.ensures in
+    (reads_end g.V.Message.reads _ _ _ _ _ _ bytes row versions so_far read answer).0

@@ -1,9 +1,9 @@
-use Rattle.std.proofs.Common.{◌≡◌, ℕ, List, ◌++◌, length, ◌∙◌, ap, append_assoc, length-append, rules, arith}
+use Rattle.std.proofs.Common.{◌≡◌, ℕ, List, ◌++◌, length, ◌∙◌, ap, sym, append_assoc, append-nil, length-append, rules, arith}
 use Rattle.std.specs.List.{flat_map}
 use Rattle.std.proofs.lemmas.List.{get_or_default}
 use Rattle.am_wire.specs.Varint.{shortest}
 use Rattle.am_wire.specs.Writing.{tag}
-use Rattle.am_wire.proofs.Unpacking.{packed_filled}
+use Rattle.am_wire.proofs.Unpacking.{packed_filled, none_packed}
 use Rattle.am_wire.proofs.lists.write_numbers.Goals as goal
 
 pub returns-in_ok-append_varints-clause-ok : goal.returns-in_ok-append_varints-clause-ok
@@ -24,3 +24,9 @@ returns-in_ok-append_varints-clause-ok c =
 
 pub returns-in_ok-append_varints-clause-range : goal.returns-in_ok-append_varints-clause-range
 returns-in_ok-append_varints-clause-range c = λ k d lt. let fits = c.type_inv.numbers k in rw (get_or_default c.args.numbers.now k d 0 lt) (search (rules, fits))
+
+pub returns-else-not-is_empty-clause-ok : goal.returns-else-not-is_empty-clause-ok
+returns-else-not-is_empty-clause-ok c = rw (none_packed c.args.numbers.now c.if-not-is_empty.ensures) (sym (append-nil _))
+
+pub returns-else-not-is_empty-clause-range : goal.returns-else-not-is_empty-clause-range
+returns-else-not-is_empty-clause-range c = λ k d lt. let fits = c.type_inv.numbers k in rw (get_or_default c.args.numbers.now k d 0 lt) (search (rules, fits))

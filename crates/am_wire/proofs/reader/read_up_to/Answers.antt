@@ -6,7 +6,7 @@ use Rattle.am_wire.proofs.reader.read_up_to.Goals as goal
 pub loop-len-preserved : goal.loop-len-preserved
 loop-len-preserved g c =
     let same = with_items_is c.make_room.new.bytes c.read_at.new.room (search (rules, places)) in
-    let front = c.in-Ok.ensures.front ∙ ap (take c.loop-len.len) c.as_mut_slice.ensures.value ∙ c.in_ok-make_room.ensures.front in
+    let front : take c.loop-len.len c.read_at.new.room ≡ take c.loop-len.len c.loop-len.bytes.items = c.in-Ok.ensures.front ∙ ap (take c.loop-len.len) c.as_mut_slice.ensures.value ∙ c.in_ok-make_room.ensures.front in
     let long : length c.read_at.new.room ≡ c.make_room.new.bytes.len = search (rules, places) in
     rw same (record {
       held = c.in-Ok.ensures.fits;

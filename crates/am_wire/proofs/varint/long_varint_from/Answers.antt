@@ -1,4 +1,5 @@
-use Rattle.am_wire.proofs.Groups.{ends_at_tenth, fails_at_tenth, ends_here, reads_on, ends_short}
+use Rattle.std.proofs.Common.{refl, arith}
+use Rattle.am_wire.proofs.Groups.{after-start, ends_at_tenth, fails_at_tenth, ends_here, reads_on, ends_short}
 use Rattle.am_wire.proofs.varint.long_varint_from.Goals as goal
 
 pub returns-then-byte-lt2-clause-value : goal.returns-then-byte-lt2-clause-value
@@ -15,3 +16,12 @@ loop-place-preserved c = reads_on _ _ _ _ _ c.loop-place.invariant _ c.loop-plac
 
 pub returns-clause-value : goal.returns-clause-value
 returns-clause-value c = ends_short _ _ _ _ _ c.loop-place.invariant c.loop-place-test.false
+
+pub returns-then-byte-lt2-clause-within : goal.returns-then-byte-lt2-clause-within
+returns-then-byte-lt2-clause-within c = (omega arith, omega (arith, c.loop-place-test.true, c.if-place-eq-MOST_BYTES.true), omega arith)
+
+pub returns-then-byte-lt128-clause-within : goal.returns-then-byte-lt128-clause-within
+returns-then-byte-lt128-clause-within c = (omega arith, omega (arith, c.loop-place-test.true), omega (arith, c.loop-place.invariant.place_in))
+
+pub loop-place-init : goal.loop-place-init
+loop-place-init c = record { place_in = omega arith; scale_is = refl; value_in = omega arith; goes_on = after-start _ }

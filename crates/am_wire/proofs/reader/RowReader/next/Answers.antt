@@ -1,4 +1,4 @@
-use Rattle.std.proofs.Common.{◌≡◌, ◌≤◌, ◌+◌, sym, ◌∙◌, arith}
+use Rattle.std.proofs.Common.{◌≡◌, [], refl, sym, ◌∙◌}
 use Rattle.std.proofs.lemmas.Result.{err_from_is_err_and}
 use Rattle.am_wire.specs.declared.reader.RowPosition.TheVariants.{Before}
 use Rattle.am_wire.proofs.ReaderLemmas.{answers_stop, answers_cut, answers_fault, answers_value, ends_below}
@@ -24,13 +24,15 @@ returns-in_err-value g c =
     rw (here, p.1, p.2) (answers_fault g.V.Message.reads _ _ _ _ _ _ _ (rw c.in-Some.is at c.in_ok-size.ensures.some) _ c.in_ok-read_message_bytes.ensures _ c.deref.ensures.value _ c.in_err-value.ensures)
 
 pub invariant_of-self-2 : goal.invariant_of-self-2
-invariant_of-self-2 g c = λ at limit same.
-    let below : c.in-Some.start + c.in-Some.size ≤ c.in-Before.limit = ends_below g.V.Message.reads _ _ _ _ _ _ _ (rw c.in-Some.is at c.in_ok-size.ensures.some) _ c.in_ok-read_message_bytes.ensures in
-    let e : c.in-Some.start + c.in-Some.size ≡ at = cc in
-    let stays : c.in-Before.limit ≡ limit = cc in
-    omega (arith, below, e, stays)
+invariant_of-self-2 g c = ends_below g.V.Message.reads _ _ _ _ _ _ _ (rw c.in-Some.is at c.in_ok-size.ensures.some) _ c.in_ok-read_message_bytes.ensures
 
 pub returns : goal.returns
 returns g c =
     let here : c.args.self.now ≡ Before c.in-Before.at c.in-Before.limit = sym c.self.view_is ∙ c.in-Before.is in
     rw here (answers_value g.V.Message.reads _ _ _ _ _ _ _ (rw c.in-Some.is at c.in_ok-size.ensures.some) _ c.in_ok-read_message_bytes.ensures _ c.deref.ensures.value _ c.in_ok-value.ensures)
+
+pub returns-in_default : goal.returns-in_default
+returns-in_default g c =
+    let here : c.args.self.now ≡ Before c.in-Before.at c.in-Before.limit = sym c.self.view_is ∙ c.in-Before.is in
+    let ends = c.in_ok-size.ensures.none c.in_default.is in
+    ([], ends.0, rw here (refl, ends.1, refl))

@@ -1,5 +1,0 @@
-use Rattle.am_reactor.proofs.Moves.{none_if_more}
-use Rattle.am_reactor.proofs.links.Links.new.Goals as goal
-
-pub loop-preserved : goal.loop-preserved
-loop-preserved g c = λ peer. rw c.push.ensures.items (none_if_more _ _ c.loop.invariant peer)
