@@ -32,7 +32,7 @@ PACES = {
     "am_nflog": 52, "am_gossip": 51, "am_merge": 86, "am_collect": 99, "am_runs": 51, "am_dedup": 59, "am_matcher": 69,
     "am_snapshot": 75, "am_http": 56, "am_instance": 71, "am_api_silences": 91, "am_steps": 73, "am_cluster": 76,
     "am_member": 84, "am_reactor": 62, "am_journal": 65, "am_report": 75, "am_replay": 78, "am_picture": 80, "am_faults": 92,
-    "am_files": 80, "am_command_line": 120, "am_daemon": 235, "am_tool": 500, "am_decision_json": 74, "am_api_decisions": 77,
+    "am_files": 80, "am_command_line": 120, "am_daemon": 235, "am_tool": 2000, "am_decision_json": 74, "am_api_decisions": 77,
     "am_dialogue": 75, "am_lines": 81, "am_alert_hash": 73, "am_jobs": 62, "am_commands": 130, "am_player": 90,
     "am_metrics": 105, "am_figures": 96, "am_api_status": 30, "am_refusals": 118, "am_peers": 91, "am_upkeep": 120,
     "am_self": 146, "am_lzw": 90, "am_memberlist": 65, "am_mend": 135, "am_seal": 67, "am_gate": 74,
@@ -43,7 +43,7 @@ PACE = 90
 
 # How many times as long they took where whole builds were measured, and for how many seconds that counts beside what crates
 # have taken in this one.
-SLOWER = 2.0
+SLOWER = 1.8
 TRUSTED = 60
 
 # What rt ci says of a crate that is done, and where it waits.
