@@ -3,14 +3,16 @@
 
     build.py [--anew] [--report]
 
-It runs `rt ci` on a copy of the crates that am_tool wants, without their wrong bodies, and puts the program into
-crates/am_tool/out. Where nothing has changed since, nothing is done. Else all is proved from nothing, but by a kit that keeps
-what it proves: such a one proves nothing again that any checkout on this machine proved of the same files. --anew proves all
-in any case. How far it is goes to standard error: at the start how long all takes, and then a line as each crate is done.
---report prints in the end what these lines estimated, beside what came true.
+It gives the crates that am_tool wants to the kit's prover, `rattle build`, on a copy of their files, each once those below it
+are proved, and puts the program into crates/am_tool/out. What is proved is kept in out/proved of its crate, and isn't proved
+again while it, and all below it, stays as it is; --anew proves all in any case. How far it is goes to standard error: at the
+start how long all takes, and then a line as each crate is done. --report prints in the end what these lines estimated, beside
+what came true, and how long each proof took. The gate, `rt ci`, proves the same, and also looks for contracts that no call can
+meet.
 """
 
 import contextlib
+import fcntl
 import hashlib
 import os
 import re
@@ -23,7 +25,9 @@ import time
 
 TOP = os.path.dirname(os.path.abspath(__file__))
 PROGRAM = f"{TOP}/crates/am_tool/out/am_tool"
-# What a check takes at most, in bytes of memory; only a program that links all takes more.
+# The kit that the command rt belongs to.
+KIT = os.path.dirname(os.path.dirname(os.path.realpath(shutil.which("rt") or "rt")))
+# What a proof takes at most, in bytes of memory.
 NEEDED = 4 << 30
 
 # How many seconds of processor the proof of a crate takes for each thousand lines, by `bench/run.py processors`.
@@ -46,26 +50,30 @@ PACE = 90
 SLOWER = 1.8
 TRUSTED = 60
 
-# What rt ci says of a crate that is done, and where it waits.
-DONE = re.compile(r"rt: (\w+) (proved|NOT PROVED|is kept)\b")
-WAITS = re.compile(r"rt: (\w+: another run on this machine is proving the same)")
+# Of one proof: the most processes, how many times the work of one more than one do in all, and the crates that all wait for
+# in the end, with how many they have in any case.
+MOST = 4
+FORKED = 1.35
+LAST = {"am_daemon": 3}
+
+# What the prover says at the end of a proof.
+PROVED = re.compile(r"^logic=proved .*\n\Z", re.M)
 
 
-def keeps():
-    """Whether rt ci of this kit keeps what it proves. Then it has the word --anew, by which it proves all."""
-    how = {"stdin": subprocess.DEVNULL, "stdout": subprocess.PIPE, "stderr": subprocess.STDOUT, "errors": "replace"}
-    return "--anew" in subprocess.run(["rt", "help"], check=False, **how).stdout
-
-
-def dependencies(top=TOP):
-    """The libraries of a tree that each crate stands on, by its name."""
+def libraries(top=TOP):
+    """The libraries that each crate of a tree stands on, by its name: the tree's own, and those of the kit."""
     lines = {}
     with open(f"{top}/crates.txt", encoding="utf-8") as file:
         for line in file:
             name, colon, rest = line.split("#")[0].partition(":")
             if colon:
                 lines[name.strip()] = rest.split()
-    return {name: [it for it in rest if it in lines] for name, rest in lines.items()}
+    return {name: ([it for it in rest if it in lines], ["std", *(it for it in rest if it not in lines)]) for name, rest in lines.items()}
+
+
+def dependencies(top=TOP):
+    """The libraries of a tree that each crate stands on, by its name."""
+    return {name: own for name, (own, _) in libraries(top).items()}
 
 
 def with_below(names, crates):
@@ -96,7 +104,7 @@ def copy_crates(names, folder):
         lines = [line for line in file if line.partition(":")[0].strip() in names]
     with open(f"{folder}/crates.txt", "w", encoding="utf-8") as file:
         file.writelines(lines)
-    # (rt ci wants the top of a repository)
+    # (rt wants the top of a repository)
     os.mkdir(f"{folder}/.git")
 
 
@@ -118,63 +126,74 @@ def seconds_of(name, lines):
 
 
 def places():
-    """How many checks there is room for."""
+    """How many proofs there is room for."""
     with open("/proc/meminfo", encoding="ascii") as file:
         memory = 1024 * next(int(line.split()[1]) for line in file if line.startswith("MemAvailable:"))
     return max(1, min(len(os.sched_getaffinity(0)), memory // NEEDED))
 
 
 class Plan:
-    """Which crates are done, which run and since when, and how long is left.
+    """Which crates are done, which run, since when and by how many processes, and how long is left.
 
-    rt ci says when a crate is done, and not when it begins: as soon as there is a place and its libraries are done, and first
-    those with the longest chain of others behind them, by lines. That is told here once more, with what crates take for how
-    long they are said to take. Each has one process, since RT_JOBS is set: of itself rt ci gives a proof more of them where
-    processors are idle, but begins it only where it is sure of memory, and so has two or three proofs side by side in 23 GB
-    where there is room for four.
+    As soon as there is a place, the crate begins that has the longest chain of others behind it, of those whose libraries are
+    done. One has more processes where nothing else can begin.
     """
 
     def __init__(self, tree, folder, number):
         self.tree, self.number = tree, number
-        lines = {name: lines_of(folder, name) for name in tree}
-        self.seconds = {name: seconds_of(name, lines[name]) for name in tree}
-        self.behind = dict(lines)
+        self.seconds = {name: seconds_of(name, lines_of(folder, name)) for name in tree}
+        self.behind = dict(self.seconds)
         for name in reversed(with_below(tree, tree)):
             above = [self.behind[it] for it in tree if name in tree[it]]
             self.behind[name] += max(above, default=0)
-        self.done, self.running = set(), {}
+        self.done, self.running, self.took = set(), {}, []
         # How long the crates that were proved took, and how long they are said to take.
         self.taken, self.said = SLOWER * TRUSTED, TRUSTED
 
     def next_of(self, done, running):
-        """The crate that begins next, if one is ready."""
+        """The crate that begins next, if one may, and how many processes it has; `running` has those of the crates that run."""
+        idle = self.number - sum(running.values())
         ready = [it for it in self.tree if it not in done and it not in running and done.issuperset(self.tree[it])]
-        return max(ready, key=self.behind.get, default=None)
+        if idle <= 0 or not ready:
+            return None
+        name = max(ready, key=self.behind.get)
+        return name, min(MOST, self.number, max(1, idle // len(ready), LAST.get(name, 1)))
 
-    def fill(self, now):
-        while len(self.running) < self.number and (name := self.next_of(self.done, self.running)):
-            self.running[name] = now
+    def time_of(self, name, processes):
+        """How long the proof of a crate takes by so many processes."""
+        return self.seconds[name] * (FORKED / processes if processes > 1 else 1)
 
-    def end(self, name, now, is_kept):
-        begun = self.running.pop(name, None)
+    def begin(self, now):
+        """Begins the next crate, if one may; its name, and how many processes it has."""
+        found = self.next_of(self.done, {it: processes for it, (_, processes) in self.running.items()})
+        if found:
+            self.running[found[0]] = now, found[1]
+        return found
+
+    def end(self, name, now):
+        begun, processes = self.running.pop(name)
         self.done.add(name)
-        if begun is not None and not is_kept:
-            self.taken += now - begun
-            self.said += self.seconds[name]
-        self.fill(now)
+        self.took.append((name, begun, processes, now - begun))
+        self.taken += now - begun
+        self.said += self.time_of(name, processes)
 
     def left(self, now):
         """How many seconds all takes that isn't done."""
         slow, done, at = self.taken / self.said, set(self.done), now
+        held = {it: processes for it, (_, processes) in self.running.items()}
         # (one that takes longer than is said takes a little longer still)
-        ends = {it: max(begun + self.seconds[it] * slow, now + self.seconds[it] * slow / 10) for it, begun in self.running.items()}
-        while ends:
+        takes = {it: slow * self.time_of(it, processes) for it, processes in held.items()}
+        ends = {it: max(begun + takes[it], now + takes[it] / 10) for it, (begun, _) in self.running.items()}
+        while True:
+            while found := self.next_of(done, held):
+                held[found[0]] = found[1]
+                ends[found[0]] = at + slow * self.time_of(*found)
+            if not ends:
+                return at - now
             first = min(ends, key=ends.get)
             at = ends.pop(first)
+            del held[first]
             done.add(first)
-            while len(ends) < self.number and (name := self.next_of(done, ends)):
-                ends[name] = at + self.seconds[name] * slow
-        return at - now
 
 
 def minutes(seconds):
@@ -188,12 +207,13 @@ def say(text):
 class Told:
     """What is told while crates are proved, and what it estimated."""
 
-    def __init__(self, plan, keeps):
-        self.plan, self.keeps, self.begun, self.estimates = plan, keeps, time.time(), []
-        plan.fill(self.begun)
+    def __init__(self, plan):
+        self.plan, self.begun, self.estimates = plan, time.time(), []
         left = self.estimate("the start")
-        less = ", and less where some are proved" if keeps else ""
-        say(f"proves {len(plan.tree)} crates, {plan.number} side by side: about {minutes(left)} in all{less}")
+        less = f"; {len(plan.done)} were proved before" if plan.done else ""
+        count = len(plan.tree) - len(plan.done)
+        crates = "a crate" if count == 1 else f"{count} crates, {plan.number} side by side"
+        say(f"proves {crates}: about {minutes(left)} in all{less}")
 
     def estimate(self, when):
         now = time.time()
@@ -201,58 +221,155 @@ class Told:
         self.estimates.append((when, now - self.begun, left))
         return left
 
-    def done(self, name, word):
+    def done(self, name):
         plan = self.plan
-        plan.end(name, time.time(), word == "is kept")
+        plan.end(name, time.time())
         left = self.estimate(name)
         rest = f", about {minutes(left)} left" if len(plan.done) < len(plan.tree) else ""
-        say(f"{'proved before' if word == 'is kept' else 'proved'}: {name}, {len(plan.done)} of {len(plan.tree)}{rest}")
+        say(f"proved: {name}, {len(plan.done)} of {len(plan.tree)}{rest}")
 
     def report(self):
-        """Prints each estimate of the whole time, beside that in which all was done."""
+        """Prints each estimate of the whole time, beside that in which all was done, and what each proof took."""
         whole = time.time() - self.begun
         print(f"{'behind':<18}{'at, s':>8}{'in all, s':>12}{'off':>8}")
         for when, at, left in self.estimates:
             print(f"{when:<18}{at:8.0f}{at + left:12.0f}{(at + left) / whole - 1:8.0%}")
+        print(f"\n{'crate':<18}{'from, s':>8}{'processes':>12}{'seconds':>8}")
+        for name, begun, processes, seconds in self.plan.took:
+            print(f"{name:<18}{begun - self.begun:8.0f}{processes:12}{seconds:8.0f}")
         print(f"it took {whole:.0f} s")
 
 
+def content(path):
+    with contextlib.suppress(FileNotFoundError), open(path, "rb") as file:
+        return file.read()
+    return b""
+
+
+def sum_of(folder, *more):
+    """A sum of the files of a folder, and of what else is given."""
+    found = hashlib.sha256(repr(more).encode())
+    for path in sorted(f"{at}/{name}" for at, _, names in os.walk(folder) for name in names):
+        data = content(path)
+        found.update(f"{os.path.relpath(path, folder)}\n{len(data)}\n".encode() + data)
+    return found.hexdigest()
+
+
+def library(folder, name):
+    """Where the library of a crate of a tree is built."""
+    return f"{folder}/libraries/{name}.rlib"
+
+
+class Kept:
+    """The libraries of a tree that were proved before: in out/proved of its crate each, beside the sum of all that its proof read."""
+
+    def __init__(self, tree, folder):
+        self.folder, self.sums = folder, {}
+        kit = subprocess.run(["rt", "version"], stdout=subprocess.PIPE, check=False).stdout
+        uses = libraries(folder)
+        for name in with_below(tree, tree):
+            below = [self.sums[it] for it in tree[name]]
+            self.sums[name] = sum_of(f"{folder}/crates/{name}", kit, uses[name], below)
+
+    def place(self, name):
+        return f"{TOP}/crates/{name}/out/proved"
+
+    def give(self, name):
+        """Gives the tree the library of a crate, if the same was proved before; whether it was."""
+        place, to = self.place(name), library(self.folder, name)
+        if content(f"{place}/sum") != self.sums[name].encode():
+            return False
+        shutil.copytree(f"{place}/{name}.rlib", to, symlinks=True)
+        return True
+
+    def keep(self, name):
+        """Keeps the library of a crate that was proved, if the crate is one of this repository."""
+        place, made = self.place(name), library(self.folder, name)
+        if not os.path.isdir(made) or not os.path.isdir(f"{TOP}/crates/{name}"):
+            return
+        shutil.rmtree(place, ignore_errors=True)
+        shutil.copytree(made, f"{place}/{name}.rlib", symlinks=True)
+        with open(f"{place}/sum", "w", encoding="ascii") as file:
+            file.write(self.sums[name])
+
+
+def words_of(name, folder, processes):
+    """The words by which the prover proves a crate of a tree, and makes its library, or the object file of its program."""
+    own, of_kit = libraries(folder)[name]
+    is_program = os.path.exists(f"{folder}/crates/{name}/src/main.rt")
+    words = [f"{KIT}/bin/rattle", "build", "--crate-name", name, "src/main.rt" if is_program else "src/lib.rt"]
+    for it in [*(f"{it}={KIT}/rlibs/{it}.rlib" for it in of_kit), *(f"{it}={library(folder, it)}" for it in own)]:
+        words += ["--extern", it]
+    words += ["-L", f"dependency={KIT}/rlibs", "-L", f"dependency={folder}/libraries"]
+    words += ["--antt-project", f"{KIT}/rattle/logic/antt-project.json", "--logic-built", f"{KIT}/logic_built"]
+    words += ["--jobs", str(processes)]
+    if is_program:
+        return [*words, "--toolchain", f"{KIT}/toolchain", "--backend", "llvm", "-o", f"{folder}/{name}.o"]
+    return [*words, "--statements", "-o", library(folder, name)]
+
+
+def start(name, folder, processes):
+    """Begins the proof of a crate, in a process group of its own. What it says goes into a file of the tree."""
+    with open(f"{folder}/{name}.said", "wb") as said:
+        how = {"cwd": f"{folder}/crates/{name}", "stdin": subprocess.DEVNULL, "stdout": said, "stderr": subprocess.STDOUT}
+        return subprocess.Popen(words_of(name, folder, processes), start_new_session=True, **how)
+
+
 @contextlib.contextmanager
-def ended(process):
-    """Ends a run of rt, and with it the checks that it started, however it is left."""
+def proofs():
+    """The proofs that run, by their crates. They end, with all processes that they have begun, however this is left."""
+    running = {}
     try:
-        yield process
+        yield running
     finally:
-        process.kill()
-        process.wait()
-        process.stdout.close()
+        for process in running.values():
+            with contextlib.suppress(ProcessLookupError):
+                os.killpg(process.pid, signal.SIGKILL)
+            process.wait()
 
 
-def prove(folder, told=None, words=(), last=None):
-    """Proves the crates of a tree and builds its programs; what rt said where it failed, and else None.
+def first_ended(running):
+    while True:
+        for name, process in running.items():
+            if process.poll() is not None:
+                return name
+        time.sleep(0.1)
 
-    Where a crate is named as the last, it ends once that is proved, and runs no program.
-    """
-    told = told or Told(Plan(dependencies(folder), folder, places()), keeps())
-    how = {"cwd": folder, "stdin": subprocess.DEVNULL, "stdout": subprocess.PIPE, "stderr": subprocess.STDOUT, "errors": "replace"}
-    said = []
-    with ended(subprocess.Popen(["rt", "ci", *words], env={**os.environ, "RT_JOBS": str(told.plan.number)}, **how)) as ran:
-        for line in ran.stdout:
-            if line.startswith("== "):
-                said.clear()
-            said.append(line)
-            waits = WAITS.match(line)
-            if waits:
-                say(waits[1])
-            done = DONE.match(line)
-            if done and done[2] == "NOT PROVED":
-                return "".join(said)
-            if done:
-                told.done(done[1], done[2])
-                said.clear()
-            if done and done[1] == last:
-                return None
-        return "".join(said) + f"rt ci ended with status {ran.returncode}\n" if ran.wait() else None
+
+def link(name, folder):
+    """Links the program of a crate that is proved, if it is one; what was said where that failed, and else nothing."""
+    made = f"{folder}/{name}.o"
+    if not os.path.exists(made):
+        return ""
+    words = [f"{KIT}/bin/rattle-link", "--target", "x86_64-unknown-linux-gnu", "--toolchain", f"{KIT}/toolchain"]
+    words += ["-o", f"{folder}/{name}", made, f"{KIT}/c/libos_c.a", f"{KIT}/c/liblibc_c.a"]
+    ran = subprocess.run(words, check=False, text=True, stdout=subprocess.PIPE, stderr=subprocess.STDOUT)
+    return f"{ran.stdout}it ended with status {ran.returncode}\n" if ran.returncode else ""
+
+
+def prove(folder, told, kept):
+    """Proves the crates of a tree that aren't done, and builds its programs; what was said where it failed, and else nothing."""
+    plan, killed = told.plan, set()
+    os.makedirs(f"{folder}/libraries", exist_ok=True)
+    with proofs() as running:
+        while len(plan.done) < len(plan.tree):
+            while found := plan.begin(time.time()):
+                running[found[0]] = start(found[0], folder, found[1])
+            name = first_ended(running)
+            status = running[name].returncode
+            if status == -signal.SIGKILL and name not in killed:
+                killed.add(name)
+                say(f"{name}: its proof was killed, most likely for memory: once more")
+                running[name] = start(name, folder, 1)
+                continue
+            del running[name]
+            said = content(f"{folder}/{name}.said").decode(errors="replace")
+            failed = said if status or not PROVED.search(said) else link(name, folder)
+            if failed:
+                return f"of {name}:\n{failed}"
+            kept.keep(name)
+            told.done(name)
+    return ""
 
 
 @contextlib.contextmanager
@@ -263,25 +380,18 @@ def room():
         yield folder
     finally:
         shutil.rmtree(folder, ignore_errors=True)
-        if os.path.exists(folder):
-            # (a check that is ended may have written once more)
-            time.sleep(0.5)
-            shutil.rmtree(folder, ignore_errors=True)
 
 
-def content(path):
-    with contextlib.suppress(FileNotFoundError), open(path, "rb") as file:
-        return file.read()
-    return b""
-
-
-def sum_of(folder):
-    """A sum of all that a program is built from: the kit, and the files of a tree."""
-    found = hashlib.sha256(subprocess.run(["rt", "version"], stdout=subprocess.PIPE, check=False).stdout)
-    for path in sorted(f"{at}/{name}" for at, _, names in os.walk(folder) for name in names):
-        data = content(path)
-        found.update(f"{os.path.relpath(path, folder)}\n{len(data)}\n".encode() + data)
-    return found.hexdigest()
+@contextlib.contextmanager
+def alone():
+    """Waits until no other build runs in this checkout."""
+    with open(__file__, "rb") as file:
+        try:
+            fcntl.flock(file, fcntl.LOCK_EX | fcntl.LOCK_NB)
+        except BlockingIOError:
+            say("another build runs in this checkout: waiting for it")
+            fcntl.flock(file, fcntl.LOCK_EX)
+        yield
 
 
 def stamp(sources):
@@ -298,22 +408,30 @@ def put_program(made, sources):
         file.write(stamp(sources))
 
 
-def build(words, reports):
+def prove_with(tree, folder, anew=False):
+    """Proves the crates of a tree, but those that were proved before; what was said where it failed, and what was told."""
+    kept = Kept(tree, folder)
+    plan = Plan(tree, folder, places())
+    plan.done.update(it for it in with_below(tree, tree) if not anew and kept.give(it))
+    told = Told(plan)
+    return prove(folder, told, kept), told
+
+
+def build(anew, reports):
     """Proves all and builds the program, unless nothing has changed since that; the exit status."""
     crates, begun = dependencies(), time.time()
-    names = with_below(["am_tool"], crates)
+    tree = {it: crates[it] for it in with_below(["am_tool"], crates)}
     with room() as folder:
-        copy_crates(names, folder)
-        sources = sum_of(folder)
-        if content(f"{PROGRAM}.sum") == stamp(sources) and "--anew" not in words:
+        copy_crates(tree, folder)
+        sources = Kept(tree, folder).sums["am_tool"]
+        if content(f"{PROGRAM}.sum") == stamp(sources) and not anew:
             say("nothing has changed since it was built")
         else:
-            told = Told(Plan({it: crates[it] for it in names}, folder, places()), keeps())
-            failed = prove(folder, told, words if told.keeps else ())
-            if failed is not None:
-                say(f"not built; rt said:\n{failed[-4000:]}")
+            failed, told = prove_with(tree, folder, anew)
+            if failed:
+                say(f"not built; the prover said {failed[-4000:]}")
                 return 1
-            put_program(f"{folder}/crates/am_tool/out/am_tool", sources)
+            put_program(f"{folder}/am_tool", sources)
             say(f"built in {minutes(time.time() - begun)}: crates/am_tool/out/am_tool")
             if reports:
                 told.report()
@@ -330,9 +448,10 @@ def main():
     for it in (signal.SIGTERM, signal.SIGHUP):
         signal.signal(it, lambda number, _: sys.exit(128 + number))
     try:
-        return build([it for it in words if it == "--anew"], "--report" in words)
+        with alone():
+            return build("--anew" in words, "--report" in words)
     except KeyboardInterrupt:
-        say("stopped; what was proved so far is kept" if keeps() else "stopped; nothing of what was proved is kept")
+        say("stopped; what was proved so far is kept")
         return 130
 
 

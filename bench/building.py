@@ -26,10 +26,11 @@ def ours(name, folder):
     place = os.path.join(folder, "crates", name)
     os.makedirs(os.path.join(place, "src"))
     shutil.copy(os.path.join(source, "main.rt.in"), os.path.join(place, "src", "main.rt"))
-    failed = build.prove(folder, last=name)
-    if failed is not None:
+    crates = build.dependencies(folder)
+    failed, _ = build.prove_with({it: crates[it] for it in build.with_below([name], crates)}, folder)
+    if failed:
         raise SystemExit(failed[-3000:])
-    return os.path.join(place, "out", name)
+    return os.path.join(folder, name)
 
 
 def plain(name, folder):
