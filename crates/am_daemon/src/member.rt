@@ -3,11 +3,12 @@
 mod clerk;
 mod counting;
 mod deciding;
+mod desk;
 mod gossiping;
 mod guarding;
-mod handing;
 mod hearing;
 mod judging;
+mod links;
 mod resuming;
 mod serving;
 mod start;

@@ -90,7 +90,7 @@ impl Compacting {
     }
 
     /// How long it is until something is to be done.
-    fn left(&self, now: Instant) -> Option<Duration> {
+    pub(crate) fn left(&self, now: Instant) -> Option<Duration> {
         match self.work {
             Work::Nothing => sooner(self.silences.left(now), self.log.left(now)),
             Work::Silences(_) | Work::Log(_) => Some(Duration::ZERO),
@@ -122,18 +122,13 @@ impl<R: Host> Upkeep<'_, R> {
         self.compacting = Compacting::new();
     }
 
-    /// Does a stage of what is written anew, if the logs lack nothing, and answers how long it is until the next one.
-    pub fn compact(&mut self, instance: &Instance, now: Instant) -> Option<Duration> {
-        if self.keeping.is_behind() {
-            self.give_up_compaction();
-            return None;
-        }
+    /// Does a stage of what is written anew.
+    pub(crate) fn compact_on(&mut self, instance: &Instance, now: Instant) {
         match mem::replace(&mut self.compacting.work, Work::Nothing) {
             Work::Nothing => self.begin_compaction(instance, now),
             Work::Silences(left) => self.compact_silences(instance, left, now),
             Work::Log(left) => self.compact_log(instance, left, now),
         }
-        self.compacting.left(now)
     }
 
     /// Begins to write a file anew that is wanted: the silences first.

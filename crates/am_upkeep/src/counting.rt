@@ -2,7 +2,7 @@
 
 use crate::host::Host;
 use crate::upkeep::Upkeep;
-use am_figures::{Cause, Kind, Step};
+use am_figures::{Cause, Figures, Kind, Step};
 use am_gossip::Frame;
 use am_instance::Place;
 use am_reactor::LinkFault;
@@ -28,7 +28,7 @@ fn step_of_frame(frame: &Frame) -> Option<Step> {
 }
 
 /// What a fault of a link is counted as.
-fn cause_of(fault: LinkFault) -> Cause {
+pub fn cause_of(fault: LinkFault) -> Cause {
     match fault {
         LinkFault::Connect(_) | LinkFault::NoPeer => Cause::Connect,
         LinkFault::Write { .. } | LinkFault::Read { .. } => Cause::Write,
@@ -43,36 +43,27 @@ pub fn since_1970<C: Clock>(clock: &C) -> Duration {
     clock.since_1970().unwrap_or(Duration::ZERO)
 }
 
+/// Counts the frames of a peer, as the time since 1970 is this.
+pub fn count_frames(figures: &mut Figures, place: Place, frames: &[Frame], since_1970: Duration) {
+    let count = frames.len() as u64;
+    figures.heard.take(place as usize, count, since_1970);
+    for frame in frames {
+        figures.take(kind_of_frame(frame));
+        if let Some(step) = step_of_frame(frame) {
+            figures.step(step, 1);
+        }
+    }
+}
+
+/// Counts frames that are handed to the link of a peer.
+pub(crate) fn count_handed(figures: &mut Figures, place: Place, frames: &[Frame]) {
+    figures.heard.hand_on(place as usize, frames.len() as u64);
+    for frame in frames {
+        figures.send(kind_of_frame(frame));
+    }
+}
+
 impl<R: Host> Upkeep<'_, R> {
-    /// Counts the frames of a peer.
-    pub fn count_frames(&mut self, place: Place, frames: &[Frame]) {
-        let count = frames.len() as u64;
-        self.figures
-            .heard
-            .take(place as usize, count, since_1970(self.rt));
-        for frame in frames {
-            self.figures.take(kind_of_frame(frame));
-            if let Some(step) = step_of_frame(frame) {
-                self.figures.step(step, 1);
-            }
-        }
-    }
-
-    /// Counts frames that are handed to the link of a peer.
-    pub(crate) fn count_handed(&mut self, place: Place, frames: &[Frame]) {
-        self.figures
-            .heard
-            .hand_on(place as usize, frames.len() as u64);
-        for frame in frames {
-            self.figures.send(kind_of_frame(frame));
-        }
-    }
-
-    /// Counts that what waited for a peer is lost.
-    pub fn count_lost(&mut self, peer: usize, fault: LinkFault) {
-        self.figures.heard.lose(peer, cause_of(fault));
-    }
-
     /// Counts a save that was made now, or failed.
     pub(crate) fn count_save(&mut self, of_silences: bool, is_done: bool) {
         if is_done {

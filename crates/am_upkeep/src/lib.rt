@@ -5,6 +5,7 @@
 mod compaction;
 mod counting;
 mod host;
+mod keeper;
 mod keeping;
 mod loading;
 mod logging;
@@ -13,8 +14,9 @@ mod saving;
 mod sending;
 mod upkeep;
 
-pub use counting::since_1970;
+pub use counting::{cause_of, count_frames};
 pub use host::Host;
+pub use keeper::Keeper;
 pub use keeping::{DISK, Keeping};
 pub use loading::{config_of, secret_of};
 pub use room::Room;

@@ -7,7 +7,7 @@ use crate::host::Host;
 use crate::upkeep::Upkeep;
 use am_faults::Fault;
 use am_gossip::{Frame, Part, StateKey};
-use am_instance::{Config, Instance, Place};
+use am_instance::{Config, Place};
 use am_peers::{Parted, split_by_peer};
 
 impl<R: Host> Upkeep<'_, R> {
@@ -53,26 +53,10 @@ impl<R: Host> Upkeep<'_, R> {
     }
 
     /// Tells why the logs lack something, where they do.
-    fn tell_behind(&mut self, config: &Config, fault: Option<Fault>) {
+    pub(crate) fn tell_behind(&mut self, config: &Config, fault: Option<Fault>) {
         if let Some(fault) = fault {
             self.keeping.lose();
             self.tell(config, fault);
         }
-    }
-
-    /// Makes sure of what was done so far: it is in the logs, or, where they lack something, in the files.
-    pub fn keep(&mut self, instance: &Instance) {
-        self.keeping.begin_commit();
-        let alloc = self.rt.alloc();
-        let silences = self.silences.commit(alloc).err().map(Fault::Silences);
-        self.tell_behind(instance.config(), silences);
-        let log = self.log.commit(alloc).err().map(Fault::Log);
-        self.tell_behind(instance.config(), log);
-        self.keeping.begin_commit();
-        if self.keeping.is_behind() {
-            self.save_behind(instance);
-        }
-        self.keeping.end_commit();
-        self.want_outgrown();
     }
 }

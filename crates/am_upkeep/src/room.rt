@@ -1,8 +1,5 @@
 //! How much room is left for silences.
 
-use crate::host::Host;
-use crate::upkeep::Upkeep;
-use am_instance::Instance;
 use am_merge::Held;
 use am_snapshot::row_length_within;
 use am_version_order::Version;
@@ -71,22 +68,5 @@ impl Room {
         }
         self.next_count = now.checked_add(Duration::from_millis(COUNT_EVERY));
         true
-    }
-}
-
-impl<R: Host> Upkeep<'_, R> {
-    /// Whether there is room for so many bytes of a post. Where it doesn't look so, the silences are counted anew, once a
-    /// second.
-    pub fn has_room(&mut self, instance: &Instance, post: u64) -> bool {
-        let silences = instance.silences();
-        if self.room.holds(post, silences.len()) {
-            return true;
-        }
-        if let Ok(now) = Instant::now(self.rt)
-            && self.room.is_count_due(now)
-        {
-            self.room.count(silences);
-        }
-        self.room.holds(post, silences.len())
     }
 }

@@ -1,20 +1,13 @@
 //! The saves of both states while everybody waits, and when they are made.
 
-ghost use Rattle.std.specs.Prelude.{ℕ, Result};
-ghost use Rattle.am_instance.specs.OneStep.{IsStep};
-ghost use Rattle.am_instance.specs.declared.event.Event.TheVariants as events;
-ghost use Rattle.am_instance.specs.declared.reply.Outcome.{Outcome};
-ghost use Rattle.am_refusals.specs.declared.error.StepError.{StepError};
-
 use crate::host::Host;
 use crate::upkeep::Upkeep;
 use am_faults::Fault;
-use am_figures::Step;
-use am_instance::{Event, Instance};
+use am_instance::Instance;
 use std::time::Instant;
 
 /// The first of two faults, where there is one.
-fn first_of(one: Option<Fault>, other: Option<Fault>) -> Option<Fault> {
+pub(crate) fn first_of(one: Option<Fault>, other: Option<Fault>) -> Option<Fault> {
     match one {
         Some(fault) => Some(fault),
         None => other,
@@ -22,14 +15,6 @@ fn first_of(one: Option<Fault>, other: Option<Fault>) -> Option<Fault> {
 }
 
 impl<R: Host> Upkeep<'_, R> {
-    /// Saves both states, now that nobody is served any more, be it since the listener failed. Answers the fault with which it
-    /// ends: that of the listener, or else why a state isn't saved, which is told.
-    pub fn end(&mut self, instance: &Instance, failed: Option<Fault>) -> Option<Fault> {
-        let unsaved = self.save(instance);
-        self.settle_lines(instance.config());
-        first_of(failed, unsaved)
-    }
-
     /// Saves the silences, and then the log, while everybody waits. Answers the first fault; each is told.
     pub(crate) fn save(&mut self, instance: &Instance) -> Option<Fault> {
         self.give_up_compaction();
@@ -73,26 +58,8 @@ impl<R: Host> Upkeep<'_, R> {
         }
     }
 
-    /// Drops what has expired, and saves both states.
-    pub fn tick(&mut self, instance: &mut Instance)
-        ensures { (now : ℕ) × (answer : Result Outcome StepError) × IsStep instance.old events.Tick now answer instance.new }
-    {
-        if self.step(instance, Event::Tick) {
-            self.figures.step(Step::Tick, 1);
-            self.save_in_turn(instance);
-        }
-    }
-
-    /// Saves both states at the start, where a log stands that is to go. Without logs that is before anything comes: what ended a
-    /// version that such a log has would be in no log, and could have gone before the log does.
-    pub fn save_owed(&mut self, instance: &Instance) {
-        if self.is_changed {
-            self.save_in_turn(instance);
-        }
-    }
-
     /// Saves both states: at once, or where logs are kept, behind the duties and while it serves.
-    pub fn save_in_turn(&mut self, instance: &Instance) {
+    pub(crate) fn save_in_turn(&mut self, instance: &Instance) {
         if self.keeping.is_on() {
             self.want_both();
         } else {

@@ -6,8 +6,7 @@ use am_faults::Fault;
 use am_gossip::Frame;
 use am_instance::{Config, Place};
 use am_jobs::Options;
-use am_peers::{Parted, frames_text, split_by_peer};
-use am_reactor::PeerBytes;
+use am_peers::frames_text;
 use am_seal::{Lock, Secret, sealed_text};
 
 /// What members of a cluster know one another by: the secret, where they have one, and the name of this one.
@@ -23,7 +22,12 @@ pub fn lock_of<'a>(options: &Options<'a>, secret: &'a Option<Secret>) -> Option<
 
 impl<R: Host> Upkeep<'_, R> {
     /// The bytes of frames for a peer, sealed where members have a secret. Where there is no memory for them there are none.
-    fn bytes_for(&self, config: &Config, peer: Place, frames: &[Frame]) -> Option<Vec<u8>> {
+    pub(crate) fn bytes_for(
+        &self,
+        config: &Config,
+        peer: Place,
+        frames: &[Frame],
+    ) -> Option<Vec<u8>> {
         let alloc = self.rt.alloc();
         let Some(lock) = self.lock else {
             return frames_text(alloc, frames).ok();
@@ -37,52 +41,6 @@ impl<R: Host> Upkeep<'_, R> {
         let mut frames = self.log_frames(config, frames);
         if self.queue.append(&mut frames).is_err() {
             self.tell(config, Fault::UnsentMemory(frames.len()));
-        }
-    }
-
-    /// Whether no frame waits.
-    pub fn sends_nothing(&self) -> bool {
-        self.queue.is_empty()
-    }
-
-    /// The frames that wait for the peer of the first of them, and its place.
-    pub fn next_frames(&mut self, config: &Config) -> Option<(Place, Vec<Frame>)> {
-        let place = self.queue.first()?.0;
-        let alloc = self.rt.alloc();
-        let frames = std::mem::replace(&mut self.queue, Vec::new(alloc));
-        let count = frames.len();
-        let Ok(Parted { own, others }) = split_by_peer(alloc, place, frames) else {
-            self.tell(config, Fault::UnsentMemory(count));
-            return None;
-        };
-        self.queue = others;
-        Some((place, own))
-    }
-
-    /// Frames for a peer, as they go out.
-    pub fn outgoing_of(
-        &mut self,
-        config: &Config,
-        place: Place,
-        frames: &[Frame],
-    ) -> Option<PeerBytes> {
-        let bytes = self.text_of(config, place, frames)?;
-        let peer = place as usize;
-        Some(PeerBytes { peer, bytes })
-    }
-
-    /// The text of frames for a peer. Where there is none, they are told unsent.
-    pub fn text_of(&mut self, config: &Config, peer: Place, frames: &[Frame]) -> Option<Vec<u8>> {
-        match self.bytes_for(config, peer, frames) {
-            Some(bytes) => {
-                self.count_handed(peer, frames);
-                Some(bytes)
-            }
-            None => {
-                self.figures.unsent(frames.len(), 0);
-                self.tell_of(config, Some(peer), Fault::UnsentMemory(frames.len()));
-                None
-            }
         }
     }
 }

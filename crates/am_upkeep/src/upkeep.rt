@@ -18,34 +18,33 @@ use am_jobs::Options;
 use am_lines::{Lines, Told, Watch};
 use am_peers::{Fault as ConnectionFault, next_moment};
 use am_seal::Lock;
-use std::rt::Clock;
-use std::time::{Duration, Instant};
+use std::time::Duration;
 
 /// The files of what a member holds, and what it prints and counts.
 pub struct Upkeep<'a, R> {
-    pub rt: &'a R,
-    pub options: &'a Options<'a>,
+    pub(crate) rt: &'a R,
+    pub(crate) options: &'a Options<'a>,
     /// What members know one another by, where they have a secret.
-    pub lock: Option<Lock<'a>>,
+    pub(crate) lock: Option<Lock<'a>>,
     /// The file of the silences.
     pub(crate) silences: StateFile,
     /// The file of the notification log.
     pub(crate) log: StateFile,
     /// How much room is left for silences.
-    pub room: Room,
+    pub(crate) room: Room,
     /// What is to be in the logs, where they are kept.
-    pub keeping: Keeping,
+    pub(crate) keeping: Keeping,
     /// Which files are written anew while it serves.
     pub(crate) compacting: Compacting,
     /// The frames that wait to be handed out, each with the place of its peer.
     pub(crate) queue: Vec<(Place, Frame)>,
     /// The faults that it printed.
-    pub lines: Lines,
+    pub(crate) lines: Lines,
     pub(crate) watch: Watch,
     /// What it counts.
-    pub figures: Figures,
+    pub(crate) figures: Figures,
     /// Something may have changed since the last save, or since one was begun.
-    pub is_changed: bool,
+    pub(crate) is_changed: bool,
 }
 
 // (so that crates above cite one drop, and don't prove those of all that is inside)
@@ -90,36 +89,14 @@ pub fn place_of(config: &Config, name: Option<&str>) -> Option<Place> {
 
 impl<R: Host> Upkeep<'_, R> {
     /// Prints a fault.
-    pub fn tell(&mut self, config: &Config, fault: Fault) {
-        self.tell_of(config, None, fault);
-    }
-
-    /// Prints a fault that is about a peer, if its place is known.
-    pub fn tell_of(&mut self, config: &Config, peer: Option<Place>, fault: Fault) {
-        let members = config.members();
-        self.lines.tell(self.rt, members, Told { fault, peer });
+    pub(crate) fn tell(&mut self, config: &Config, fault: Fault) {
+        let told = Told { fault, peer: None };
+        self.lines.tell(self.rt, config.members(), told);
     }
 
     /// Prints how many lines were left out of each kind.
-    pub fn settle_lines(&mut self, config: &Config) {
+    pub(crate) fn settle_lines(&mut self, config: &Config) {
         self.lines.settle_all(self.rt, config.members());
-    }
-
-    /// Prints how many lines were left out of each kind for which that is due.
-    pub fn settle_due_lines(&mut self, config: &Config, now: Instant) {
-        self.lines.settle(self.rt, config.members(), now);
-    }
-
-    /// Prints how many bytes were cut off from the logs, where some were.
-    pub fn tell_torn(&mut self, config: &Config) {
-        let silences = self.silences.torn();
-        if silences > 0 {
-            self.tell(config, Fault::SilencesTorn(silences));
-        }
-        let log = self.log.torn();
-        if log > 0 {
-            self.tell(config, Fault::LogTorn(log));
-        }
     }
 
     /// Prints how many frames are not sent.
@@ -132,22 +109,8 @@ impl<R: Host> Upkeep<'_, R> {
         }
     }
 
-    /// What follows the steps of a connection, perhaps of a peer, and why no more is heard of it.
-    pub fn follow(
-        &mut self,
-        config: &Config,
-        peer: Option<Place>,
-        outbox: FrameSender,
-        fault: Option<ConnectionFault>,
-    ) {
-        if let Some(fault) = fault {
-            self.tell_of(config, peer, Fault::Connection(fault));
-        }
-        self.follow_step(config, outbox);
-    }
-
     /// What follows steps: their frames go out.
-    pub fn follow_step(&mut self, config: &Config, outbox: FrameSender) {
+    pub(crate) fn follow_step(&mut self, config: &Config, outbox: FrameSender) {
         let FrameSender { frames, unsent } = outbox;
         if unsent.memory > 0 || unsent.limit > 0 {
             self.keeping.lose();
@@ -175,16 +138,6 @@ impl<R: Host> Upkeep<'_, R> {
                 );
                 false
             }
-        }
-    }
-
-    /// Tells where the clock is behind the moment of the last event, and where it is no more.
-    pub fn look_at_clock(&mut self, instance: &Instance, now: Instant) {
-        let Ok(since_1970) = self.rt.since_1970() else {
-            return;
-        };
-        if let Some(fault) = self.watch.look(since_1970, instance.last(), now) {
-            self.tell(instance.config(), fault);
         }
     }
 }

@@ -3,13 +3,12 @@
 ghost use Rattle.std.specs.Prelude.{◌≡◌};
 ghost use Rattle.am_dialogue.specs.Talks.{talk_of};
 
-use super::clerk::Clerk;
 use am_dialogue::{Account, Conversation, request_of};
-use am_figures::{Failing, MUTED, Request, Step, decision_word};
+use am_figures::{Failing, Figures, MUTED, Request, Step, decision_word};
 use am_http::session::SessionOutput;
 use am_instance::Config;
 use am_reactor::Failure;
-use am_upkeep::{Host, place_of};
+use am_upkeep::{Keeper, count_frames, place_of};
 use std::time::Instant;
 
 /// What a failure of a connection is counted as.
@@ -43,63 +42,59 @@ fn decision_in(reply: &[u8]) -> Option<usize> {
     decision_word(word)
 }
 
-impl<R: Host> Clerk<'_, R> {
-    /// Counts what was said, by who greeted with this name.
-    pub(super) fn count_said(
-        &mut self,
-        config: &Config,
-        account: &mut Account,
-        name: Option<&str>,
-        said: &SessionOutput,
-    ) {
-        if let Some(request) = request_of(said) {
-            account.ask(request, Instant::now(self.upkeep.rt).ok());
-        }
-        if let Some(place) = place_of(config, name) {
-            self.upkeep.count_frames(place, &said.frames);
-        }
+/// Counts what was said, by who greeted with this name.
+pub fn count_said<U: Keeper>(
+    upkeep: &mut U,
+    config: &Config,
+    account: &mut Account,
+    name: Option<&str>,
+    said: &SessionOutput,
+) {
+    if let Some(request) = request_of(said) {
+        account.ask(request, upkeep.now());
     }
-
-    /// Counts a connection that failed.
-    pub(super) fn count_broken(&mut self, account: &mut Account, why: Failure) {
-        self.upkeep.figures.fail(failing_of(why));
-        if account.close() {
-            self.upkeep.figures.end();
-        }
+    if let Some(place) = place_of(config, name) {
+        let now = upkeep.since_1970();
+        count_frames(upkeep.figures(), place, &said.frames, now);
     }
+}
 
-    /// Counts a connection that is done, and what it was answered.
-    pub(super) fn count_where_done(&mut self, dialogue: &mut Conversation)
-        ensures { talk_of dialogue.new ≡ talk_of dialogue.old }
+/// Counts a connection that failed.
+pub fn count_broken(figures: &mut Figures, account: &mut Account, why: Failure) {
+    figures.fail(failing_of(why));
+    if account.close() {
+        figures.end();
+    }
+}
+
+/// Counts a connection that is done, and what it was answered.
+pub fn count_where_done<U: Keeper>(upkeep: &mut U, dialogue: &mut Conversation)
+    ensures { talk_of dialogue.new ≡ talk_of dialogue.old }
+{
+    if dialogue.is_done() && dialogue.account.close() {
+        let now = upkeep.now();
+        count_end(upkeep.figures(), &dialogue.account, dialogue.status(), now);
+    }
+}
+
+/// Counts the end of a connection now, and what it was answered.
+fn count_end(figures: &mut Figures, account: &Account, status: &[u8], now: Option<Instant>) {
+    figures.end();
+    let Some((request, time)) = account.answered(now) else {
+        return;
+    };
+    figures.answer(request, status, time);
+    if let Some(step) = step_of(request)
+        && status == b"200".as_slice()
     {
-        if dialogue.is_done() && dialogue.account.close() {
-            self.count_end(dialogue);
-        }
+        figures.step(step, 1);
     }
+}
 
-    /// Counts the end of a connection, and what it was answered.
-    fn count_end(&mut self, dialogue: &Conversation) {
-        self.upkeep.figures.end();
-        let now = Instant::now(self.upkeep.rt).ok();
-        let Some((request, time)) = dialogue.account.answered(now) else {
-            return;
-        };
-        let status = dialogue.status();
-        self.upkeep.figures.answer(request, status, time);
-        if let Some(step) = step_of(request)
-            && status == b"200".as_slice()
-        {
-            self.upkeep.figures.step(step, 1);
-        }
-    }
-
-    /// Counts what a reply decides, and the step that decided it.
-    pub(super) fn count_decision(&mut self, reply: &[u8]) {
-        if let Some(place) = decision_in(reply) {
-            self.upkeep.figures.decisions.add(place, 1);
-            self.upkeep
-                .figures
-                .step(Step::Decide, u64::from(place != MUTED));
-        }
+/// Counts what a reply decides, and the step that decided it.
+pub fn count_decision(figures: &mut Figures, reply: &[u8]) {
+    if let Some(place) = decision_in(reply) {
+        figures.decisions.add(place, 1);
+        figures.step(Step::Decide, u64::from(place != MUTED));
     }
 }

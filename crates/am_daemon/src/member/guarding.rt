@@ -4,7 +4,8 @@ ghost use Rattle.am_http.specs.Sessions.{spoken};
 ghost use Rattle.am_dialogue.specs.Answered.{IsAnswered};
 ghost use Rattle.am_dialogue.specs.Talks.{talk_of};
 
-use super::clerk::Clerk;
+use super::counting::count_where_done;
+use super::desk::Desk;
 use am_dialogue::Conversation;
 use am_faults::Fault;
 use am_gate::{Heard, Hears};
@@ -14,7 +15,7 @@ use am_jobs::Options;
 use am_peers::{greeting, is_loopback};
 use am_reactor::Entrance;
 use am_seal::SEALED;
-use am_upkeep::{Host, place_of};
+use am_upkeep::{Keeper, place_of};
 use std::alloc::{AllocError, Global};
 
 /// What is heard of those who come by an entrance: frames without a secret only where none but this machine reaches it, or where
@@ -62,9 +63,9 @@ pub fn opening(alloc: Global, name: &str, is_sealed: bool) -> Result<Vec<u8>, Fr
     Ok(sealed)
 }
 
-impl<R: Host> Clerk<'_, R> {
-    /// Answers what was heard at the gate of a connection, and tells why no more is.
-    pub fn hear_at_gate(
+impl<U: Keeper> Desk<'_, U> {
+    /// Answers what was heard at the gate of a connection, tells why no more is, and counts the connection where it is done.
+    pub(super) fn hear_at_gate(
         &mut self,
         instance: &mut Instance,
         dialogue: &mut Conversation,
@@ -79,5 +80,6 @@ impl<R: Host> Clerk<'_, R> {
             let peer = place_of(config, dialogue.session.name());
             self.upkeep.tell_of(config, peer, Fault::Gate(fault));
         }
+        count_where_done(&mut self.upkeep, dialogue);
     }
 }

@@ -6,7 +6,9 @@ ghost use Rattle.am_dialogue.specs.Answered.{IsAnswered, IsTaken, SaysBy};
 ghost use Rattle.am_dialogue.specs.Talks.{Closes, IsClosed, KeepsBy, Stays, talk_of};
 ghost use Rattle.am_member.specs.Exchanging.{WhenFinished, IsSessionAnswer, left_at};
 
-use super::clerk::Clerk;
+use super::counting::count_said;
+use super::desk::{Desk, random_bits};
+use super::links::hand_all;
 use am_api_silences::PendingReply;
 use am_dialogue::{Conversation, asked_of_itself, bytes_said, ends_pull, is_nothing, may_change};
 use am_faults::Fault;
@@ -15,9 +17,8 @@ use am_http::Refusal;
 use am_http::session::{Session, SessionOutput};
 use am_instance::{Config, Instance};
 use am_member::{SessionAnswer, Spared, apply_session_output, spare};
-use am_peers::{Fault as ConnectionFault, next_moment};
-use am_upkeep::{Host, place_of};
-use std::time::Instant;
+use am_peers::Fault as ConnectionFault;
+use am_upkeep::{Keeper, place_of};
 
 /// What the frames of a peer asked for beside what they bring.
 #[derive(Clone, Copy)]
@@ -30,7 +31,7 @@ struct Asked {
     ticks: bool,
 }
 
-impl<R: Host> Clerk<'_, R> {
+impl<U: Keeper> Desk<'_, U> {
     /// Answers what was said, or keeps it until it may be answered.
     pub(super) fn hear(
         &mut self,
@@ -41,7 +42,8 @@ impl<R: Host> Clerk<'_, R> {
         ensures { IsAnswered (spoken said) instance.old (talk_of dialogue.old) instance.new (talk_of dialogue.new) }
     {
         let name = dialogue.session.name();
-        self.count_said(instance.config(), &mut dialogue.account, name, &said);
+        let config = instance.config();
+        count_said(&mut self.upkeep, config, &mut dialogue.account, name, &said);
         if let Some(resource) = asked_of_itself(&said) {
             return self.tell_itself(instance, dialogue, said, resource);
         }
@@ -54,10 +56,8 @@ impl<R: Host> Clerk<'_, R> {
     pub(super) fn refuse(&self, dialogue: &mut Conversation, refusal: &Refusal)
         ensures { IsClosed (talk_of dialogue.old) (talk_of dialogue.new) }
     {
-        dialogue
-            .account
-            .ask(Request::Other, Instant::now(self.upkeep.rt).ok());
-        dialogue.refuse(self.upkeep.rt.alloc(), refusal);
+        dialogue.account.ask(Request::Other, self.upkeep.now());
+        dialogue.refuse(self.alloc, refusal);
     }
 
     /// Answers what was said.
@@ -91,7 +91,7 @@ impl<R: Host> Clerk<'_, R> {
         if is_inner {
             dialogue.session.stop();
             let fault = Fault::Connection(ConnectionFault::UnknownName);
-            self.upkeep.tell(config, fault);
+            self.upkeep.tell_of(config, None, fault);
         }
         is_inner
     }
@@ -100,8 +100,7 @@ impl<R: Host> Clerk<'_, R> {
     fn take_in(&mut self, instance: &mut Instance, dialogue: &mut Conversation, said: SessionOutput)
         ensures { IsTaken (spoken said) instance.old (talk_of dialogue.old) instance.new (talk_of dialogue.new) }
     {
-        self.upkeep.room.add(bytes_said(&said));
-        self.upkeep.is_changed |= may_change(&said);
+        self.upkeep.take(bytes_said(&said), may_change(&said));
         let pulled = ends_pull(&said);
         let Spared { said, asks, ticks } = spare(said);
         let exchanged = self.make_steps(instance, &mut dialogue.session, said);
@@ -125,9 +124,9 @@ impl<R: Host> Clerk<'_, R> {
         ensures exchanged { (bits : ℕ) × (now : ℕ) × WhenFinished (IsSessionAnswer (name_of session.old) bits now (spoken said) instance.old instance.new) result }
         ensures session { session.new ≡ left_at result.fault session.old }
     {
-        let bits = self.random_bits();
-        let now = next_moment(self.upkeep.rt, instance.last());
-        apply_session_output(self.upkeep.rt.alloc(), instance, session, said, bits, now)
+        let bits = random_bits(&mut self.random);
+        let now = self.upkeep.next_moment(instance.last());
+        apply_session_output(self.alloc, instance, session, said, bits, now)
     }
 
     /// Has go out what comes of steps.
@@ -140,7 +139,7 @@ impl<R: Host> Clerk<'_, R> {
             effects,
             fault,
         } = exchanged;
-        let news = self.upkeep.keeping.news();
+        let news = self.upkeep.keeping().news();
         let peer = place_of(config, dialogue.session.name());
         self.upkeep.follow(config, peer, effects.outbox, fault);
         if let Some(making) = reply {
@@ -154,9 +153,10 @@ impl<R: Host> Clerk<'_, R> {
         ensures stays { Stays (talk_of dialogue.old) (talk_of dialogue.new) }
         ensures says { KeepsBy making (talk_of dialogue.old).saying (talk_of dialogue.new).saying }
     {
-        dialogue.reply_with(self.upkeep.rt.alloc(), Some(making));
-        if self.upkeep.keeping.has_news() {
-            dialogue.hold_back(self.upkeep.keeping.news() != news);
+        dialogue.reply_with(self.alloc, Some(making));
+        let keeping = self.upkeep.keeping();
+        if keeping.has_news() {
+            dialogue.hold_back(keeping.news() != news);
         }
     }
 
@@ -210,7 +210,7 @@ impl<R: Host> Clerk<'_, R> {
         let Some(place) = place_of(config, name) else {
             return;
         };
-        self.hand_all(place as usize, false);
+        hand_all(&mut self.shares, place as usize, false);
     }
 
     /// Whether each peer has pushed all that it has, now that the one of this name did.
@@ -227,12 +227,5 @@ impl<R: Host> Clerk<'_, R> {
             self.awaited.swap_remove(at);
         }
         self.awaited.is_empty()
-    }
-
-    /// What all peers have is here.
-    pub(super) fn end_first_pull(&mut self) {
-        if let Ok(now) = Instant::now(self.upkeep.rt) {
-            self.duties.end_first_pull(now);
-        }
     }
 }

@@ -5,14 +5,14 @@ ghost use Rattle.am_http.specs.Sessions.{spoken};
 ghost use Rattle.am_dialogue.specs.Answered.{IsAnswered};
 ghost use Rattle.am_dialogue.specs.Talks.{IsClosed, IsRequest, talk_of};
 
-use super::clerk::Clerk;
+use super::desk::Desk;
 use am_api_silences::{Read, Refusal};
 use am_dialogue::{Conversation, is_call, post_bytes};
 use am_http::Cause;
 use am_http::session::SessionOutput;
 use am_instance::Instance;
 use am_member::{Judged, Judging};
-use am_upkeep::Host;
+use am_upkeep::Keeper;
 use std::alloc::{AllocError, Global};
 
 /// The patterns of what was said, where it has such.
@@ -39,7 +39,7 @@ fn is_judged(judging: &mut Judging) -> Result<bool, Refusal> {
     }
 }
 
-impl<R: Host> Clerk<'_, R> {
+impl<U: Keeper> Desk<'_, U> {
     /// Answers what was said, or keeps it until its patterns are compiled.
     pub(super) fn judge(
         &mut self,
@@ -68,10 +68,7 @@ impl<R: Host> Clerk<'_, R> {
     {
         match post_bytes(said) {
             Some(bytes) if !self.upkeep.has_room(instance, bytes) => {
-                dialogue.refuse(
-                    self.upkeep.rt.alloc(),
-                    &Refusal::new(500, "state too large"),
-                );
+                dialogue.refuse(self.alloc, &Refusal::new(500, "state too large"));
                 true
             }
             _ => false,
@@ -87,7 +84,7 @@ impl<R: Host> Clerk<'_, R> {
     )
         ensures { IsAnswered (spoken said) instance.old (talk_of dialogue.old) instance.new (talk_of dialogue.new) }
     {
-        let alloc = self.upkeep.rt.alloc();
+        let alloc = self.alloc;
         match judging_of(alloc, &said) {
             Ok(Some(judging)) => dialogue.judge_later(said, judging),
             Ok(None) => self.answer(instance, dialogue, said),
@@ -109,7 +106,7 @@ impl<R: Host> Clerk<'_, R> {
         match is_judged(&mut judging) {
             Ok(true) => self.answer_by(instance, dialogue, said, judging),
             Ok(false) => dialogue.judge_later(said, judging),
-            Err(refusal) => dialogue.refuse(self.upkeep.rt.alloc(), &refusal),
+            Err(refusal) => dialogue.refuse(self.alloc, &refusal),
         }
     }
 

@@ -5,14 +5,15 @@ ghost use Rattle.am_dialogue.specs.Answered.{ByItself, IsAnswered};
 ghost use Rattle.am_dialogue.specs.Talks.{KeepsGone, Lasts, Rests, talk_of};
 ghost use Rattle.am_living.specs.Talking.{IsTakenUp};
 
-use super::clerk::Clerk;
+use super::desk::Desk;
+use super::telling::tell;
 use am_dialogue::{CallProgress, Conversation, Work};
 use am_http::session::SessionOutput;
 use am_instance::Instance;
-use am_upkeep::Host;
+use am_upkeep::Keeper;
 use std::mem;
 
-impl<R: Host> Clerk<'_, R> {
+impl<U: Keeper> Desk<'_, U> {
     /// Goes on with what is still to be done for a connection. What waits for its turn goes on waiting.
     pub(super) fn go_on(&mut self, instance: &mut Instance, dialogue: &mut Conversation)
         ensures { IsTakenUp (talk_of dialogue.old).waiting instance.old (talk_of dialogue.old) instance.new (talk_of dialogue.new) }
@@ -20,7 +21,7 @@ impl<R: Host> Clerk<'_, R> {
         match mem::replace(&mut dialogue.work, Work::Nothing) {
             Work::Request(said) => self.answer_late(instance, dialogue, said),
             Work::Judging(said, judging) => self.go_on_judging(instance, dialogue, said, judging),
-            Work::PendingReply(making) => dialogue.go_on(self.upkeep.rt.alloc(), making),
+            Work::PendingReply(making) => dialogue.go_on(self.alloc, making),
             Work::Call(call) => self.go_on_call(instance, dialogue, call),
             other => dialogue.work = other,
         }
@@ -39,10 +40,19 @@ impl<R: Host> Clerk<'_, R> {
     {
         match call {
             CallProgress::Turn(turn) => dialogue.put_off(CallProgress::Turn(turn)),
-            CallProgress::Due(turn) => self.answer_turn(instance, dialogue, &turn),
-            CallProgress::Deciding(deciding) => self.go_on_deciding(instance, dialogue, deciding),
-            CallProgress::Log(writing) => dialogue.go_on_log(self.upkeep.rt.alloc(), writing),
-            CallProgress::Counting(census) => self.go_on_counting(instance, dialogue, census),
+            CallProgress::Due(turn) => {
+                let called = self.answer_turn(instance, &turn);
+                self.follow_call(dialogue, called);
+            }
+            CallProgress::Deciding(deciding) => {
+                let called = self.go_on_deciding(instance, deciding);
+                self.follow_call(dialogue, called);
+            }
+            CallProgress::Log(writing) => dialogue.go_on_log(self.alloc, writing),
+            CallProgress::Counting(census) => {
+                let told = self.go_on_counting(instance, census);
+                tell(self.alloc, dialogue, told);
+            }
         }
     }
 
@@ -56,7 +66,7 @@ impl<R: Host> Clerk<'_, R> {
         ensures { IsAnswered (spoken said) instance.old (talk_of dialogue.old) instance.new (talk_of dialogue.new) }
     {
         if self.turns_away {
-            dialogue.refuse_unready(self.upkeep.rt.alloc(), Some(said));
+            dialogue.refuse_unready(self.alloc, Some(said));
         } else {
             self.judge(instance, dialogue, said);
         }
@@ -68,7 +78,10 @@ impl<R: Host> Clerk<'_, R> {
         ensures lasts { Lasts (talk_of dialogue.old) (talk_of dialogue.new) }
     {
         match mem::replace(&mut dialogue.work, Work::Nothing) {
-            Work::Call(CallProgress::Turn(turn)) => self.take_turn(instance, dialogue, turn),
+            Work::Call(CallProgress::Turn(turn)) => {
+                let called = self.take_turn(instance, turn);
+                self.follow_call(dialogue, called);
+            }
             other => dialogue.work = other,
         }
     }

@@ -3,7 +3,10 @@
 ghost use Rattle.std.specs.Prelude.{◌≡◌, false};
 
 use super::clerk::Clerk;
+use super::counting::{count_broken, count_where_done};
+use super::desk::Desk;
 use super::guarding::hears_at;
+use super::links::{address_of, next_part, open_link};
 use am_attendant::Attendant;
 use am_dialogue::Conversation;
 use am_faults::Fault;
@@ -11,7 +14,7 @@ use am_instance::{Config, Instance, Place};
 use am_peers::Fault as ConnectionFault;
 use am_reactor::{Broken, Entrance, Failure, LinkFault, PeerBytes, Wake};
 use am_seal::Lock;
-use am_upkeep::{Host, place_of, sooner};
+use am_upkeep::{Keeper, place_of, sooner};
 use std::io::ErrorKind;
 use std::time::Instant;
 
@@ -30,16 +33,14 @@ fn fault_of(broken: Broken, is_over: bool) -> Fault {
     }
 }
 
-impl<R: Host> Attendant for Clerk<'_, R> {
+impl<U: Keeper> Attendant for Clerk<'_, U> {
     // (of the bytes this says nothing: only that all was committed that came before them)
-    ghost offers = { λ clerk peer bytes clerk'. clerk.upkeep.keeping.has_news ≡ false };
+    ghost offers = { λ clerk peer bytes clerk'. (U.keeping_of clerk.desk.upkeep).has_news ≡ false };
 
     fn begin(&mut self, entrance: Entrance) -> Conversation {
-        self.upkeep.figures.begin();
-        Conversation::new(
-            self.upkeep.rt.alloc(),
-            hears_at(self.upkeep.options, entrance),
-        )
+        self.desk.upkeep.figures().begin();
+        let hears = hears_at(self.desk.upkeep.options(), entrance);
+        Conversation::new(self.desk.alloc, hears)
     }
 
     fn feed(
@@ -49,68 +50,71 @@ impl<R: Host> Attendant for Clerk<'_, R> {
         lock: Option<Lock<'_>>,
         piece: &[u8],
     ) {
-        if let Some(refusal) = dialogue.screen(piece, self.hosts.as_slice()) {
-            return self.refuse(dialogue, &refusal);
+        if let Some(refusal) = dialogue.screen(piece, self.desk.hosts.as_slice()) {
+            return self.desk.refuse(dialogue, &refusal);
         }
         let heard = dialogue.gate.feed(&mut dialogue.session, lock, piece);
-        self.hear_at_gate(instance, dialogue, heard);
-        self.count_where_done(dialogue);
+        self.desk.hear_at_gate(instance, dialogue, heard);
     }
 
     fn end(&mut self, instance: &mut Instance, dialogue: &mut Conversation) {
         let heard = dialogue.gate.end(&mut dialogue.session);
-        self.hear_at_gate(instance, dialogue, heard);
-        self.count_where_done(dialogue);
+        self.desk.hear_at_gate(instance, dialogue, heard);
     }
 
     fn broken(&mut self, config: &Config, dialogue: &mut Conversation, broken: Broken) {
         if dialogue.due().is_some() {
-            self.turns.end();
+            self.desk.turns.end();
         }
-        self.count_broken(&mut dialogue.account, broken.why);
+        count_broken(
+            self.desk.upkeep.figures(),
+            &mut dialogue.account,
+            broken.why,
+        );
         let peer = place_of(config, dialogue.session.name());
         let fault = fault_of(broken, dialogue.session.is_over());
-        self.upkeep.tell_of(config, peer, fault);
+        self.desk.upkeep.tell_of(config, peer, fault);
     }
 
     fn may_resume(&self) -> bool {
-        !self.duties.waits_for_pull()
+        !self.desk.duties.waits_for_pull()
     }
 
     fn resume(&mut self, instance: &mut Instance, dialogue: &mut Conversation) {
-        self.go_on(instance, dialogue);
+        self.desk.go_on(instance, dialogue);
     }
 
     fn has_uncommitted(&self) -> bool {
-        self.upkeep.keeping.has_news()
+        self.desk.upkeep.keeping().has_news()
     }
 
     fn commit(&mut self, instance: &Instance) {
-        self.upkeep.keep(instance);
+        self.desk.upkeep.keep(instance);
     }
 
     fn release(&mut self, dialogue: &mut Conversation) {
-        dialogue.release(self.upkeep.rt.alloc(), self.upkeep.keeping.is_kept());
+        let is_kept = self.desk.upkeep.keeping().is_kept();
+        dialogue.release(self.desk.alloc, is_kept);
     }
 
     fn come_due(&mut self, instance: &mut Instance, dialogue: &mut Conversation) {
-        self.go_on_in_turn(instance, dialogue);
+        self.desk.go_on_in_turn(instance, dialogue);
     }
 
     fn hurry(&mut self, dialogue: &mut Conversation) {
         let said = dialogue.take_waiting();
-        dialogue.refuse_unready(self.upkeep.rt.alloc(), said);
+        dialogue.refuse_unready(self.desk.alloc, said);
     }
 
     fn count_done(&mut self, dialogue: &mut Conversation) {
-        self.count_where_done(dialogue);
+        count_where_done(&mut self.desk.upkeep, dialogue);
     }
 
     fn outgoing(&mut self, config: &Config) -> Option<PeerBytes> {
-        if self.upkeep.keeping.has_news() {
+        if self.desk.upkeep.keeping().has_news() {
             None
-        } else if self.upkeep.sends_nothing() {
-            self.open_link()
+        } else if self.desk.upkeep.sends_nothing() {
+            open_link(self.desk.alloc, &mut self.desk.shares)
         } else {
             self.next_outgoing(config)
         }
@@ -125,40 +129,38 @@ impl<R: Host> Attendant for Clerk<'_, R> {
     }
 
     fn more(&mut self, instance: &Instance, peer: usize) -> Option<Vec<u8>> {
-        self.upkeep.figures.heard.all_out(peer);
-        self.next_part(instance, peer)
+        let Desk { upkeep, shares, .. } = &mut self.desk;
+        upkeep.figures().heard.all_out(peer);
+        next_part(upkeep, shares, instance, peer)
     }
 
     fn lost(&mut self, config: &Config, peer: usize, fault: LinkFault) {
-        if self.replicas.is_at(peer) {
-            return self.lose_question(config, peer, fault);
-        }
-        self.hand_nothing(peer);
-        self.upkeep.count_lost(peer, fault);
-        let fault = Fault::Lost(fault, self.address_of(peer));
-        self.upkeep.tell_of(config, Some(peer as Place), fault);
+        let address = if self.replicas.is_at(peer) {
+            self.replicas.lost(peer);
+            address_of(&self.desk.asked, peer)
+        } else {
+            self.desk.lose_link(peer, fault)
+        };
+        let fault = Fault::Lost(fault, address);
+        self.desk.upkeep.tell_of(config, Some(peer as Place), fault);
     }
 
     fn wake(&mut self, instance: &mut Instance, now: Instant) -> Wake {
         self.do_duties(instance, now);
-        if self.stops {
-            self.give_up_first_pull(now);
+        if self.desk.stops {
+            self.desk.give_up_first_pull(now);
             return Wake::Stop;
         }
         let gossip = self.gossip(instance, now);
-        let work = sooner(gossip, self.upkeep.compact(instance, now));
-        Wake::GoOn(sooner(
-            work,
-            sooner(self.duties.left(now), self.upkeep.lines.left(now)),
-        ))
+        Wake::GoOn(sooner(gossip, self.desk.left(instance, now)))
     }
 
     fn input_ended(&mut self) {
-        self.stops = true;
+        self.desk.stops = true;
     }
 
     fn accept_failed(&mut self, config: &Config, kind: ErrorKind) {
-        self.upkeep.figures.miss();
-        self.upkeep.tell(config, Fault::Accept(kind));
+        self.desk.upkeep.figures().miss();
+        self.desk.upkeep.tell_of(config, None, Fault::Accept(kind));
     }
 }

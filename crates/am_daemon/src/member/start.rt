@@ -1,6 +1,7 @@
 //! The start of a member.
 
 use super::clerk::Clerk;
+use super::desk::Desk;
 use super::guarding::{hosts_of, opening};
 use am_attendant::{Member, live};
 use am_beside::Replicas;
@@ -13,7 +14,7 @@ use am_peers::{Peer, shown_name};
 use am_reactor::{Entrances, Limits, Peers, listen};
 use am_seal::Lock;
 use am_self::Started;
-use am_upkeep::{Host, Upkeep, config_of, lock_of, secret_of};
+use am_upkeep::{Host, Keeper, Upkeep, config_of, lock_of, secret_of};
 use rand::make_rng;
 use rand::rngs::StdRng;
 use std::alloc::{AllocError, Global};
@@ -47,9 +48,27 @@ pub fn run<'a, R: Host>(rt: &'a R, options: &'a Options<'a>) -> u8 {
 fn run_on<'a, R: Host>(rt: &'a R, options: &'a Options<'a>) -> Result<Option<Fault>, Fault> {
     let config = config_of(rt.alloc(), options)?;
     let secret = secret_of(rt, options)?;
-    let member = member(rt, options, config, lock_of(options, &secret))?;
+    let lock = lock_of(options, &secret);
+    let (instance, upkeep) = Upkeep::load(rt, options, config, lock)?;
+    run_kept(rt, options, lock, instance, upkeep)
+}
+
+/// Runs the member that holds this, and has this upkeep.
+fn run_kept<R: Host, U: Keeper + Drop>(
+    rt: &R,
+    options: &Options<'_>,
+    lock: Option<Lock<'_>>,
+    instance: Instance,
+    upkeep: U,
+) -> Result<Option<Fault>, Fault> {
+    let attendant = clerk_with(rt, options, instance.config(), upkeep)?;
     let entrances = entrances(rt, options)?;
-    Ok(run_member(member, entrances))
+    let member = Member {
+        instance,
+        lock,
+        attendant,
+    };
+    Ok(run_member(rt, options, member, entrances))
 }
 
 /// The listeners.
@@ -71,43 +90,43 @@ fn entrances<R: Host>(rt: &R, options: &Options<'_>) -> Result<Entrances, Fault>
 }
 
 /// Runs a member that listens. Answers with which fault it ended, which is told.
-fn run_member<R: Host>(member: Member<'_, Clerk<'_, R>>, entrances: Entrances) -> Option<Fault> {
+fn run_member<R: Host, U: Keeper + Drop>(
+    rt: &R,
+    options: &Options<'_>,
+    member: Member<'_, Clerk<'_, U>>,
+    entrances: Entrances,
+) -> Option<Fault> {
     let mut member = member;
-    begin(&mut member);
-    let failed = serve(&mut member, entrances);
-    let Member {
-        instance,
-        attendant: clerk,
-        ..
-    } = member;
-    let mut clerk = clerk;
-    clerk.upkeep.end(&instance, failed)
+    begin(rt, &mut member);
+    let failed = serve(rt, options, &mut member, entrances);
+    end(&mut member, failed)
+}
+
+/// Does what is left to be done once nobody is served any more. Answers with which fault the member ended.
+fn end<U: Keeper>(member: &mut Member<'_, Clerk<'_, U>>, failed: Option<Fault>) -> Option<Fault> {
+    member.attendant.desk.upkeep.end(&member.instance, failed)
 }
 
 /// Tells of the start of a member, and does what that leaves to be done.
-fn begin<R: Host>(member: &mut Member<'_, Clerk<'_, R>>) {
-    let Member {
-        instance,
-        attendant: clerk,
-        ..
-    } = member;
-    tell_start(instance, clerk);
-    clerk.upkeep.tell_torn(instance.config());
-    clerk.upkeep.save_owed(instance);
+fn begin<R: Eprint, U: Keeper>(rt: &R, member: &mut Member<'_, Clerk<'_, U>>) {
+    let instance = &member.instance;
+    let upkeep = &mut member.attendant.desk.upkeep;
+    if upkeep.has_room_for_line() {
+        tell_start(rt, instance, upkeep.options());
+    }
+    upkeep.tell_torn(instance.config());
+    upkeep.save_owed(instance);
 }
 
-/// Prints that a member listens, and the times that it keeps, where that finds room.
-fn tell_start<R: Host>(instance: &Instance, clerk: &mut Clerk<'_, R>) {
-    if !clerk.upkeep.lines.has_room() {
-        return;
-    }
+/// Prints that a member listens, and the times that it keeps.
+fn tell_start<R: Eprint>(rt: &R, instance: &Instance, options: &Options<'_>) {
     let started = Started {
-        options: clerk.upkeep.options,
+        options,
         silences: instance.silences().len(),
         entries: instance.log().len(),
     };
-    let _ = eprintln!(clerk.upkeep.rt; "am_tool: {started}");
-    am_self::report(clerk.upkeep.rt, clerk.upkeep.options);
+    let _ = eprintln!(rt; "am_tool: {started}");
+    am_self::report(rt, options);
 }
 
 /// Why nobody is served, or no more.
@@ -117,52 +136,48 @@ enum Unserved {
     Listener(ErrorKind),
 }
 
+/// That as a fault.
+fn fault_of(why: Unserved) -> Fault {
+    match why {
+        Unserved::Memory => Fault::Config(ConfigError::Memory),
+        Unserved::Listener(kind) => Fault::Accept(kind),
+    }
+}
+
 /// Serves whoever connects, until the member is told to end or has taken its connections. Answers why it doesn't, or no more,
 /// which is told.
-fn serve<R: Host>(member: &mut Member<'_, Clerk<'_, R>>, entrances: Entrances) -> Option<Fault> {
-    match serve_peers(member, entrances) {
+fn serve<R: Host, U: Keeper>(
+    rt: &R,
+    options: &Options<'_>,
+    member: &mut Member<'_, Clerk<'_, U>>,
+    entrances: Entrances,
+) -> Option<Fault> {
+    match serve_peers(rt, options, member, entrances) {
         Ok(()) => None,
-        Err(Unserved::Memory) => {
-            tell(member, Fault::Config(ConfigError::Memory));
-            Some(Fault::Config(ConfigError::Memory))
-        }
-        Err(Unserved::Listener(kind)) => {
-            tell(member, Fault::Accept(kind));
-            Some(Fault::Accept(kind))
+        Err(why) => {
+            let config = member.instance.config();
+            let upkeep = &mut member.attendant.desk.upkeep;
+            upkeep.tell_of(config, None, fault_of(why));
+            Some(fault_of(why))
         }
     }
 }
 
-/// Prints a fault.
-fn tell<R: Host>(member: &mut Member<'_, Clerk<'_, R>>, fault: Fault) {
-    let Member {
-        instance,
-        attendant: clerk,
-        ..
-    } = member;
-    clerk.upkeep.tell(instance.config(), fault);
-}
-
 /// Serves whoever connects, and the peers.
-fn serve_peers<R: Host>(
-    member: &mut Member<'_, Clerk<'_, R>>,
+fn serve_peers<R: Host, U: Keeper>(
+    rt: &R,
+    options: &Options<'_>,
+    member: &mut Member<'_, Clerk<'_, U>>,
     entrances: Entrances,
 ) -> Result<(), Unserved> {
-    let Clerk {
-        upkeep,
-        addresses,
-        asked,
-        ..
-    } = &member.attendant;
-    let rt = upkeep.rt;
-    let is_sealed = member.lock.is_some();
-    let Ok(greeting) = opening(rt.alloc(), upkeep.options.name, is_sealed) else {
+    let alloc = rt.alloc();
+    let Ok(greeting) = opening(alloc, options.name, member.lock.is_some()) else {
         return Err(Unserved::Memory);
     };
-    let Ok(links) = addresses.clone() else {
+    let Ok(links) = member.attendant.desk.addresses.clone() else {
         return Err(Unserved::Memory);
     };
-    let Ok(asked) = asked.clone() else {
+    let Ok(asked) = member.attendant.desk.asked.clone() else {
         return Err(Unserved::Memory);
     };
     let peers = Peers {
@@ -170,8 +185,7 @@ fn serve_peers<R: Host>(
         greeting: &greeting,
         asked: &asked,
     };
-    let limits = limits(upkeep.options);
-    match live(rt.alloc(), rt, entrances, peers, member, limits) {
+    match live(alloc, rt, entrances, peers, member, limits(options)) {
         Ok(()) => Ok(()),
         Err(error) => Err(Unserved::Listener(error.kind())),
     }
@@ -190,66 +204,58 @@ fn limits(options: &Options<'_>) -> Limits {
     }
 }
 
-/// What is kept of each member, by place.
+/// What is kept of each peer, by place.
 #[derive(Drop)]
-struct Places<'a> {
-    hosts: Vec<&'a str>,
+struct Links {
     addresses: Vec<Option<SocketAddr>>,
-    asked: Vec<Option<SocketAddr>>,
-    replicas: Replicas,
     awaited: Vec<Place>,
     shares: Vec<Share>,
 }
 
-/// The member before it listens.
-fn member<'a, R: Host>(
-    rt: &'a R,
-    options: &'a Options<'a>,
-    config: Config,
-    lock: Option<Lock<'a>>,
-) -> Result<Member<'a, Clerk<'a, R>>, Fault> {
-    let (instance, upkeep) = Upkeep::load(rt, options, config, lock)?;
-    let attendant = clerk_with(upkeep, instance.config())?;
-    Ok(Member {
-        instance,
-        lock,
-        attendant,
-    })
+/// What is kept of each Alertmanager beside it, by place.
+#[derive(Drop)]
+struct Beside {
+    asked: Vec<Option<SocketAddr>>,
+    replicas: Replicas,
 }
 
-/// The clerk of a member that has these files.
-fn clerk_with<'a, R: Host>(upkeep: Upkeep<'a, R>, config: &Config) -> Result<Clerk<'a, R>, Fault> {
-    let (rt, options) = (upkeep.rt, upkeep.options);
+/// The clerk of a member that has this upkeep.
+fn clerk_with<'a, R: Host, U: Keeper + Drop>(
+    rt: &R,
+    options: &Options<'a>,
+    config: &Config,
+    upkeep: U,
+) -> Result<Clerk<'a, U>, Fault> {
     let random = random(rt)?;
     let duties = duties(rt, options)?;
-    match places_of(rt.alloc(), config, options) {
-        Ok(places) => Ok(clerk_of(upkeep, places, random, duties)),
+    match clerk_of(rt.alloc(), options, config, upkeep, random, duties) {
+        Ok(clerk) => Ok(clerk),
         Err(_) => Err(Fault::Config(ConfigError::Memory)),
     }
 }
 
 /// The clerk that has all this.
-fn clerk_of<'a, R: Host>(
-    upkeep: Upkeep<'a, R>,
-    places: Places<'a>,
+fn clerk_of<'a, U: Keeper + Drop>(
+    alloc: Global,
+    options: &Options<'a>,
+    config: &Config,
+    upkeep: U,
     random: StdRng,
     duties: Timers,
-) -> Clerk<'a, R> {
-    let waiting = upkeep.options.waiting.min(upkeep.options.at_once / 2);
-    let Places {
-        hosts,
+) -> Result<Clerk<'a, U>, AllocError> {
+    let Links {
         addresses,
-        asked,
-        replicas,
         awaited,
         shares,
-    } = places;
-    Clerk {
+    } = links_of(alloc, config, options)?;
+    let Beside { asked, replicas } = beside_of(alloc, config, options)?;
+    let waiting = options.waiting.min(options.at_once / 2);
+    let desk = Desk {
+        alloc,
         upkeep,
-        hosts,
+        hosts: hosts_of(alloc, options)?,
         addresses,
         asked,
-        replicas,
         random,
         duties,
         shares,
@@ -257,28 +263,27 @@ fn clerk_of<'a, R: Host>(
         turns: Turns::new(waiting),
         stops: false,
         turns_away: false,
-    }
+    };
+    Ok(Clerk { desk, replicas })
 }
 
-/// What is kept of each member before any is heard.
-fn places_of<'a>(
-    alloc: Global,
-    config: &Config,
-    options: &Options<'a>,
-) -> Result<Places<'a>, AllocError> {
+/// What is kept of each peer before any is heard.
+fn links_of(alloc: Global, config: &Config, options: &Options<'_>) -> Result<Links, AllocError> {
     let addresses = addresses(alloc, config, &options.peers)?;
-    let asked = asked(alloc, config, &options.replicas)?;
-    let replicas = Replicas::new(alloc, &asked, options.gossip_every)?;
     let awaited = peer_places(alloc, &addresses)?;
     let shares = shares(alloc, addresses.len())?;
-    Ok(Places {
-        hosts: hosts_of(alloc, options)?,
+    Ok(Links {
         addresses,
-        asked,
-        replicas,
         awaited,
         shares,
     })
+}
+
+/// What is kept of each Alertmanager beside it before any is asked.
+fn beside_of(alloc: Global, config: &Config, options: &Options<'_>) -> Result<Beside, AllocError> {
+    let asked = asked(alloc, config, &options.replicas)?;
+    let replicas = Replicas::new(alloc, &asked, options.gossip_every)?;
+    Ok(Beside { asked, replicas })
 }
 
 /// What is due by itself from now on.

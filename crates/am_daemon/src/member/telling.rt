@@ -2,7 +2,8 @@
 
 ghost use Rattle.am_dialogue.specs.Talks.{Closes, KeepsGone, Rests, talk_of};
 
-use super::clerk::Clerk;
+use super::desk::Desk;
+use super::links::address_of;
 use am_api_silences::Read;
 use am_api_status::{
     Call, MemberStatus, Peer, Resource, call_of, metrics_reply, not_ready, page_reply,
@@ -10,16 +11,17 @@ use am_api_status::{
 };
 use am_dialogue::{CallProgress, Census, Conversation};
 use am_figures::{PeerName, Shown, families};
-use am_http::Cause;
 use am_http::session::SessionOutput;
+use am_http::{Cause, Refusal};
 use am_instance::{Config, Instance};
 use am_jobs::VERSION;
 use am_peers::later_moment;
-use am_self::{Process, options_text};
-use am_upkeep::{Host, since_1970};
+use am_self::options_text;
+use am_upkeep::Keeper;
 use am_version_order::Moment;
 use am_wire::Text;
-use std::alloc::AllocError;
+use std::alloc::{AllocError, Global};
+use std::net::SocketAddr;
 use std::time::Duration;
 
 /// How long it is from one moment to a later one; none to an earlier one.
@@ -31,10 +33,85 @@ pub fn time_between(from: Moment, to: Moment) -> Duration {
     ))
 }
 
-impl<R: Host> Clerk<'_, R> {
+/// What is told of a member.
+#[derive(Drop)]
+pub enum Told {
+    /// A reply, where there was memory for it.
+    Reply(Result<Vec<u8>, AllocError>),
+    /// A refusal.
+    Refused(Refusal),
+    /// Its figures, once more of the silences are counted.
+    Counting(Census),
+}
+
+/// Has a connection be told this.
+pub fn tell(alloc: Global, dialogue: &mut Conversation, told: Told)
+    ensures rests { Rests (talk_of dialogue.old) (talk_of dialogue.new) }
+    ensures gone { KeepsGone (talk_of dialogue.old).saying (talk_of dialogue.new).saying }
+{
+    match told {
+        Told::Reply(reply) => dialogue.tell(alloc, reply),
+        Told::Refused(refusal) => dialogue.refuse(alloc, &refusal),
+        Told::Counting(census) => dialogue.put_off(CallProgress::Counting(census)),
+    }
+}
+
+/// Counts a stretch more of the silences.
+fn counted_on<U: Keeper>(
+    upkeep: &U,
+    alloc: Global,
+    instance: &Instance,
+    census: Census,
+) -> Result<Census, AllocError> {
+    let now = later_moment(upkeep.since_1970(), instance.last());
+    census.go_on(alloc, instance.silences(), now)
+}
+
+/// Counts all silences, since nothing is done in stretches now.
+fn counted<U: Keeper>(
+    upkeep: &U,
+    alloc: Global,
+    instance: &Instance,
+    census: Census,
+) -> Result<Census, AllocError> {
+    let mut census = census;
+    for _ in 0..u64::MAX {
+        if census.is_done() {
+            break;
+        }
+        census = counted_on(upkeep, alloc, instance, census)?;
+    }
+    Ok(census)
+}
+
+/// How far the clock is behind the moment of the last event.
+fn clock_behind<U: Keeper>(upkeep: &U, last: Moment) -> Duration {
+    let now = later_moment(upkeep.since_1970(), Moment::LEAST);
+    time_between(now, last)
+}
+
+/// The peers, by place.
+fn peers_counted<'b>(
+    alloc: Global,
+    config: &'b Config,
+    addresses: &[Option<SocketAddr>],
+) -> Result<Vec<PeerName<'b>>, AllocError> {
+    let mut peers = Vec::new(alloc);
+    for (place, name) in config.members().iter().enumerate() {
+        if address_of(addresses, place).is_some() {
+            peers.push(PeerName {
+                place,
+                name: name.as_str(),
+            })?;
+        }
+    }
+    Ok(peers)
+}
+
+impl<U: Keeper> Desk<'_, U> {
     /// Answers what was asked of the member itself. Nothing waits for a first pull here.
     pub(super) fn tell_itself(
-        &mut self,
+        &self,
         instance: &Instance,
         dialogue: &mut Conversation,
         said: SessionOutput,
@@ -48,26 +125,25 @@ impl<R: Host> Clerk<'_, R> {
         let Some(Read::Whole(request)) = request else {
             return;
         };
-        match call_of(resource, &request.method) {
-            Ok(call) => self.tell_call(instance, dialogue, call),
-            Err(refusal) => dialogue.refuse(self.upkeep.rt.alloc(), &refusal),
-        }
+        let told = match call_of(resource, &request.method) {
+            Ok(call) => self.told(instance, call),
+            Err(refusal) => Told::Refused(refusal),
+        };
+        tell(self.alloc, dialogue, told);
     }
 
-    /// Answers a call.
-    fn tell_call(&mut self, instance: &Instance, dialogue: &mut Conversation, call: Call)
-        ensures rests { Rests (talk_of dialogue.old) (talk_of dialogue.new) }
-        ensures gone { KeepsGone (talk_of dialogue.old).saying (talk_of dialogue.new).saying }
-    {
-        let alloc = self.upkeep.rt.alloc();
+    /// What answers a call.
+    fn told(&self, instance: &Instance, call: Call) -> Told {
+        let alloc = self.alloc;
         let Call { resource, is_bare } = call;
         match resource {
-            Resource::Page => dialogue.tell(alloc, page_reply(alloc, is_bare)),
-            Resource::Healthy => dialogue.tell(alloc, well_reply(alloc, is_bare)),
-            Resource::Ready => self.tell_readiness(dialogue, is_bare),
-            Resource::Receivers => dialogue.tell(alloc, receivers_reply(alloc, is_bare)),
-            Resource::Status => self.tell_status(instance.config(), dialogue, is_bare),
-            Resource::Metrics => self.begin_counting(instance, dialogue, is_bare),
+            Resource::Page => Told::Reply(page_reply(alloc, is_bare)),
+            Resource::Healthy => Told::Reply(well_reply(alloc, is_bare)),
+            Resource::Ready if self.is_ready() => Told::Reply(well_reply(alloc, is_bare)),
+            Resource::Ready => Told::Refused(not_ready(is_bare)),
+            Resource::Receivers => Told::Reply(receivers_reply(alloc, is_bare)),
+            Resource::Status => Told::Reply(self.status(instance.config(), is_bare)),
+            Resource::Metrics => self.begin_counting(instance, is_bare),
         }
     }
 
@@ -76,59 +152,32 @@ impl<R: Host> Clerk<'_, R> {
         !self.duties.waits_for_pull() && !self.stops
     }
 
-    /// Tells whether it answers requests.
-    fn tell_readiness(&self, dialogue: &mut Conversation, is_bare: bool)
-        ensures rests { Rests (talk_of dialogue.old) (talk_of dialogue.new) }
-        ensures gone { KeepsGone (talk_of dialogue.old).saying (talk_of dialogue.new).saying }
-    {
-        let alloc = self.upkeep.rt.alloc();
-        if self.is_ready() {
-            dialogue.tell(alloc, well_reply(alloc, is_bare));
-        } else {
-            dialogue.refuse(alloc, &not_ready(is_bare));
-        }
-    }
-
-    /// Tells who it is.
-    fn tell_status(&self, config: &Config, dialogue: &mut Conversation, is_bare: bool)
-        ensures rests { Rests (talk_of dialogue.old) (talk_of dialogue.new) }
-        ensures gone { KeepsGone (talk_of dialogue.old).saying (talk_of dialogue.new).saying }
-    {
-        let alloc = self.upkeep.rt.alloc();
-        let reply = match self.standing(config) {
-            Ok(standing) => status_reply(alloc, &standing, is_bare),
-            Err(error) => Err(error),
-        };
-        dialogue.tell(alloc, reply);
-    }
-
-    /// Who it is.
-    fn standing(&self, config: &Config) -> Result<MemberStatus, AllocError> {
-        let alloc = self.upkeep.rt.alloc();
-        Ok(MemberStatus {
-            name: Text::copied(alloc, self.upkeep.options.name)?,
+    /// Who it is, as a reply.
+    fn status(&self, config: &Config, is_bare: bool) -> Result<Vec<u8>, AllocError> {
+        let alloc = self.alloc;
+        let options = self.upkeep.options();
+        let standing = MemberStatus {
+            name: Text::copied(alloc, options.name)?,
             is_ready: self.is_ready(),
             peers: self.members_shown(config)?,
-            options: Text::new(options_text(alloc, self.upkeep.options)?),
-            start: later_moment(self.upkeep.figures.start, Moment::LEAST),
+            options: Text::new(options_text(alloc, options)?),
+            start: later_moment(self.upkeep.counted().start, Moment::LEAST),
             version: VERSION,
-        })
+        };
+        status_reply(alloc, &standing, is_bare)
     }
 
     /// All members, with where they listen.
     fn members_shown(&self, config: &Config) -> Result<Vec<Peer>, AllocError> {
-        let alloc = self.upkeep.rt.alloc();
-        let own = self
-            .upkeep
-            .options
-            .peers_address
-            .unwrap_or(self.upkeep.options.address);
+        let alloc = self.alloc;
+        let options = self.upkeep.options();
+        let own = options.peers_address.unwrap_or(options.address);
         let mut peers = Vec::new(alloc);
         for (place, name) in config.members().iter().enumerate() {
             if self.is_inner(config, name.as_str()) {
                 continue;
             }
-            let address = self.address_of(place).unwrap_or(own);
+            let address = address_of(&self.addresses, place).unwrap_or(own);
             peers.push(Peer {
                 name: Text::copied(alloc, name.as_str())?,
                 address: Text::new(format!(in alloc; "{address}")?),
@@ -138,83 +187,50 @@ impl<R: Host> Clerk<'_, R> {
     }
 
     /// Begins to count the silences. While a first pull is waited for nothing that waits is done, so they are counted at once.
-    fn begin_counting(&self, instance: &Instance, dialogue: &mut Conversation, is_bare: bool)
-        ensures rests { Rests (talk_of dialogue.old) (talk_of dialogue.new) }
-        ensures gone { KeepsGone (talk_of dialogue.old).saying (talk_of dialogue.new).saying }
-    {
+    fn begin_counting(&self, instance: &Instance, is_bare: bool) -> Told {
         let census = Census::new(is_bare);
         if self.duties.waits_for_pull() {
-            self.follow_counting(instance, dialogue, self.counted(instance, census));
+            self.told_of(
+                instance,
+                counted(&self.upkeep, self.alloc, instance, census),
+            )
         } else {
-            dialogue.put_off(CallProgress::Counting(census));
+            Told::Counting(census)
         }
-    }
-
-    /// Counts all silences, since nothing is done in stretches now.
-    fn counted(&self, instance: &Instance, census: Census) -> Result<Census, AllocError> {
-        let mut census = census;
-        for _ in 0..u64::MAX {
-            if census.is_done() {
-                break;
-            }
-            census = self.counted_on(instance, census)?;
-        }
-        Ok(census)
-    }
-
-    /// Counts a stretch more of the silences.
-    fn counted_on(&self, instance: &Instance, census: Census) -> Result<Census, AllocError> {
-        let now = later_moment(since_1970(self.upkeep.rt), instance.last());
-        census.go_on(self.upkeep.rt.alloc(), instance.silences(), now)
     }
 
     /// Counts a stretch more of the silences. Where none is left, the figures are told.
-    pub(super) fn go_on_counting(
-        &self,
-        instance: &Instance,
-        dialogue: &mut Conversation,
-        census: Census,
-    )
-        ensures rests { Rests (talk_of dialogue.old) (talk_of dialogue.new) }
-        ensures gone { KeepsGone (talk_of dialogue.old).saying (talk_of dialogue.new).saying }
-    {
-        self.follow_counting(instance, dialogue, self.counted_on(instance, census));
+    pub(super) fn go_on_counting(&self, instance: &Instance, census: Census) -> Told {
+        self.told_of(
+            instance,
+            counted_on(&self.upkeep, self.alloc, instance, census),
+        )
     }
 
-    /// Tells the figures where all silences are counted, and else goes on later.
-    fn follow_counting(
-        &self,
-        instance: &Instance,
-        dialogue: &mut Conversation,
-        counted: Result<Census, AllocError>,
-    )
-        ensures rests { Rests (talk_of dialogue.old) (talk_of dialogue.new) }
-        ensures gone { KeepsGone (talk_of dialogue.old).saying (talk_of dialogue.new).saying }
-    {
-        let alloc = self.upkeep.rt.alloc();
+    /// The figures where all silences are counted, and else they are counted on later.
+    fn told_of(&self, instance: &Instance, counted: Result<Census, AllocError>) -> Told {
         match counted {
-            Ok(census) if census.is_done() => dialogue.tell(alloc, self.figures(instance, &census)),
-            Ok(census) => dialogue.put_off(CallProgress::Counting(census)),
-            Err(_) => dialogue.refuse(alloc, &Cause::Memory.refusal()),
+            Ok(census) if census.is_done() => Told::Reply(self.figures(instance, &census)),
+            Ok(census) => Told::Counting(census),
+            Err(_) => Told::Refused(Cause::Memory.refusal()),
         }
     }
 
     /// Its figures, as a reply.
     fn figures(&self, instance: &Instance, census: &Census) -> Result<Vec<u8>, AllocError> {
-        let alloc = self.upkeep.rt.alloc();
         let shown = self.shown(instance, census.counts)?;
-        let families = families(alloc, &self.upkeep.figures, &shown)?;
-        metrics_reply(alloc, &families, census.is_bare)
+        let families = families(self.alloc, self.upkeep.counted(), &shown)?;
+        metrics_reply(self.alloc, &families, census.is_bare)
     }
 
     /// What is told of it beside what it counts.
     fn shown<'b>(
-        &'b self,
+        &self,
         instance: &'b Instance,
         silences: [u64; 3],
     ) -> Result<Shown<'b>, AllocError> {
-        let process = Process::now(self.upkeep.rt);
-        let peers = self.peers_counted(instance.config())?;
+        let process = self.upkeep.process();
+        let peers = peers_counted(self.alloc, instance.config(), &self.addresses)?;
         Ok(Shown {
             version: VERSION,
             members: (peers.len() as u64).saturating_add(1),
@@ -222,31 +238,11 @@ impl<R: Host> Clerk<'_, R> {
             silences,
             entries: instance.log().len() as u64,
             waiting: self.turns.count(),
-            behind: self.clock_behind(instance.last()),
+            behind: clock_behind(&self.upkeep, instance.last()),
             is_ready: self.is_ready(),
             ticks: process.ticks,
             resident: process.resident,
             files: process.files,
         })
-    }
-
-    /// The peers, by place.
-    fn peers_counted<'b>(&self, config: &'b Config) -> Result<Vec<PeerName<'b>>, AllocError> {
-        let mut peers = Vec::new(self.upkeep.rt.alloc());
-        for (place, name) in config.members().iter().enumerate() {
-            if self.address_of(place).is_some() {
-                peers.push(PeerName {
-                    place,
-                    name: name.as_str(),
-                })?;
-            }
-        }
-        Ok(peers)
-    }
-
-    /// How far the clock is behind the moment of the last event.
-    fn clock_behind(&self, last: Moment) -> Duration {
-        let now = later_moment(since_1970(self.upkeep.rt), Moment::LEAST);
-        time_between(now, last)
     }
 }

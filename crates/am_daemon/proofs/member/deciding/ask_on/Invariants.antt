@@ -1,5 +1,5 @@
 use Rattle.am_dialogue.specs.Answered.{ByItself}
-use Rattle.am_daemon.proofs.member.clerk.Clerk.ask_on.Given as goal
+use Rattle.am_daemon.proofs.member.deciding.ask_on.Given as goal
 
 abbrev pub invariant-loop : goal.invariant-loop
 invariant-loop g l = ByItself l.fn.instance l.instance

@@ -1,5 +1,5 @@
 use Rattle.am_dialogue.proofs.Steps.{one_made}
-use Rattle.am_daemon.proofs.member.clerk.Clerk.take_came.Goals as goal
+use Rattle.am_daemon.proofs.member.desk.Desk.take_came.Goals as goal
 
 pub returns-in-Frame : goal.returns-in-Frame
 returns-in-Frame g c =

@@ -1,6 +1,6 @@
 use Rattle.std.proofs.Common.{◌∙◌, ap, inl, sym, not}
 use Rattle.am_daemon.proofs.Answering.{no_name, nothing_taken}
-use Rattle.am_daemon.proofs.member.clerk.Clerk.answer.Goals as goal
+use Rattle.am_daemon.proofs.member.desk.Desk.answer.Goals as goal
 
 pub returns-then-is_none : goal.returns-then-is_none
 returns-then-is_none g c =

@@ -1,5 +1,5 @@
 use Rattle.am_dialogue.proofs.Steps.{one_made}
-use Rattle.am_daemon.proofs.member.clerk.Clerk.take_last.Goals as goal
+use Rattle.am_daemon.proofs.member.desk.Desk.take_last.Goals as goal
 
 pub returns-in-Some : goal.returns-in-Some
 returns-in-Some g c =

@@ -1,6 +1,6 @@
 use Rattle.std.proofs.Common.{refl}
 use Rattle.am_daemon.proofs.Resuming.{list_taken_up}
-use Rattle.am_daemon.proofs.member.clerk.Clerk.go_on.Goals as goal
+use Rattle.am_daemon.proofs.member.desk.Desk.go_on.Goals as goal
 
 pub returns-in-PendingReply : goal.returns-in-PendingReply
 returns-in-PendingReply g c =

@@ -1,6 +1,6 @@
 use Rattle.am_dialogue.proofs.Steps.{going_on_made, made_on}
-use Rattle.am_daemon.proofs.member.clerk.Clerk.ask_on.Goals as goal
-use Rattle.am_daemon.proofs.member.clerk.Clerk.ask_on.Goals.{else-loop-test, then-loop-test+in_ok-left+then-is_asked}
+use Rattle.am_daemon.proofs.member.deciding.ask_on.Goals as goal
+use Rattle.am_daemon.proofs.member.deciding.ask_on.Goals.{else-loop-test, then-loop-test+in_ok-left+then-is_asked}
 
 pub returns-in_err-left : goal.returns-in_err-left
 returns-in_err-left g c = made_on _ _ _ c.loop.invariant (going_on_made c.next_moment-now.result c.stretch_over-most.result c.loop.left c.loop.instance c.go_on.result c.go_on.new.instance c.go_on.ensures.asked)
