@@ -63,12 +63,12 @@ fn run_kept<R: Host, U: Keeper + Drop>(
 ) -> Result<Option<Fault>, Fault> {
     let attendant = clerk_with(rt, options, instance.config(), upkeep)?;
     let entrances = entrances(rt, options)?;
-    let member = Member {
+    let mut member = Member {
         instance,
         lock,
         attendant,
     };
-    Ok(run_member(rt, options, member, entrances))
+    Ok(run_member(rt, options, &mut member, entrances))
 }
 
 /// The listeners.
@@ -90,20 +90,14 @@ fn entrances<R: Host>(rt: &R, options: &Options<'_>) -> Result<Entrances, Fault>
 }
 
 /// Runs a member that listens. Answers with which fault it ended, which is told.
-fn run_member<R: Host, U: Keeper + Drop>(
+fn run_member<R: Host, U: Keeper>(
     rt: &R,
     options: &Options<'_>,
-    member: Member<'_, Clerk<'_, U>>,
+    member: &mut Member<'_, Clerk<'_, U>>,
     entrances: Entrances,
 ) -> Option<Fault> {
-    let mut member = member;
-    begin(rt, &mut member);
-    let failed = serve(rt, options, &mut member, entrances);
-    end(&mut member, failed)
-}
-
-/// Does what is left to be done once nobody is served any more. Answers with which fault the member ended.
-fn end<U: Keeper>(member: &mut Member<'_, Clerk<'_, U>>, failed: Option<Fault>) -> Option<Fault> {
+    begin(rt, member);
+    let failed = serve(rt, options, member, entrances);
     member.attendant.desk.upkeep.end(&member.instance, failed)
 }
 
@@ -219,6 +213,14 @@ struct Beside {
     replicas: Replicas,
 }
 
+/// What is kept of all members.
+#[derive(Drop)]
+struct Places<'a> {
+    hosts: Vec<&'a str>,
+    links: Links,
+    beside: Beside,
+}
+
 /// The clerk of a member that has this upkeep.
 fn clerk_with<'a, R: Host, U: Keeper + Drop>(
     rt: &R,
@@ -228,32 +230,37 @@ fn clerk_with<'a, R: Host, U: Keeper + Drop>(
 ) -> Result<Clerk<'a, U>, Fault> {
     let random = random(rt)?;
     let duties = duties(rt, options)?;
-    match clerk_of(rt.alloc(), options, config, upkeep, random, duties) {
-        Ok(clerk) => Ok(clerk),
+    match places_of(rt.alloc(), config, options) {
+        Ok(places) => Ok(clerk_of(rt.alloc(), options, upkeep, places, random, duties)),
         Err(_) => Err(Fault::Config(ConfigError::Memory)),
     }
 }
 
 /// The clerk that has all this.
-fn clerk_of<'a, U: Keeper + Drop>(
+fn clerk_of<'a, U>(
     alloc: Global,
     options: &Options<'a>,
-    config: &Config,
     upkeep: U,
+    places: Places<'a>,
     random: StdRng,
     duties: Timers,
-) -> Result<Clerk<'a, U>, AllocError> {
+) -> Clerk<'a, U> {
+    let Places {
+        hosts,
+        links,
+        beside,
+    } = places;
     let Links {
         addresses,
         awaited,
         shares,
-    } = links_of(alloc, config, options)?;
-    let Beside { asked, replicas } = beside_of(alloc, config, options)?;
+    } = links;
+    let Beside { asked, replicas } = beside;
     let waiting = options.waiting.min(options.at_once / 2);
     let desk = Desk {
         alloc,
         upkeep,
-        hosts: hosts_of(alloc, options)?,
+        hosts,
         addresses,
         asked,
         random,
@@ -264,7 +271,23 @@ fn clerk_of<'a, U: Keeper + Drop>(
         stops: false,
         turns_away: false,
     };
-    Ok(Clerk { desk, replicas })
+    Clerk { desk, replicas }
+}
+
+/// What is kept of all members before any is heard.
+fn places_of<'a>(
+    alloc: Global,
+    config: &Config,
+    options: &Options<'a>,
+) -> Result<Places<'a>, AllocError> {
+    let links = links_of(alloc, config, options)?;
+    let beside = beside_of(alloc, config, options)?;
+    let hosts = hosts_of(alloc, options)?;
+    Ok(Places {
+        hosts,
+        links,
+        beside,
+    })
 }
 
 /// What is kept of each peer before any is heard.
