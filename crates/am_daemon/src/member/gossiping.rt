@@ -10,13 +10,12 @@ ghost use Rattle.am_refusals.specs.declared.error.StepError.{StepError};
 
 use super::clerk::Clerk;
 use super::desk::Desk;
-use super::links::address_of;
 use am_beside::{BesideFault, Came};
 use am_faults::Fault;
 use am_gossip::Frame;
 use am_instance::{Config, Event, Instance, Place};
 use am_peers::Fault as ConnectionFault;
-use am_reactor::{LinkFault, PeerBytes};
+use am_reactor::PeerBytes;
 use am_snapshot::SnapshotError;
 use am_upkeep::Keeper;
 use std::time::{Duration, Instant};
