@@ -1,6 +1,5 @@
 //! The files of a member that keeps logs, written anew while it serves: a stage in a turn of the loop, one file at a time.
 
-use crate::host::Host;
 use crate::upkeep::{Upkeep, sooner};
 use am_disk::FileFault;
 use am_faults::Fault;
@@ -8,7 +7,9 @@ use am_files::{Compaction, compact};
 use am_instance::{Config, Instance};
 use am_nflog::LogKey;
 use am_wire::Text;
+use std::fs::File;
 use std::mem;
+use std::rt::{Clock, Files};
 use std::time::{Duration, Instant};
 
 /// After how many milliseconds a file is begun again at the earliest, where it wasn't written anew.
@@ -98,7 +99,7 @@ impl Compacting {
     }
 }
 
-impl<R: Host> Upkeep<'_, R> {
+impl<R> Upkeep<'_, R> {
     /// Has both files written anew.
     pub(crate) fn want_both(&mut self) {
         self.compacting.silences.is_wanted = true;
@@ -111,7 +112,9 @@ impl<R: Host> Upkeep<'_, R> {
         self.compacting.silences.is_wanted |= self.silences.is_outgrown();
         self.compacting.log.is_wanted |= self.log.is_outgrown();
     }
+}
 
+impl<R: Files + AllocGlobal> Upkeep<'_, R> {
     /// No file is written anew any more, since both are saved.
     pub(crate) fn give_up_compaction(&mut self) {
         match self.compacting.work {
@@ -121,7 +124,36 @@ impl<R: Host> Upkeep<'_, R> {
         }
         self.compacting = Compacting::new();
     }
+}
 
+impl<R: Clock + Eprint> Upkeep<'_, R> {
+    /// Tells why the silences aren't written anew.
+    fn fail_silences(&mut self, config: &Config, fault: FileFault, now: Instant) {
+        self.compacting.silences.fails(now);
+        self.count_save(true, false);
+        let is_trusted = self.silences.is_trusted();
+        self.fail(config, Fault::Silences(fault), is_trusted);
+    }
+
+    /// Tells why the log isn't written anew.
+    fn fail_log(&mut self, config: &Config, fault: FileFault, now: Instant) {
+        self.compacting.log.fails(now);
+        self.count_save(false, false);
+        let is_trusted = self.log.is_trusted();
+        self.fail(config, Fault::Log(fault), is_trusted);
+    }
+
+    /// Tells why a file isn't written anew. Where its log isn't trusted any more, that lacks what comes.
+    fn fail(&mut self, config: &Config, fault: Fault, is_trusted: bool) {
+        self.is_changed = true;
+        self.tell(config, fault);
+        if !is_trusted {
+            self.keeping.lose();
+        }
+    }
+}
+
+impl<R: AllocGlobal + Clock + Eprint + Files<File = File>> Upkeep<'_, R> {
     /// Does a stage of what is written anew.
     pub(crate) fn compact_on(&mut self, instance: &Instance, now: Instant) {
         match mem::replace(&mut self.compacting.work, Work::Nothing) {
@@ -178,31 +210,6 @@ impl<R: Host> Upkeep<'_, R> {
             Ok(Some(left)) => self.compacting.go_on(Work::Log(left)),
             Ok(None) => self.count_save(false, true),
             Err(fault) => self.fail_log(instance.config(), fault, now),
-        }
-    }
-
-    /// Tells why the silences aren't written anew.
-    fn fail_silences(&mut self, config: &Config, fault: FileFault, now: Instant) {
-        self.compacting.silences.fails(now);
-        self.count_save(true, false);
-        let is_trusted = self.silences.is_trusted();
-        self.fail(config, Fault::Silences(fault), is_trusted);
-    }
-
-    /// Tells why the log isn't written anew.
-    fn fail_log(&mut self, config: &Config, fault: FileFault, now: Instant) {
-        self.compacting.log.fails(now);
-        self.count_save(false, false);
-        let is_trusted = self.log.is_trusted();
-        self.fail(config, Fault::Log(fault), is_trusted);
-    }
-
-    /// Tells why a file isn't written anew. Where its log isn't trusted any more, that lacks what comes.
-    fn fail(&mut self, config: &Config, fault: Fault, is_trusted: bool) {
-        self.is_changed = true;
-        self.tell(config, fault);
-        if !is_trusted {
-            self.keeping.lose();
         }
     }
 }

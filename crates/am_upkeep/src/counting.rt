@@ -1,6 +1,5 @@
 //! What a member counts of frames, links and saves.
 
-use crate::host::Host;
 use crate::upkeep::Upkeep;
 use am_figures::{Cause, Figures, Kind, Step};
 use am_gossip::Frame;
@@ -63,7 +62,7 @@ pub(crate) fn count_handed(figures: &mut Figures, place: Place, frames: &[Frame]
     }
 }
 
-impl<R: Host> Upkeep<'_, R> {
+impl<R: Clock> Upkeep<'_, R> {
     /// Counts a save that was made now, or failed.
     pub(crate) fn count_save(&mut self, of_silences: bool, is_done: bool) {
         if is_done {

@@ -8,7 +8,6 @@ ghost use Rattle.am_refusals.specs.declared.error.StepError.{StepError};
 ghost use Rattle.am_upkeep.specs.declared.keeping.Keeping.{Keeping as KeepingState};
 
 use crate::counting::count_handed;
-use crate::host::Host;
 use crate::keeping::Keeping;
 use crate::saving::first_of;
 use crate::upkeep::Upkeep;
@@ -21,7 +20,9 @@ use am_lines::{Told, signals};
 use am_peers::{Fault as ConnectionFault, Parted, split_by_peer};
 use am_self::Process;
 use am_version_order::Moment;
+use std::fs::File;
 use std::mem;
+use std::rt::{Clock, Files};
 use std::time::{Duration, Instant};
 
 /// Who keeps what a member holds: its files and logs, the lines that it prints, what it counts, and the frames that wait for
@@ -122,7 +123,7 @@ pub trait Keeper {
     fn end(&mut self, instance: &Instance, failed: Option<Fault>) -> Option<Fault>;
 }
 
-impl<R: Host> Keeper for Upkeep<'_, R> {
+impl<R: AllocGlobal + Clock + Eprint + Files<File = File>> Keeper for Upkeep<'_, R> {
     ghost keeping_of = { λ upkeep. upkeep.keeping };
 
     fn options(&self) -> &Options<'_> {

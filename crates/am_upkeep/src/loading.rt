@@ -19,6 +19,9 @@ use am_silence::MeshSilence;
 use am_version_order::Moment;
 use am_wire::Text;
 use std::alloc::{AllocError, Global};
+use std::fs::File;
+use std::net::Net;
+use std::rt::{Clock, Files};
 
 /// What a member holds, and the files that hold it.
 #[derive(Drop)]
@@ -84,7 +87,11 @@ fn peer_names(alloc: Global, peers: &[Peer<'_>]) -> Result<Vec<Text>, AllocError
 }
 
 /// The instance that holds what its files hold, and the files of the silences and of the log.
-fn load<R: Host>(rt: &R, config: Config, options: &Options<'_>) -> Result<Loaded, Fault> {
+fn load<R: AllocGlobal + Clock + Files<File = File>>(
+    rt: &R,
+    config: Config,
+    options: &Options<'_>,
+) -> Result<Loaded, Fault> {
     let most = options.most_bytes;
     let silences = match open_state(rt, options.silences, most, options.keeps_log) {
         Ok(opened) => opened,
@@ -140,7 +147,7 @@ pub fn secret_of<R: Host>(rt: &R, options: &Options<'_>) -> Result<Option<Secret
 }
 
 /// What a member prints by and counts by, before anything comes.
-fn empty<R: Host>(
+fn empty<R: AllocGlobal + Clock + Net>(
     rt: &R,
     config: &Config,
     options: &Options<'_>,
@@ -151,7 +158,7 @@ fn empty<R: Host>(
 }
 
 /// The instance that was loaded, and the upkeep of it.
-fn upkeep_of<'a, R: Host>(
+fn upkeep_of<'a, R: AllocGlobal>(
     rt: &'a R,
     options: &'a Options<'a>,
     lock: Option<Lock<'a>>,

@@ -3,14 +3,24 @@
 //! The disk is told as a peer is: it has a name of its own, behind those of all members, so each version that changes a map is
 //! sent to it too, and what is sent to it goes into the logs.
 
-use crate::host::Host;
 use crate::upkeep::Upkeep;
 use am_faults::Fault;
 use am_gossip::{Frame, Part, StateKey};
 use am_instance::{Config, Place};
 use am_peers::{Parted, split_by_peer};
+use std::rt::Clock;
 
-impl<R: Host> Upkeep<'_, R> {
+impl<R: Clock + Eprint> Upkeep<'_, R> {
+    /// Tells why the logs lack something, where they do.
+    pub(crate) fn tell_behind(&mut self, config: &Config, fault: Option<Fault>) {
+        if let Some(fault) = fault {
+            self.keeping.lose();
+            self.tell(config, fault);
+        }
+    }
+}
+
+impl<R: AllocGlobal + Clock + Eprint> Upkeep<'_, R> {
     /// Puts what goes to the disk into the logs, and gives what goes to peers.
     pub(crate) fn log_frames(
         &mut self,
@@ -50,13 +60,5 @@ impl<R: Host> Upkeep<'_, R> {
             StateKey::Nfl => self.log.append(alloc, rows).err().map(Fault::Log),
         };
         self.tell_behind(config, failed);
-    }
-
-    /// Tells why the logs lack something, where they do.
-    pub(crate) fn tell_behind(&mut self, config: &Config, fault: Option<Fault>) {
-        if let Some(fault) = fault {
-            self.keeping.lose();
-            self.tell(config, fault);
-        }
     }
 }

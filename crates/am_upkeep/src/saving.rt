@@ -1,9 +1,10 @@
 //! The saves of both states while everybody waits, and when they are made.
 
-use crate::host::Host;
 use crate::upkeep::Upkeep;
 use am_faults::Fault;
 use am_instance::Instance;
+use std::fs::File;
+use std::rt::{Clock, Files};
 use std::time::Instant;
 
 /// The first of two faults, where there is one.
@@ -14,7 +15,7 @@ pub(crate) fn first_of(one: Option<Fault>, other: Option<Fault>) -> Option<Fault
     }
 }
 
-impl<R: Host> Upkeep<'_, R> {
+impl<R: AllocGlobal + Clock + Eprint + Files<File = File>> Upkeep<'_, R> {
     /// Saves the silences, and then the log, while everybody waits. Answers the first fault; each is told.
     pub(crate) fn save(&mut self, instance: &Instance) -> Option<Fault> {
         self.give_up_compaction();

@@ -1,6 +1,5 @@
 //! The frames that wait for peers.
 
-use crate::host::Host;
 use crate::upkeep::Upkeep;
 use am_faults::Fault;
 use am_gossip::Frame;
@@ -8,6 +7,7 @@ use am_instance::{Config, Place};
 use am_jobs::Options;
 use am_peers::frames_text;
 use am_seal::{Lock, Secret, sealed_text};
+use std::rt::Clock;
 
 /// What members of a cluster know one another by: the secret, where they have one, and the name of this one.
 pub fn lock_of<'a>(options: &Options<'a>, secret: &'a Option<Secret>) -> Option<Lock<'a>> {
@@ -20,7 +20,7 @@ pub fn lock_of<'a>(options: &Options<'a>, secret: &'a Option<Secret>) -> Option<
     }
 }
 
-impl<R: Host> Upkeep<'_, R> {
+impl<R: AllocGlobal> Upkeep<'_, R> {
     /// The bytes of frames for a peer, sealed where members have a secret. Where there is no memory for them there are none.
     pub(crate) fn bytes_for(
         &self,
@@ -35,7 +35,9 @@ impl<R: Host> Upkeep<'_, R> {
         let name = config.members().get(peer as usize)?;
         sealed_text(alloc, lock, name.as_str(), frames).ok()
     }
+}
 
+impl<R: AllocGlobal + Clock + Eprint> Upkeep<'_, R> {
     /// Has frames wait to be handed out.
     pub(crate) fn queue_frames(&mut self, config: &Config, frames: Vec<(Place, Frame)>) {
         let mut frames = self.log_frames(config, frames);

@@ -6,7 +6,6 @@ ghost use Rattle.am_instance.specs.declared.reply.Outcome.{Outcome};
 ghost use Rattle.am_refusals.specs.declared.error.StepError.{StepError};
 
 use crate::compaction::Compacting;
-use crate::host::Host;
 use crate::keeping::Keeping;
 use crate::room::Room;
 use am_faults::Fault;
@@ -18,6 +17,7 @@ use am_jobs::Options;
 use am_lines::{Lines, Told, Watch};
 use am_peers::{Fault as ConnectionFault, next_moment};
 use am_seal::Lock;
+use std::rt::Clock;
 use std::time::Duration;
 
 /// The files of what a member holds, and what it prints and counts.
@@ -87,7 +87,7 @@ pub fn place_of(config: &Config, name: Option<&str>) -> Option<Place> {
     }
 }
 
-impl<R: Host> Upkeep<'_, R> {
+impl<R: Clock + Eprint> Upkeep<'_, R> {
     /// Prints a fault.
     pub(crate) fn tell(&mut self, config: &Config, fault: Fault) {
         let told = Told { fault, peer: None };
@@ -108,7 +108,9 @@ impl<R: Host> Upkeep<'_, R> {
             self.tell(config, Fault::UnsentLimit(unsent.limit));
         }
     }
+}
 
+impl<R: AllocGlobal + Clock + Eprint> Upkeep<'_, R> {
     /// What follows steps: their frames go out.
     pub(crate) fn follow_step(&mut self, config: &Config, outbox: FrameSender) {
         let FrameSender { frames, unsent } = outbox;

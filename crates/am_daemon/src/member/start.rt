@@ -18,9 +18,10 @@ use am_upkeep::{Host, Keeper, Upkeep, config_of, lock_of, secret_of};
 use rand::make_rng;
 use rand::rngs::StdRng;
 use std::alloc::{AllocError, Global};
-use std::io::ErrorKind;
-use std::net::SocketAddr;
+use std::io::{ErrorKind, Input};
+use std::net::{Net, SocketAddr};
 use std::random::RandomSource;
+use std::rt::{Clock, Files};
 use std::time::Instant;
 
 /// The most bytes that wait for a peer while a connection to it is open.
@@ -72,7 +73,7 @@ fn run_kept<R: Host, U: Keeper + Drop>(
 }
 
 /// The listeners.
-fn entrances<R: Host>(rt: &R, options: &Options<'_>) -> Result<Entrances, Fault> {
+fn entrances<R: Net>(rt: &R, options: &Options<'_>) -> Result<Entrances, Fault> {
     let main = match listen(rt, options.address) {
         Ok(listener) => listener,
         Err(error) => return Err(Fault::Listen(error.kind(), options.address)),
@@ -90,7 +91,7 @@ fn entrances<R: Host>(rt: &R, options: &Options<'_>) -> Result<Entrances, Fault>
 }
 
 /// Runs a member that listens. Answers with which fault it ended, which is told.
-fn run_member<R: Host, U: Keeper>(
+fn run_member<R: Clock + Eprint + Input + Net, U: Keeper>(
     rt: &R,
     options: &Options<'_>,
     member: &mut Member<'_, Clerk<'_, U>>,
@@ -140,7 +141,7 @@ fn fault_of(why: Unserved) -> Fault {
 
 /// Serves whoever connects, until the member is told to end or has taken its connections. Answers why it doesn't, or no more,
 /// which is told.
-fn serve<R: Host, U: Keeper>(
+fn serve<R: Clock + Input + Net, U: Keeper>(
     rt: &R,
     options: &Options<'_>,
     member: &mut Member<'_, Clerk<'_, U>>,
@@ -158,13 +159,13 @@ fn serve<R: Host, U: Keeper>(
 }
 
 /// Serves whoever connects, and the peers.
-fn serve_peers<R: Host, U: Keeper>(
+fn serve_peers<R: Clock + Input + Net, U: Keeper>(
     rt: &R,
     options: &Options<'_>,
     member: &mut Member<'_, Clerk<'_, U>>,
     entrances: Entrances,
 ) -> Result<(), Unserved> {
-    let alloc = rt.alloc();
+    let alloc = member.attendant.desk.alloc;
     let Ok(greeting) = opening(alloc, options.name, member.lock.is_some()) else {
         return Err(Unserved::Memory);
     };
@@ -222,7 +223,7 @@ struct Places<'a> {
 }
 
 /// The clerk of a member that has this upkeep.
-fn clerk_with<'a, R: Host, U: Keeper + Drop>(
+fn clerk_with<'a, R: AllocGlobal + Clock + Files + RandomSource, U: Keeper + Drop>(
     rt: &R,
     options: &Options<'a>,
     config: &Config,
@@ -310,7 +311,7 @@ fn beside_of(alloc: Global, config: &Config, options: &Options<'_>) -> Result<Be
 }
 
 /// What is due by itself from now on.
-fn duties<R: Host>(rt: &R, options: &Options<'_>) -> Result<Timers, Fault> {
+fn duties<R: Clock + Files>(rt: &R, options: &Options<'_>) -> Result<Timers, Fault> {
     match Instant::now(rt) {
         Ok(now) => Ok(Timers::new(&intervals(options), signals::are_blocked(rt), now)),
         Err(error) => Err(Fault::Clock(error.kind())),
