@@ -8,7 +8,7 @@ use crate::connection::Readiness;
 use crate::exchange::Exchange;
 use crate::fault::LinkFault;
 use crate::peers::{address_of, vacant};
-use crate::queue::Queue;
+use crate::queues::Queues;
 use crate::send_buffer::Progress;
 use crate::service::{PeerBytes, Service};
 use crate::source::Source;
@@ -20,8 +20,16 @@ use std::mem;
 use std::net::{Net, SocketAddr};
 use std::time::Instant;
 
+/// The queue of peers in the order in which the time of their exchanges is over.
+const BY_END: usize = 0;
+
+/// The queue of peers for whose exchanges there is more to do at once.
+const BUSY: usize = 1;
+
+/// How many queues there are.
+const QUEUES: usize = 2;
+
 /// The exchanges with the peers, one at a time with each.
-#[derive(Drop)]
 pub struct Exchanges<C> {
     alloc: Global,
     /// At which address each peer is asked, where there is one.
@@ -29,10 +37,21 @@ pub struct Exchanges<C> {
     open: Vec<Option<Exchange<C>>>,
     /// The most bytes that come back over one.
     most: usize,
-    /// The peers of those that are open, in the order in which their time is over.
-    by_end: Queue,
-    /// Those for which there is more to do at once.
-    busy: Queue,
+    /// The peers of those that are open.
+    queues: Queues,
+}
+
+// (so that a loop cites one drop, and doesn't prove those of all that is inside)
+impl<C: Drop> Drop for Exchanges<C> {
+    fn drop(self) {
+        let Exchanges {
+            alloc: _,
+            addresses: _,
+            open: _,
+            most: _,
+            queues: _,
+        } = self;
+    }
 }
 
 impl<C: Stream + Drop> Exchanges<C> {
@@ -54,24 +73,23 @@ impl<C: Stream + Drop> Exchanges<C> {
             addresses: Vec::from_slice(alloc, addresses)?,
             open: vacant(alloc, addresses.len())?,
             most,
-            by_end: Queue::new(alloc, count)?,
-            busy: Queue::new(alloc, count)?,
+            queues: Queues::new(alloc, QUEUES, count)?,
         })
     }
 
     /// Whether no exchange is under way.
     pub fn is_empty(&self) -> bool {
-        self.by_end.is_empty()
+        self.queues.is_empty(BY_END)
     }
 
     /// Whether there is more to do at once.
     pub fn is_busy(&self) -> bool {
-        !self.busy.is_empty()
+        !self.queues.is_empty(BUSY)
     }
 
     /// When the next time of an exchange is over.
     pub fn next_end(&self) -> Option<Instant> {
-        let peer = self.by_end.first()?;
+        let peer = self.queues.first(BY_END)?;
         match self.open.get(peer) {
             Some(Some(exchange)) => Some(exchange.end),
             _ => None,
@@ -81,7 +99,7 @@ impl<C: Stream + Drop> Exchanges<C> {
     /// A peer with which the time of the exchange is over by now.
     fn overdue(&self, now: Instant) -> Option<usize> {
         match self.next_end() {
-            Some(end) if end <= now => self.by_end.first(),
+            Some(end) if end <= now => self.queues.first(BY_END),
             _ => None,
         }
     }
@@ -124,8 +142,7 @@ impl<C: Stream + Drop> Exchanges<C> {
         ensures closed { exchange_with self.new peer ≡ None }
         ensures others { KeepsExchanges peer self.old self.new }
     {
-        self.by_end.remove(peer);
-        self.busy.remove(peer);
+        self.queues.remove_everywhere(peer);
         match self.open.get_mut(peer) {
             Some(open) => mem::replace(open, None),
             None => None,
@@ -162,8 +179,8 @@ impl Exchanges<TcpStream> {
             return Err(LinkFault::NoPeer);
         };
         *open = Some(exchange);
-        self.by_end.push(peer);
-        self.busy.push(peer);
+        self.queues.push(BY_END, peer);
+        self.queues.push(BUSY, peer);
         Ok(())
     }
 
@@ -260,7 +277,7 @@ pub fn drive_exchange<S: Service, C: Stream + Drop>(
     }
     match exchanges.advance(peer, piece) {
         Ok(Progress::Going(Readiness::Idle)) => {}
-        Ok(Progress::Going(Readiness::Busy)) => exchanges.busy.push(peer),
+        Ok(Progress::Going(Readiness::Busy)) => exchanges.queues.push(BUSY, peer),
         Ok(Progress::Done) => deliver_answer(exchanges, service, peer),
         Err(fault) => lose(exchanges, service, peer, fault),
     }
@@ -275,8 +292,8 @@ pub fn hear_all<S: Service, C: Stream + Drop>(
     ensures { (peers : List ℕ) × OneByOne (IsDriven C.coming C.gone S.answers S.loses (length piece.old)) peers
         service.old exchanges.old service.new exchanges.new }
 {
-    for _ in 0..exchanges.busy.len() {
-        match exchanges.busy.pop() {
+    for _ in 0..exchanges.queues.len(BUSY) {
+        match exchanges.queues.pop(BUSY) {
             Some(peer) => drive_exchange(exchanges, service, peer, piece),
             None => break,
         }
@@ -319,7 +336,7 @@ pub fn give_up_all<S: Service, C: Stream + Drop>(exchanges: &mut Exchanges<C>, s
     ensures { (peers : List ℕ) × OneByOne (IsTimedOut S.loses) peers service.old exchanges.old service.new exchanges.new }
 {
     for _ in 0..u16::MAX {
-        match exchanges.by_end.first() {
+        match exchanges.queues.first(BY_END) {
             Some(peer) => time_out_exchange(exchanges, service, peer),
             None => break,
         }
