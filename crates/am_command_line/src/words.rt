@@ -13,7 +13,7 @@ use am_silence_json::moments::read_moment;
 use am_version_order::Moment;
 use clap::error::ErrorKind;
 use clap::{ArgMatches, Command};
-use options::{Named, Takes, Words, command_of, with_options};
+use options::{Named, Takes, Words, args_of, command_of};
 use std::alloc::{AllocError, Global};
 use std::rt::{Env, Files};
 use std::{env, io};
@@ -73,8 +73,7 @@ pub fn job_of<'a, R: Files + AllocGlobal>(
 
 /// What the words of the command line say.
 fn matches_of<'a>(alloc: Global, words: &'a [String]) -> Result<ArgMatches<'a>, WordsError> {
-    let mut command = command(alloc)?;
-    Ok(command.try_get_matches_from_mut(words)?)
+    Ok(command(alloc)?.try_get_matches_from(words)?)
 }
 
 /// The program's name and the words behind it.
@@ -115,14 +114,21 @@ enum Task {
 
 /// The program with its tasks.
 fn command<'a>(alloc: Global) -> Result<Command<'a>, AllocError> {
-    let mut command = Command::new(alloc, "am_tool")
+    let tasks = task_commands(alloc)?;
+    Command::new(alloc, "am_tool")
         .version(VERSION)
         .about("The state that instances of Alertmanager share")
-        .subcommand_required(true);
+        .subcommand_required(true)
+        .subcommands(tasks)
+}
+
+/// The commands of all tasks.
+fn task_commands<'a>(alloc: Global) -> Result<Vec<Command<'a>>, AllocError> {
+    let mut commands = Vec::with_capacity(alloc, TASKS.len())?;
     for task in &TASKS {
-        command = command.subcommand(task_command(alloc, *task)?)?;
+        commands.push(task_command(alloc, *task)?)?;
     }
-    Ok(command)
+    Ok(commands)
 }
 
 /// The command of a task.
@@ -141,11 +147,8 @@ fn task_command<'a>(alloc: Global, task: Task) -> Result<Command<'a>, AllocError
 fn replay_command<'a>(alloc: Global) -> Result<Command<'a>, AllocError> {
     let about =
         "Plays a schedule on a cluster, and prints what its members answer; so does am_tool without words";
-    with_options(
-        alloc,
-        Command::new(alloc, REPLAY).about(about),
-        &REPLAY_OPTIONS,
-    )
+    let args = args_of(alloc, &REPLAY_OPTIONS)?;
+    Command::new(alloc, REPLAY).about(about).args(args)
 }
 
 fn fold_command<'a>(alloc: Global, name: &'a str) -> Result<Command<'a>, AllocError> {
@@ -237,10 +240,10 @@ fn read_job<'a, R: Files + AllocGlobal>(
     matches: &ArgMatches<'a>,
 ) -> Result<Job<'a>, WordsError> {
     if let Some(flags) = matches.subcommand_matches(instance::NAME) {
-        return instance_job(rt, flags);
+        return instance::read_job(rt, flags);
     }
     if let Some(flags) = matches.subcommand_matches(diff::NAME) {
-        return diff_job(rt.alloc(), flags);
+        return diff::read_job(rt.alloc(), flags);
     }
     read_other(rt.alloc(), matches)
 }
@@ -248,10 +251,10 @@ fn read_job<'a, R: Files + AllocGlobal>(
 /// The job that is asked for, where no member is to run, and nothing is compared.
 fn read_other<'a>(alloc: Global, matches: &ArgMatches<'a>) -> Result<Job<'a>, WordsError> {
     if let Some(flags) = matches.subcommand_matches(live::PULL) {
-        return pull_job(alloc, flags);
+        return live::read_pull(alloc, flags);
     }
     if let Some(flags) = matches.subcommand_matches(live::PUSH) {
-        return push_job(alloc, flags);
+        return live::read_push(alloc, flags);
     }
     read_local(alloc, matches)
 }
@@ -259,59 +262,40 @@ fn read_other<'a>(alloc: Global, matches: &ArgMatches<'a>) -> Result<Job<'a>, Wo
 /// The job that is asked for, where no replica is asked.
 fn read_local<'a>(alloc: Global, matches: &ArgMatches<'a>) -> Result<Job<'a>, WordsError> {
     if let Some(flags) = matches.subcommand_matches(SHOW) {
-        return Ok(Job::Show(read_show(alloc, flags)?));
+        return read_show(alloc, flags);
     }
     if let Some(flags) = matches.subcommand_matches(FOLD) {
-        return Ok(Job::Fold(read_fold(alloc, flags)?));
+        return read_fold(alloc, flags);
     }
     let flags = matches.subcommand_matches(REPLAY);
     Ok(Job::Replay(flags.and_then(|flags| flags.get_str(PICTURE))))
 }
 
-fn instance_job<'a, R: Files + AllocGlobal>(
-    rt: &R,
-    flags: &ArgMatches<'a>,
-) -> Result<Job<'a>, WordsError> {
-    Ok(Job::Instance(instance::read_options(rt, flags)?))
-}
-
-fn diff_job<'a>(alloc: Global, flags: &ArgMatches<'a>) -> Result<Job<'a>, WordsError> {
-    Ok(Job::Diff(diff::read_job(alloc, flags)?))
-}
-
-fn pull_job<'a>(alloc: Global, flags: &ArgMatches<'a>) -> Result<Job<'a>, WordsError> {
-    Ok(Job::Pull(live::read_pull(alloc, flags)?))
-}
-
-fn push_job<'a>(alloc: Global, flags: &ArgMatches<'a>) -> Result<Job<'a>, WordsError> {
-    Ok(Job::Push(live::read_push(alloc, flags)?))
-}
-
 /// The snapshot that is to be shown.
-fn read_show<'a>(alloc: Global, flags: &ArgMatches<'a>) -> Result<ShowJob<'a>, WordsError> {
+fn read_show<'a>(alloc: Global, flags: &ArgMatches<'a>) -> Result<Job<'a>, WordsError> {
     let file = flags.get_str(FILE);
     match now_beside(flags, file.as_slice()) {
-        Ok(now) => Ok(ShowJob {
+        Ok(now) => Ok(Job::Show(ShowJob {
             state: state_of(flags),
             file,
             has_logs: flags.get_flag(LOG),
             form: form_of(flags),
             now,
-        }),
+        })),
         Err(text) => Err(mistake(show_command(alloc, "am_tool show"), text)),
     }
 }
 
 /// The rows that are to be folded.
-fn read_fold<'a>(alloc: Global, flags: &ArgMatches<'a>) -> Result<FoldJob<'a>, WordsError> {
+fn read_fold<'a>(alloc: Global, flags: &ArgMatches<'a>) -> Result<Job<'a>, WordsError> {
     let files = Vec::from_slice(alloc, flags.get_strs(FILE).unwrap_or(&[]))?;
     match now_beside(flags, &files) {
-        Ok(now) => Ok(FoldJob {
+        Ok(now) => Ok(Job::Fold(FoldJob {
             state: state_of(flags),
             files,
             has_logs: flags.get_flag(LOG),
             now: now.unwrap_or(Moment::LEAST),
-        }),
+        })),
         Err(text) => Err(mistake(fold_command(alloc, "am_tool fold"), text)),
     }
 }

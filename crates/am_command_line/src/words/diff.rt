@@ -3,7 +3,7 @@
 use super::instance::time_limit;
 use super::options::{Named, Takes, Words, command_of};
 use super::{JSON, LOG, LOG_HELP, WordsError, form_of, log_mistake, mistake, now_of, state_of};
-use am_jobs::{DiffJob, STANDARD_INPUT, SourceWord, StateName, are_live};
+use am_jobs::{DiffJob, Job, STANDARD_INPUT, SourceWord, StateName, are_live};
 use am_peers::port_of;
 use am_report::Compared;
 use am_version_order::Moment;
@@ -23,11 +23,11 @@ pub fn command<'a>(alloc: Global, name: &'a str) -> Result<Command<'a>, AllocErr
 }
 
 /// The job that the words name. The moment is judged first, and then the sources.
-pub fn read_job<'a>(alloc: Global, flags: &ArgMatches<'a>) -> Result<DiffJob<'a>, WordsError> {
+pub fn read_job<'a>(alloc: Global, flags: &ArgMatches<'a>) -> Result<Job<'a>, WordsError> {
     let words = flags.get_strs(SOURCES).unwrap_or(&[]);
     let sources = source_words(alloc, words)?;
     match numbers_of(flags, &sources) {
-        Ok((now, time_limit)) => Ok(DiffJob {
+        Ok((now, time_limit)) => Ok(Job::Diff(DiffJob {
             state: state_of(flags),
             compared: compared_of(flags),
             form: form_of(flags),
@@ -36,7 +36,7 @@ pub fn read_job<'a>(alloc: Global, flags: &ArgMatches<'a>) -> Result<DiffJob<'a>
             sources,
             time_limit,
             has_logs: flags.get_flag(LOG),
-        }),
+        })),
         Err(text) => Err(mistake(command(alloc, "am_tool diff"), text)),
     }
 }

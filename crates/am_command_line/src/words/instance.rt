@@ -6,7 +6,7 @@ mod options;
 
 use super::{WordsError, mistake};
 use am_disk::are_one_file;
-use am_jobs::Options;
+use am_jobs::{Job, Options};
 use am_peers::{Peer, address_of, is_loopback, number_within, peer_of};
 use am_version_order::Interval;
 use clap::ArgMatches;
@@ -65,12 +65,12 @@ struct OwnNumbers {
     least_repeat: Option<u64>,
 }
 
-/// The options that the words name. Numbers are judged in the order in which the help has them, then the hosts, the files,
+/// The member that the words name. Numbers are judged in the order in which the help has them, then the hosts, the files,
 /// and then the peers.
-pub fn read_options<'a, R: Files + AllocGlobal>(
+pub fn read_job<'a, R: Files + AllocGlobal>(
     rt: &R,
     flags: &ArgMatches<'a>,
-) -> Result<Options<'a>, WordsError> {
+) -> Result<Job<'a>, WordsError> {
     let numbers = match read_numbers(flags) {
         Ok(numbers) => numbers,
         Err(text) => return Err(wrong(rt.alloc(), text)),
@@ -80,7 +80,7 @@ pub fn read_options<'a, R: Files + AllocGlobal>(
     }
     judge_words(rt, flags)?;
     let named = named(rt.alloc(), flags)?;
-    Ok(options_of(flags, numbers, named))
+    Ok(Job::Instance(options_of(flags, numbers, named)))
 }
 
 /// The hosts, peers and Alertmanagers that the words name.

@@ -3,7 +3,7 @@
 use super::instance::time_limit;
 use super::options::{Named, Takes, Words, command_of};
 use super::{WordsError, mistake, now_of, state_of};
-use am_jobs::{PullJob, PushJob, SourceWord};
+use am_jobs::{Job, PullJob, PushJob, SourceWord};
 use clap::{ArgMatches, Command};
 use std::alloc::{AllocError, Global};
 
@@ -23,17 +23,17 @@ pub fn push_command<'a>(alloc: Global, name: &'a str) -> Result<Command<'a>, All
 }
 
 /// The state that is to be read.
-pub fn read_pull<'a>(alloc: Global, flags: &ArgMatches<'a>) -> Result<PullJob<'a>, WordsError> {
+pub fn read_pull<'a>(alloc: Global, flags: &ArgMatches<'a>) -> Result<Job<'a>, WordsError> {
     match pull_of(flags) {
-        Ok(job) => Ok(job),
+        Ok(job) => Ok(Job::Pull(job)),
         Err(text) => Err(mistake(pull_command(alloc, "am_tool pull"), text)),
     }
 }
 
 /// To which replica versions are to be sent.
-pub fn read_push<'a>(alloc: Global, flags: &ArgMatches<'a>) -> Result<PushJob<'a>, WordsError> {
+pub fn read_push<'a>(alloc: Global, flags: &ArgMatches<'a>) -> Result<Job<'a>, WordsError> {
     match push_of(flags) {
-        Ok(job) => Ok(job),
+        Ok(job) => Ok(Job::Push(job)),
         Err(text) => Err(mistake(push_command(alloc, "am_tool push"), text)),
     }
 }

@@ -51,59 +51,87 @@ pub fn command_of<'a>(
     after: &'static str,
     options: &[Named],
 ) -> Result<Command<'a>, AllocError> {
-    let command = Command::new(alloc, name).about(about).after_help(after);
-    with_options(alloc, command, options)
+    let args = args_of(alloc, options)?;
+    Command::new(alloc, name)
+        .about(about)
+        .after_help(after)
+        .args(args)
 }
 
-/// A command with options behind those that it has.
-pub fn with_options<'a>(
-    alloc: Global,
-    command: Command<'a>,
-    options: &[Named],
-) -> Result<Command<'a>, AllocError> {
-    let mut command = command;
+/// Options, as `clap` has them.
+pub fn args_of<'a>(alloc: Global, options: &[Named]) -> Result<Vec<Arg<'a>>, AllocError> {
+    let mut args = Vec::with_capacity(alloc, options.len())?;
     for option in options {
-        command = command.arg(arg_of(alloc, *option)?)?;
+        args.push(arg_of(alloc, option)?)?;
     }
-    Ok(command)
+    Ok(args)
 }
 
 /// An option or a word, as `clap` has it.
-fn arg_of<'a>(alloc: Global, option: Named) -> Result<Arg<'a>, AllocError> {
-    let named = Arg::new(alloc, option.name).help(option.help);
+fn arg_of<'a>(alloc: Global, option: &Named) -> Result<Arg<'a>, AllocError> {
     match option.takes {
-        Takes::Word(words) => Ok(word_of(named.value_name(option.value), words)),
-        takes => option_of(named.long(option.name), option.value, takes),
+        Takes::Nothing => Ok(flag(alloc, option)),
+        Takes::NothingBeside(other) => flag(alloc, option).conflicts_with(other),
+        Takes::Word(words) => Ok(word(alloc, option, words)),
+        takes => with_value(valued(alloc, option), takes),
     }
+}
+
+/// An option or a word, of which help says what it is.
+fn described<'a>(alloc: Global, option: &Named) -> Arg<'a> {
+    Arg::new(alloc, option.name).help(option.help)
+}
+
+/// An option behind which nothing stands.
+fn flag<'a>(alloc: Global, option: &Named) -> Arg<'a> {
+    described(alloc, option)
+        .long(option.name)
+        .action(ArgAction::SetTrue)
 }
 
 /// Words that stand for themselves.
-fn word_of<'a>(named: Arg<'a>, words: Words) -> Arg<'a> {
-    let named = named.required(words.are_wanted);
+fn word<'a>(alloc: Global, option: &Named, words: Words) -> Arg<'a> {
+    let word = described(alloc, option)
+        .value_name(option.value)
+        .required(words.are_wanted)
+        .action(action_of(words.are_many));
     if words.are_many {
-        named.num_args(1..).action(ArgAction::Append)
+        word.num_args(1..)
     } else {
-        named.action(ArgAction::Set)
+        word
     }
 }
 
-/// An option.
-fn option_of<'a>(named: Arg<'a>, value: &'static str, takes: Takes) -> Result<Arg<'a>, AllocError> {
-    match takes {
-        Takes::Nothing => Ok(named.action(ArgAction::SetTrue)),
-        Takes::NothingBeside(other) => named.action(ArgAction::SetTrue).conflicts_with(other),
-        Takes::Many => Ok(named.value_name(value).action(ArgAction::Append)),
-        _ => with_value(named.value_name(value).action(ArgAction::Set), takes),
+/// What is done with values, of which there may be many or one.
+fn action_of(are_many: bool) -> ArgAction {
+    if are_many {
+        ArgAction::Append
+    } else {
+        ArgAction::Set
     }
 }
 
-/// An option that has a value at most once.
-fn with_value<'a>(named: Arg<'a>, takes: Takes) -> Result<Arg<'a>, AllocError> {
+/// An option that has a value.
+fn valued<'a>(alloc: Global, option: &Named) -> Arg<'a> {
+    let takes = option.takes;
+    described(alloc, option)
+        .long(option.name)
+        .value_name(option.value)
+        .action(action_of(matches!(takes, Takes::Many)))
+        .required(matches!(takes, Takes::Wanted | Takes::State))
+}
+
+/// An option that has a value, with what is to be said of it.
+fn with_value<'a>(valued: Arg<'a>, takes: Takes) -> Result<Arg<'a>, AllocError> {
     match takes {
-        Takes::Default(value) => Ok(named.default_value(value)),
-        Takes::Wanted => Ok(named.required(true)),
-        Takes::WantedWithout(other) => named.required_unless_present(other),
-        Takes::State => Ok(named.required(true).value_parser(["sil", "nfl"].as_slice())),
-        _ => Ok(named),
+        Takes::Default(value) => Ok(valued.default_value(value)),
+        Takes::WantedWithout(other) => valued.required_unless_present(other),
+        Takes::State => Ok(of_state(valued)),
+        _ => Ok(valued),
     }
+}
+
+/// An option whose value is the name of a state.
+fn of_state(valued: Arg<'_>) -> Arg<'_> {
+    valued.value_parser(["sil", "nfl"].as_slice())
 }
