@@ -16,7 +16,6 @@ use std::net::{Net, SocketAddr};
 use std::time::Instant;
 
 /// A connection to a peer, what is asked over it, and what came back.
-#[derive(Drop)]
 pub struct Exchange<C> {
     pub stream: C,
     buffer: SendBuffer,
@@ -24,6 +23,19 @@ pub struct Exchange<C> {
     /// When its time is over.
     pub end: Instant,
     is_connected: bool,
+}
+
+// (so that its owners cite one drop, and don't prove those of all that is inside)
+impl<C: Drop> Drop for Exchange<C> {
+    fn drop(self) {
+        let Exchange {
+            stream: _,
+            buffer: _,
+            answer: _,
+            end: _,
+            is_connected: _,
+        } = self;
+    }
 }
 
 impl Exchange<TcpStream> {
