@@ -52,7 +52,7 @@ fn pages_in(text: &str) -> u64 {
 }
 
 /// A number in one of the files.
-#[derive(Clone, Copy, PartialEq, Eq)]
+#[derive(Clone, Copy)]
 enum Wanted {
     Ticks,
     Pages,

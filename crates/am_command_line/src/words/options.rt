@@ -126,12 +126,7 @@ fn with_value<'a>(valued: Arg<'a>, takes: Takes) -> Result<Arg<'a>, AllocError> 
     match takes {
         Takes::Default(value) => Ok(valued.default_value(value)),
         Takes::WantedWithout(other) => valued.required_unless_present(other),
-        Takes::State => Ok(of_state(valued)),
+        Takes::State => Ok(valued.value_parser(["sil", "nfl"].as_slice())),
         _ => Ok(valued),
     }
-}
-
-/// An option whose value is the name of a state.
-fn of_state(valued: Arg<'_>) -> Arg<'_> {
-    valued.value_parser(["sil", "nfl"].as_slice())
 }
