@@ -60,7 +60,7 @@ impl Heard {
     pub fn lose(&mut self, place: usize, cause: Cause) {
         let flying = self.flying.clear(place);
         let latest = self.latest.get(place).min(flying);
-        let lost = if cause == Cause::Full {
+        let lost = if matches!(cause, Cause::Full) {
             self.flying.add(place, flying - latest);
             latest
         } else {

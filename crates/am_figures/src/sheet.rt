@@ -50,26 +50,48 @@ pub fn seconds_of(nanos: u64) -> Number {
     }
 }
 
-/// A label.
-pub fn label(alloc: Global, name: &'static str, value: &str) -> Result<Label, AllocError> {
-    let value = Text::copied(alloc, value)?;
-    Ok(Label { name, value })
+/// The labels of a figure, by their names.
+fn labels_of(alloc: Global, words: &[(&'static str, &str)]) -> Result<Vec<Label>, AllocError> {
+    let mut labels = Vec::with_capacity(alloc, words.len())?;
+    for (name, word) in words {
+        let value = Text::copied(alloc, word)?;
+        labels.push(Label { name, value })?;
+    }
+    Ok(labels)
 }
 
-/// A figure with one label.
-pub fn labelled(
+/// Adds a figure with labels.
+pub fn add_sample(
     alloc: Global,
-    name: &'static str,
-    value: &str,
+    out: &mut Vec<Sample>,
+    suffix: &'static str,
+    words: &[(&'static str, &str)],
     number: Number,
-) -> Result<Sample, AllocError> {
-    let mut labels = Vec::with_capacity(alloc, 1)?;
-    labels.push(label(alloc, name, value)?)?;
-    Ok(Sample {
-        suffix: "",
+) -> Result<(), AllocError> {
+    let labels = labels_of(alloc, words)?;
+    out.push(Sample {
+        suffix,
         labels,
         number,
-    })
+    })?;
+    Ok(())
+}
+
+/// Adds a family.
+pub fn add_family(
+    out: &mut Vec<Family>,
+    name: &'static str,
+    help: &'static str,
+    kind: Kind,
+    samples: Vec<Sample>,
+) -> Result<(), AllocError> {
+    out.push(Family {
+        name,
+        help,
+        kind,
+        samples,
+    })?;
+    Ok(())
 }
 
 /// A figure that has no label.
@@ -81,22 +103,6 @@ pub struct Figure {
     pub number: Number,
 }
 
-/// The family of one figure, which has no label.
-fn single(alloc: Global, figure: Figure) -> Result<Family, AllocError> {
-    let mut samples = Vec::with_capacity(alloc, 1)?;
-    samples.push(Sample {
-        suffix: "",
-        labels: Vec::new(alloc),
-        number: figure.number,
-    })?;
-    Ok(Family {
-        name: figure.name,
-        help: figure.help,
-        kind: figure.kind,
-        samples,
-    })
-}
-
 /// Adds the families of figures that have no label.
 pub fn add_singles(
     alloc: Global,
@@ -104,7 +110,9 @@ pub fn add_singles(
     figures: &[Figure],
 ) -> Result<(), AllocError> {
     for figure in figures {
-        out.push(single(alloc, *figure)?)?;
+        let mut samples = Vec::with_capacity(alloc, 1)?;
+        add_sample(alloc, &mut samples, "", &[], figure.number)?;
+        add_family(out, figure.name, figure.help, figure.kind, samples)?;
     }
     Ok(())
 }
@@ -119,7 +127,21 @@ pub fn by_word(
     let mut samples = Vec::with_capacity(alloc, words.len())?;
     for (place, word) in words.iter().enumerate() {
         let number = Number::Whole(counters.get(place));
-        samples.push(labelled(alloc, label, word, number)?)?;
+        add_sample(alloc, &mut samples, "", &[(label, word)], number)?;
+    }
+    Ok(samples)
+}
+
+/// The numbers of a label's words.
+pub fn of_words(
+    alloc: Global,
+    label: &'static str,
+    words: &[&str],
+    numbers: &[Number],
+) -> Result<Vec<Sample>, AllocError> {
+    let mut samples = Vec::with_capacity(alloc, words.len())?;
+    for (word, number) in words.iter().zip(numbers.iter()) {
+        add_sample(alloc, &mut samples, "", &[(label, word)], *number)?;
     }
     Ok(samples)
 }
@@ -133,25 +155,7 @@ pub fn by_peer(
     let mut samples = Vec::with_capacity(alloc, peers.len())?;
     for peer in peers {
         let number = Number::Whole(counters.get(peer.place));
-        samples.push(labelled(alloc, "peer", peer.name, number)?)?;
+        add_sample(alloc, &mut samples, "", &[("peer", peer.name)], number)?;
     }
     Ok(samples)
-}
-
-/// A figure with two labels.
-pub fn twice_labelled(
-    alloc: Global,
-    first: Label,
-    name: &'static str,
-    value: &str,
-    number: Number,
-) -> Result<Sample, AllocError> {
-    let mut labels = Vec::with_capacity(alloc, 2)?;
-    labels.push(first)?;
-    labels.push(label(alloc, name, value)?)?;
-    Ok(Sample {
-        suffix: "",
-        labels,
-        number,
-    })
 }

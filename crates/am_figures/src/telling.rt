@@ -1,11 +1,12 @@
 //! All that is told of a member in figures.
 
+use crate::counters::Counters;
 use crate::figures::Figures;
 use crate::peers::{Heard, PeerName};
 use crate::saves::Save;
 use crate::sheet::{
-    Figure, Shown, add_singles, by_peer, by_word, label, labelled, seconds, seconds_of,
-    twice_labelled,
+    Figure, Shown, add_family, add_sample, add_singles, by_peer, by_word, of_words, seconds,
+    seconds_of,
 };
 use crate::times::{BOUND_WORDS, Times};
 use crate::words::{CAUSES, DECISIONS, FAILINGS, KINDS, REQUESTS, STATES, STATUSES, STEPS};
@@ -15,36 +16,44 @@ use std::alloc::{AllocError, Global};
 /// The states of silences.
 const SILENCES: [&str; 3] = ["pending", "active", "expired"];
 
-/// Of what the program was built.
-fn build(alloc: Global, shown: &Shown<'_>) -> Result<Family, AllocError> {
+/// Why frames are lost before a link takes them.
+const UNSENT: [&str; 2] = ["memory", "limit"];
+
+/// Adds of what the program was built.
+fn add_build(alloc: Global, out: &mut Vec<Family>, version: &str) -> Result<(), AllocError> {
     let mut samples = Vec::with_capacity(alloc, 1)?;
-    samples.push(labelled(alloc, "version", shown.version, Number::Whole(1))?)?;
-    Ok(Family {
-        name: "alertmanager_build_info",
-        help: "1; the label has the version of the program.",
-        kind: Kind::Gauge,
+    let words = [("version", version)];
+    add_sample(alloc, &mut samples, "", &words, Number::Whole(1))?;
+    add_family(
+        out,
+        "alertmanager_build_info",
+        "1; the label has the version of the program.",
+        Kind::Gauge,
         samples,
-    })
+    )
 }
 
-/// How many silences are in each state.
-fn silences(alloc: Global, shown: &Shown<'_>) -> Result<Family, AllocError> {
-    let mut samples = Vec::with_capacity(alloc, 3)?;
-    for (word, count) in SILENCES.iter().zip(shown.silences.iter()) {
-        samples.push(labelled(alloc, "state", word, Number::Whole(*count))?)?;
-    }
-    Ok(Family {
-        name: "alertmanager_silences",
-        help: "Silences held, by state.",
-        kind: Kind::Gauge,
-        samples,
-    })
+/// Adds how many silences are in each state.
+fn add_silences(alloc: Global, out: &mut Vec<Family>, counts: [u64; 3]) -> Result<(), AllocError> {
+    let [pending, active, expired] = counts;
+    let numbers = [
+        Number::Whole(pending),
+        Number::Whole(active),
+        Number::Whole(expired),
+    ];
+    add_family(
+        out,
+        "alertmanager_silences",
+        "Silences held, by state.",
+        Kind::Gauge,
+        of_words(alloc, "state", &SILENCES, &numbers)?,
+    )
 }
 
 /// What it holds.
 fn add_held(alloc: Global, out: &mut Vec<Family>, shown: &Shown<'_>) -> Result<(), AllocError> {
-    out.push(build(alloc, shown)?)?;
-    out.push(silences(alloc, shown)?)?;
+    add_build(alloc, out, shown.version)?;
+    add_silences(alloc, out, shown.silences)?;
     add_singles(
         alloc,
         out,
@@ -71,33 +80,50 @@ fn add_held(alloc: Global, out: &mut Vec<Family>, shown: &Shown<'_>) -> Result<(
     )
 }
 
-/// A counter by the words of a label.
-fn counter_by(
+/// Adds a counter.
+fn add_counter(
+    out: &mut Vec<Family>,
     name: &'static str,
     help: &'static str,
-    samples: Result<Vec<Sample>, AllocError>,
-) -> Result<Family, AllocError> {
-    let samples = samples?;
-    Ok(Family {
-        name,
-        help,
-        kind: Kind::Counter,
-        samples,
-    })
+    samples: Vec<Sample>,
+) -> Result<(), AllocError> {
+    add_family(out, name, help, Kind::Counter, samples)
 }
 
 /// What it did.
-fn add_done(alloc: Global, out: &mut Vec<Family>, figures: &Figures) -> Result<(), AllocError> {
-    out.push(counter_by(
+fn add_done(
+    alloc: Global,
+    out: &mut Vec<Family>,
+    steps: &Counters,
+    decisions: &Counters,
+) -> Result<(), AllocError> {
+    add_counter(
+        out,
         "maityrunga_steps_total",
         "Steps of the replica, by event.",
-        by_word(alloc, "event", &STEPS, &figures.steps),
-    )?)?;
-    out.push(counter_by(
+        by_word(alloc, "event", &STEPS, steps)?,
+    )?;
+    add_counter(
+        out,
         "maityrunga_decisions_total",
         "Decisions whether to notify, by reason.",
-        by_word(alloc, "reason", &DECISIONS, &figures.decisions),
-    )?)?;
+        by_word(alloc, "reason", &DECISIONS, decisions)?,
+    )
+}
+
+/// Adds how many requests of one call were answered, by status.
+fn add_answered(
+    alloc: Global,
+    out: &mut Vec<Sample>,
+    figures: &Figures,
+    place: usize,
+    request: &str,
+) -> Result<(), AllocError> {
+    for (column, status) in STATUSES.iter().enumerate() {
+        let words = [("call", request), ("status", *status)];
+        let number = Number::Whole(figures.answered(place, column));
+        add_sample(alloc, out, "", &words, number)?;
+    }
     Ok(())
 }
 
@@ -105,41 +131,9 @@ fn add_done(alloc: Global, out: &mut Vec<Family>, figures: &Figures) -> Result<(
 fn answered(alloc: Global, figures: &Figures) -> Result<Vec<Sample>, AllocError> {
     let mut samples = Vec::with_capacity(alloc, REQUESTS.len() * STATUSES.len())?;
     for (place, request) in REQUESTS.iter().enumerate() {
-        for (column, status) in STATUSES.iter().enumerate() {
-            let first = label(alloc, "call", request)?;
-            let number = Number::Whole(figures.answered(place, column));
-            samples.push(twice_labelled(alloc, first, "status", status, number)?)?;
-        }
+        add_answered(alloc, &mut samples, figures, place, request)?;
     }
     Ok(samples)
-}
-
-/// A part of a histogram.
-fn part_of(
-    alloc: Global,
-    suffix: &'static str,
-    request: &str,
-    number: Number,
-) -> Result<Sample, AllocError> {
-    let mut labels = Vec::with_capacity(alloc, 1)?;
-    labels.push(label(alloc, "call", request)?)?;
-    Ok(Sample {
-        suffix,
-        labels,
-        number,
-    })
-}
-
-/// A bucket of a histogram.
-fn bucket_of(alloc: Global, request: &str, bound: &str, count: u64) -> Result<Sample, AllocError> {
-    let mut labels = Vec::with_capacity(alloc, 2)?;
-    labels.push(label(alloc, "call", request)?)?;
-    labels.push(label(alloc, "le", bound)?)?;
-    Ok(Sample {
-        suffix: "_bucket",
-        labels,
-        number: Number::Whole(count),
-    })
 }
 
 /// Adds how long the requests of one call took.
@@ -153,25 +147,21 @@ fn add_times(
     let mut count: u64 = 0;
     for (bucket, bound) in BOUND_WORDS.iter().enumerate() {
         count = count.saturating_add(times.bucket(place, bucket));
-        out.push(bucket_of(alloc, request, bound, count)?)?;
+        let words = [("call", request), ("le", *bound)];
+        add_sample(alloc, out, "_bucket", &words, Number::Whole(count))?;
     }
-    out.push(part_of(alloc, "_sum", request, seconds_of(times.sum(place)))?)?;
-    out.push(part_of(alloc, "_count", request, Number::Whole(count))?)?;
-    Ok(())
+    let words = [("call", request)];
+    add_sample(alloc, out, "_sum", &words, seconds_of(times.sum(place)))?;
+    add_sample(alloc, out, "_count", &words, Number::Whole(count))
 }
 
 /// How long requests took.
-fn durations(alloc: Global, times: &Times) -> Result<Family, AllocError> {
+fn durations(alloc: Global, times: &Times) -> Result<Vec<Sample>, AllocError> {
     let mut samples = Vec::new(alloc);
     for (place, request) in REQUESTS.iter().enumerate() {
         add_times(alloc, &mut samples, times, place, request)?;
     }
-    Ok(Family {
-        name: "maityrunga_http_request_duration_seconds",
-        help: "From the end of a request to the end of its reply, by call.",
-        kind: Kind::Histogram,
-        samples,
-    })
+    Ok(samples)
 }
 
 /// What came by HTTP, and its connections.
@@ -181,12 +171,19 @@ fn add_requests(
     figures: &Figures,
     waiting: u64,
 ) -> Result<(), AllocError> {
-    out.push(counter_by(
+    add_counter(
+        out,
         "maityrunga_http_requests_total",
         "Requests answered, by call and status.",
-        answered(alloc, figures),
-    )?)?;
-    out.push(durations(alloc, &figures.times)?)?;
+        answered(alloc, figures)?,
+    )?;
+    add_family(
+        out,
+        "maityrunga_http_request_duration_seconds",
+        "From the end of a request to the end of its reply, by call.",
+        Kind::Histogram,
+        durations(alloc, &figures.times)?,
+    )?;
     add_singles(
         alloc,
         out,
@@ -223,11 +220,12 @@ fn add_connections(
             },
         ],
     )?;
-    out.push(counter_by(
+    add_counter(
+        out,
         "maityrunga_connections_broken_total",
         "Connections closed before their end, by cause; crowded and unfinished are refused for want of room.",
-        by_word(alloc, "cause", &FAILINGS, &figures.failings),
-    )?)?;
+        by_word(alloc, "cause", &FAILINGS, &figures.failings)?,
+    )?;
     add_singles(
         alloc,
         out,
@@ -240,41 +238,41 @@ fn add_connections(
     )
 }
 
+/// Adds the frames for a peer that were lost, by cause.
+fn add_lost(
+    alloc: Global,
+    out: &mut Vec<Sample>,
+    peer: PeerName<'_>,
+    heard: &Heard,
+) -> Result<(), AllocError> {
+    for (place, cause) in CAUSES.iter().enumerate() {
+        let words = [("peer", peer.name), ("cause", *cause)];
+        let number = Number::Whole(heard.lost(peer.place, place));
+        add_sample(alloc, out, "", &words, number)?;
+    }
+    Ok(())
+}
+
 /// Frames that were lost, by peer and cause.
 fn lost(alloc: Global, peers: &[PeerName<'_>], heard: &Heard) -> Result<Vec<Sample>, AllocError> {
     let mut samples = Vec::new(alloc);
     for peer in peers {
-        for (place, cause) in CAUSES.iter().enumerate() {
-            let first = label(alloc, "peer", peer.name)?;
-            let number = Number::Whole(heard.lost(peer.place, place));
-            samples.push(twice_labelled(alloc, first, "cause", cause, number)?)?;
-        }
+        add_lost(alloc, &mut samples, *peer, heard)?;
     }
     Ok(samples)
 }
 
 /// When something of each peer came last.
-fn last_heard(alloc: Global, peers: &[PeerName<'_>], heard: &Heard) -> Result<Family, AllocError> {
+fn last_heard(
+    alloc: Global,
+    peers: &[PeerName<'_>],
+    heard: &Heard,
+) -> Result<Vec<Sample>, AllocError> {
     let mut samples = Vec::with_capacity(alloc, peers.len())?;
     for peer in peers {
         let number = seconds_of(heard.last(peer.place));
-        samples.push(labelled(alloc, "peer", peer.name, number)?)?;
+        add_sample(alloc, &mut samples, "", &[("peer", peer.name)], number)?;
     }
-    Ok(Family {
-        name: "maityrunga_peer_last_heard_timestamp_seconds",
-        help: "When something of a peer came last, since 1970; 0 before that.",
-        kind: Kind::Gauge,
-        samples,
-    })
-}
-
-/// The frames that were lost before a link took them.
-fn unsent(alloc: Global, figures: &Figures) -> Result<Vec<Sample>, AllocError> {
-    let mut samples = Vec::with_capacity(alloc, 2)?;
-    let memory = Number::Whole(figures.unsent_memory);
-    samples.push(labelled(alloc, "cause", "memory", memory)?)?;
-    let limit = Number::Whole(figures.unsent_limit);
-    samples.push(labelled(alloc, "cause", "limit", limit)?)?;
     Ok(samples)
 }
 
@@ -285,6 +283,10 @@ fn add_cluster(
     figures: &Figures,
     members: u64,
 ) -> Result<(), AllocError> {
+    let unsent = [
+        Number::Whole(figures.unsent_memory),
+        Number::Whole(figures.unsent_limit),
+    ];
     add_singles(
         alloc,
         out,
@@ -295,22 +297,24 @@ fn add_cluster(
             number: Number::Whole(members),
         }],
     )?;
-    out.push(counter_by(
+    add_counter(
+        out,
         "alertmanager_cluster_messages_sent_total",
         "Frames handed to links, by kind.",
-        by_word(alloc, "msg_type", &KINDS, &figures.sent),
-    )?)?;
-    out.push(counter_by(
+        by_word(alloc, "msg_type", &KINDS, &figures.sent)?,
+    )?;
+    add_counter(
+        out,
         "alertmanager_cluster_messages_received_total",
         "Frames of peers taken, by kind.",
-        by_word(alloc, "msg_type", &KINDS, &figures.taken),
-    )?)?;
-    out.push(counter_by(
+        by_word(alloc, "msg_type", &KINDS, &figures.taken)?,
+    )?;
+    add_counter(
+        out,
         "maityrunga_frames_unsent_total",
         "Frames lost before a link took them, by cause.",
-        unsent(alloc, figures),
-    )?)?;
-    Ok(())
+        of_words(alloc, "cause", &UNSENT, &unsent)?,
+    )
 }
 
 /// What goes to each peer, and comes of it.
@@ -320,23 +324,31 @@ fn add_peers(
     heard: &Heard,
     peers: &[PeerName<'_>],
 ) -> Result<(), AllocError> {
-    out.push(counter_by(
+    add_counter(
+        out,
         "maityrunga_frames_sent_total",
         "Frames handed to the links to a peer.",
-        by_peer(alloc, peers, &heard.sent),
-    )?)?;
-    out.push(counter_by(
+        by_peer(alloc, peers, &heard.sent)?,
+    )?;
+    add_counter(
+        out,
         "maityrunga_frames_lost_total",
         "Frames lost on the way to a peer, by cause; of a link that fails, all that it carried when last it had sent all.",
-        lost(alloc, peers, heard),
-    )?)?;
-    out.push(counter_by(
+        lost(alloc, peers, heard)?,
+    )?;
+    add_counter(
+        out,
         "maityrunga_frames_taken_total",
         "Frames of a peer taken.",
-        by_peer(alloc, peers, &heard.taken),
-    )?)?;
-    out.push(last_heard(alloc, peers, heard)?)?;
-    Ok(())
+        by_peer(alloc, peers, &heard.taken)?,
+    )?;
+    add_family(
+        out,
+        "maityrunga_peer_last_heard_timestamp_seconds",
+        "When something of a peer came last, since 1970; 0 before that.",
+        Kind::Gauge,
+        last_heard(alloc, peers, heard)?,
+    )
 }
 
 /// A figure of the saves of both states.
@@ -347,20 +359,6 @@ struct SaveFigure {
     kind: Kind,
     /// Of the silences and of the log.
     numbers: [Number; 2],
-}
-
-/// The family of a figure of saves.
-fn of_saves(alloc: Global, figure: SaveFigure) -> Result<Family, AllocError> {
-    let mut samples = Vec::with_capacity(alloc, 2)?;
-    for (word, number) in STATES.iter().zip(figure.numbers.iter()) {
-        samples.push(labelled(alloc, "state", word, *number)?)?;
-    }
-    Ok(Family {
-        name: figure.name,
-        help: figure.help,
-        kind: figure.kind,
-        samples,
-    })
 }
 
 /// How the saves go.
@@ -401,7 +399,8 @@ fn add_saves(
     log: &Save,
 ) -> Result<(), AllocError> {
     for figure in &save_figures(silences, log) {
-        out.push(of_saves(alloc, *figure)?)?;
+        let samples = of_words(alloc, "state", &STATES, &figure.numbers)?;
+        add_family(out, figure.name, figure.help, figure.kind, samples)?;
     }
     Ok(())
 }
@@ -448,6 +447,23 @@ fn add_process(
     )
 }
 
+/// Adds all that is told of a member.
+fn add_all(
+    alloc: Global,
+    out: &mut Vec<Family>,
+    figures: &Figures,
+    shown: &Shown<'_>,
+) -> Result<(), AllocError> {
+    add_held(alloc, out, shown)?;
+    add_done(alloc, out, &figures.steps, &figures.decisions)?;
+    add_requests(alloc, out, figures, shown.waiting)?;
+    add_connections(alloc, out, figures)?;
+    add_cluster(alloc, out, figures, shown.members)?;
+    add_peers(alloc, out, &figures.heard, shown.peers.as_slice())?;
+    add_saves(alloc, out, &figures.silences, &figures.log)?;
+    add_process(alloc, out, figures, shown)
+}
+
 /// All that is told of a member in figures.
 ///
 /// # Errors
@@ -458,15 +474,7 @@ pub fn families(
     figures: &Figures,
     shown: &Shown<'_>,
 ) -> Result<Vec<Family>, AllocError> {
-    let peers = shown.peers.as_slice();
     let mut out = Vec::with_capacity(alloc, 32)?;
-    add_held(alloc, &mut out, shown)?;
-    add_done(alloc, &mut out, figures)?;
-    add_requests(alloc, &mut out, figures, shown.waiting)?;
-    add_connections(alloc, &mut out, figures)?;
-    add_cluster(alloc, &mut out, figures, shown.members)?;
-    add_peers(alloc, &mut out, &figures.heard, peers)?;
-    add_saves(alloc, &mut out, &figures.silences, &figures.log)?;
-    add_process(alloc, &mut out, figures, shown)?;
+    add_all(alloc, &mut out, figures, shown)?;
     Ok(out)
 }

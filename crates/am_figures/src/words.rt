@@ -1,7 +1,7 @@
 //! The words that labels may have: none comes from who asks.
 
 /// What a request asks for.
-#[derive(Clone, Copy, PartialEq, Eq)]
+#[derive(Clone, Copy)]
 pub enum Request {
     List,
     Get,
@@ -54,7 +54,7 @@ pub fn status_place(status: &[u8]) -> usize {
 }
 
 /// What makes a step of the instance.
-#[derive(Clone, Copy, PartialEq, Eq)]
+#[derive(Clone, Copy)]
 pub enum Step {
     List,
     Get,
@@ -74,7 +74,7 @@ pub const STEPS: [&str; 10] = [
 ];
 
 /// What a frame is to Alertmanager: news of one thing, or all that is held; or a Tick, which it hasn't.
-#[derive(Clone, Copy, PartialEq, Eq)]
+#[derive(Clone, Copy)]
 pub enum Kind {
     Update,
     FullState,
@@ -85,7 +85,7 @@ pub enum Kind {
 pub const KINDS: [&str; 3] = ["update", "full_state", "tick"];
 
 /// Why frames for a peer are lost.
-#[derive(Clone, Copy, Debug, PartialEq, Eq)]
+#[derive(Clone, Copy)]
 pub enum Cause {
     Connect,
     Write,
@@ -98,7 +98,7 @@ pub enum Cause {
 pub const CAUSES: [&str; 5] = ["connect", "write", "time", "full", "memory"];
 
 /// Why a connection is closed before its end.
-#[derive(Clone, Copy, PartialEq, Eq)]
+#[derive(Clone, Copy)]
 pub enum Failing {
     Read,
     Write,
