@@ -1,19 +1,31 @@
 //! Which notifications go out once more although nothing changed.
 
 use crate::mark::{Mark, Verb};
-use crate::sheet::Sheet;
-use am_schedule::{Action, GroupLine, Line, LineEvent};
+use am_schedule::{Action, GroupLine, Line, LineEvent, Schedule};
+use std::alloc::{AllocError, Global};
+
+/// The lines that the steps repeat, by their places.
+pub fn repeated_lines(
+    alloc: Global,
+    schedule: &Schedule,
+    marks: &[Mark],
+) -> Result<Vec<Option<u64>>, AllocError> {
+    let mut lines = Vec::with_capacity(alloc, marks.len())?;
+    for (column, mark) in marks.iter().enumerate() {
+        lines.push(repeated_line(schedule, marks, column, mark))?;
+    }
+    Ok(lines)
+}
 
 /// The line that a step repeats. The step decides to notify a group; that line is the last one before it by which the group
 /// was notified at this receiver, by a decision of another member or as `notified` says it; the alerts are the same, and the
 /// repeat interval of the step isn't over since.
-pub fn repeated_line(sheet: &Sheet<'_>, column: usize) -> Option<u64> {
-    let mark = sheet.scene.marks.get(column)?;
+fn repeated_line(schedule: &Schedule, marks: &[Mark], column: usize, mark: &Mark) -> Option<u64> {
     if !mark.notifies() {
         return None;
     }
-    let group = group_at(sheet, column)?;
-    let (told, before) = last_told(sheet, column, mark, group)?;
+    let group = group_at(schedule, column)?;
+    let (told, before) = last_told(schedule, marks, column, mark, group)?;
     if has_same_alerts(group, before) && mark.moment? < told.moment?.capped_add(group.repeat) {
         Some(told.line)
     } else {
@@ -23,15 +35,16 @@ pub fn repeated_line(sheet: &Sheet<'_>, column: usize) -> Option<u64> {
 
 /// The last step before one by which its group was notified, and the group as it was then.
 fn last_told<'a>(
-    sheet: &Sheet<'a>,
+    schedule: &'a Schedule,
+    marks: &'a [Mark],
     column: usize,
     mark: &Mark,
     group: &GroupLine,
 ) -> Option<(&'a Mark, &'a GroupLine)> {
     let mut last = None;
-    for (place, earlier) in sheet.scene.marks.iter().enumerate() {
+    for (place, earlier) in marks.iter().enumerate() {
         if place < column && tells(earlier, mark) {
-            match group_at(sheet, place) {
+            match group_at(schedule, place) {
                 Some(told) if is_one_group(told, group) => last = Some((earlier, told)),
                 _ => {}
             }
@@ -60,8 +73,8 @@ fn has_same_alerts(one: &GroupLine, other: &GroupLine) -> bool {
 }
 
 /// The group that a step decides on or notifies.
-fn group_at<'a>(sheet: &Sheet<'a>, column: usize) -> Option<&'a GroupLine> {
-    let (Line::Step(step), _) = sheet.schedule.lines.as_slice().get(column)? else {
+fn group_at(schedule: &Schedule, column: usize) -> Option<&GroupLine> {
+    let (Line::Step(step), _) = schedule.lines.as_slice().get(column)? else {
         return None;
     };
     match step.action() {

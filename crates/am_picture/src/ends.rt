@@ -4,10 +4,11 @@ use crate::lanes::{MOST_OF_NAME, runs_at_end};
 use crate::layout::{edge_of, end_of};
 use crate::sheet::{Sheet, append_text, append_title};
 use crate::times::append_time;
+use am_cluster::Cluster;
 use am_instance::{Instance, Place};
 use am_report::append_view;
 use am_version_order::Moment;
-use std::alloc::AllocError;
+use std::alloc::{AllocError, Global};
 
 /// How far to the right what it shows stands.
 const SPOT: i32 = 192;
@@ -22,20 +23,24 @@ const MOST_LINES: usize = 3;
 const MOST_OF_LINE: usize = 64;
 
 /// Appends below the steps, for each member, whether it was calm, and what it shows at the latest moment of all.
-pub fn append_ends(sheet: &Sheet<'_>, out: &mut String) -> Result<(), AllocError> {
-    let now = latest_moment(sheet);
+pub fn append_ends(
+    sheet: &Sheet<'_>,
+    cluster: &Cluster,
+    out: &mut String,
+) -> Result<(), AllocError> {
+    let now = latest_moment(cluster, sheet.names.len());
     append_end_head(sheet, out, now)?;
-    for place in 0..sheet.names().len() {
-        append_end(sheet, out, place as Place, now)?;
+    for place in 0..sheet.names.len() {
+        append_end(sheet, cluster, out, place as Place, now)?;
     }
     Ok(())
 }
 
 /// The latest moment at which a member stands.
-fn latest_moment(sheet: &Sheet<'_>) -> Moment {
+fn latest_moment(cluster: &Cluster, members: usize) -> Moment {
     let mut latest = Moment::LEAST;
-    for place in 0..sheet.names().len() {
-        if let Some(instance) = sheet.cluster.instance(place as Place) {
+    for place in 0..members {
+        if let Some(instance) = cluster.instance(place as Place) {
             latest = latest.max(instance.last());
         }
     }
@@ -59,16 +64,25 @@ fn append_end_head(sheet: &Sheet<'_>, out: &mut String, now: Moment) -> Result<(
 /// Appends what is told of a member.
 fn append_end(
     sheet: &Sheet<'_>,
+    cluster: &Cluster,
     out: &mut String,
     place: Place,
     now: Moment,
 ) -> Result<(), AllocError> {
     let y = end_of(sheet.scene.marks.len(), place);
     write!(out, "<g transform=\"translate(8 {y})\">")?;
-    match sheet.cluster.instance(place) {
-        Some(instance) if runs_at_end(sheet, place) => append_shown(sheet, out, instance, now)?,
+    match cluster.instance(place) {
+        Some(instance) if runs_at_end(sheet, place) => {
+            append_shown(sheet.alloc, out, instance, now)?;
+        }
         _ => write!(out, "<text class=\"dim\" x=\"{SPOT}\">stopped</text>")?,
     }
+    append_head(sheet, out, place)?;
+    out.push_str("</g>\n")
+}
+
+/// Appends the name of a member, and whether it was calm.
+fn append_head(sheet: &Sheet<'_>, out: &mut String, place: Place) -> Result<(), AllocError> {
     append_text(
         sheet.alloc,
         out,
@@ -78,13 +92,12 @@ fn append_end(
         sheet.name(place),
         MOST_OF_NAME,
     )?;
-    append_calm(sheet, out, place)?;
-    out.push_str("</g>\n")
+    append_calm(out, sheet.fault(place))
 }
 
-/// Appends whether a member was calm.
-fn append_calm(sheet: &Sheet<'_>, out: &mut String, place: Place) -> Result<(), AllocError> {
-    match sheet.cluster.calm(place).first_fault {
+/// Appends whether a member was calm, by the line of the first fault.
+fn append_calm(out: &mut String, fault: Option<u64>) -> Result<(), AllocError> {
+    match fault {
         Some(line) => write!(
             out,
             "<text class=\"bad\" y=\"{LINE}\">uncalm, line {line}</text>"
@@ -95,20 +108,20 @@ fn append_calm(sheet: &Sheet<'_>, out: &mut String, place: Place) -> Result<(), 
 
 /// Appends what a member shows, and the whole of it as a title.
 fn append_shown(
-    sheet: &Sheet<'_>,
+    alloc: Global,
     out: &mut String,
     instance: &Instance,
     now: Moment,
 ) -> Result<(), AllocError> {
-    let mut view = String::new(sheet.alloc);
+    let mut view = String::new(alloc);
     append_view(&mut view, instance.silences(), instance.log(), None, now)?;
-    append_title(sheet.alloc, out, view.as_str())?;
-    append_lines(sheet, out, view.as_str())
+    append_title(alloc, out, view.as_str())?;
+    append_lines(alloc, out, view.as_str())
 }
 
 /// Appends the first lines of a view.
-fn append_lines(sheet: &Sheet<'_>, out: &mut String, view: &str) -> Result<(), AllocError> {
-    let lines: Vec<&str> = view.lines().collect(sheet.alloc)?;
+fn append_lines(alloc: Global, out: &mut String, view: &str) -> Result<(), AllocError> {
+    let lines: Vec<&str> = view.lines().collect(alloc)?;
     if lines.is_empty() {
         return write!(out, "<text class=\"dim\" x=\"{SPOT}\">shows nothing</text>");
     }
@@ -116,7 +129,7 @@ fn append_lines(sheet: &Sheet<'_>, out: &mut String, view: &str) -> Result<(), A
     let fits = lines.len() <= MOST_LINES;
     let shown = if fits { lines.len() } else { MOST_LINES - 1 };
     for line in &lines[..shown] {
-        append_text(sheet.alloc, out, "end", SPOT, y, line, MOST_OF_LINE)?;
+        append_text(alloc, out, "end", SPOT, y, line, MOST_OF_LINE)?;
         y = y.saturating_add(LINE);
     }
     if fits {

@@ -5,7 +5,7 @@ use am_schedule::{FaultKind, ScheduleError};
 use thiserror::Error;
 
 /// Why there is no picture of a schedule: the first of these that applies.
-#[derive(Clone, Copy, Debug, PartialEq, Eq, Error)]
+#[derive(Clone, Copy, Debug, Error)]
 pub enum PictureError {
     /// A line of the schedule is at fault.
     #[error("{0}")]

@@ -11,7 +11,7 @@ pub const MOST_OF_NAME: usize = 8;
 
 /// Appends a lane for each member, with its name.
 pub fn append_lanes(sheet: &Sheet<'_>, out: &mut String) -> Result<(), AllocError> {
-    for (place, name) in sheet.names().iter().enumerate() {
+    for (place, name) in sheet.names.iter().enumerate() {
         append_lane(sheet, out, place as Place)?;
         append_name(sheet, out, place as Place, name.as_str())?;
     }
@@ -111,7 +111,7 @@ fn open_along(
 
 /// The line of the first fault of a member's calm, and where it stands.
 fn first_fault(sheet: &Sheet<'_>, place: Place) -> Option<(u64, u64)> {
-    let line = sheet.cluster.calm(place).first_fault?;
+    let line = sheet.fault(place)?;
     for (column, mark) in sheet.scene.marks.iter().enumerate() {
         if mark.line == line {
             return Some((line, middle_of(column)));
@@ -122,7 +122,7 @@ fn first_fault(sheet: &Sheet<'_>, place: Place) -> Option<(u64, u64)> {
 
 /// Appends the number of the line of each member's first fault, beside where it stands.
 pub fn append_fault_lines(sheet: &Sheet<'_>, out: &mut String) -> Result<(), AllocError> {
-    for place in 0..sheet.names().len() {
+    for place in 0..sheet.names.len() {
         if let Some((line, y)) = first_fault(sheet, place as Place) {
             let x = lane_of(place as Place);
             writeln!(

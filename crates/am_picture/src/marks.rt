@@ -1,6 +1,5 @@
 //! What the lines of a schedule did, in a picture.
 
-use crate::again::repeated_line;
 use crate::escape::{append_escaped, append_shortened};
 use crate::lanes::MOST_OF_NAME;
 use crate::layout::{lane_of, loss_of, middle_of, words_of};
@@ -43,7 +42,7 @@ fn append_mark(
     column: usize,
 ) -> Result<(), AllocError> {
     let (x, y) = (lane_of_mark(sheet, mark), middle_of(column));
-    let repeated = repeated_line(sheet, column);
+    let repeated = sheet.repeated_by(column);
     let class = match repeated {
         _ if mark.is_refused() => "mark no",
         Some(_) => "mark again",
@@ -69,7 +68,7 @@ fn append_words(
     mark: &Mark,
     x: u64,
 ) -> Result<(), AllocError> {
-    let x = words_of(sheet.names().len()).saturating_sub(x);
+    let x = words_of(sheet.names.len()).saturating_sub(x);
     write!(out, "<text x=\"{x}\" y=\"5\">")?;
     if let Some(place) = mark.place {
         append_name(sheet, out, place)?;
@@ -92,7 +91,7 @@ fn lane_of_mark(sheet: &Sheet<'_>, mark: &Mark) -> u64 {
     match (sheet.scene.frame_of(mark), mark.verb) {
         (Some(sending), Verb::Lose) => loss_of(sending.sender, sending.addressee),
         (Some(sending), _) => lane_of(sending.addressee),
-        (None, _) => words_of(sheet.names().len()),
+        (None, _) => words_of(sheet.names.len()),
     }
 }
 
@@ -181,7 +180,7 @@ fn append_settle(
     let stroke = Stroke {
         x1: lane_of(0),
         y1: y,
-        x2: lane_of(sheet.names().len().saturating_sub(1) as Place),
+        x2: lane_of(sheet.names.len().saturating_sub(1) as Place),
         y2: y,
     };
     open_stroke(out, "settle", &stroke)?;

@@ -1,13 +1,16 @@
 //! Who looks on while a schedule is played, and draws it at the end.
 
+use crate::again::repeated_lines;
 use crate::mark::mark_of;
 use crate::picture::append_picture;
 use crate::scene::Scene;
 use crate::sheet::Sheet;
 use crate::times::first_of_clock;
 use am_cluster::Cluster;
+use am_instance::Place;
 use am_replay::{Answer, Onlooker};
 use am_schedule::{Line, Schedule};
+use am_wire::Text;
 use std::alloc::{AllocError, Global};
 use std::str;
 
@@ -64,17 +67,42 @@ impl<O: Onlooker> Onlooker for Painter<'_, O> {
     }
 
     fn saw_end(&mut self, cluster: &Cluster) -> Result<(), AllocError> {
+        let names = names_of(cluster);
+        let faults = faults_of(self.alloc, cluster, names.len())?;
+        let repeated = repeated_lines(self.alloc, self.schedule, &self.scene.marks)?;
         let lines = lines_of(self.alloc, self.text)?;
         let sheet = Sheet {
             alloc: self.alloc,
-            schedule: self.schedule,
-            cluster,
             scene: &self.scene,
+            names,
+            faults: &faults,
+            repeated: &repeated,
             lines: &lines,
             first: first_of_clock(&self.scene),
         };
-        append_picture(&sheet, &mut self.picture)
+        append_picture(&sheet, cluster, &mut self.picture)
     }
+}
+
+/// The names of the members of a cluster, by their places.
+fn names_of(cluster: &Cluster) -> &[Text] {
+    match cluster.instance(0) {
+        Some(instance) => instance.config().members(),
+        None => &[],
+    }
+}
+
+/// The line of the first fault of each member's calm.
+fn faults_of(
+    alloc: Global,
+    cluster: &Cluster,
+    members: usize,
+) -> Result<Vec<Option<u64>>, AllocError> {
+    let mut faults = Vec::with_capacity(alloc, members)?;
+    for place in 0..members {
+        faults.push(cluster.calm(place as Place).first_fault)?;
+    }
+    Ok(faults)
 }
 
 /// The lines of a text that is UTF-8.

@@ -11,6 +11,7 @@ use crate::layout::{MOST_STEPS, height_of, lane_of, middle_of, width_of, words_o
 use crate::marks::{append_marks, append_settles};
 use crate::painter::Painter;
 use crate::sheet::{Sheet, Stroke, open_stroke};
+use am_cluster::Cluster;
 use am_replay::{Onlooker, play};
 use am_schedule::parse;
 use am_silence_json::moments::write_moment;
@@ -52,7 +53,18 @@ pub fn picture_of<O: Onlooker>(
 }
 
 /// Appends the whole picture.
-pub fn append_picture(sheet: &Sheet<'_>, out: &mut String) -> Result<(), AllocError> {
+pub fn append_picture(
+    sheet: &Sheet<'_>,
+    cluster: &Cluster,
+    out: &mut String,
+) -> Result<(), AllocError> {
+    append_steps(sheet, out)?;
+    append_ends(sheet, cluster, out)?;
+    append_back(sheet, out)
+}
+
+/// Appends what comes before the end.
+fn append_steps(sheet: &Sheet<'_>, out: &mut String) -> Result<(), AllocError> {
     append_front(sheet, out)?;
     append_first(sheet, out)?;
     append_grid(sheet, out)?;
@@ -60,14 +72,12 @@ pub fn append_picture(sheet: &Sheet<'_>, out: &mut String) -> Result<(), AllocEr
     append_settles(sheet, out)?;
     append_frames(sheet, out)?;
     append_marks(sheet, out)?;
-    append_fault_lines(sheet, out)?;
-    append_ends(sheet, out)?;
-    append_back(sheet, out)
+    append_fault_lines(sheet, out)
 }
 
 /// Appends what comes before all marks.
 fn append_front(sheet: &Sheet<'_>, out: &mut String) -> Result<(), AllocError> {
-    let (steps, members) = (sheet.scene.marks.len(), sheet.names().len());
+    let (steps, members) = (sheet.scene.marks.len(), sheet.names.len());
     let (width, height) = (width_of(members), height_of(steps, members));
     writeln!(
         out,
@@ -99,7 +109,7 @@ fn append_first(sheet: &Sheet<'_>, out: &mut String) -> Result<(), AllocError> {
 /// Appends a faint line for each step, up to its words.
 fn append_grid(sheet: &Sheet<'_>, out: &mut String) -> Result<(), AllocError> {
     for column in 0..sheet.scene.marks.len() {
-        append_grid_line(out, column, sheet.names().len())?;
+        append_grid_line(out, column, sheet.names.len())?;
     }
     Ok(())
 }
@@ -118,7 +128,7 @@ fn append_grid_line(out: &mut String, column: usize, members: usize) -> Result<(
 
 /// Appends what comes behind all marks.
 fn append_back(sheet: &Sheet<'_>, out: &mut String) -> Result<(), AllocError> {
-    let y = height_of(sheet.scene.marks.len(), sheet.names().len());
+    let y = height_of(sheet.scene.marks.len(), sheet.names.len());
     writeln!(
         out,
         "<g transform=\"translate(8 {y})\"><text class=\"dim\" y=\"-32\">{FRAMES}</text><text class=\"dim\" y=\"-10\">{LANES}</text></g>\n</svg>"

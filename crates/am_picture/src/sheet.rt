@@ -2,40 +2,46 @@
 
 use crate::escape::{append_escaped, append_shortened};
 use crate::scene::Scene;
-use am_cluster::Cluster;
 use am_instance::Place;
-use am_schedule::Schedule;
 use am_version_order::Moment;
 use am_wire::Text;
 use std::alloc::{AllocError, Global};
 
-/// What a picture is drawn of: the schedule, the cluster as it stands at the end, what was played, the lines of the text, and
-/// the first moment of a clock.
+/// What a picture is drawn of, but for what the members show at the end.
 #[derive(Clone, Copy)]
 pub struct Sheet<'a> {
     pub alloc: Global,
-    pub schedule: &'a Schedule,
-    pub cluster: &'a Cluster,
+    /// What was played.
     pub scene: &'a Scene,
+    /// The names of the members, by their places.
+    pub names: &'a [Text],
+    /// The line of the first fault of each member's calm.
+    pub faults: &'a [Option<u64>],
+    /// The line that each step repeats.
+    pub repeated: &'a [Option<u64>],
+    /// The lines of the text.
     pub lines: &'a [&'a str],
+    /// The first moment of a clock.
     pub first: Option<Moment>,
 }
 
 impl<'a> Sheet<'a> {
-    /// The names of the members, by their places.
-    pub fn names(&self) -> &'a [Text] {
-        match self.cluster.instance(0) {
-            Some(instance) => instance.config().members(),
-            None => &[],
-        }
-    }
-
     /// The name of the member at a place.
     pub fn name(&self, place: Place) -> &'a str {
-        match self.names().get(place as usize) {
+        match self.names.get(place as usize) {
             Some(name) => name.as_str(),
             None => "",
         }
+    }
+
+    /// The line of the first fault of a member's calm.
+    pub fn fault(&self, place: Place) -> Option<u64> {
+        *self.faults.get(place as usize)?
+    }
+
+    /// The line that a step repeats.
+    pub fn repeated_by(&self, column: usize) -> Option<u64> {
+        *self.repeated.get(column)?
     }
 
     /// The text of the line of a number, counted from 1.
