@@ -4,7 +4,7 @@ use crate::host::{Host, Streams};
 use crate::live::ask_all;
 use crate::moment::{moment_of, warn};
 use crate::replica::told_by;
-use crate::source::{Keys, Origin, ReadFault, Source, open_row, report_read};
+use crate::source::{Keys, Origin, ReadFault, Source, add, open_row, report_read};
 use am_faults::{Fault, report, status};
 use am_jobs::{DiffJob, Form, PullJob, SourceWord, StateName};
 use am_merge::Held;
@@ -18,7 +18,7 @@ use am_snapshot::SnapshotError;
 use am_version_order::{Moment, Version};
 use am_wire::Message;
 use std::alloc::{AllocError, Global};
-use std::io::{BufReader, Read, Stdin, Write};
+use std::io::{BufReader, Read, Stdin, Stdout, Write};
 use std::mem;
 
 /// A source that is opened.
@@ -74,9 +74,8 @@ fn compare_live<'a, R: Host>(
     job: &DiffJob<'a>,
     now: Moment,
 ) -> Result<DiffOutcome, ReadFault<'a>> {
-    let Streams { input, mut output } = streams;
-    let replicas = ask_all(rt, input, job)?;
-    Ok(compare_held(rt.alloc(), job, now, &replicas, &mut output)?)
+    let replicas = ask_all(rt, streams.input, job)?;
+    compare_all(rt.alloc(), job, now, replicas, streams.output)
 }
 
 /// Writes all differences of rows to standard output.
@@ -116,15 +115,13 @@ fn open_all<'a, R: Host>(
     for source in &job.sources {
         let name = source.name;
         let reader = open_source(rt, input, job, source)?;
-        if inputs.push(Input { name, reader }).is_err() {
-            return Err(ReadFault::Source(name, Fault::Memory(AllocError)));
-        }
+        add(&mut inputs, name, Input { name, reader })?;
     }
     Ok(inputs)
 }
 
 /// Opens the row of a source: what a replica tells, a file, or standard input.
-fn open_source<'a, R: Host>(
+pub fn open_source<'a, R: Host>(
     rt: &R,
     input: Stdin,
     job: &DiffJob<'a>,
@@ -140,7 +137,7 @@ fn open_source<'a, R: Host>(
 }
 
 /// What a replica is asked, where the source is one that is asked by gossip.
-pub fn pull_of<'a>(job: &DiffJob<'a>, source: &SourceWord<'a>) -> Option<PullJob<'a>> {
+fn pull_of<'a>(job: &DiffJob<'a>, source: &SourceWord<'a>) -> Option<PullJob<'a>> {
     let replica = source.replica()?;
     Some(PullJob {
         state: job.state,
@@ -150,18 +147,28 @@ pub fn pull_of<'a>(job: &DiffJob<'a>, source: &SourceWord<'a>) -> Option<PullJob
     })
 }
 
-/// Writes all differences of files, each joined with the logs beside it, to standard output. What was read is forgotten: the
-/// process ends then, and its memory with it.
+/// Writes all differences of files, each joined with the logs beside it, to standard output.
 fn compare_logged<'a, R: Host, V: ReportLine + InJson + Message>(
     rt: &R,
     streams: Streams,
     job: &DiffJob<'a>,
     now: Moment,
 ) -> Result<DiffOutcome, ReadFault<'a>> {
-    let Streams { input, mut output } = streams;
-    let opened = open_logged(rt, input, job)?;
+    let opened = open_logged(rt, streams.input, job)?;
     let replicas: Vec<Replica<'a, V>> = read_logged(rt.alloc(), opened)?;
-    let outcome = compare_held(rt.alloc(), job, now, &replicas, &mut output);
+    compare_all(rt.alloc(), job, now, replicas, streams.output)
+}
+
+/// Writes all differences of what sources hold to standard output. What was read is forgotten: the process ends then, and its
+/// memory with it.
+fn compare_all<'a, V: ReportLine + InJson>(
+    alloc: Global,
+    job: &DiffJob<'_>,
+    now: Moment,
+    replicas: Vec<Replica<'_, V>>,
+    mut output: Stdout,
+) -> Result<DiffOutcome, ReadFault<'a>> {
+    let outcome = compare_held(alloc, job, now, &replicas, &mut output);
     mem::forget(replicas);
     Ok(outcome?)
 }
@@ -176,9 +183,7 @@ fn open_logged<'a, R: Host>(
     for source in &job.sources {
         let name = source.name;
         let source = open_with_logs(rt, input, job, source)?;
-        if opened.push(source).is_err() {
-            return Err(ReadFault::Source(name, Fault::Memory(AllocError)));
-        }
+        add(&mut opened, name, source)?;
     }
     Ok(opened)
 }
@@ -208,9 +213,7 @@ fn read_logged<'a, V: Version + Message>(
     for source in opened {
         let name = source.name();
         let held: Held<V> = source.read(alloc, Keys::Repeated)?;
-        if replicas.push(Replica::new(name, held)).is_err() {
-            return Err(ReadFault::Source(name, Fault::Memory(AllocError)));
-        }
+        add(&mut replicas, name, Replica::new(name, held))?;
     }
     Ok(replicas)
 }

@@ -1,11 +1,10 @@
 //! What sources show, be they servers or files.
 
-use crate::diff::pull_of;
+use crate::diff::open_source;
 use crate::host::Host;
-use crate::replica::told_by;
-use crate::source::{Keys, ReadFault, Source, open_row};
+use crate::source::{Keys, ReadFault, Source, add};
 use am_faults::Fault;
-use am_jobs::{DiffJob, PullJob, SourceWord};
+use am_jobs::{DiffJob, SourceWord};
 use am_merge::Held;
 use am_peers::{Server, body_of, fetch, held_of, shown_of_row};
 use am_report::Replica;
@@ -26,9 +25,7 @@ pub fn ask_all<'a, R: Host>(
     for source in &job.sources {
         let name = source.name;
         let held = shown_by(rt, input, job, source)?;
-        if replicas.push(Replica::new(name, held)).is_err() {
-            return Err(ReadFault::Source(name, Fault::Memory(AllocError)));
-        }
+        add(&mut replicas, name, Replica::new(name, held))?;
     }
     Ok(replicas)
 }
@@ -40,35 +37,29 @@ fn shown_by<'a, R: Host>(
     job: &DiffJob<'a>,
     source: &SourceWord<'a>,
 ) -> Result<Held<MeshSilence>, ReadFault<'a>> {
-    if let Some(pull) = pull_of(job, source) {
-        return shown_by_replica(rt, &pull);
+    if let Some(server) = source.server() {
+        return match shown_by_server(rt, &server, job.time_limit) {
+            Ok(held) => Ok(held),
+            Err(fault) => Err(ReadFault::Source(source.name, fault)),
+        };
     }
-    let shown = match source.server() {
-        Some(server) => shown_by_server(rt, &server, job.time_limit),
-        None if job.has_logs => return shown_by_logged(rt, input, source),
-        None => shown_by_file(rt, input, source.file),
-    };
-    match shown {
-        Ok(held) => Ok(held),
-        Err(fault) => Err(ReadFault::Source(source.name, fault)),
+    if job.has_logs && source.replica().is_none() {
+        return shown_by_logged(rt, input, source);
     }
+    shown_by_row(rt, input, job, source)
 }
 
-/// What a file shows.
-fn shown_by_file<R: Host>(rt: &R, input: Stdin, file: &str) -> Result<Held<MeshSilence>, Fault> {
-    let mut reader = open_row(rt, input, file)?;
-    Ok(shown_of_row(rt.alloc(), &mut reader)?)
-}
-
-/// What a replica shows that is asked by gossip.
-fn shown_by_replica<'a, R: Host>(
+/// What the row of a source shows.
+fn shown_by_row<'a, R: Host>(
     rt: &R,
-    pull: &PullJob<'a>,
+    input: Stdin,
+    job: &DiffJob<'a>,
+    source: &SourceWord<'a>,
 ) -> Result<Held<MeshSilence>, ReadFault<'a>> {
-    let mut reader = told_by(rt, pull)?;
+    let mut reader = open_source(rt, input, job, source)?;
     match shown_of_row(rt.alloc(), &mut reader) {
         Ok(held) => Ok(held),
-        Err(error) => Err(ReadFault::Source(pull.name, Fault::Snapshot(error))),
+        Err(error) => Err(ReadFault::Source(source.name, Fault::Snapshot(error))),
     }
 }
 

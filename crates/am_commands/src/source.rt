@@ -14,7 +14,7 @@ use am_report::Word;
 use am_snapshot::{SnapshotError, load, take_row};
 use am_version_order::Version;
 use am_wire::{MOST_MESSAGE_BYTES, Message};
-use std::alloc::Global;
+use std::alloc::{AllocError, Global};
 use std::io::{self, BufReader, ErrorKind, Read, Stdin};
 
 /// Where the row of a source stands.
@@ -91,6 +91,14 @@ pub fn report_read<R: Host>(rt: &R, fault: &ReadFault<'_>) -> u8
             );
             status::REFUSED
         }
+    }
+}
+
+/// Adds what a source has, of this name, to what those before it have.
+pub fn add<'a, T: Drop>(all: &mut Vec<T>, name: &'a str, more: T) -> Result<(), ReadFault<'a>> {
+    match all.push(more) {
+        Ok(()) => Ok(()),
+        Err(_) => Err(ReadFault::Source(name, Fault::Memory(AllocError))),
     }
 }
 
