@@ -43,6 +43,14 @@ pub enum Came {
     Fault(usize, BesideFault),
 }
 
+/// The replica at a place.
+fn replica_at(replicas: &mut [Option<Replica>], place: usize) -> Option<&mut Replica> {
+    match replicas.get_mut(place) {
+        Some(Some(replica)) => Some(replica),
+        _ => None,
+    }
+}
+
 impl Replicas {
     /// The replicas at the places that have an address, which are asked at once, and then every so often.
     ///
@@ -72,14 +80,6 @@ impl Replicas {
         })
     }
 
-    /// The replica at a place.
-    fn at(&mut self, place: usize) -> Option<&mut Replica> {
-        match self.replicas.get_mut(place) {
-            Some(Some(replica)) => Some(replica),
-            _ => None,
-        }
-    }
-
     /// Whether a replica is at a place.
     pub fn is_at(&self, place: usize) -> bool {
         matches!(self.replicas.get(place), Some(Some(_)))
@@ -87,19 +87,15 @@ impl Replicas {
 
     /// Has each replica be asked, where that is due.
     pub fn want_due(&mut self, now: Instant) {
-        if self.is_empty || self.is_early(now) {
+        let is_early = match self.next {
+            Some(next) => now < next,
+            None => false,
+        };
+        if self.is_empty || is_early {
             return;
         }
         self.next = now.checked_add(self.every);
         self.want_all();
-    }
-
-    /// Whether the time to ask hasn't come again.
-    fn is_early(&self, now: Instant) -> bool {
-        match self.next {
-            Some(next) => now < next,
-            None => false,
-        }
     }
 
     /// Has each replica be asked.
@@ -129,10 +125,9 @@ impl Replicas {
 
     /// Has the replica at a place be told what frames bring.
     pub fn bring(&mut self, place: usize, frames: &[Frame]) {
-        let alloc = self.alloc;
-        if let Some(replica) = self.at(place) {
+        if let Some(replica) = replica_at(&mut self.replicas, place) {
             for frame in frames {
-                replica.bring(alloc, frame);
+                replica.bring(self.alloc, frame);
             }
         }
     }
@@ -144,9 +139,8 @@ impl Replicas {
     /// [`AllocError`] where memory runs out.
     pub fn question(&mut self, now: Moment) -> Result<Option<(usize, Vec<u8>)>, AllocError> {
         for place in 0..self.replicas.len() {
-            let alloc = self.alloc;
-            if let Some(replica) = self.at(place)
-                && let Some(bytes) = replica.question(alloc, now)?
+            if let Some(replica) = replica_at(&mut self.replicas, place)
+                && let Some(bytes) = replica.question(self.alloc, now)?
             {
                 return Ok(Some((place, bytes)));
             }
@@ -156,14 +150,14 @@ impl Replicas {
 
     /// The replica at a place answered with these bytes.
     pub fn answered(&mut self, place: usize, answer: Vec<u8>) {
-        if let Some(replica) = self.at(place) {
+        if let Some(replica) = replica_at(&mut self.replicas, place) {
             replica.answered(answer);
         }
     }
 
     /// What was asked of the replica at a place, or told, is lost.
     pub fn lost(&mut self, place: usize) {
-        if let Some(replica) = self.at(place) {
+        if let Some(replica) = replica_at(&mut self.replicas, place) {
             replica.lost();
         }
     }
@@ -178,11 +172,10 @@ impl Replicas {
         let Some((place, work)) = self.next_work() else {
             return Came::Nothing;
         };
-        let alloc = self.alloc;
-        let Some(replica) = self.at(place) else {
+        let Some(replica) = replica_at(&mut self.replicas, place) else {
             return Came::Nothing;
         };
-        match work.go_on(alloc, silences, entries, &mut replica.news, now) {
+        match work.go_on(self.alloc, silences, entries, &mut replica.news, now) {
             Ok(stretch) => self.keep(place, stretch),
             Err(fault) => Came::Fault(place, fault),
         }
@@ -194,7 +187,7 @@ impl Replicas {
             return Some(begun);
         }
         let place = self.answered_place()?;
-        let answer = self.at(place)?.take_answer()?;
+        let answer = replica_at(&mut self.replicas, place)?.take_answer()?;
         Some((place, Work::new(self.alloc, answer)))
     }
 

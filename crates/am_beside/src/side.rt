@@ -76,17 +76,9 @@ where
         matches!(self.stage, Stage::Done)
     }
 
-    /// The row of what the replica is given.
-    pub fn into_given(self) -> Vec<u8> {
-        let Side {
-            key: _,
-            rows: _,
-            read: _,
-            held: _,
-            stage: _,
-            given,
-        } = self;
-        given
+    /// The row of what the replica is given, which is gathered from nothing again.
+    pub fn take_given(&mut self, alloc: Global) -> (StateKey, Vec<u8>) {
+        (self.key, mem::replace(&mut self.given, Vec::new(alloc)))
     }
 
     /// Does a stretch more of the state whose row this is, beside a member that holds these, and gives what comes in.

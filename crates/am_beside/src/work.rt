@@ -101,6 +101,28 @@ fn goes_on(work: Work) -> Stretch {
     }
 }
 
+/// Looks at a stretch of the state whose row this is, and gives a frame that brings what comes in. What the replica is given
+/// goes to its news in the end.
+fn look_at<V: Version + Message>(
+    alloc: Global,
+    side: &mut Side<V>,
+    row: &[u8],
+    own: &Held<V>,
+    news: &mut News,
+    now: Moment,
+) -> Result<Option<Frame>, BesideFault>
+where
+    V::Key: Drop,
+{
+    let part = side.go_on(alloc, row, own, now)?;
+    let frame = some_frame(alloc, part)?;
+    if side.is_done() {
+        let (key, given) = side.take_given(alloc);
+        news.give(key, given)?;
+    }
+    Ok(frame)
+}
+
 /// Looks at a stretch of the silences.
 fn go_on_silences(
     alloc: Global,
@@ -112,19 +134,15 @@ fn go_on_silences(
 ) -> Result<Stretch, BesideFault> {
     let mut side = side;
     let row = told_rows(alloc, &message)?.silences;
-    let part = side.go_on(alloc, row, own, now)?;
-    let frame = some_frame(alloc, part)?;
-    if !side.is_done() {
-        return Ok(Stretch {
-            frame,
-            left: Some(Work::Silences(message, side)),
-        });
-    }
-    news.give(StateKey::Sil, side.into_given())?;
-    let log = Side::new(alloc, StateKey::Nfl);
+    let frame = look_at(alloc, &mut side, row, own, news, now)?;
+    let left = if side.is_done() {
+        Work::Entries(message, Side::new(alloc, StateKey::Nfl))
+    } else {
+        Work::Silences(message, side)
+    };
     Ok(Stretch {
         frame,
-        left: Some(Work::Entries(message, log)),
+        left: Some(left),
     })
 }
 
@@ -139,14 +157,11 @@ fn go_on_entries(
 ) -> Result<Stretch, BesideFault> {
     let mut side = side;
     let row = told_rows(alloc, &message)?.entries;
-    let part = side.go_on(alloc, row, own, now)?;
-    let frame = some_frame(alloc, part)?;
-    if !side.is_done() {
-        return Ok(Stretch {
-            frame,
-            left: Some(Work::Entries(message, side)),
-        });
-    }
-    news.give(StateKey::Nfl, side.into_given())?;
-    Ok(Stretch { frame, left: None })
+    let frame = look_at(alloc, &mut side, row, own, news, now)?;
+    let left = if side.is_done() {
+        None
+    } else {
+        Some(Work::Entries(message, side))
+    };
+    Ok(Stretch { frame, left })
 }
