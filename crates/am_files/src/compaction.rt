@@ -166,7 +166,7 @@ fn go_on<K: Drop, R: Files<File = File> + AllocGlobal>(
 ) -> Result<Option<Compaction<K>>, FileFault> {
     let next = match stage {
         Stage::GiveBack => {
-            if file.give_back() {
+            if file.spent.give_back() {
                 Stage::GiveBack
             } else {
                 Stage::Make
@@ -181,7 +181,7 @@ fn go_on<K: Drop, R: Files<File = File> + AllocGlobal>(
         Stage::Rename => {
             let replaced = opened_to_go(rt, file.path());
             renamed(rt, file.path())?;
-            file.is_written(written);
+            file.size = written;
             Stage::Settle(replaced)
         }
         Stage::Settle(replaced) => {

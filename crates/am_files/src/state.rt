@@ -33,9 +33,9 @@ pub struct StateFile {
     /// How many bytes of the logs were being written when the last process ended.
     torn: u64,
     /// How many bytes it has.
-    size: u64,
+    pub(crate) size: u64,
     /// The files that it replaced, and the old logs.
-    spent: SpentFiles,
+    pub(crate) spent: SpentFiles,
 }
 
 /// A state as it is opened.
@@ -173,23 +173,13 @@ impl StateFile {
             return Err(FileFault::Snapshot(SnapshotError::TooLarge));
         };
         let old = beside(rt.alloc(), self.path.as_str(), OLD_LOG)?;
-        if !is_there(rt, old.as_str())? {
-            self.rotate(rt)?;
+        if is_there(rt, old.as_str())? {
+            return Ok(bytes);
+        }
+        if let Some(log) = &mut self.log {
+            log.rotate(rt, self.path.as_str())?;
         }
         Ok(bytes)
-    }
-
-    /// Begins a new log, where one is kept.
-    fn rotate<R: Files<File = File> + AllocGlobal>(&mut self, rt: &R) -> Result<(), FileFault> {
-        match &mut self.log {
-            Some(log) => log.rotate(rt, self.path.as_str()),
-            None => Ok(()),
-        }
-    }
-
-    /// The file has so many bytes from now on.
-    pub(crate) fn is_written(&mut self, bytes: u64) {
-        self.size = bytes;
     }
 
     /// Ends the old log, and answers it where it is open. All it had is in the file.
@@ -214,11 +204,6 @@ impl StateFile {
         sync_directory(rt, directory_of(self.path.as_str()))?;
         self.spent.keep(spent);
         Ok(())
-    }
-
-    /// Gives back a piece of what has lost its name. Answers whether more is left.
-    pub(crate) fn give_back(&mut self) -> bool {
-        self.spent.give_back()
     }
 
     /// Removes what was written of the file anew.
