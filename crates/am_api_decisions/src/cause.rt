@@ -8,7 +8,7 @@ use am_decision_json::MessageKey;
 use am_http::Refusal;
 
 /// What a path under `/v1/` names.
-#[derive(Clone, Copy, Debug, PartialEq, Eq)]
+#[derive(Clone, Copy)]
 pub enum Resource {
     /// `/v1/decide`
     Decisions,
@@ -19,7 +19,7 @@ pub enum Resource {
 }
 
 /// A word of the query that may be at fault.
-#[derive(Clone, Copy, Debug, PartialEq, Eq)]
+#[derive(Clone, Copy)]
 pub enum Word {
     Repeat,
     Resolved,
@@ -28,7 +28,7 @@ pub enum Word {
 }
 
 /// What is at fault in a request before a step is made, in the order in which it is tested.
-#[derive(Clone, Copy, Debug, PartialEq, Eq)]
+#[derive(Clone, Copy)]
 pub enum Cause {
     /// The path names nothing.
     NoSuchPath,

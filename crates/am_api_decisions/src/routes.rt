@@ -9,7 +9,7 @@ use crate::cause::{Cause, Resource};
 use am_http::Request;
 
 /// A call on decisions.
-#[derive(Clone, Copy, Debug, PartialEq, Eq)]
+#[derive(Clone, Copy)]
 pub enum Call<'a> {
     /// Whether a group is to be notified, on the terms of the query, which is not decoded.
     Decide { query: &'a str },
