@@ -26,7 +26,6 @@ use std::time::Instant;
 const STRETCH: usize = 512;
 
 /// A connection, and what is to be done for it.
-#[derive(Drop)]
 pub struct Conversation {
     /// What stands before the session.
     pub gate: Gate,
@@ -37,6 +36,19 @@ pub struct Conversation {
     pub work: Work,
     /// What is counted of it.
     pub account: Account,
+}
+
+// (so that crates above cite one drop, and don't prove those of all that is inside)
+impl Drop for Conversation {
+    fn drop(self) {
+        let Conversation {
+            gate: _,
+            session: _,
+            is_screened: _,
+            work: _,
+            account: _,
+        } = self;
+    }
 }
 
 /// What is still to be done for a connection.
@@ -135,13 +147,21 @@ impl Conversation {
         }
     }
 
+    /// Has this be what is still to be done for it.
+    // (so that one function proves the drops of all that was still to be done)
+    fn set(&mut self, work: Work)
+        ensures { self.new ≡ record (self.old) { work = work } }
+    {
+        self.work = work;
+    }
+
     /// Keeps a request that has to wait, and gives what hasn't: lists wait for their turn, and all requests for the first pull.
     pub fn hold(&mut self, said: SessionOutput, waits_for_pull: bool) -> Option<SessionOutput>
         ensures held { result ≡ None → IsRequest (spoken said) × (talk_of self.new ≡ record (talk_of self.old) { waiting = Some (spoken said); saying = Silent }) }
         ensures given { IfSome result (λ given. (given ≡ said) × (talk_of self.new ≡ talk_of self.old)) }
     {
         if must_wait(&said, waits_for_pull) {
-            self.work = Work::Request(said);
+            self.set(Work::Request(said));
             return None;
         }
         Some(said)
@@ -170,7 +190,7 @@ impl Conversation {
         ensures { talk_of self.new ≡ record (talk_of self.old) { waiting = None; saying = said_next reply (talk_of self.old).saying } }
     {
         if !matches!(self.work, Work::Reply(_)) {
-            self.work = Work::Reply(Outgoing { reply, written: 0 });
+            self.set(Work::Reply(Outgoing { reply, written: 0 }));
         }
     }
 
@@ -212,7 +232,7 @@ impl Conversation {
         ensures says { KeepsBy making (talk_of self.old).saying (talk_of self.new).saying }
     {
         if !matches!(self.work, Work::Reply(_)) {
-            self.work = Work::PendingReply(making);
+            self.set(Work::PendingReply(making));
         }
     }
 
@@ -251,13 +271,14 @@ impl Conversation {
         ensures stays { Stays (talk_of self.old) (talk_of self.new) }
         ensures says { Keeps (talk_of self.old).saying (talk_of self.new).saying }
     {
-        self.work = match mem::replace(&mut self.work, Work::Nothing) {
+        let work = match mem::replace(&mut self.work, Work::Nothing) {
             Work::Reply(Outgoing { reply, written: 0 }) => Work::HeldBack(HeldBack {
                 reply,
                 is_change,
             }),
             other => other,
         };
+        self.set(work);
     }
 
     /// Whether a reply waits for the next commit.
@@ -275,7 +296,7 @@ impl Conversation {
                 alloc,
                 &Refusal::new(500, "held, but not kept on disk"),
             ),
-            other => self.work = other,
+            other => self.set(other),
         }
     }
 
@@ -295,7 +316,7 @@ impl Conversation {
     pub fn judge_later(&mut self, said: SessionOutput, judging: Judging)
         ensures { talk_of self.new ≡ record (talk_of self.old) { waiting = Some (spoken said); saying = Silent } }
     {
-        self.work = Work::Judging(said, judging);
+        self.set(Work::Judging(said, judging));
     }
 
     /// Puts off what is still to be done for a request that isn't about silences, where no reply goes out yet.
@@ -304,7 +325,7 @@ impl Conversation {
         ensures gone { KeepsGone (talk_of self.old).saying (talk_of self.new).saying }
     {
         if !matches!(self.work, Work::Reply(_)) {
-            self.work = Work::Call(call);
+            self.set(Work::Call(call));
         }
     }
 
@@ -330,7 +351,7 @@ impl Conversation {
         match mem::replace(&mut self.work, Work::Nothing) {
             Work::Request(said) => Some(said),
             other => {
-                self.work = other;
+                self.set(other);
                 None
             }
         }
