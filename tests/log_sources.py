@@ -7,6 +7,7 @@ PROGRAM is crates/am_tool/out/am_tool if it isn't given. What stands in a log is
 cases/show/logs.txt and cases/diff/logs.txt have logs that are written by hand. The last line says how many passed.
 """
 
+import contextlib
 import json
 import os
 import signal
@@ -39,13 +40,14 @@ def kept_row(name, comment=""):
     return row("sil", f"{name} job=x 10..253402300799 updated 10 expires 253402300799 by me saying {comment}")
 
 
+def bytes_in(path):
+    with open(path, "rb") as file:
+        return file.read()
+
+
 def content(folder):
     """The files of a folder, with their bytes."""
-    found = {}
-    for name in sorted(os.listdir(folder)):
-        with open(f"{folder}/{name}", "rb") as file:
-            found[name] = file.read()
-    return found
+    return {name: bytes_in(f"{folder}/{name}") for name in sorted(os.listdir(folder))}
 
 
 def begun(name, folder, options=(), peers=()):
@@ -178,8 +180,12 @@ class Slow:
         check("the file is opened", eventually(lambda: file in self.opened()), self.opened())
 
     def opened(self):
-        folder = f"/proc/{self.process.pid}/fd"
-        return [os.readlink(f"{folder}/{it}") for it in os.listdir(folder)]
+        found, folder = [], f"/proc/{self.process.pid}/fd"
+        for it in os.listdir(folder):
+            # (what is closed meanwhile is gone)
+            with contextlib.suppress(FileNotFoundError):
+                found.append(os.readlink(f"{folder}/{it}"))
+        return found
 
     def go_on(self, row):
         """Fills the pipe with a row. Answers the status, how many lines there are, and the error."""
@@ -214,7 +220,7 @@ def test_replaced(folder):
     for times, wanted in (1, (0, 0, False)), (2, (3, 0, True)):
         place = f"{folder}/{times}"
         member = saved_member(place)
-        row = content(place)["a.sil"]
+        row = bytes_in(member.sil)
         slow = Slow(place, member.sil)
         for number in range(times):
             replace(member, COUNT + 1 + number)
@@ -226,7 +232,7 @@ def test_replaced(folder):
 def test_other_name(folder):
     """A file that has another name stays whole, however often the member saves."""
     member = saved_member(folder)
-    row = content(folder)["a.sil"]
+    row = bytes_in(member.sil)
     os.link(member.sil, f"{folder}/kept")
     with open(f"{folder}/kept", "rb") as kept:
         for number in range(3):
