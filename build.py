@@ -30,31 +30,30 @@ KIT = os.path.dirname(os.path.dirname(os.path.realpath(shutil.which("rt") or "rt
 # What a proof takes at most, in bytes of memory.
 NEEDED = 4 << 30
 
-# How many seconds of processor the proof of a crate takes for each thousand lines, by `bench/run.py processors`.
+# How many seconds the proof of a crate takes for each thousand lines by one process, where four run side by side.
 PACES = {
-    "am_version_order": 41, "am_streams": 165, "am_wire": 48, "am_schedule": 82, "am_silence": 55, "am_silence_json": 63,
-    "am_nflog": 52, "am_gossip": 51, "am_merge": 86, "am_collect": 99, "am_runs": 51, "am_dedup": 59, "am_matcher": 69,
-    "am_snapshot": 75, "am_http": 56, "am_instance": 71, "am_api_silences": 91, "am_steps": 73, "am_cluster": 76,
-    "am_member": 84, "am_reactor": 62, "am_journal": 65, "am_report": 75, "am_replay": 78, "am_picture": 80, "am_faults": 92,
-    "am_files": 80, "am_command_line": 120, "am_daemon": 235, "am_tool": 2000, "am_decision_json": 74, "am_api_decisions": 77,
-    "am_dialogue": 75, "am_lines": 81, "am_alert_hash": 73, "am_jobs": 62, "am_commands": 130, "am_player": 90,
-    "am_metrics": 105, "am_figures": 96, "am_api_status": 30, "am_refusals": 118, "am_peers": 91, "am_upkeep": 120,
-    "am_self": 146, "am_lzw": 90, "am_memberlist": 65, "am_mend": 135, "am_seal": 67, "am_gate": 74,
-    "am_beside": 110, "am_living": 300, "am_attendant": 150, "am_disk": 96,
+    "am_version_order": 69, "am_merge": 144, "am_streams": 276, "am_wire": 80, "am_snapshot": 126, "am_disk": 161,
+    "am_gossip": 85, "am_refusals": 198, "am_silence": 92, "am_silence_json": 105, "am_peers": 152, "am_nflog": 87,
+    "am_report": 126, "am_jobs": 104, "am_command_line": 127, "am_http": 94, "am_seal": 112, "am_gate": 124,
+    "am_lzw": 151, "am_memberlist": 109, "am_reactor": 81, "am_faults": 154, "am_journal": 109, "am_files": 105,
+    "am_mend": 226, "am_commands": 180, "am_matcher": 116, "am_alert_hash": 122, "am_collect": 372, "am_dedup": 99,
+    "am_instance": 119, "am_api_silences": 152, "am_decision_json": 124, "am_api_decisions": 91, "am_metrics": 176,
+    "am_api_status": 50, "am_figures": 98, "am_member": 141, "am_dialogue": 120, "am_living": 296,
+    "am_attendant": 163, "am_beside": 119, "am_lines": 136, "am_self": 244, "am_upkeep": 148, "am_daemon": 204,
+    "am_runs": 85, "am_schedule": 137, "am_steps": 122, "am_cluster": 127, "am_replay": 131, "am_picture": 114,
+    "am_player": 151, "am_tool": 6133,
 }  # fmt: skip
 # That of a crate which was not measured.
-PACE = 90
+PACE = 130
 
-# How many times as long they took where whole builds were measured, and for how many seconds that counts beside what crates
-# have taken in this one.
-SLOWER = 1.8
-TRUSTED = 60
+# For how many seconds of proofs these numbers count, beside what crates have taken in this build.
+TRUSTED = 120
 
 # Of one proof: the most processes, how many times the work of one more than one do in all, and the crates that all wait for
 # in the end, with how many they have in any case.
 MOST = 4
 FORKED = 1.35
-LAST = {"am_daemon": 3}
+LAST = {"am_daemon": 2}
 
 # What the prover says at the end of a proof.
 PROVED = re.compile(r"^logic=proved .*\n\Z", re.M)
@@ -148,7 +147,7 @@ class Plan:
             self.behind[name] += max(above, default=0)
         self.done, self.running, self.took = set(), {}, []
         # How long the crates that were proved took, and how long they are said to take.
-        self.taken, self.said = SLOWER * TRUSTED, TRUSTED
+        self.taken, self.said = TRUSTED, TRUSTED
 
     def next_of(self, done, running):
         """The crate that begins next, if one may, and how many processes it has; `running` has those of the crates that run."""
