@@ -32,16 +32,16 @@ NEEDED = 4 << 30
 
 # How many seconds the proof of a crate takes for each thousand lines by one process, where four run side by side.
 PACES = {
-    "am_version_order": 69, "am_merge": 144, "am_streams": 276, "am_wire": 80, "am_snapshot": 126, "am_disk": 161,
-    "am_gossip": 85, "am_refusals": 198, "am_silence": 92, "am_silence_json": 105, "am_peers": 152, "am_nflog": 87,
-    "am_report": 126, "am_jobs": 104, "am_command_line": 127, "am_http": 94, "am_seal": 112, "am_gate": 124,
-    "am_lzw": 151, "am_memberlist": 109, "am_reactor": 81, "am_faults": 154, "am_journal": 109, "am_files": 105,
-    "am_mend": 226, "am_commands": 180, "am_matcher": 116, "am_alert_hash": 122, "am_collect": 372, "am_dedup": 99,
-    "am_instance": 119, "am_api_silences": 152, "am_decision_json": 124, "am_api_decisions": 91, "am_metrics": 176,
-    "am_api_status": 50, "am_figures": 98, "am_member": 141, "am_dialogue": 120, "am_living": 296,
-    "am_attendant": 163, "am_beside": 119, "am_lines": 136, "am_self": 244, "am_upkeep": 148, "am_daemon": 204,
-    "am_runs": 85, "am_schedule": 137, "am_steps": 122, "am_cluster": 127, "am_replay": 131, "am_picture": 114,
-    "am_player": 151, "am_tool": 6133,
+    "am_version_order": 55, "am_merge": 125, "am_streams": 200, "am_wire": 61, "am_snapshot": 109, "am_disk": 142,
+    "am_gossip": 77, "am_refusals": 190, "am_silence": 80, "am_silence_json": 95, "am_peers": 117, "am_nflog": 80,
+    "am_report": 106, "am_jobs": 74, "am_command_line": 124, "am_http": 66, "am_seal": 108, "am_gate": 101,
+    "am_lzw": 103, "am_memberlist": 91, "am_reactor": 82, "am_faults": 122, "am_journal": 82, "am_files": 112,
+    "am_mend": 180, "am_commands": 212, "am_matcher": 95, "am_alert_hash": 96, "am_collect": 222, "am_dedup": 81,
+    "am_instance": 93, "am_api_silences": 130, "am_decision_json": 107, "am_api_decisions": 97, "am_metrics": 147,
+    "am_api_status": 42, "am_figures": 86, "am_member": 105, "am_dialogue": 117, "am_living": 254,
+    "am_attendant": 277, "am_beside": 128, "am_lines": 114, "am_self": 187, "am_upkeep": 166, "am_daemon": 193,
+    "am_runs": 84, "am_schedule": 99, "am_steps": 101, "am_cluster": 95, "am_replay": 114, "am_picture": 113,
+    "am_player": 269, "am_tool": 5684,
 }  # fmt: skip
 # That of a crate which was not measured.
 PACE = 130
