@@ -263,7 +263,7 @@ class Kept:
     """The libraries of a tree that were proved before: in out/proved of its crate each, beside the sum of all that its proof read."""
 
     def __init__(self, tree, folder):
-        self.folder, self.sums = folder, {}
+        self.tree, self.folder, self.sums = tree, folder, {}
         kit = subprocess.run(["rt", "version"], stdout=subprocess.PIPE, check=False).stdout
         uses = libraries(folder)
         for name in with_below(tree, tree):
@@ -271,6 +271,7 @@ class Kept:
             self.sums[name] = sum_of(f"{folder}/crates/{name}", kit, uses[name], below)
 
     def place(self, name):
+        """Where the library of a crate is kept."""
         return f"{TOP}/crates/{name}/out/proved"
 
     def give(self, name):
@@ -346,9 +347,9 @@ def link(name, folder):
     return f"{ran.stdout}it ended with status {ran.returncode}\n" if ran.returncode else ""
 
 
-def prove(folder, told, kept):
+def prove(told, kept):
     """Proves the crates of a tree that aren't done, and builds its programs; what was said where it failed, and else nothing."""
-    plan, killed = told.plan, set()
+    plan, folder, killed = told.plan, kept.folder, set()
     os.makedirs(f"{folder}/libraries", exist_ok=True)
     with proofs() as running:
         while len(plan.done) < len(plan.tree):
@@ -407,13 +408,12 @@ def put_program(made, sources):
         file.write(stamp(sources))
 
 
-def prove_with(tree, folder, anew=False):
+def prove_rest(kept, anew=False):
     """Proves the crates of a tree, but those that were proved before; what was said where it failed, and what was told."""
-    kept = Kept(tree, folder)
-    plan = Plan(tree, folder, places())
-    plan.done.update(it for it in with_below(tree, tree) if not anew and kept.give(it))
+    plan = Plan(kept.tree, kept.folder, places())
+    plan.done.update(it for it in kept.tree if not anew and kept.give(it))
     told = Told(plan)
-    return prove(folder, told, kept), told
+    return prove(told, kept), told
 
 
 def build(anew, reports):
@@ -422,11 +422,12 @@ def build(anew, reports):
     tree = {it: crates[it] for it in with_below(["am_tool"], crates)}
     with room() as folder:
         copy_crates(tree, folder)
-        sources = Kept(tree, folder).sums["am_tool"]
+        kept = Kept(tree, folder)
+        sources = kept.sums["am_tool"]
         if content(f"{PROGRAM}.sum") == stamp(sources) and not anew:
             say("nothing has changed since it was built")
         else:
-            failed, told = prove_with(tree, folder, anew)
+            failed, told = prove_rest(kept, anew)
             if failed:
                 say(f"not built; the prover said {failed[-4000:]}")
                 return 1

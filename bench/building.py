@@ -27,7 +27,8 @@ def ours(name, folder):
     os.makedirs(os.path.join(place, "src"))
     shutil.copy(os.path.join(source, "main.rt.in"), os.path.join(place, "src", "main.rt"))
     crates = build.dependencies(folder)
-    failed, _ = build.prove_with({it: crates[it] for it in build.with_below([name], crates)}, folder)
+    tree = {it: crates[it] for it in build.with_below([name], crates)}
+    failed, _ = build.prove_rest(build.Kept(tree, folder))
     if failed:
         raise SystemExit(failed[-3000:])
     return os.path.join(folder, name)
