@@ -6,7 +6,7 @@ use Rattle.std.proofs.Math.Nat.{pow-le-pow_right, pow-suc, mul-le-mul_right}
 use Rattle.std.proofs.Math.ListN.{drop_of_length-le}
 use Rattle.am_wire.specs.declared.error.WireError.{WireError}
 use Rattle.am_wire.specs.declared.error.WireError.TheVariants.{Truncated, LongVarint}
-use Rattle.am_wire.specs.Varint.{one_more, varint_within}
+use Rattle.am_wire.specs.Varint.{groups, one_more, varint_within}
 
 -- what is read behind `place` bytes, with what those bytes stand for
 abbrev pub after : ℕ → ℕ → ℕ → Result (ℕ × ℕ) WireError → Result (ℕ × ℕ) WireError
@@ -23,6 +23,10 @@ abbrev done : ℕ → ℕ → Result (ℕ × ℕ) WireError
 done n len = Ok (n, len)
 
 -- a number of one byte
+pub one_group : (n : ℕ) → n < 128 → groups 9 n ≡ n ∷ []
+unfolding groups
+one_group n low = let t : ltb n 128 ≡ true = lt-ltb _ _ low in rw t refl
+
 pub one_byte : (at b : ℕ) (bytes : List ℕ) → slice_get bytes 0 ≡ Some b → b < 128 → varint_within at 9 bytes ≡ Ok (b, 1)
 unfolding varint_within
 one_byte at b [] is lt = absurd cc

@@ -18,3 +18,5 @@ pub mod ReaderLemmas
 pub mod Unpacking
 pub mod Sizes
 pub mod Offsets
+pub mod AsciiTexts
+pub mod Passings

@@ -18,3 +18,4 @@ pub mod RoundTrip
 pub mod Reader
 pub mod Inputs
 pub mod Offsets
+pub mod Passing

@@ -1,7 +1,9 @@
 //! The wire form: varints, fields, messages and rows.
 #![tactic(auto)]
 
+mod ascii;
 mod bytes;
+mod canonical;
 mod delimited;
 mod error;
 mod expiring;

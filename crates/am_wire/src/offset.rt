@@ -22,7 +22,7 @@ pub struct Offset {
 impl Offset {
     // The offset of the bytes in a field that is left out where there are none, and whose tag, of one byte, stands
     // behind so many bytes.
-    fn behind_tag(count: usize, is_empty: bool) -> Result<Offset, AllocError>
+    pub(crate) fn behind_tag(count: usize, is_empty: bool) -> Result<Offset, AllocError>
         ensures { IfOk result (λ offset. offset.start ≡ (if is_empty then 0 else count + 1)) }
     {
         if is_empty {

@@ -6,6 +6,7 @@ ghost use Rattle.am_wire.specs.Reading.{FailsUnlessMemory, Table, last_or, varin
 ghost use Rattle.am_wire.specs.Reading.{delimited_given, text_fault, item_fault, message_in, part_fault, parts_in};
 ghost use Rattle.am_wire.specs.Reading.{table_at};
 
+use crate::ascii::text_of;
 use crate::error::WireError;
 use crate::message_reader::{MessageReader, read_message, take_fields};
 use crate::value::{Field, Value};
@@ -64,7 +65,7 @@ impl<'a> LastText<'a> {
         ensures fault { IfErr result (λ e. FailsUnlessMemory e (text_fault (field_of field.entry))) }
     {
         if let Value::Bytes(bytes) = field.value {
-            let Ok(text) = str::from_utf8(bytes) else {
+            let Ok(text) = text_of(bytes) else {
                 return Err(WireError::NotUtf8 { at: field.at });
             };
             self.text = text;

@@ -1,5 +1,6 @@
 //! What a message is read with: its table of fields, its draft and the parts of drafts.
 
+pub use crate::canonical::CanonicalReader;
 pub use crate::expiring::{Expiring, ExpiringDraft};
 pub use crate::field::{AnyField, Schema};
 pub use crate::fields::Scan;

@@ -1,0 +1,40 @@
+-- Parts that are passed one after the other.
+use Rattle.std.proofs.Common.{◌≡◌, ℕ, ◌+◌, ◌-◌, ◌*◌, ◌<◌, ◌^◌, cond, eqb, List, [], ◌∷◌, ◌++◌, length, append-nil, length-append, refl, sym, ap, ◌∙◌, arith}
+use Rattle.std.proofs.lemmas.List.{append_assoc}
+use Rattle.am_wire.specs.Passing.{Passing, Passes}
+use Rattle.am_wire.specs.Varint.{groups}
+use Rattle.am_wire.specs.Offsets.{StandsAt}
+use Rattle.am_wire.specs.declared.offset.Offset.{Offset}
+use Rattle.am_wire.proofs.Offsets.{stands_written}
+use Rattle.am_wire.proofs.Groups.{one_group}
+use Rattle.am_wire.specs.Writing.{tag, writes_delimited, writes_text}
+
+-- a tag of one byte
+pub one_tag : (n kind : ℕ) → n < 16 → kind < 8 → tag n kind ≡ (n * 8 + kind) ∷ []
+one_tag n kind low few = one_group (n * 8 + kind) (omega (arith, low, few))
+
+pub nothing : (old : Passing) → Passes [] old old
+nothing old = record { text = refl; passed = sym (append-nil old.passed) }
+
+pub both : (a b : List ℕ) (old mid new : Passing) → Passes a old mid → Passes b mid new → Passes (a ++ b) old new
+both a b old mid new one two = record {
+  text = two.text ∙ one.text;
+  passed = two.passed ∙ ap (λ (x : List ℕ). x ++ b) one.passed ∙ append_assoc old.passed a b;
+}
+
+-- a part behind its tag and as many bytes as it has
+pub whole : (n size : ℕ) (part : List ℕ) (old mid new : Passing) → Passes (tag n 2 ++ groups 9 size) old mid → Passes part mid new
+    → length new.passed - length mid.passed ≡ size → Passes (writes_delimited n part) old new
+whole n size part old mid new front inner counts =
+    let long : size ≡ length part = omega (arith, counts, ap length inner.passed, length-append mid.passed part) in
+    let all = both (tag n 2 ++ groups 9 size) part old mid new front inner in
+    record {
+      text = all.text;
+      passed = all.passed ∙ ap (λ (x : List ℕ). old.passed ++ x)
+          (append_assoc (tag n 2) (groups 9 size) part ∙ ap (λ (k : ℕ). tag n 2 ++ (groups 9 k ++ part)) long);
+    }
+
+-- where a part that was passed stands
+pub stands : (n : ℕ) (part : List ℕ) (offset : Offset) (old new : Passing) → n < 16 → length new.passed < 2 ^ 64
+    → Passes (writes_text n part) old new → offset.start ≡ cond (eqb (length part) 0) 0 (length old.passed + 1) → StandsAt part offset new.passed
+stands n part offset old new low small h at = stands_written old.passed part new.passed n offset low small h.passed at

@@ -1,0 +1,261 @@
+//! Canonical texts, read from the front: what is passed is what a writer of the same values writes.
+
+ghost use Rattle.std.specs.Prelude.{◌≡◌, ◌<◌, ◌≤◌, ◌-◌, ◌%◌, ◌∷◌, ◌++◌, [], true, false, drop, length, IfSome};
+ghost use Rattle.am_version_order.specs.Moments.{greatest};
+ghost use Rattle.am_wire.specs.Offsets.{StandsAt};
+ghost use Rattle.am_wire.specs.Passing.{Passes};
+ghost use Rattle.am_wire.specs.Timestamps.{writes_moment, seconds_number};
+ghost use Rattle.am_wire.specs.Varint.{shortest};
+ghost use Rattle.am_wire.specs.Writing.{tag, writes_delimited, writes_number, writes_text};
+
+use crate::ascii::text_of;
+use crate::offset::Offset;
+use crate::varint::{varint_from, write_varint};
+use am_version_order::Moment;
+use std::marker::Model;
+
+/// Goes over a text that may be canonical. Each call passes the field of a number as a writer writes it, and gives what
+/// stands in it; none where the text goes on in another way, which it then goes over no more.
+///
+/// Contracts see the text, and what of it is passed.
+#[derive(Drop)]
+pub struct CanonicalReader<'a> {
+    text: &'a [u8],
+    at: usize,
+}
+
+impl<'a> Model for CanonicalReader<'a> {
+    ghost use Rattle.std.specs.Prelude.{◌≤◌, length, take};
+    ghost use Rattle.am_wire.specs.Passing.{Passing};
+
+    ghost Value = { Passing };
+
+    ghost view = { λ r. record { text = r.text.now; passed = take r.at r.text.now } };
+
+    ghost invariant = { λ r. r.at ≤ length r.text.now };
+}
+
+impl<'a> CanonicalReader<'a> {
+    /// Before a text.
+    pub fn new(text: &'a [u8]) -> Self
+        ensures { result ≡ record { text = text.now; passed = [] } }
+    {
+        CanonicalReader { text, at: 0 }
+    }
+
+    /// How many bytes are passed.
+    pub fn at(&self) -> usize
+        ensures at { result ≡ length self.now.passed }
+        ensures within { result ≤ length self.now.text }
+    {
+        self.at
+    }
+
+    /// Whether the whole text is passed.
+    pub fn is_over(&self) -> bool
+        ensures { result ≡ true → self.now.passed ≡ self.now.text }
+    {
+        self.at == self.text.len()
+    }
+
+    /// Passes so many bytes.
+    fn bytes(&mut self, count: usize) -> Option<&'a [u8]>
+        ensures passed { IfSome result (λ part. Passes part.now self.old self.new) }
+        ensures count { IfSome result (λ part. length part.now ≡ count) }
+    {
+        let rest = &self.text[self.at..];
+        if rest.len() < count {
+            return None;
+        }
+        self.at += count;
+        Some(&rest[..count])
+    }
+
+    /// Passes a byte, where it is this one.
+    fn byte(&mut self, byte: u8) -> bool
+        ensures passed { result ≡ true → Passes (byte ∷ []) self.old self.new }
+        ensures kept { result ≡ false → self.new ≡ self.old }
+    {
+        if self.text.get(self.at) != Some(&byte) {
+            return false;
+        }
+        self.at += 1;
+        true
+    }
+
+    /// Passes a number in its shortest spelling.
+    #[tactic(auto, using(crate::proofs::Groups::one_group))]
+    fn varint(&mut self) -> Option<u64>
+        ensures { IfSome result (λ value. Passes (shortest value) self.old self.new) }
+    {
+        let byte = *self.text.get(self.at)?;
+        if byte < 128 && self.byte(byte) {
+            return Some(u64::from(byte));
+        }
+        self.long_varint()
+    }
+
+    /// The same of a number that takes several bytes.
+    #[inline(never)]
+    fn long_varint(&mut self) -> Option<u64>
+        ensures { IfSome result (λ value. Passes (shortest value) self.old self.new) }
+    {
+        let (value, len) = varint_from(&self.text[self.at..], 0).ok()?;
+        let spelling = write_varint(value);
+        if self.bytes(len)? != spelling.as_slice() {
+            return None;
+        }
+        Some(value)
+    }
+
+    /// Passes the tag of a number below 16, where it stands there. The kind is that of the payload's wire type.
+    #[tactic(auto, using(crate::proofs::Passings::one_tag))]
+    fn tag(&mut self, number: u32, kind: u32) -> bool
+        requires number { number < 16 }
+        requires kind { kind < 8 }
+        ensures passed { result ≡ true → Passes (tag number kind) self.old self.new }
+        ensures kept { result ≡ false → self.new ≡ self.old }
+    {
+        self.byte((number * 8 + kind) as u8)
+    }
+
+    /// Passes a number, which is left out where it is 0.
+    #[tactic(auto, using(crate::proofs::Passings::both, crate::proofs::Passings::nothing))]
+    pub fn number(&mut self, number: u32) -> Option<u64>
+        requires { number < 16 }
+        ensures { IfSome result (λ value. Passes (writes_number number value) self.old self.new) }
+    {
+        if !self.tag(number, 0) {
+            return Some(0);
+        }
+        let value = self.varint()?;
+        if value == 0 {
+            return None;
+        }
+        Some(value)
+    }
+
+    /// Passes what stands in front of bytes: their tag, and how many they are.
+    #[tactic(auto, using(crate::proofs::Passings::both))]
+    pub fn prefix(&mut self, number: u32) -> Option<u64>
+        requires { number < 16 }
+        ensures { IfSome result (λ size. Passes (tag number 2 ++ shortest size) self.old self.new) }
+    {
+        if !self.tag(number, 2) {
+            return None;
+        }
+        self.varint()
+    }
+
+    /// Passes bytes, which are written also where there are none.
+    pub fn delimited(&mut self, number: u32) -> Option<&'a [u8]>
+        requires { number < 16 }
+        ensures { IfSome result (λ part. Passes (writes_delimited number part.now) self.old self.new) }
+    {
+        let size = self.prefix(number)?;
+        self.bytes(usize::try_from(size).ok()?)
+    }
+
+    /// Passes bytes, which are left out where there are none.
+    pub fn part(&mut self, number: u32) -> Option<&'a [u8]>
+        requires { number < 16 }
+        ensures { IfSome result (λ part. Passes (writes_text number part.now) self.old self.new) }
+    {
+        if !self.goes_on(number) {
+            return Some(&[]);
+        }
+        let part = self.delimited(number)?;
+        if part.is_empty() {
+            return None;
+        }
+        Some(part)
+    }
+
+    /// Whether the bytes of this number come next.
+    pub fn goes_on(&self, number: u32) -> bool
+        requires { number < 16 }
+        ensures { result ≡ true → length self.now.passed < length self.now.text }
+    {
+        self.text.get(self.at) == Some(&((number * 8 + 2) as u8))
+    }
+
+    /// Passes a text, which is left out where it is empty.
+    pub fn text(&mut self, number: u32) -> Option<&'a str>
+        requires { number < 16 }
+        ensures { IfSome result (λ text. Passes (writes_text number text.now) self.old self.new) }
+    {
+        text_of(self.part(number)?).ok()
+    }
+
+    /// Passes a text as [`CanonicalReader::text`] does, and says where it stands; none also where it ends behind 2^32 bytes
+    /// or more.
+    pub fn placed_text(&mut self, number: u32) -> Option<(&'a str, Offset)>
+        requires { number < 16 }
+        ensures passed { IfSome result (λ it. Passes (writes_text number it.0.now) self.old self.new) }
+        ensures place { IfSome result (λ it. StandsAt it.0.now it.1 self.new.passed) }
+    {
+        let begun = self.at();
+        let text = self.text(number)?;
+        if self.at() > u32::MAX as usize {
+            return None;
+        }
+        let Ok(place) = Offset::behind_tag(begun, text.is_empty()) else {
+            return None;
+        };
+        Some((text, place))
+    }
+
+    /// The bytes that are passed since so many were.
+    pub fn since(&self, begun: usize) -> &'a [u8]
+        requires { begun ≤ length self.now.passed }
+        ensures { result.now ≡ drop begun self.now.passed }
+    {
+        &self.text[begun..self.at]
+    }
+
+    /// Whether exactly so many bytes are passed since so many were.
+    pub fn has_passed(&self, size: u64, begun: usize) -> bool
+        ensures { result ≡ true → length self.now.passed - begun ≡ size }
+    {
+        self.at.saturating_sub(begun) as u64 == size
+    }
+
+    /// Passes a moment, which is written also where it is the first.
+    #[tactic(auto, using(crate::proofs::Passings::whole))]
+    pub fn moment(&mut self, number: u32) -> Option<Moment>
+        requires { number < 16 }
+        ensures passed { IfSome result (λ moment. Passes (writes_delimited number (writes_moment moment)) self.old self.new) }
+        ensures within { IfSome result (λ moment. moment ≤ greatest) }
+    {
+        let size = self.prefix(number)?;
+        let begun = self.at();
+        let moment = self.moment_text()?;
+        if !self.has_passed(size, begun) {
+            return None;
+        }
+        Some(moment)
+    }
+
+    /// Passes the text of a moment.
+    #[tactic(auto, using(crate::proofs::Passings::both), unfolding(crate::specs::Timestamps::writes_moment))]
+    fn moment_text(&mut self) -> Option<Moment>
+        ensures passed { IfSome result (λ moment. Passes (writes_moment moment) self.old self.new) }
+        ensures within { IfSome result (λ moment. moment ≤ greatest) }
+    {
+        let seconds = self.number(1)?;
+        let nanos = self.number(2)?;
+        let moment = moment_of(seconds, nanos)?;
+        Some(moment)
+    }
+}
+
+/// The moment that is written by these numbers: its seconds in two's complement, and its nanoseconds.
+fn moment_of(seconds: u64, nanos: u64) -> Option<Moment>
+    ensures seconds { IfSome result (λ moment. seconds ≡ seconds_number moment) }
+    ensures nanos { IfSome result (λ moment. nanos ≡ moment % 1_000_000_000) }
+    ensures within { IfSome result (λ moment. moment ≤ greatest) }
+{
+    let nanos = u32::try_from(nanos).ok()?;
+    let moment = Moment::from_parts(seconds.cast_signed(), nanos)?;
+    Some(moment)
+}
