@@ -6,6 +6,7 @@ pub mod MatcherTexts
 pub mod SameMatchers
 pub mod Spelling
 pub mod Standing
+pub mod Passed
 pub mod Ranges
 pub mod Planning
 pub mod Refusing

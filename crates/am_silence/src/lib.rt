@@ -2,6 +2,7 @@
 #![tactic(auto)]
 
 mod bucket;
+mod canonical;
 mod checks;
 mod comment;
 mod error;

@@ -1,14 +1,17 @@
 //! Silences as instances pass them on.
 
-ghost use Rattle.std.specs.Prelude.{◌≡◌, ◌<◌, ◌≤◌, length, Err, IfOk, IfErr, false, ◌⊎◌, ◌↔◌};
+ghost use Rattle.std.specs.Prelude.{◌≡◌, ◌+◌, ◌^◌, ◌<◌, ◌≤◌, length, Err, IfOk, IfErr, IfSome, false, ◌⊎◌, ◌↔◌};
 ghost use Rattle.am_wire.specs.Limits.{most};
 ghost use Rattle.am_wire.specs.declared.error.WireError.TheVariants as errors;
 ghost use Rattle.am_version_order.specs.Moments.{greatest};
 ghost use Rattle.am_wire.specs.Sizes.{counted};
 ghost use Rattle.am_silence.specs.Silences.{writes_silence};
+ghost use Rattle.am_wire.specs.Reading.{GivesUnlessMemory};
+ghost use Rattle.am_silence.specs.MeshTable.{reads_mesh_silence};
 ghost use Rattle.am_silence.specs.Mesh.{IsMesh, writes_mesh_silence, bucket_of};
 ghost use Rattle.am_silence.specs.States.{state_of, is_expired};
 
+use crate::canonical::{SpelledVersion, spelled_in};
 use crate::iter::{HasMatchers, MatcherIter};
 use crate::offsets::{Offsets, write_silence};
 use crate::silence::{Silence, SilenceDraft};
@@ -143,6 +146,44 @@ impl MeshSilence {
         })
     }
 
+    // The version of a text that is canonical; none of another.
+    fn of_canonical(alloc: Global, text: &[u8]) -> Result<Option<MeshSilence>, AllocError>
+        ensures text { IfOk result (λ found. IfSome found (λ m. text.now ≡ writes_mesh_silence m)) }
+        ensures value { IfOk result (λ found. IfSome found IsMesh) }
+    {
+        let Some(version) = spelled_in(text) else {
+            return Ok(None);
+        };
+        let SpelledVersion {
+            fields,
+            expires_at,
+            places,
+        } = version;
+        Ok(Some(MeshSilence {
+            id: Text::copied(alloc, fields.id)?,
+            starts_at: fields.starts_at,
+            ends_at: fields.ends_at,
+            updated_at: fields.updated_at,
+            expires_at,
+            places,
+            canonical: Vec::from_slice(alloc, text)?,
+        }))
+    }
+
+    // The version of a text that spells it in whatever way; its canonical text is written anew.
+    #[tactic(auto, unfolding(crate::specs::MeshTable::reads_mesh_silence))]
+    fn of_spelling(alloc: Global, bytes: &[u8], at: usize) -> Result<MeshSilence, WireError>
+        requires { at + length bytes.now < 2 ^ 64 }
+        ensures { GivesUnlessMemory result (reads_mesh_silence at bytes.now) }
+    {
+        let Expiring {
+            message: fields,
+            expires_at,
+        } = read_message::<ExpiringDraft<SilenceDraft>>(alloc, bytes, at, at)?;
+        let version = MeshSilence::of_sized(alloc, &fields, fields.size(), expires_at)?;
+        Ok(version)
+    }
+
     /// The fields of the silence.
     pub(crate) fn fields(&self) -> SilenceFields<'_, MatcherIter<'_>>
         ensures { result ≡ self.now.silence }
@@ -242,14 +283,11 @@ impl Message for MeshSilence {
         append_text(out, self.canonical())
     }
 
-    #[tactic(auto, unfolding(crate::specs::MeshTable::reads_mesh_silence))]
     fn decode_at(alloc: Global, bytes: &[u8], at: usize) -> Result<MeshSilence, WireError> {
-        let Expiring {
-            message: fields,
-            expires_at,
-        } = read_message::<ExpiringDraft<SilenceDraft>>(alloc, bytes, at, at)?;
-        let version = MeshSilence::of_sized(alloc, &fields, fields.size(), expires_at)?;
-        Ok(version)
+        match MeshSilence::of_canonical(alloc, bytes)? {
+            Some(version) => Ok(version),
+            None => MeshSilence::of_spelling(alloc, bytes, at),
+        }
     }
 }
 

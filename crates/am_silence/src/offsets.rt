@@ -74,7 +74,7 @@ fn write_matchers(
 }
 
 // Where the bucket of matchers stands, whose text begins at a place.
-fn bucket_place(start: u32, matchers: &MatcherIter<'_>) -> Result<Offset, AllocError>
+pub(crate) fn bucket_place(start: u32, matchers: &MatcherIter<'_>) -> Result<Offset, AllocError>
     ensures { IfOk result (λ place. (front : List ℕ) → length front ≡ start →
         StandsAt (bucket_of matchers.now) place (front ++ writes_matchers matchers.now)) }
 {

@@ -1,10 +1,12 @@
-use Rattle.std.proofs.lemmas.Result.{err_from_is_err_and}
-use Rattle.am_wire.proofs.Judging.{same_fault}
+use Rattle.std.proofs.Common.{◌≡◌, ◌<◌, ◌^◌, length, ap, ◌∙◌, arith}
+use Rattle.am_silence.specs.Mesh.{IsMesh, writes_mesh_silence}
 use Rattle.am_silence.specs.MeshTable.{reads_mesh_silence}
+use Rattle.am_silence.specs.RoundTrip.{mesh_again}
 use Rattle.am_silence.proofs.mesh.MeshSilenceMessage.decode_at.Goals as goal
 
-pub returns-in_err-fields : goal.returns-in_err-fields
-unfolding reads_mesh_silence
-returns-in_err-fields c =
-    let p = err_from_is_err_and c.from_residual.result c.from_residual.ensures.1 in
-    rw (p.1, p.2) (λ other. same_fault _ _ _ _ (c.in_err-fields.ensures other))
+pub returns-in-Some : goal.returns-in-Some
+returns-in-Some c =
+    let text = rw c.in-Some.is at c.in_ok-version.ensures.text in
+    let value : IsMesh c.in-Some.version = rw c.in-Some.is at c.in_ok-version.ensures.value in
+    let size = value.size in
+    ap (reads_mesh_silence c.args.at) text ∙ mesh_again c.in-Some.version c.args.at value (omega (arith, size))

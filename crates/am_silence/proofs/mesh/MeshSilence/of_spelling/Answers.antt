@@ -1,0 +1,10 @@
+use Rattle.std.proofs.lemmas.Result.{err_from_is_err_and}
+use Rattle.am_wire.proofs.Judging.{same_fault}
+use Rattle.am_silence.specs.MeshTable.{reads_mesh_silence}
+use Rattle.am_silence.proofs.mesh.MeshSilence.of_spelling.Goals as goal
+
+pub returns-in_err-fields : goal.returns-in_err-fields
+unfolding reads_mesh_silence
+returns-in_err-fields c =
+    let p = err_from_is_err_and c.from_residual.result c.from_residual.ensures.1 in
+    rw (p.1, p.2) (λ other. same_fault _ _ _ _ (c.in_err-fields.ensures other))

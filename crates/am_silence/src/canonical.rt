@@ -1,0 +1,154 @@
+//! Versions in texts that are canonical, as replicas write them: their parts stay where they stand.
+
+ghost use Rattle.std.specs.Prelude.{◌≡◌, ◌≤◌, ◌<◌, ◌^◌, All, IfSome, length};
+ghost use Rattle.am_version_order.specs.Moments.{greatest};
+ghost use Rattle.am_wire.specs.Offsets.{StandsAt};
+ghost use Rattle.am_wire.specs.Passing.{Passes};
+ghost use Rattle.am_wire.specs.Writing.{writes_delimited};
+ghost use Rattle.am_silence.specs.MatcherTexts.{writes_matchers};
+ghost use Rattle.am_silence.specs.Matchers.{writes_matcher, IsMatcher};
+ghost use Rattle.am_silence.specs.Mesh.{bucket_of};
+ghost use Rattle.am_silence.specs.Offsets.{StandsBetween, StandIn};
+ghost use Rattle.am_silence.specs.Silences.{writes_silence, IsSilence};
+ghost use Rattle.am_silence.specs.Spellings.{IsSpelled};
+
+use crate::iter::{HasMatchers, MatcherIter};
+use crate::matcher::{MatcherKind, MatcherRef};
+use crate::offsets::{Offsets, bucket_place};
+use crate::sizes::SilenceFields;
+use am_version_order::Moment;
+use am_wire::reading::{CanonicalReader, Offset};
+
+/// The parts of a version, and where they stand in its canonical text.
+#[derive(Drop)]
+pub(crate) struct SpelledVersion<'a> {
+    pub fields: SilenceFields<'a, MatcherIter<'a>>,
+    pub expires_at: Moment,
+    pub places: Offsets,
+}
+
+/// The version that a canonical text spells; none where a text isn't canonical, or has 2^32 bytes or more.
+pub(crate) fn spelled_in(text: &[u8]) -> Option<SpelledVersion<'_>>
+    ensures { IfSome result (IsSpelled text.now) }
+{
+    let mut reader = CanonicalReader::new(text);
+    let size = reader.prefix(1)?;
+    let begun = reader.at();
+    let (fields, places) = pass_silence(&mut reader)?;
+    if !reader.has_passed(size, begun) {
+        return None;
+    }
+    let expires_at = reader.moment(2)?;
+    if !reader.is_over() || text.len() > u32::MAX as usize {
+        return None;
+    }
+    Some(SpelledVersion {
+        fields,
+        expires_at,
+        places,
+    })
+}
+
+// Passes the text of a silence.
+fn pass_silence<'a>(
+    reader: &mut CanonicalReader<'a>,
+) -> Option<(SilenceFields<'a, MatcherIter<'a>>, Offsets)>
+    ensures passed { IfSome result (λ it. Passes (writes_silence it.0) reader.old reader.new) }
+    ensures value { IfSome result (λ it. IsSilence it.0) }
+    ensures places { IfSome result (λ it. StandIn it.0 it.1 reader.new.passed) }
+{
+    let id = reader.text(1)?;
+    let (matchers, places) = pass_matchers(reader)?;
+    let starts_at = reader.moment(3)?;
+    let ends_at = reader.moment(4)?;
+    let updated_at = reader.moment(5)?;
+    let (created_by, author_place) = reader.placed_text(8)?;
+    let (comment, comment_place) = reader.placed_text(9)?;
+    let fields = SilenceFields {
+        id,
+        matchers,
+        starts_at,
+        ends_at,
+        updated_at,
+        created_by,
+        comment,
+    };
+    let places = Offsets {
+        matchers: places.start,
+        matchers_end: places.end,
+        created_by: author_place,
+        comment: comment_place,
+        bucket: places.bucket,
+    };
+    Some((fields, places))
+}
+
+/// Between which places matchers stand, and where their bucket.
+#[derive(Clone, Copy)]
+struct MatcherPlaces {
+    start: u32,
+    end: u32,
+    bucket: Offset,
+}
+
+// Passes the text of matchers.
+fn pass_matchers<'a>(reader: &mut CanonicalReader<'a>) -> Option<(MatcherIter<'a>, MatcherPlaces)>
+    ensures passed { IfSome result (λ it. Passes (writes_matchers it.0) reader.old reader.new) }
+    ensures values { IfSome result (λ it. All IsMatcher it.0) }
+    ensures between { IfSome result (λ it. StandsBetween it.1.start it.1.end (writes_matchers it.0) reader.new.passed) }
+    ensures bucket { IfSome result (λ it. StandsAt (bucket_of it.0) it.1.bucket reader.new.passed) }
+{
+    let start = u32::try_from(reader.at()).ok()?;
+    let matchers = pass_all(reader)?;
+    let end = u32::try_from(reader.at()).ok()?;
+    let Ok(bucket) = bucket_place(start, &matchers) else {
+        return None;
+    };
+    Some((matchers, MatcherPlaces { start, end, bucket }))
+}
+
+// Passes matchers as long as more follow.
+fn pass_all<'a>(reader: &mut CanonicalReader<'a>) -> Option<MatcherIter<'a>>
+    ensures passed { IfSome result (λ matchers. Passes (writes_matchers matchers) reader.old reader.new) }
+    ensures values { IfSome result (All IsMatcher) }
+{
+    let begun = reader.at();
+    while reader.goes_on(2) {
+        pass_matcher(reader)?;
+    }
+    let text = reader.since(begun);
+    if text.len() > u32::MAX as usize {
+        return None;
+    }
+    Some(MatcherIter::over(text))
+}
+
+// Passes a matcher behind its tag and its length.
+#[tactic(auto, using(crate::proofs::Passed::matcher_behind))]
+fn pass_matcher<'a>(reader: &mut CanonicalReader<'a>) -> Option<MatcherRef<'a>>
+    ensures passed { IfSome result (λ matcher. Passes (writes_delimited 2 (writes_matcher matcher)) reader.old reader.new) }
+    ensures value { IfSome result IsMatcher }
+{
+    let size = reader.prefix(2)?;
+    let begun = reader.at();
+    let matcher = pass_matcher_text(reader)?;
+    if !reader.has_passed(size, begun) {
+        return None;
+    }
+    Some(matcher)
+}
+
+// Passes the text of a matcher.
+#[tactic(auto, using(crate::proofs::Passed::matcher_passed))]
+fn pass_matcher_text<'a>(reader: &mut CanonicalReader<'a>) -> Option<MatcherRef<'a>>
+    ensures passed { IfSome result (λ matcher. Passes (writes_matcher matcher) reader.old reader.new) }
+    ensures value { IfSome result IsMatcher }
+{
+    let kind = reader.number(1)?;
+    if kind > 3 {
+        return None;
+    }
+    let name = reader.text(2)?;
+    let pattern = reader.text(3)?;
+    Some(MatcherRef::new(MatcherKind::of_number(kind), name, pattern))
+}
